@@ -1,4 +1,4 @@
--- Why an order along the precedences is a serial run, where no read has a fault.
+-- Why an order along the precedences is a serial run, if no read has a fault.
 use Rattle.std.proofs.Common.{◌≡◌, ◌≢◌, ◌⊎◌, ◌==◌, ℕ, Bool, true, false, cond, List, [], ◌∷◌, ◌++◌, refl, sym, ap, ◌∙◌, subst, inl, inr, append_assoc, append-nil}
 use Rattle.std.proofs.lemmas.Bool.{cases_eq}
 use Rattle.sgt_appends.specs.declared.transaction.Operation.{Operation}
@@ -14,7 +14,7 @@ use Rattle.sgt_appends.proofs.Words.{Has-append_left, Has-append_right, Has-appe
 use Rattle.sgt_appends.proofs.Running.{left_by, sees_all, appended_has, has_appended}
 use Rattle.sgt_appends.proofs.Faulty.{appended_once, in_its_order}
 
--- what a reader had appended before is of what it appends
+-- what a reader appended before is part of what it appends
 pub read_own : (os : List Operation) (k : ℕ) (mine own seen : List ℕ) → HasReadAfter mine os k own seen
     → (rest : List ℕ) × (mine ++ appended k os ≡ own ++ rest)
 read_own [] k mine own seen reads = absurd reads
@@ -27,7 +27,7 @@ read_own (Append key value ∷ os) k mine own seen reads = step (k == key) (read
 read_own (Read key values ∷ os) k mine own seen (inl here) = (appended k os, ap (λ xs. xs ++ appended k os) here.1)
 read_own (Read key values ∷ os) k mine own seen (inr later) = read_own os k mine own seen later
 
--- values of two transactions stand as these do
+-- values of two transactions are ordered as the transactions are
 pub as_these : (h : List Transaction) (k : ℕ) (ts : List ℕ) (t u first second : ℕ) → StandsBefore ts t u → Appends h t k first
     → Appends h u k second → StandsBefore (appended_by h k ts) first second
 as_these h k [] t u first second stand one other = absurd (StandsBefore-has [] t u stand).0
@@ -57,13 +57,13 @@ has_or_not (y ∷ xs) x = elim (cases_eq y x) [
     neither y xs x differ none (inl same) = differ same
     neither y xs x differ none (inr there) = none there
 
--- what stands in front is not behind
+-- an item of the front is not in the back
 pub apart : (xs ys : List ℕ) (x : ℕ) → IsOnce (xs ++ ys) → Has xs x → ¬ Has ys x
 apart [] ys x once has there = has
 apart (z ∷ xs) ys x once (inl same) there = once.0 (subst (λ w. Has (xs ++ ys) w) (sym same) (Has-append_right xs ys x there))
 apart (z ∷ xs) ys x once (inr later) there = apart xs ys x once.1 later there
 
--- what stands before t, and what is before t
+-- the items before t, and how they are related to t
 stands_before : (before ts : List ℕ) (t u : ℕ) → Has before u → StandsBefore (before ++ t ∷ ts) u t
 stands_before [] ts t u has = absurd has
 stands_before (v ∷ before) ts t u (inl same) =
@@ -103,7 +103,7 @@ saw_those h order before ts t k own seen once is same committed reads clean =
     base_seen : (value : ℕ) → Has clean.base value → Has seen value
     base_seen value there = subst (λ xs. Has xs value) (sym clean.ends) (Has-append_left clean.base own value there)
 
-    -- who appends a value of the base comes before t
+    -- the appender of a value of the base comes before t
     comes : (value : ℕ) → Has clean.base value → (u : ℕ) × Has before u × Appends h u k value × MayRun h u
     comes value there =
         let who = clean.written value (base_seen value there) in

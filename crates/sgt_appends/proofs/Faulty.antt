@@ -11,7 +11,7 @@ use Rattle.sgt_appends.proofs.Words.{Has-append_left, Has-append_cases, StandsBe
 use Rattle.sgt_appends.proofs.Running.{has_appended}
 use Rattle.sgt_appends.proofs.Orders.{IsReadIn, read_in, place_of}
 
--- what transactions append that are not named twice has no value twice
+-- transactions that are named once each append no value twice
 pub appended_once : (h : List Transaction) (k : ℕ) (ts : List ℕ) → AppendsOnce h → IsOnce ts → IsOnce (appended_by h k ts)
 appended_once h k [] once named = tt
 appended_once h k (t ∷ ts) once named =
@@ -20,7 +20,7 @@ appended_once h k (t ∷ ts) once named =
     let who = has_appended h k ts value there in
     named.0 (subst (λ u. Has ts u) (once.by_one who.0 t k value who.2 mine) who.1))
 
--- the values of one that is among the transactions stand in its order
+-- the values of one of the transactions are in its order
 pub in_its_order : (h : List Transaction) (k : ℕ) (ts : List ℕ) (u first second : ℕ) → Has ts u
     → StandsBefore (appended k (operations_of h u)) first second → StandsBefore (appended_by h k ts) first second
 in_its_order h k [] u first second has stand = absurd has

@@ -1,4 +1,4 @@
--- One operation more is in the index, and what a whole index says of the appends.
+-- Adding an operation to the index, and what the full index says of the appends.
 use Rattle.std.proofs.Common.{◌≡◌, ◌⊎◌, ◌<◌, ◌≤◌, ◌+◌, ◌==◌, ℕ, zero, suc, Bool, true, false, cond, List, [], ◌∷◌, Option, Some, None, length, refl, sym, ap, ◌∙◌, subst, inl, inr, arith}
 use Rattle.std.specs.Prelude.{slice_get}
 use Rattle.std.proofs.lemmas.Bool.{cases_eq, eqb-true}
@@ -15,7 +15,7 @@ use Rattle.sgt_appends.proofs.Spots.{at_append}
 use Rattle.sgt_appends.proofs.ReadFaults.{at_both}
 use Rattle.sgt_appends.proofs.Pairs.{with_here, with_cases}
 
--- a value that is appended stands at a position
+-- an appended value has a position
 pub found_at : (k : ℕ) (os : List Operation) (v : ℕ) → Has (appended k os) v → (p : ℕ) × (slice_get os p ≡ Some (Append k v))
 found_at k [] v has = absurd has
 found_at k (Append key value ∷ os) v has = go (λ there. let it = found_at k os v there in (suc it.0, it.1)) (k == key) refl has
@@ -35,7 +35,7 @@ append_at h t k v has = found_at k (operations_of h t) v has
 pub at_appends : (h : List Transaction) (t p k v : ℕ) → AppendAt h t p k v → Appends h t k v
 at_appends h t p k v at = at_append (operations_of h t) p k v at
 
--- where each value has one position, none is appended twice
+-- if each value has one position, none is appended twice
 once_at : (k : ℕ) (os : List Operation)
     → ((v p q : ℕ) → slice_get os p ≡ Some (Append k v) → slice_get os q ≡ Some (Append k v) → p ≡ q) → IsOnce (appended k os)
 once_at k [] one = tt
@@ -70,7 +70,7 @@ index_once h at index = record {
       (λ v p q here too. (same_place (at k v) t p t q (index.all k v t p here) (index.all k v t q too)).1);
 }
 
--- what stands at two positions is appended twice
+-- a value at two positions is appended twice
 pub twice_appended : (h : List Transaction) (u q t p k v : ℕ) → AppendAt h u q k v → AppendAt h t p k v → IsEarlier u q t p
     → ¬ AppendsOnce h
 twice_appended h u q t p k v one other (inl less) once =
@@ -159,7 +159,7 @@ filed_one h i j (Read key values) old new here noted filed = record {
     other : {l w : ℕ} → Some (Read key values) ≡ Some (Append l w) → ℕ → ℕ → ⊥
     other e k v = cc
 
--- a value that was there is appended twice
+-- a value that was in the index is appended twice
 pub taken_one : (h : List Transaction) (i j : ℕ) (o : Operation) (old : Positions) → slice_get (operations_of h i) j ≡ Some o
     → IsFiled h i j old → IsTaken o old → ¬ AppendsOnce h
 taken_one h i j (Append key value) old here filed taken = go (old key value) refl

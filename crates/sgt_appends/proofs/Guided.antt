@@ -1,4 +1,4 @@
--- An order that is guided is a serial run.
+-- A guided order is a serial run.
 use Rattle.std.proofs.Common.{◌≡◌, ◌≢◌, ◌<◌, ℕ, List, [], ◌∷◌, ◌++◌, refl, sym, ap, ◌∙◌, subst, inl, inr, arith, append_assoc, append-nil}
 use Rattle.std.proofs.lemmas.Bool.{cases_eq}
 use Rattle.sgt_appends.specs.declared.transaction.Transaction.{Transaction}
@@ -9,12 +9,12 @@ use Rattle.sgt_appends.specs.Guides.{appended_by, SawThese, IsGuided}
 use Rattle.sgt_appends.proofs.Words.{Has-append_left, Has-append_right, Has-append_cases}
 use Rattle.sgt_appends.proofs.Running.{left_by, sees_all}
 
--- what rises has no number twice
+-- a list that rises has no number twice
 pub rises_once : (rank : ℕ → ℕ) (xs : List ℕ) → Rises rank xs → IsOnce xs
 rises_once rank [] rises = tt
 rises_once rank (x ∷ xs) rises = ((λ has. omega (arith, rises.0 x has)), rises_once rank xs rises.1)
 
--- the front of what rises does, and is below what comes after it
+-- the front of a list that rises does so too, and is below what comes after it
 pub front_rises : (rank : ℕ → ℕ) (xs ys : List ℕ) → Rises rank (xs ++ ys) → Rises rank xs
 front_rises rank [] ys rises = tt
 front_rises rank (x ∷ xs) ys rises =
@@ -30,7 +30,7 @@ none_is : (xs : List ℕ) → ((x : ℕ) → ¬ Has xs x) → xs ≡ []
 none_is [] none = refl
 none_is (x ∷ xs) none = absurd (none x (inl refl))
 
--- two lists that rise append the same, where the one has those of the other that append
+-- two lists that rise append the same, if one has all those of the other that append
 pub same_appended : (h : List Transaction) (rank : ℕ → ℕ) (k : ℕ) (before those : List ℕ) → Rises rank before → Rises rank those
     → ((u : ℕ) → Has those u → Has before u) → ((u value : ℕ) → Has before u → Appends h u k value → Has those u)
     → appended_by h k before ≡ appended_by h k those
@@ -64,7 +64,7 @@ same_appended h rank k (x ∷ before) (y ∷ those) rises rise are all = elim (c
     not_in r a b bs above less (inl same) = omega (arith, ap r same)
     not_in r a b bs above less (inr later) = omega (arith, above a later)
 
--- what is left of a guided order runs
+-- the rest of a guided order runs
 pub rest_runs : (h : List Transaction) (order : List ℕ) (rank : ℕ → ℕ) (before ts : List ℕ) (c : Contents) → IsGuided h order rank
     → order ≡ before ++ ts → ((k : ℕ) → c k ≡ appended_by h k before) → IsRun h c ts
 rest_runs h order rank before [] c guided same stands = tt

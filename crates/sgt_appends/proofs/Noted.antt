@@ -1,4 +1,4 @@
--- Pairs in a set, one more, and the values of all lines.
+-- Number pairs in a set, with one more, and the values of all lines.
 use Rattle.std.proofs.Common.{◌≡◌, ◌⊎◌, ◌<◌, ◌+◌, ℕ, zero, suc, Bool, true, false, cond, List, [], ◌∷◌, ◌++◌, Option, Some, None, length, take, get_or, refl, sym, ap, ◌∙◌, subst, inl, inr, arith}
 use Rattle.std.specs.Prelude.{slice_get}
 use Rattle.std.specs.Ordering.{is_eq}
@@ -11,7 +11,7 @@ use Rattle.sgt_appends.specs.Lines.{KeyLines, values_or_none, values_in, AreNumb
 use Rattle.sgt_appends.proofs.Words.{Has-append_left, Has-append_right, Has-append_cases}
 use Rattle.sgt_appends.proofs.Pairs.{pair_same, pair_itself}
 
--- a set where one pair was put
+-- a set with one pair inserted
 pub noted_pair : (key x k v : ℕ) (old new : Bool) → new ≡ cond (is_eq (pair_cmp (key, x) (k, v))) true old
     → (new ≡ true → (old ≡ true) ⊎ ((key ≡ k) × (x ≡ v))) × ((old ≡ true) ⊎ ((key ≡ k) × (x ≡ v)) → new ≡ true)
 noted_pair key x k v old new is = (there (is_eq (pair_cmp (key, x) (k, v))) refl, back)

@@ -1,4 +1,4 @@
--- In each serial run what precedes comes first.
+-- In each serial run, a transaction that precedes another comes first.
 use Rattle.std.proofs.Common.{◌≡◌, ◌≢◌, ◌<◌, ◌==◌, ℕ, suc, cond, List, [], ◌∷◌, ◌++◌, refl, sym, ap, ◌∙◌, subst, inl, inr, arith, append_assoc, append-nil}
 use Rattle.std.proofs.lemmas.Bool.{cases_eq, ne_eqb, eq-eqb}
 use Rattle.sgt_appends.specs.declared.transaction.Transaction.{Transaction}
@@ -10,7 +10,7 @@ use Rattle.sgt_appends.specs.Guides.{appended_by}
 use Rattle.sgt_appends.proofs.Words.{Has-append_left, Has-append_right, Has-append_cases, stands_after, StandsBefore-cons}
 use Rattle.sgt_appends.proofs.Running.{left_by, sees_read, appended_has, has_appended}
 
--- the place of t in the order, or its length where t is not in it
+-- the index of t in the order, or its length if t is not in it
 unfoldable pub place_of : List ℕ → ℕ → ℕ
 place_of [] t = 0
 place_of (u ∷ order) t = cond (u == t) 0 (suc (place_of order t))
@@ -23,7 +23,7 @@ pub further : (order : List ℕ) (u t : ℕ) → u ≢ t → place_of (u ∷ ord
 unfolding place_of
 further order u t other = rw (ne_eqb u t other) refl
 
--- of a read of t: it sees what those before t append, and what t has appended itself
+-- a read of t sees what those before t append, and what t has appended itself
 pub record IsReadIn (h : List Transaction) (order : List ℕ) (base : List ℕ) (t k : ℕ) (own seen : List ℕ) : Type 0 where
   pub before : List ℕ
   pub more : List ℕ
@@ -105,7 +105,7 @@ read_in h c (u ∷ order) t k own seen run has reads = elim (cases_eq u t) [
       (read_in h (after_all (operations_of h u) c) order t k own seen run.1 (later_one u t order other has) reads)
 ]
 
--- whose value was seen comes before
+-- a writer whose value was seen comes before
 pub seen_first : (h : List Transaction) (order : List ℕ) (t u k value : ℕ) (own seen : List ℕ) → AppendsOnce h
     → IsReadIn h order [] u k own seen → Has seen value → Appends h t k value → t ≢ u → place_of order t < place_of order u
 seen_first h order t u k value own seen once it has appends differ =
@@ -116,7 +116,7 @@ seen_first h order t u k value own seen once it has appends differ =
       | inr w ↦ absurd (differ (once.by_one t u k value appends (it.own_are value w)))
     ]
 
--- whose value was not seen comes after
+-- a writer whose value was not seen comes after
 pub missed_later : (h : List Transaction) (order : List ℕ) (t u k value : ℕ) (own seen : List ℕ)
     → IsReadIn h order [] t k own seen → ¬ Has seen value → Appends h u k value → t ≢ u → place_of order t < place_of order u
 missed_later h order t u k value own seen it has_not appends differ =
@@ -124,7 +124,7 @@ missed_later h order t u k value own seen it has_not appends differ =
     (λ there. has_not (subst (λ xs. Has xs value) (sym it.are)
     (Has-append_left (appended_by h k it.before) own value (appended_has h k it.before u value there appends))))
 
--- of two values the one of the transaction that comes first stands first
+-- of two values, that of the transaction that comes first is first
 pub stands_first : (h : List Transaction) (order : List ℕ) (t u k first second : ℕ) (front back : List ℕ) → AppendsOnce h
     → IsOnce order → appended_by h k order ≡ front ++ first ∷ back → Has back second → Appends h t k first
     → Appends h u k second → t ≢ u → place_of order t < place_of order u
@@ -166,7 +166,7 @@ precedes_first h order t u once serial precedes = elim precedes.1 [
     read : (r k : ℕ) (own seen : List ℕ) → Ended h r Committed → Reads h r k own seen → IsReadIn h order [] r k own seen
     read r k own seen committed reads = read_in h nothing order r k own seen serial.run (serial.committed r committed) reads
 
--- along a path the places grow
+-- the indices rise along a path
 pub path_first : (h : List Transaction) (order : List ℕ) (t : ℕ) (others : List ℕ) (u : ℕ) → AppendsOnce h → IsSerialRun h order
     → IsPath h t others u → place_of order t < place_of order u
 path_first h order t [] u once serial path = precedes_first h order t u once serial path
@@ -176,7 +176,7 @@ path_first h order t (v ∷ others) u once serial path =
 pub cycle_enough : (h : List Transaction) (t : ℕ) (others : List ℕ) → AppendsOnce h → IsPath h t others t → ¬ IsSerializable h
 cycle_enough h t others once path run = omega (arith, path_first h run.0 t others t once run.1 path)
 
--- what has the smaller place stands before
+-- the transaction with the smaller index stands before
 place_stand : (order : List ℕ) (t u : ℕ) → place_of order t < place_of order u → Has order u → StandsBefore order t u
 place_stand [] t u less has = absurd has
 place_stand (x ∷ order) t u less has = elim (cases_eq x u) [

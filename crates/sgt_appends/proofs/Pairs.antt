@@ -1,4 +1,4 @@
--- Pairs of numbers by their order, and a map where one of them got a value.
+-- Pairs of numbers by their order, and a map with a value inserted at one of them.
 use Rattle.std.proofs.Common.{◌≡◌, ◌⊎◌, ◌<◌, ℕ, Bool, true, false, cond, Some, Ordering, Less, Equal, Greater, refl, ap, ◌∙◌, subst, inl, inr}
 use Rattle.std.specs.Ordering.{nat_cmp, ordering_then, ordering_reverse, is_eq, MatchOrdering}
 use Rattle.std.specs.Cmp.{ranks}
@@ -32,14 +32,14 @@ nat_itself k = by (nat_cmp k k) (nat_cmp_total.antisymm k k)
 pub pair_itself : (k v : ℕ) → is_eq (pair_cmp (k, v) (k, v)) ≡ true
 pair_itself k v = rw (nat_itself k, nat_itself v) refl
 
--- a map where the pair got this value
+-- a map with this value inserted at the pair
 abbrev pub IsWith : ℕ → ℕ → ℕ × ℕ → Positions → Positions → Type 0
 IsWith key value x old new = (k v : ℕ) → new k v ≡ cond (is_eq (pair_cmp (key, value) (k, v))) (Some x) (old k v)
 
 pub with_here : (key value : ℕ) (x : ℕ × ℕ) (old new : Positions) → IsWith key value x old new → new key value ≡ Some x
 with_here key value x old new with = with key value ∙ ap (λ b. cond b (Some x) (old key value)) (pair_itself key value)
 
--- each of the map was there, or is the new one
+-- each pair of the map was there, or is the new one
 pub with_cases : (key value : ℕ) (x : ℕ × ℕ) (old new : Positions) → IsWith key value x old new → (k v : ℕ)
     → ((key ≡ k) × (value ≡ v)) ⊎ (new k v ≡ old k v)
 with_cases key value x old new with k v = go (is_eq (pair_cmp (key, value) (k, v))) refl

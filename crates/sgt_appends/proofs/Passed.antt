@@ -1,4 +1,4 @@
--- Reads at their positions, and how far a read was looked through.
+-- Reads at their positions, and the state of a scan of a read.
 use Rattle.std.proofs.Common.{◌≡◌, ◌⊎◌, ◌<◌, ◌≤◌, ◌+◌, ◌==◌, ◌++◌, ℕ, zero, suc, Bool, true, false, cond, List, [], ◌∷◌, Option, Some, None, length, take, get_or, refl, sym, ap, ◌∙◌, subst, inl, inr, arith, append_assoc, append-nil}
 use Rattle.std.specs.Prelude.{slice_get}
 use Rattle.std.specs.Global.{Vec}
@@ -29,7 +29,7 @@ pub reads_at : (h : List Transaction) (t p k : ℕ) (seen : List ℕ) → IsRead
 reads_at h t p k seen it =
     subst (λ xs. HasReadAfter [] (operations_of h t) k (own_at h t p k) xs) it.2 (read_place (operations_of h t) p k it.0 [] it.1)
 
--- each read stands at a position
+-- each read has a position
 read_stands : (os : List Operation) (mine : List ℕ) (k : ℕ) (own seen : List ℕ) → HasReadAfter mine os k own seen
     → (p : ℕ) × (values : Vec ℕ) × (slice_get os p ≡ Some (Read k values)) × (values.items ≡ seen) × (own ≡ mine ++ appended k (take p os))
 read_stands [] mine k own seen it = absurd it
@@ -55,7 +55,7 @@ pub at_reads : (h : List Transaction) (t k : ℕ) (own seen : List ℕ) → Read
 at_reads h t k own seen it =
     let is = read_stands (operations_of h t) [] k own seen it in (is.0, (is.1, is.2, is.3), is.4)
 
--- where no read of a transaction has a fault, none has
+-- if no read at any position has a fault, no read has one
 pub all_clean : (h : List Transaction) → ((t : ℕ) → AreCleanIn h t) → AllClean h
 all_clean h clean t k own seen committed reads =
     let it = at_reads h t k own seen reads in
@@ -96,7 +96,7 @@ once_by : (xs : List ℕ) → ((v : ℕ) → ¬ StandsBefore xs v v) → IsOnce 
 once_by [] never = tt
 once_by (x ∷ xs) never = ((λ has. never x ([], xs, refl, has)), once_by xs (λ v it. never v (StandsBefore-cons x xs v v it)))
 
--- one more at the end stands after the others
+-- one more at the end comes after the others
 stands_last : (xs : List ℕ) (x v w : ℕ) → StandsBefore (xs ++ x ∷ []) v w → StandsBefore xs v w ⊎ (Has xs v × (x ≡ w))
 stands_last [] x v w it = elim (StandsBefore-cases x [] v w it) [
   | inl is ↦ absurd is.1
@@ -131,7 +131,7 @@ same_number x p q one other = number (sym one ∙ other)
     number : Some p ≡ Some q → p ≡ q
     number e = cc
 
--- at first nothing was looked at
+-- at first nothing was scanned
 pub none_passed : (h : List Transaction) (at : Positions) (t p k : ℕ) (last : Lasts) → ((u : ℕ) → last u ≡ None)
     → IsPassed h at t p k [] last
 none_passed h at t p k last none = record {
@@ -205,7 +205,7 @@ passed_one h at t p k vs old new x passed one = record {
     over : (a b c d : ℕ) → a ≤ b → b < c → d ≡ c → a < d
     over a b c d one two three = omega (arith, one, two, three)
 
--- what was looked through has no fault
+-- the scanned values have no fault
 pub passed_clean : (h : List Transaction) (at : Positions) (t p k : ℕ) (seen : List ℕ) (last : Lasts) → IsIndex h at
     → IsPassed h at t p k seen last → ((base : List ℕ) × (seen ≡ base ++ own_at h t p k)) → IsClean h t k (own_at h t p k) seen
 passed_clean h at t p k seen last index passed ends = record {
@@ -241,7 +241,7 @@ stands_at (x ∷ xs) (suc i) v w (inl same) within is = ([], xs, ap (λ l. l ∷
 stands_at (x ∷ xs) (suc i) v w (inr has) within is =
     StandsBefore-cons x xs v w (stands_at xs i v w has (omega (arith, within)) is)
 
--- what is wrong at one value is a fault of the read
+-- a fault at one value is a fault of the read
 pub fault_one : (h : List Transaction) (at : Positions) (t p k : ℕ) (seen : List ℕ) (i : ℕ) (last : Lasts) (x : ℕ) (fault : Fault)
     → IsIndex h at → IsPassed h at t p k (take i seen) last → i < length seen → get_or seen i 0 ≡ x
     → IsFaultAt h at t p k last x fault → Faults h t k (own_at h t p k) seen fault
@@ -272,7 +272,7 @@ fault_one h at t p k seen i last x (Ahead append) index passed within is it =
     let here = index.found k x t append it.0 in
     (x, here, not_yet (operations_of h t) p append k x ((index_once h at index).once t k) here it.1, has_at seen i x within is)
 
--- where a read has a fault there is no serial run
+-- if a read has a fault there is no serial run
 pub fault_shown : (h : List Transaction) (t p : ℕ) (fault : Fault) → AppendsOnce h → HasFault h t p fault → ¬ IsSerializable h
 fault_shown h t p fault once it =
     fault_enough h t it.0 (own_at h t p it.0) it.1 once it.2 (reads_at h t p it.0 it.1 it.3) (as_fault fault it.4)
@@ -350,7 +350,7 @@ may_by h t x Committed there is not = inl (x, there, is)
 may_by h t x Aborted there is not = absurd (not is)
 may_by h t x Unknown there is not = inr (x, there, is)
 
--- what did not abort may run
+-- a transaction that is not aborted may run
 pub may_run : (h : List Transaction) (t : ℕ) (x : Transaction) → slice_get h t ≡ Some x → ¬ (x.status ≡ Aborted) → MayRun h t
 may_run h t x there not = may_by h t x x.status there refl not
 

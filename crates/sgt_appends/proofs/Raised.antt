@@ -11,7 +11,7 @@ use Rattle.sgt_appends.specs.Linear.{ClimbsFrom, Climbs, IsKnown, IsLine, IsRais
 use Rattle.sgt_appends.proofs.Words.{Has-append_left, Has-append_right, Has-append_cases, StandsBefore-cons, StandsBefore-back}
 use Rattle.sgt_appends.proofs.Along.{has_or_not, read_own}
 
--- who appends the values of a list
+-- the appenders of a list's values
 abbrev pub AreWritten : List Transaction → ℕ → List ℕ → Type 0
 AreWritten h k xs = (v : ℕ) → Has xs v → (t : ℕ) × Appends h t k v
 
@@ -81,7 +81,7 @@ last_of (y ∷ z ∷ zs) v has = go has (last_of (z ∷ zs) z (inl refl)) (λ th
         more x (inl same) = inl same
         more x (inr stand) = inr (StandsBefore-cons y (z ∷ zs) v x stand)
 
--- whose value was seen is below the reader
+-- a writer whose value was seen is below the reader
 pub seen_below : (h : List Transaction) (order : List ℕ) (rank end : ℕ → ℕ) (line : ℕ → List ℕ) → AppendsOnce h → AllClean h
     → IsRaised h order rank end line → (t r k v : ℕ) (own seen : List ℕ) → Ended h r Committed → Reads h r k own seen → Has seen v
     → Appends h t k v → t ≢ r → rank t < rank r
@@ -118,7 +118,7 @@ seen_below h order rank end line once clean raised t r k v own seen committed re
               ]
         ]
 
--- of the line of a key: who appends its values, and that they are below its end
+-- the line of a key: its appenders, and that they are below its end
 line_written : (h : List Transaction) (k : ℕ) (line : List ℕ) → AllClean h → IsLine h k line → AreWritten h k line
 line_written h k line clean is v has = elim (is.known v has) [
   | inl w ↦ let who = (clean is.reader k is.own is.seen is.committed is.reads).written v w in (who.0, who.1)
@@ -147,7 +147,7 @@ line_below h order rank end line once clean raised k is w a has appends =
           (subst (λ xs. Has xs some.1) (sym some.3) (Has-append_right some.0 (some.1 ∷ some.2) some.1 (inl refl)))))
     ]
 
--- whose value was missed is above the reader
+-- a writer whose value was missed is above the reader
 pub missed_above : (h : List Transaction) (order : List ℕ) (rank end : ℕ → ℕ) (line : ℕ → List ℕ) → AppendsOnce h → AllClean h
     → IsRaised h order rank end line → (t u k v : ℕ) (own seen : List ℕ) → Has order u → Ended h t Committed → Reads h t k own seen
     → ¬ Has seen v → Appends h u k v → t ≢ u → rank t < rank u

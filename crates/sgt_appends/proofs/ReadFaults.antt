@@ -54,7 +54,7 @@ pub IsOnce-behind : (xs ys : List ℕ) → IsOnce (xs ++ ys) → IsOnce ys
 IsOnce-behind [] ys once = once
 IsOnce-behind (x ∷ xs) ys once = IsOnce-behind xs ys once.1
 
--- what is appended at a place is not among what the operations before it append
+-- the value appended at a position is not among those that the operations before it append
 pub not_yet : (os : List Operation) (q p k v : ℕ) → IsOnce (appended k os) → slice_get os p ≡ Some (Append k v) → q ≤ p
     → ¬ Has (appended k (take q os)) v
 not_yet [] q p k v once at less has = absurd (grind (arith, common_steps, at))

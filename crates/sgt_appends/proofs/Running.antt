@@ -9,7 +9,7 @@ use Rattle.sgt_appends.specs.Precedences.{appended, Appends, HasReadAfter}
 use Rattle.sgt_appends.specs.Guides.{appended_by}
 use Rattle.sgt_appends.proofs.Words.{Has-append_left, Has-append_right, Has-append_cases}
 
--- operations leave at a key what stood there and what they append to it
+-- operations leave at a key its old list followed by what they append to it
 pub left_by : (os : List Operation) (c : Contents) (k : ℕ) → after_all os c k ≡ c k ++ appended k os
 left_by [] c k = sym (append-nil (c k))
 left_by (Append key value ∷ os) c k = left_by os (after (Append key value) c) k ∙ added (k == key)
@@ -19,7 +19,7 @@ left_by (Append key value ∷ os) c k = left_by os (after (Append key value) c) 
     added false = refl
 left_by (Read key values ∷ os) c k = left_by os (after (Read key values) c) k
 
--- of a read: it sees what stood there first, and what was appended before it
+-- a read sees the old list, followed by what was appended before it
 pub record IsSeenOver (base own rest whole seen : List ℕ) : Type 0 where
   pub are : seen ≡ base ++ own
   pub whole_is : whole ≡ own ++ rest
@@ -49,7 +49,7 @@ sees_read (Read key values ∷ os) c k base mine own seen sees stands (inl here)
 sees_read (Read key values ∷ os) c k base mine own seen sees stands (inr later) =
     sees_read os (after (Read key values) c) k base mine own seen sees.1 stands later
 
--- the other way round: operations see what they observed where each read does
+-- the converse: operations see what they observed if each read does
 pub sees_all : (os : List Operation) (c : Contents) (base mine : ℕ → List ℕ) → ((k : ℕ) → c k ≡ base k ++ mine k)
     → ((k : ℕ) (own seen : List ℕ) → HasReadAfter (mine k) os k own seen → seen ≡ base k ++ own) → SeesAll os c
 sees_all [] c base mine stand reads = tt
@@ -67,7 +67,7 @@ sees_all (Read key values ∷ os) c base mine stand reads = (
   sees_all os (after (Read key values) c) base mine stand (λ k own seen read. reads k own seen (inr read)),
 )
 
--- who appends to a key is among those that do
+-- an appender to a key is among the appenders to it
 pub appended_has : (h : List Transaction) (k : ℕ) (ts : List ℕ) (t value : ℕ) → Has ts t → Appends h t k value
     → Has (appended_by h k ts) value
 appended_has h k [] t value has appends = absurd has

@@ -50,7 +50,7 @@ set_other xs i j x differ = grind (arith, common_steps, differ)
 same_link : (links : List Link) (e : ℕ) (k l : Link) → slice_get links e ≡ Some k → slice_get links e ≡ Some l → k ≡ l
 same_link links e k l one other = let both : Some k ≡ Some l = sym one ∙ other in cc
 
--- the last link to a node that is not passed
+-- the last unvisited link to a node
 pub head_at : (links : List Link) (heads before ranks : List ℕ) (v : ℕ) (d : Link) → IsSorted links heads before ranks
     → 0 < get_or heads v 0 → slice_get links (get_or heads v 0 - 1) ≡ Some (get_or links (get_or heads v 0 - 1) d)
 head_at links heads before ranks v d is some =
@@ -63,7 +63,7 @@ head_to links heads before ranks v d is some =
     let it = is.last v some in
     ap (λ (k : Link). k.to) (same_link links (get_or heads v 0 - 1) _ it.0 (head_at links heads before ranks v d is some) it.1) ∙ it.2
 
--- where no link to a node is left, all that lead to it have ranks
+-- if no link to a node is left, all nodes that lead to it have ranks
 pub none_left : (links : List Link) (heads before ranks : List ℕ) (v : ℕ) → IsSorted links heads before ranks
     → get_or heads v 0 ≡ 0 → (l : Link) → IsAmong links l → l.to ≡ v → 0 < get_or ranks l.from 0
 none_left links heads before ranks v is none l among to = elim (is.left at.0 l at.1) [
@@ -74,7 +74,7 @@ none_left links heads before ranks v is none l among to = elim (is.left at.0 l a
     at : (e : ℕ) × (slice_get links e ≡ Some l)
     at = at_among links l among
 
--- a link from a node with a rank is passed
+-- a link from a node with a rank is visited
 pub pass_one : (links : List Link) (heads before ranks : List ℕ) (v : ℕ) (l : Link) → IsSorted links heads before ranks
     → 0 < get_or heads v 0 → v < length heads → slice_get links (get_or heads v 0 - 1) ≡ Some l → 0 < get_or ranks l.from 0
     → IsSorted links (slice_set heads v (get_or before (get_or heads v 0 - 1) 0)) before ranks
@@ -394,7 +394,7 @@ push_one links root met ranks path at l is inside among to = record {
       ]
     ]
 
--- the node at the end of the path has a rank, and its link is taken from the path
+-- the node at the end of the path has a rank, and its link is removed from the path
 pub pop_one : (links : List Link) (root : ℕ) (met : List Bool) (ranks new : List ℕ) (path : List Link) (at : ℕ) (l : Link)
     → IsReached links root met ranks (path ++ l ∷ []) at → AreWithin links (length ranks) → length new ≡ length ranks
     → ((v : ℕ) → 0 < get_or ranks v 0 → 0 < get_or new v 0) → 0 < get_or new at 0 → IsReached links root met new path l.to
@@ -457,7 +457,7 @@ none_ordered ranks [] empty none = record {
 }
 none_ordered ranks (v ∷ order) empty none = absurd (grind (arith, common_steps, empty))
 
--- where all nodes have ranks, they grow along all links
+-- if all nodes have ranks, the ranks rise along all links
 pub all_rise : (links : List Link) (heads before ranks : List ℕ) → IsSorted links heads before ranks
     → ((v : ℕ) → v < length ranks → 0 < get_or ranks v 0) → RiseAlong links (λ v. get_or ranks v 0)
 all_rise links heads before ranks is all = λ l among. (is.placed l among (all l.to (is.within l among).1)).1

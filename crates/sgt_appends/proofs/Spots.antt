@@ -1,4 +1,4 @@
--- What an operation at a place says, and walks that grow.
+-- Operations at a position, and paths that grow.
 use Rattle.std.proofs.Common.{◌≡◌, ◌<◌, ◌+◌, ◌==◌, ◌++◌, ℕ, zero, suc, Bool, true, false, cond, List, [], ◌∷◌, Some, length, take, get_or, refl, sym, ap, subst, inl, inr, arith, append_assoc, append-nil}
 use Rattle.std.specs.Prelude.{slice_get}
 use Rattle.std.specs.Global.{Vec}
@@ -57,7 +57,7 @@ at_read (o ∷ os) zero k vs at mine =
     is e = cc
 at_read (o ∷ os) (suc p) k vs at mine = more_read o os k vs.items (at_read os p k vs at) mine
 
--- of transaction t at place p
+-- an operation of transaction t at position p
 pub appends_at : (h : List Transaction) (t p k v : ℕ) (x : Transaction) → slice_get h t ≡ Some x
     → slice_get x.operations.items p ≡ Some (Append k v) → Appends h t k v
 appends_at h t p k v x there at =
@@ -86,7 +86,7 @@ closed h i t u once some (inl none) same = absurd (omega (arith, none.0))
 closed h i t u once some (inr path) same =
     cycle_enough h t path.1.0 once (subst (λ w. IsPath h t path.1.0 w) same path.1.1)
 
--- the read at a place comes after what the operations before it append
+-- the read at a position comes after what the operations before it append
 pub read_place : (os : List Operation) (p k : ℕ) (vs : Vec ℕ) (mine : List ℕ) → slice_get os p ≡ Some (Read k vs)
     → HasReadAfter mine os k (mine ++ appended k (take p os)) vs.items
 read_place [] p k vs mine at = absurd (grind (arith, common_steps, at))

@@ -1,4 +1,4 @@
--- Looking for the first value of a line that a reader does not know.
+-- The search for the first value of a line that a reader does not know.
 use Rattle.std.proofs.Common.{◌≡◌, ◌⊎◌, ◌<◌, ◌+◌, ◌++◌, ℕ, zero, suc, Bool, true, false, cond, List, [], ◌∷◌, Some, None, Ordering, Less, Equal, Greater, length, take, drop, get_or, refl, sym, ap, ◌∙◌, subst, inl, inr, arith}
 use Rattle.std.specs.Ordering.{nat_cmp, is_eq, MatchOrdering}
 use Rattle.std.specs.Cmp.{ranks}
@@ -11,7 +11,7 @@ use Rattle.sgt_appends.proofs.Spots.{has_at}
 use Rattle.sgt_appends.proofs.Pairs.{nat_itself}
 use Rattle.sgt_appends.proofs.Noted.{Either}
 
--- a set where one number was put
+-- a set with one number inserted
 pub noted_number : (x v : ℕ) (old new : Bool) → new ≡ cond (is_eq (nat_cmp x v)) true old
     → Either (new ≡ true) (old ≡ true) (x ≡ v)
 noted_number x v old new is = (there (nat_cmp x v) refl, back)

@@ -1,4 +1,4 @@
--- What the lines say of the reads: each is a line of its key, and who knows all of it knows no more.
+-- What the lines say of the reads: each is a line of its key, and a reader that knows all of it knows no more.
 use Rattle.std.proofs.Common.{◌≡◌, ◌≢◌, ◌<◌, ◌++◌, ℕ, List, [], ◌∷◌, Option, Some, None, length, take, drop, refl, sym, ap, ◌∙◌, subst, inl, inr, arith, length-append, take-append-drop}
 use Rattle.sgt_appends.specs.declared.lines.Line.{Line}
 use Rattle.sgt_appends.specs.declared.transaction.Status.TheVariants.{Committed}
@@ -54,7 +54,7 @@ version_once h t p k seen once clean =
     (clean.not_ahead v there (subst (λ xs. Has xs v) (sym (parted h t p k))
     (Has-append_right (own_at h t p k) (appended k (drop p (operations_of h t))) v later))) later)
 
--- what is in a list stands somewhere in it
+-- an item of a list has an index in it
 stands : (ys : List ℕ) (x : ℕ) → Has ys x → (front : List ℕ) × (back : List ℕ) × (ys ≡ front ++ x ∷ back)
 stands [] x has = absurd has
 stands (y ∷ ys) x (inl same) = ([], ys, ap (λ z. z ∷ ys) same)
@@ -97,7 +97,7 @@ line_of_read h lines keys r k own seen are committed reads =
           (subst (λ xs. Has xs v) version.is (subst (λ o. Has (values_or_none o) v) covered.1 has));
     }
 
--- who knows all of the line knows no more
+-- a reader that knows all of the line knows no more
 pub no_more : (h : List Transaction) (lines : KeyLines) (keys : List ℕ) → AppendsOnce h → AllClean h → AreAllLines h lines keys
     → KnowsNoMore h lines
 no_more h lines keys once clean are r k own seen committed reads all v known =

@@ -1,4 +1,4 @@
--- Laws of the words on lists of numbers.
+-- Laws of the definitions on lists of numbers.
 use Rattle.std.proofs.Common.{◌≡◌, ◌≢◌, ◌⊎◌, ℕ, List, [], ◌∷◌, ◌++◌, refl, sym, ap, ◌∙◌, subst, inl, inr, arith, append_assoc}
 use Rattle.std.proofs.lemmas.Bool.{cases_eq}
 use Rattle.sgt_appends.specs.Lists.{Has, IsOnce, StandsBefore}
@@ -62,7 +62,7 @@ StandsBefore-has (z ∷ xs) x y it = elim (StandsBefore-cases z xs x y it) [
   | inr w ↦ let both = StandsBefore-has xs x y w in (inr both.0, inr both.1)
 ]
 
--- two that stand in both orders are one that stands twice
+-- if two numbers stand in both orders, one stands twice
 pub not_both : (xs : List ℕ) (x y : ℕ) → IsOnce xs → StandsBefore xs x y → ¬ StandsBefore xs y x
 not_both [] x y once one other = absurd (StandsBefore-has [] x y one).0
 not_both (z ∷ xs) x y once one other = elim (StandsBefore-cases z xs x y one) [

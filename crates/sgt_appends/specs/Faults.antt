@@ -1,4 +1,4 @@
--- Faults of a single read: where there is one, there is no serial run.
+-- Faults of a single read: if there is one, there is no serial run.
 use Rattle.std.specs.Prelude.{◌≡◌, ◌⊎◌, ◌++◌, ℕ, List}
 use Rattle.sgt_appends.specs.declared.transaction.Status.TheVariants.{Committed}
 use Rattle.sgt_appends.specs.declared.transaction.Transaction.{Transaction}
@@ -6,7 +6,7 @@ use Rattle.sgt_appends.specs.Lists.{Has, StandsBefore}
 use Rattle.sgt_appends.specs.Runs.{operations_of, Ended, MayRun, IsSerializable}
 use Rattle.sgt_appends.specs.Precedences.{appended, Appends, Reads, AppendsOnce}
 
--- a value was seen that none appends but aborted ones
+-- a value was seen that only aborted transactions append, or none
 abbrev pub IsUnwritten : List Transaction → ℕ → List ℕ → Type 0
 IsUnwritten h k seen = (value : ℕ) × Has seen value × ((u : ℕ) → Appends h u k value → ¬ MayRun h u)
 
@@ -14,16 +14,16 @@ IsUnwritten h k seen = (value : ℕ) × Has seen value × ((u : ℕ) → Appends
 abbrev pub IsTwice : List ℕ → Type 0
 IsTwice seen = (value : ℕ) × StandsBefore seen value value
 
--- two values of one transaction were seen the other way round
+-- two values of one transaction were seen in the opposite order
 abbrev pub IsSwapped : List Transaction → ℕ → List ℕ → Type 0
 IsSwapped h k seen = (u : ℕ) × (first : ℕ) × (second : ℕ) × StandsBefore (appended k (operations_of h u)) first second
     × StandsBefore seen second first
 
--- the list does not end with what the reader had appended before
+-- the list does not end with what the reader appended before
 abbrev pub EndsOtherwise : List ℕ → List ℕ → Type 0
 EndsOtherwise own seen = (base : List ℕ) → ¬ (seen ≡ base ++ own)
 
--- the reader saw what it appended only later
+-- the reader saw a value that it appends only later
 abbrev pub IsAhead : List Transaction → ℕ → ℕ → List ℕ → List ℕ → Type 0
 IsAhead h t k own seen = (value : ℕ) × Has seen value × Appends h t k value × (¬ Has own value)
 
@@ -31,7 +31,7 @@ IsAhead h t k own seen = (value : ℕ) × Has seen value × Appends h t k value 
 abbrev pub IsFault : List Transaction → ℕ → ℕ → List ℕ → List ℕ → Type 0
 IsFault h t k own seen = IsUnwritten h k seen ⊎ (IsTwice seen ⊎ (IsSwapped h k seen ⊎ (EndsOtherwise own seen ⊎ IsAhead h t k own seen)))
 
--- where a read of a committed transaction has a fault, there is no serial run
+-- if a read of a committed transaction has a fault, there is no serial run
 abbrev pub FaultsAreEnough : Type 0
 FaultsAreEnough = (h : List Transaction) (t k : ℕ) (own seen : List ℕ) → AppendsOnce h → Ended h t Committed
     → Reads h t k own seen → IsFault h t k own seen → ¬ IsSerializable h

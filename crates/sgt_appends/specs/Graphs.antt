@@ -1,4 +1,4 @@
--- Links between the nodes of a graph, and how far they are sorted.
+-- Links between the nodes of a graph, and sorts of the nodes.
 use Rattle.std.specs.Prelude.{◌≡◌, ◌≢◌, ◌<◌, ◌≤◌, ◌-◌, ◌+◌, ◌⊎◌, ℕ, List, [], ◌∷◌, Some, Bool, true, false, slice_get, length}
 use Rattle.std.proofs.Common.{get_or}
 use Rattle.sgt_appends.specs.declared.sorting.Link.{Link}
@@ -18,12 +18,12 @@ abbrev pub LeadTo : ℕ → List Link → ℕ → Type 0
 LeadTo a [] b = a ≡ b
 LeadTo a (l ∷ ls) b = (l.from ≡ a) × LeadTo l.to ls b
 
--- the links lead from b to a, the last of them first
+-- the links lead from b to a, and are listed last first
 abbrev pub LeadBack : ℕ → List Link → ℕ → Type 0
 LeadBack a [] b = a ≡ b
 LeadBack a (l ∷ ls) b = (l.to ≡ a) × LeadBack l.from ls b
 
--- the links that lead back from a pass x
+-- the links that lead back from a pass through x
 abbrev pub Pass : ℕ → List Link → ℕ → Type 0
 Pass a [] x = a ≡ x
 Pass a (l ∷ ls) x = (a ≡ x) ⊎ Pass l.from ls x
@@ -32,7 +32,7 @@ Pass a (l ∷ ls) x = (a ≡ x) ⊎ Pass l.from ls x
 abbrev pub AreAmong : List Link → List Link → Type 0
 AreAmong these links = (l : Link) → IsAmong these l → IsAmong links l
 
--- links of the graph that lead from a node back to it
+-- a cycle: links of the graph that lead from a node back to it
 pub record IsRound (links cycle : List Link) : Type 0 where
   pub among : AreAmong cycle links
   pub node : ℕ
@@ -47,7 +47,7 @@ AreWithin links nodes = (l : Link) → IsAmong links l → (l.from < nodes) × (
 abbrev pub IsLinkTo : List Link → ℕ → ℕ → Type 0
 IsLinkTo links p v = 0 < p → (l : Link) × (slice_get links (p - 1) ≡ Some l) × (l.to ≡ v)
 
--- for each node the last of the first i links to it, and for each such link the one before it to the same node
+-- for each node the last of the first i links to it; for each such link the previous one to the same node
 pub record AreChained (links : List Link) (i : ℕ) (heads before : List ℕ) : Type 0 where
   pub long : length before ≡ i
   pub later : (d e : ℕ) (k l : Link) → d < e → e < i → slice_get links d ≡ Some k → slice_get links e ≡ Some l → k.to ≡ l.to
@@ -56,7 +56,8 @@ pub record AreChained (links : List Link) (i : ℕ) (heads before : List ℕ) : 
   pub last : (v : ℕ) → IsLinkTo links (get_or heads v 0) v × (get_or heads v 0 ≤ i)
   pub left : (d : ℕ) (k : Link) → d < i → slice_get links d ≡ Some k → d < get_or heads k.to 0
 
--- What leads to a node with a rank has a smaller one. The links to the others from those without a rank are not passed.
+-- A node with a rank has only predecessors of smaller rank. Links to other nodes from nodes without a rank are still to
+-- be visited.
 pub record IsSorted (links : List Link) (heads before ranks : List ℕ) : Type 0 where
   pub long : length before ≡ length links
   pub nodes : length heads ≡ length ranks
@@ -69,13 +70,13 @@ pub record IsSorted (links : List Link) (heads before ranks : List ℕ) : Type 0
   pub placed : (l : Link) → IsAmong links l → 0 < get_or ranks l.to 0
       → (0 < get_or ranks l.from 0) × (get_or ranks l.from 0 < get_or ranks l.to 0)
 
--- just the nodes with a rank stand in the order, by their ranks
+-- the order has exactly the nodes with a rank, by rank
 pub record AreOrdered (ranks order : List ℕ) : Type 0 where
   pub rises : Rises (λ t. get_or ranks t 0) order
   pub ordered : (v : ℕ) → Has order v → (0 < get_or ranks v 0) × (get_or ranks v 0 ≤ length order)
   pub all : (v : ℕ) → 0 < get_or ranks v 0 → Has order v
 
--- The path leads back from the root to the node at its end. What is met has a rank or stands on the path.
+-- The path leads back from the root to the node at its end. Each node met has a rank or is on the path.
 pub record IsReached (links : List Link) (root : ℕ) (met : List Bool) (ranks : List ℕ) (path : List Link) (at : ℕ) : Type 0 where
   pub within : at < length ranks
   pub marks : length met ≡ length ranks

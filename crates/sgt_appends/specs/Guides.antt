@@ -1,4 +1,4 @@
--- What is enough for an order to be a serial run.
+-- A sufficient condition for an order to be a serial run.
 use Rattle.std.specs.Prelude.{◌≡◌, ◌≢◌, ◌<◌, ◌⊎◌, ◌++◌, ℕ, List}
 use Rattle.std.specs.List.{flat_map}
 use Rattle.sgt_appends.specs.declared.transaction.Status.TheVariants.{Committed}
@@ -11,7 +11,7 @@ use Rattle.sgt_appends.specs.Precedences.{appended, Appends, Reads}
 abbrev pub appended_by : List Transaction → ℕ → List ℕ → List ℕ
 appended_by h k ts = flat_map (λ t. appended k (operations_of h t)) ts
 
--- Of a read: those of the order whose values t saw at the key, in their order. Exactly these come before t.
+-- For a read of t: the transactions of the order whose values t saw at the key, in order. Exactly these come before t.
 pub record SawThese (h : List Transaction) (order : List ℕ) (rank : ℕ → ℕ) (t k : ℕ) (seen own : List ℕ) : Type 0 where
   pub those : List ℕ
   pub are : seen ≡ appended_by h k those ++ own
@@ -19,7 +19,7 @@ pub record SawThese (h : List Transaction) (order : List ℕ) (rank : ℕ → �
   pub before : (u : ℕ) → Has those u → Has order u × (rank u < rank t)
   pub others : (u value : ℕ) → Has order u → u ≢ t → Appends h u k value → Has those u ⊎ (rank t < rank u)
 
--- the ranks rise along the order, and at each read exactly those come before whose values it saw
+-- the ranks rise along the order, and exactly those come before each reader whose values it saw
 pub record IsGuided (h : List Transaction) (order : List ℕ) (rank : ℕ → ℕ) : Type 0 where
   pub rises : Rises rank order
   pub committed : (t : ℕ) → Ended h t Committed → Has order t

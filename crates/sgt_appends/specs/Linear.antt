@@ -1,4 +1,4 @@
--- A number of precedences that grows with the history's size: ranks that rise along these rise along all.
+-- A linear number of edges that suffices: ranks that rise along these rise along all precedences.
 use Rattle.std.specs.Prelude.{◌≡◌, ◌≢◌, ◌⊎◌, ◌++◌, ◌<◌, ℕ, List, [], ◌∷◌}
 use Rattle.sgt_appends.specs.declared.transaction.Status.TheVariants.{Committed}
 use Rattle.sgt_appends.specs.declared.transaction.Transaction.{Transaction}
@@ -7,13 +7,13 @@ use Rattle.sgt_appends.specs.Runs.{Ended, MayRun, IsSerialRun}
 use Rattle.sgt_appends.specs.Precedences.{Appends, Reads, AppendsOnce, Precedes}
 use Rattle.sgt_appends.specs.Orders.{AllClean, UnknownOnlyAppend}
 
--- from each value of the list to the next one the rank of who appends it grows, or they are of one transaction
+-- from each value of the list to the next the rank of the appender rises, or both have the same appender
 abbrev pub ClimbsFrom : List Transaction → (ℕ → ℕ) → ℕ → ℕ → List ℕ → Type 0
 ClimbsFrom h rank k x [] = Unit {0}
 ClimbsFrom h rank k x (y ∷ ys) =
     ((t u : ℕ) → Appends h t k x → Appends h u k y → t ≢ u → rank t < rank u) × ClimbsFrom h rank k y ys
 
--- the same, from the first value of a list on
+-- the same, starting at the first value of a list
 abbrev pub Climbs : List Transaction → (ℕ → ℕ) → ℕ → List ℕ → Type 0
 Climbs h rank k [] = Unit {0}
 Climbs h rank k (x ∷ xs) = ClimbsFrom h rank k x xs
@@ -22,7 +22,8 @@ Climbs h rank k (x ∷ xs) = ClimbsFrom h rank k x xs
 abbrev pub IsKnown : List Transaction → ℕ → ℕ → List ℕ → ℕ → Type 0
 IsKnown h r k seen value = Has seen value ⊎ Appends h r k value
 
--- The reader knows all of the line, and is below its end; or it is below whoever appends the first that it does not know.
+-- The reader knows the whole line, and is below its end; or it is below the appender of the first value that it does
+-- not know.
 abbrev pub IsBelowNext : List Transaction → (ℕ → ℕ) → ℕ → ℕ → ℕ → List ℕ → List ℕ → Type 0
 IsBelowNext h rank end r k seen line =
     (((v : ℕ) → Has line v → IsKnown h r k seen v) × (rank r < end))
@@ -30,7 +31,7 @@ IsBelowNext h rank end r k seen line =
     × ((v : ℕ) → Has front v → IsKnown h r k seen v) × (¬ IsKnown h r k seen w)
     × ((u : ℕ) → Appends h u k w → rank r < rank u))
 
--- the line of a key is what a committed reader saw there, and what it appended itself after that
+-- each value of the key's line is one that a committed reader saw there, or appends itself
 pub record IsLine (h : List Transaction) (k : ℕ) (line : List ℕ) : Type 0 where
   pub reader : ℕ
   pub own : List ℕ
@@ -39,7 +40,7 @@ pub record IsLine (h : List Transaction) (k : ℕ) (line : List ℕ) : Type 0 wh
   pub reads : Reads h reader k own seen
   pub known : (v : ℕ) → Has line v → IsKnown h reader k seen v
 
--- the ranks rise along so many edges: one for each value that was seen, two for each read, one for each unseen append
+-- the ranks rise along these edges: one for each value seen, two for each read, one for each unseen append
 pub record IsRaised (h : List Transaction) (order : List ℕ) (rank end : ℕ → ℕ) (line : ℕ → List ℕ) : Type 0 where
   pub climbs : (r k : ℕ) (own seen : List ℕ) → Ended h r Committed → Reads h r k own seen → Climbs h rank k seen
   pub last : (r k : ℕ) (own seen front : List ℕ) (x t : ℕ) → Ended h r Committed → Reads h r k own seen
@@ -49,7 +50,7 @@ pub record IsRaised (h : List Transaction) (order : List ℕ) (rank end : ℕ �
   pub next : (r k : ℕ) (own seen : List ℕ) → Ended h r Committed → Reads h r k own seen → IsBelowNext h rank (end k) r k seen (line k)
   pub unseen : (t k v : ℕ) → Has order t → Appends h t k v → ¬ Has (line k) v → end k < rank t
 
--- along all precedences they rise too
+-- then they rise along all precedences too
 abbrev pub FewEdgesAreEnough : Type 0
 FewEdgesAreEnough = (h : List Transaction) (order : List ℕ) (rank end : ℕ → ℕ) (line : ℕ → List ℕ) → AppendsOnce h → AllClean h
     → IsRaised h order rank end line → (t u : ℕ) → Has order u → Precedes h t u → rank t < rank u
@@ -59,14 +60,14 @@ abbrev pub IsObserved : List Transaction → ℕ → Type 0
 IsObserved h t = (r : ℕ) × (k : ℕ) × (v : ℕ) × (own : List ℕ) × (seen : List ℕ) × Ended h r Committed × Reads h r k own seen
     × Has seen v × Appends h t k v
 
--- an order by such ranks, of the committed ones and those of whom something was seen
+-- an order by such ranks, of the committed transactions and of those with an observed value
 pub record IsByRank (h : List Transaction) (order : List ℕ) (rank : ℕ → ℕ) : Type 0 where
   pub rises : Rises rank order
   pub committed : (t : ℕ) → Ended h t Committed → Has order t
   pub observed : (t : ℕ) → MayRun h t → IsObserved h t → Has order t
   pub may_run : (t : ℕ) → Has order t → MayRun h t
 
--- where no read has a fault, such an order is a serial run: what a solver has to find
+-- if no read has a fault, such an order is a serial run: this is what a solver has to find
 abbrev pub RaisedAreEnough : Type 0
 RaisedAreEnough = (h : List Transaction) (order : List ℕ) (rank end : ℕ → ℕ) (line : ℕ → List ℕ) → AppendsOnce h
     → UnknownOnlyAppend h → AllClean h → IsRaised h order rank end line → IsByRank h order rank → IsSerialRun h order

@@ -15,7 +15,7 @@ use Rattle.sgt_appends.specs.Linear.{IsKnown, IsLine}
 use Rattle.sgt_appends.specs.Indexes.{pair_cmp, IsEarlier}
 use Rattle.sgt_appends.specs.Reads.{IsReadAt}
 
--- what a read of t at position p saw, with what t appends to the key after it
+-- what a read of t at position p saw, followed by what t appends to the key after it
 abbrev pub version_of : List Transaction → ℕ → ℕ → ℕ → List ℕ → List ℕ
 version_of h t p k seen = seen ++ appended k (drop p (operations_of h t))
 
@@ -23,15 +23,15 @@ version_of h t p k seen = seen ++ appended k (drop p (operations_of h t))
 abbrev pub KeyLines : Type 0
 KeyLines = ℕ → Option Line
 
--- what the map holds
+-- the contents of the map
 abbrev pub line_in : Lines → KeyLines
 line_in lines k = get nat_cmp lines.lines k
 
--- the keys, by the numbers of their lines
+-- the keys, by line number
 abbrev pub keys_in : Lines → List ℕ
 keys_in lines = lines.keys.items
 
--- the values of a line, none where there is no line
+-- the values of a line, or none if there is no line
 abbrev pub values_or_none : Option Line → List ℕ
 values_or_none None = []
 values_or_none (Some line) = line.values.items
@@ -40,7 +40,7 @@ values_or_none (Some line) = line.values.items
 abbrev pub values_in : KeyLines → ℕ → List ℕ
 values_in lines k = values_or_none (lines k)
 
--- the pair is in the set
+-- the two numbers are in the set
 abbrev pub has_pair : BTreeSet (ℕ × ℕ) → ℕ → ℕ → Type 0
 has_pair set k v = contains pair_cmp set (k, v) ≡ true
 
@@ -48,7 +48,7 @@ has_pair set k v = contains pair_cmp set (k, v) ≡ true
 abbrev pub AreNumbered : KeyLines → List ℕ → Type 0
 AreNumbered lines keys = (k : ℕ) (line : Line) → lines k ≡ Some line → slice_get keys line.number ≡ Some k
 
--- the key has a line with this number and these values, and the other keys have theirs
+-- the key has a line with this number and these values, and the other keys keep theirs
 pub record IsWithLine (old new : KeyLines) (k number : ℕ) (values : List ℕ) : Type 0 where
   pub line : Line
   pub here : new k ≡ Some line
@@ -56,7 +56,7 @@ pub record IsWithLine (old new : KeyLines) (k number : ℕ) (values : List ℕ) 
   pub values_are : line.values.items ≡ values
   pub others : (l : ℕ) → l ≢ k → new l ≡ old l
 
--- the line of the key is no shorter than the version, and all stays
+-- the line of the key is no shorter than the version, and nothing changes
 pub record IsKept (old new : KeyLines) (keys keys' : List ℕ) (k : ℕ) (values : List ℕ) : Type 0 where
   pub line : Line
   pub there : old k ≡ Some line
@@ -64,7 +64,7 @@ pub record IsKept (old new : KeyLines) (keys keys' : List ℕ) (k : ℕ) (values
   pub same : (l : ℕ) → new l ≡ old l
   pub keys_same : keys' ≡ keys
 
--- the version is the line of the key now
+-- the version is now the line of the key
 pub record IsPut (old new : KeyLines) (keys keys' : List ℕ) (k : ℕ) (values : List ℕ) : Type 0 where
   pub line : Line
   pub here : new k ≡ Some line
@@ -74,7 +74,7 @@ pub record IsPut (old new : KeyLines) (keys keys' : List ℕ) (k : ℕ) (values 
   pub keys_stay : (i x : ℕ) → slice_get keys i ≡ Some x → slice_get keys' i ≡ Some x
   pub longer : (o : Line) → old k ≡ Some o → length o.values.items ≤ length values
 
--- the longer one of the version and the line of the key is the line now
+-- the longer of the version and the key's old line is now the line
 abbrev pub IsOffered : KeyLines → KeyLines → List ℕ → List ℕ → ℕ → List ℕ → Type 0
 IsOffered old new keys keys' k values = IsKept old new keys keys' k values ⊎ IsPut old new keys keys' k values
 

@@ -1,4 +1,4 @@
--- What a read and an append say of the line of their key.
+-- What a read and an append imply for the line of their key.
 use Rattle.std.specs.Prelude.{◌≡◌, ◌≢◌, ◌⊎◌, ◌++◌, ℕ, List, ◌∷◌, Some, true}
 use Rattle.std.specs.BTreeSet.{BTreeSet, contains}
 use Rattle.std.specs.Ordering.{nat_cmp}
@@ -10,15 +10,15 @@ use Rattle.sgt_appends.specs.Lines.{KeyLines, values_in}
 abbrev pub has_number : BTreeSet ℕ → ℕ → Type 0
 has_number set v = contains nat_cmp set v ≡ true
 
--- the value was seen, or the reader appends it itself, by the index
+-- the value was seen, or the index says that the reader appends it itself
 abbrev pub IsKnownBy : Positions → ℕ → ℕ → List ℕ → ℕ → Type 0
 IsKnownBy at r k seen v = Has seen v ⊎ ((p : ℕ) × (at k v ≡ Some (r, p)))
 
--- another one appends the value, there, and it was not seen
+-- another transaction appends the value, at this position, and it was not seen
 abbrev pub IsUnknownBy : Positions → ℕ → ℕ → List ℕ → ℕ → ℕ × ℕ → Type 0
 IsUnknownBy at r k seen v x = (¬ Has seen v) × (at k v ≡ Some x) × (x.0 ≢ r)
 
--- the first value of the line that the reader does not know is appended there
+-- this is the append of the line's first value that the reader does not know
 abbrev pub IsFirstUnknown : Positions → ℕ → ℕ → List ℕ → List ℕ → ℕ × ℕ → Type 0
 IsFirstUnknown at r k seen line x = (front : List ℕ) × (w : ℕ) × (back : List ℕ) × (line ≡ front ++ w ∷ back)
     × ((v : ℕ) → Has front v → IsKnownBy at r k seen v) × IsUnknownBy at r k seen w x

@@ -1,4 +1,4 @@
--- Reads at their positions, their faults, and how far a read was looked through.
+-- Reads at their positions, their faults, and the state of a scan of a read.
 use Rattle.std.specs.Prelude.{◌≡◌, ◌<◌, ◌≤◌, ◌++◌, ℕ, List, Option, Some, slice_get}
 use Rattle.std.proofs.Common.{take}
 use Rattle.std.specs.BTreeMap.{BTreeMap, get}
@@ -23,7 +23,7 @@ IsReadAt h t p k seen = (values : Vec ℕ) × (slice_get (operations_of h t) p �
 abbrev pub own_at : List Transaction → ℕ → ℕ → ℕ → List ℕ
 own_at h t p k = appended k (take p (operations_of h t))
 
--- what each fault says of a read of t at the key that saw these values, where it had appended its `own` to it before
+-- the meaning of each fault of a read of t at the key; it saw these values, and t had appended `own` before
 abbrev pub Faults : List Transaction → ℕ → ℕ → List ℕ → List ℕ → Fault → Type 0
 Faults h t k own seen (Unwritten value) = Has seen value × ((u : ℕ) → Appends h u k value → ¬ MayRun h u)
 Faults h t k own seen (Twice value) = StandsBefore seen value value
@@ -48,12 +48,12 @@ AreCleanIn h t = (p : ℕ) → IsCleanAt h t p
 abbrev pub Lasts : Type 0
 Lasts = ℕ → Option ℕ
 
--- what the map holds
+-- the contents of the map
 abbrev pub last_in : BTreeMap ℕ ℕ → Lasts
 last_in map t = get nat_cmp map t
 
--- What a fault says of a value that a read of t at position p saw. `last` has for each transaction the position of its last
--- value before.
+-- The meaning of a fault at one value that a read of t at position p saw. `last` has for each transaction the position
+-- of its last value before.
 abbrev pub IsFaultAt : List Transaction → Positions → ℕ → ℕ → ℕ → Lasts → ℕ → Fault → Type 0
 IsFaultAt h at t p k last value (Unwritten v) = (v ≡ value) × ((u : ℕ) → Appends h u k value → ¬ MayRun h u)
 IsFaultAt h at t p k last value (Twice v) = (v ≡ value) × (u : ℕ) × (q : ℕ) × (at k value ≡ Some (u, q)) × (last u ≡ Some q)
@@ -61,7 +61,8 @@ IsFaultAt h at t p k last value (Swapped by first second) = (at k value ≡ Some
 IsFaultAt h at t p k last value EndsOtherwise = ⊥
 IsFaultAt h at t p k last value (Ahead append) = (at k value ≡ Some (t, append)) × (p ≤ append)
 
--- The value has no fault: who may have run appends it, not the reader later, and after its last value.
+-- The value has no fault. Its appender may have run, is not the reader at a later position, and appends it after its
+-- last value seen.
 abbrev pub IsPassedOne : List Transaction → Positions → ℕ → ℕ → ℕ → Lasts → Lasts → ℕ → Type 0
 IsPassedOne h at t p k old new value = (u : ℕ) × (q : ℕ) × (at k value ≡ Some (u, q)) × MayRun h u × (u ≡ t → q < p)
     × ((r : ℕ) → old u ≡ Some r → r < q) × (new u ≡ Some q) × ((w : ℕ) → ¬ (w ≡ u) → new w ≡ old w)

@@ -7,7 +7,7 @@ use Rattle.sgt_appends.specs.declared.transaction.Status.TheVariants.{Committed,
 use Rattle.sgt_appends.specs.declared.transaction.Transaction.{Transaction}
 use Rattle.sgt_appends.specs.Lists.{Has, IsOnce}
 
--- the list that stands at each key
+-- the current list of each key
 abbrev pub Contents : Type 0
 Contents = ℕ → List ℕ
 
@@ -20,7 +20,7 @@ abbrev pub after : Operation → Contents → Contents
 after (Append key value) contents k = if k == key then contents k ++ value ∷ [] else contents k
 after (Read key values) contents k = contents k
 
--- a read sees what stands there
+-- a read sees the current list
 abbrev pub Sees : Operation → Contents → Type 0
 Sees (Append key value) contents = Unit {0}
 Sees (Read key values) contents = values.items ≡ contents key
@@ -30,12 +30,12 @@ abbrev pub after_all : List Operation → Contents → Contents
 after_all [] contents = contents
 after_all (o ∷ os) contents = after_all os (after o contents)
 
--- one after another, each read sees what stands there
+-- each read sees the list that the operations before it left
 abbrev pub SeesAll : List Operation → Contents → Type 0
 SeesAll [] contents = Unit {0}
 SeesAll (o ∷ os) contents = Sees o contents × SeesAll os (after o contents)
 
--- the operations of a transaction, none where there is no transaction
+-- the operations of a transaction, or none if there is no transaction
 abbrev pub operations_or_none : Option Transaction → List Operation
 operations_or_none None = []
 operations_or_none (Some t) = t.operations.items
@@ -49,7 +49,7 @@ abbrev pub IsRun : List Transaction → Contents → List ℕ → Type 0
 IsRun h contents [] = Unit {0}
 IsRun h contents (t ∷ ts) = SeesAll (operations_of h t) contents × IsRun h (after_all (operations_of h t) contents) ts
 
--- t ended so
+-- t has this status
 abbrev pub Ended : List Transaction → ℕ → Status → Type 0
 Ended h t status = (x : Transaction) × (slice_get h t ≡ Some x) × (x.status ≡ status)
 
@@ -57,7 +57,7 @@ Ended h t status = (x : Transaction) × (slice_get h t ≡ Some x) × (x.status 
 abbrev pub MayRun : List Transaction → ℕ → Type 0
 MayRun h t = Ended h t Committed ⊎ Ended h t Unknown
 
--- A serial run: none twice, each committed one, none of the aborted ones, any of the unknown ones.
+-- A serial run has no transaction twice, each committed one, no aborted one, and any of the unknown ones.
 pub record IsSerialRun (h : List Transaction) (order : List ℕ) : Type 0 where
   pub once : IsOnce order
   pub committed : (t : ℕ) → Ended h t Committed → Has order t

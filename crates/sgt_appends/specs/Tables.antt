@@ -1,4 +1,4 @@
--- What the tables of the program hold.
+-- The contents of the code's tables.
 use Rattle.std.specs.Prelude.{◌≡◌, ℕ, List, [], Option, Some, None, Bool, true, false, length}
 use Rattle.std.proofs.Common.{get_or}
 use Rattle.sgt_appends.specs.declared.transaction.Transaction.{Transaction}
@@ -9,16 +9,16 @@ use Rattle.std.specs.Ordering.{nat_cmp}
 use Rattle.std.specs.Global.{Vec}
 use Rattle.sgt_appends.specs.declared.contents.Contents.{Contents}
 
--- the items of a list, none where there is no list
+-- the items of a list, or none if there is no list
 abbrev pub items_or_none : Option (Vec ℕ) → List ℕ
 items_or_none None = []
 items_or_none (Some list) = list.items
 
--- the list that stands at the key
+-- the current list of the key
 abbrev pub stands : Contents → ℕ → List ℕ
 stands contents key = items_or_none (get nat_cmp contents.lists key)
 
--- the transactions are named once each, may have taken effect, and just they are marked
+-- each transaction is named once and may have taken effect, and exactly these are marked
 pub record IsNamed (h : List Transaction) (ts : List ℕ) (marks : List Bool) : Type 0 where
   pub once : IsOnce ts
   pub may_run : (t : ℕ) → Has ts t → MayRun h t

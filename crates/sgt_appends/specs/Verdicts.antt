@@ -1,4 +1,4 @@
--- What a verdict claims.
+-- The claims of a verdict.
 use Rattle.std.specs.Prelude.{List}
 use Rattle.sgt_appends.specs.declared.transaction.Transaction.{Transaction}
 use Rattle.sgt_appends.specs.declared.check.Verdict.{Verdict}
@@ -10,12 +10,13 @@ use Rattle.sgt_appends.specs.Precedences.{AppendsOnce}
 use Rattle.sgt_appends.specs.Reads.{HasFault}
 use Rattle.sgt_appends.specs.Witnesses.{AllPrecede}
 
--- the edges of a cycle are all by what was observed, and a fault is one of the read
+-- the edges of a cycle all follow from what was observed, and a fault is one of the read
 abbrev pub IsWitness : List Transaction → Witness → Type 0
 IsWitness h (Cycle edges) = AllPrecede h edges.items
 IsWitness h (Fault reader read fault) = HasFault h reader read fault
 
--- A serial run is one, and what is said not to be serializable has none.
+-- `Serial`: the order is a serial run. `Violated`: there is none, and the witness holds. `AppendedTwice`: a value is
+-- appended twice to a key.
 abbrev pub IsRight : List Transaction → Verdict → Type 0
 IsRight h (Serial order) = IsSerialRun h order.items
 IsRight h (Violated witness) = (¬ IsSerializable h) × IsWitness h witness

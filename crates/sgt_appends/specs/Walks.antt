@@ -1,4 +1,4 @@
--- Walks along the precedences.
+-- Paths along the precedences.
 use Rattle.std.specs.Prelude.{◌≡◌, ◌<◌, ◌⊎◌, ℕ, List}
 use Rattle.std.proofs.Common.{take}
 use Rattle.sgt_appends.specs.declared.transaction.Status.TheVariants.{Committed}
@@ -10,6 +10,6 @@ use Rattle.sgt_appends.specs.Precedences.{IsPath, appended, Reads}
 abbrev pub Reaches : List Transaction → ℕ → ℕ → ℕ → Type 0
 Reaches h i t u = ((i ≡ 0) × (t ≡ u)) ⊎ ((0 < i) × ((others : List ℕ) × IsPath h t others u))
 
--- t committed, and at this place has read these values at the key, after what its operations before the place append to it
+-- t committed, and at this position has read these values at the key, after what its operations before it append to it
 abbrev pub ReadAt : List Transaction → ℕ → ℕ → ℕ → List ℕ → Type 0
 ReadAt h t place k seen = Ended h t Committed × Reads h t k (appended k (take place (operations_of h t))) seen

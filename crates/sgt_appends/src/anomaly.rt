@@ -1,11 +1,11 @@
-//! The names that witnesses have in the literature. They are tested, not proved.
+//! The names of witnesses in the literature. They are tested, not proved.
 
 use crate::check::Witness;
 use crate::fault::{Fault, appends, key_read};
 use crate::transaction::Transaction;
 use crate::witness::{Edge, Reason};
 
-/// What a witness is called.
+/// The name of a witness.
 ///
 /// Adya (1999), chapter 3: phenomena G0 to G2; Kingsbury and Alvaro, Elle (VLDB 2020): the others.
 #[derive(Clone, Copy, Debug, PartialEq, Eq)]
@@ -16,13 +16,13 @@ pub enum Anomaly {
     G1a,
     /// A read of some of the values that a transaction appends.
     G1b,
-    /// A cycle of appends and reads that saw them.
+    /// A cycle of appends, and of reads that saw them.
     G1c,
     /// A cycle with one read that missed an append.
     GSingle,
     /// A cycle with more reads that missed an append.
     G2Item,
-    /// Two values of a transaction were seen against its order.
+    /// Two values of a transaction were seen in the opposite order.
     IncompatibleOrder,
     /// A read contradicts what its own transaction appends.
     Internal,
@@ -32,7 +32,7 @@ pub enum Anomaly {
     Duplicate,
 }
 
-/// What the witness of the history is called.
+/// The name of the history's witness.
 pub fn name_of(history: &[Transaction], witness: &Witness) -> Anomaly {
     match witness {
         Witness::Cycle(edges) => of_cycle(edges.as_slice()),
@@ -44,7 +44,7 @@ pub fn name_of(history: &[Transaction], witness: &Witness) -> Anomaly {
     }
 }
 
-/// What the cycle is called.
+/// The name of the cycle.
 fn of_cycle(edges: &[Edge]) -> Anomaly {
     let mut sees = false;
     let mut misses = false;
@@ -84,7 +84,7 @@ fn is_intermediate(edges: &[Edge]) -> bool {
     }
 }
 
-/// What the fault of the read is called.
+/// The name of the read's fault.
 fn of_fault(history: &[Transaction], reader: usize, read: usize, fault: &Fault) -> Anomaly {
     match fault {
         Fault::Unwritten(value) => {
@@ -101,7 +101,7 @@ fn of_fault(history: &[Transaction], reader: usize, read: usize, fault: &Fault) 
     }
 }
 
-/// Whether a transaction appends the value to the key that is read there.
+/// Whether a transaction appends the value to the key that is read at the position.
 fn is_appended(history: &[Transaction], reader: usize, read: usize, value: u32) -> bool {
     let Some(key) = key_read(history, reader, read) else {
         return false;

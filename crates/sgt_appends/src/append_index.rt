@@ -10,14 +10,14 @@ use sgt_model::NoMemory;
 use std::alloc::Global;
 use std::collections::BTreeMap;
 
-/// For each key and value the transaction that appends it, and the position of the append in it.
+/// For each key and value: the transaction that appends it, and the position of the append in that transaction.
 #[derive(Drop)]
 pub struct AppendIndex {
     positions: BTreeMap<(u32, u32), (usize, usize)>,
 }
 
 impl AppendIndex {
-    /// Where the transactions append their values, or `None` where a value is appended twice to a key.
+    /// The positions of the transactions' appends, or `None` if a value is appended twice to a key.
     pub fn of_history(alloc: Global, history: &[Transaction]) -> Result<Option<Self>, NoMemory>
         ensures index { IfOk result (λ found. IfSome found (λ appends. IsIndex history.now (position_of appends))) }
         ensures once { IfOk result (λ found. IsSome found ↔ AppendsOnce history.now) }
@@ -33,7 +33,7 @@ impl AppendIndex {
         Ok(Some(appends))
     }
 
-    /// Adds the operations of the transaction, and returns whether none of its values was there.
+    /// Adds the operations of the transaction, and returns whether all its values were new.
     fn add_all(
         &mut self,
         history: &[Transaction],
@@ -53,7 +53,7 @@ impl AppendIndex {
         Ok(true)
     }
 
-    /// Adds the operation, and returns whether its value was not there.
+    /// Adds the operation, and returns whether its value was new.
     fn add(
         &mut self,
         operation: &Operation,
@@ -70,7 +70,7 @@ impl AppendIndex {
         }
     }
 
-    /// Adds the position of the value, and returns whether it had none.
+    /// Adds the position of the value, and returns whether the value was new.
     fn put(
         &mut self,
         key: u32,

@@ -13,21 +13,21 @@ use crate::witness::{Edge, all_hold, is_cycle};
 use sgt_model::NoMemory;
 use std::alloc::Global;
 
-/// What a solver answers. Nobody has to trust it.
+/// A solver's answer. It is not trusted: `judge` tests it.
 #[derive(Debug, Drop, PartialEq, Eq)]
 pub enum Answer {
     /// An order of the transactions.
     Order(Vec<usize>),
-    /// Precedences that lead back to where they begin.
+    /// A cycle of precedences.
     Cycle(Vec<Edge>),
 }
 
-/// What shows that a history is not serializable.
+/// A witness that a history is not serializable.
 #[derive(Debug, Drop, PartialEq, Eq)]
 pub enum Witness {
-    /// Precedences that lead back to where they begin.
+    /// A cycle of precedences.
     Cycle(Vec<Edge>),
-    /// A fault of a read, which stands at this place of the reader.
+    /// A fault of the read at this position of the reader.
     Fault {
         reader: usize,
         read: usize,
@@ -35,22 +35,22 @@ pub enum Witness {
     },
 }
 
-/// Whether what the clients observed was serializable, with what shows it.
+/// Whether what the clients observed was serializable, with the evidence.
 #[derive(Debug, Drop, PartialEq, Eq)]
 pub enum Verdict {
     /// It was: a serial run.
     Serial(Vec<usize>),
     /// It was not: a cycle of precedences, or a fault of a read.
     Violated(Witness),
-    /// Nothing is said, since a value is appended twice to a key.
+    /// Undecided: a value is appended twice to a key.
     AppendedTwice,
-    /// Nothing is said, since the answer shows nothing.
+    /// Undecided: the solver's answer shows nothing.
     Unsure,
 }
 
-/// Whether what the clients saw is serializable, with a serial run or a witness against all orders.
+/// Checks whether what the clients saw is serializable, with a serial run or a witness against all orders.
 ///
-/// The time is about linear in the size of the history, n log n.
+/// The time is about linear in the size of the history: n log n.
 pub fn check_appends(alloc: Global, history: &[Transaction]) -> Result<Verdict, NoMemory>
     ensures { IfOk result (IsRight history.now) }
 {
@@ -78,7 +78,7 @@ pub fn judge(alloc: Global, history: &[Transaction], answer: Answer) -> Result<V
     show(alloc, history, answer)
 }
 
-/// The verdict that the answer shows, where no value is appended twice to a key.
+/// The verdict that the answer shows, if no value is appended twice to a key.
 fn show(alloc: Global, history: &[Transaction], answer: Answer) -> Result<Verdict, NoMemory>
     requires { AppendsOnce history.now }
     ensures { IfOk result (IsRight history.now) }

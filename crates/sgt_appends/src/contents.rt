@@ -8,7 +8,7 @@ use sgt_model::NoMemory;
 use std::alloc::Global;
 use std::collections::BTreeMap;
 
-/// The list that stands at each key.
+/// The current list of each key.
 #[derive(Drop)]
 pub struct Contents {
     lists: BTreeMap<u32, Vec<u32>>,
@@ -24,7 +24,7 @@ impl Contents {
         }
     }
 
-    /// Puts the value at the end of the key's list.
+    /// Appends the value to the key's list.
     fn append(&mut self, alloc: Global, key: u32, value: u32) -> Result<(), NoMemory>
         ensures { OnOk result ((k : ℕ) → stands self.new k ≡ (if k == key then stands self.old k ++ value ∷ [] else stands self.old k)) }
     {
@@ -37,7 +37,7 @@ impl Contents {
         Ok(())
     }
 
-    /// Whether these values stand at the key.
+    /// Whether the key has exactly these values.
     fn shows(&self, key: u32, values: &[u32]) -> bool
         ensures { IsTrue result → values.now ≡ stands self.now key }
     {
@@ -47,7 +47,7 @@ impl Contents {
         }
     }
 
-    /// Does the operation, and tells whether it sees what was observed.
+    /// Runs the operation, and returns whether it sees what was observed.
     fn step(&mut self, alloc: Global, operation: &Operation) -> Result<bool, NoMemory>
         ensures sees { IfOk result (λ yes. IsTrue yes → Sees operation.now (stands self.old)) }
         ensures after { OnOk result ((k : ℕ) → stands self.new k ≡ after operation.now (stands self.old) k) }
@@ -61,7 +61,7 @@ impl Contents {
         }
     }
 
-    /// Does the operations, and tells whether each sees what was observed.
+    /// Runs the operations, and returns whether each sees what was observed.
     pub fn run(&mut self, alloc: Global, operations: &[Operation]) -> Result<bool, NoMemory>
         ensures sees { IfOk result (λ yes. IsTrue yes → SeesAll operations.now (stands self.old)) }
         ensures after { IfOk result (λ yes. IsTrue yes → (k : ℕ) → stands self.new k ≡ after_all operations.now (stands self.old) k) }

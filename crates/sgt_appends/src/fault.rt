@@ -1,4 +1,4 @@
-//! Faults of a single read, and what they look at.
+//! Faults of a single read, with the helpers that test them.
 ghost use Rattle.std.specs.Prelude.{◌≡◌, ◌↔◌, ◌++◌, ℕ, List, [], ◌∷◌, IsTrue, IfOk, OnOk};
 ghost use Rattle.std.proofs.Common.{take, drop};
 ghost use Rattle.sgt_appends.specs.Lists.{Has};
@@ -9,28 +9,28 @@ use crate::transaction::{Operation, Transaction};
 use sgt_model::NoMemory;
 use std::alloc::Global;
 
-/// What is wrong with a read by itself. Operations are named by their places in their transactions.
+/// A fault of a single read. Operations are named by their positions in their transactions.
 #[derive(Clone, Copy, Debug, PartialEq, Eq)]
 pub enum Fault {
-    /// It saw a value that none appends but aborted transactions.
+    /// It saw a value that only aborted transactions append, or none.
     Unwritten(u32),
     /// It saw a value twice.
     Twice(u32),
-    /// It saw two values of one transaction the other way round.
+    /// It saw two values of one transaction in the opposite order.
     Swapped {
         by: usize,
         first: usize,
         second: usize,
     },
-    /// The list does not end with what its own transaction has appended before.
+    /// The list does not end with what its own transaction appended before.
     EndsOtherwise,
-    /// It saw what its own transaction appends only later.
+    /// It saw a value that its own transaction appends only later.
     Ahead {
         append: usize,
     },
 }
 
-/// The key that is read there.
+/// The key of the read at the position.
 pub(crate) fn key_read(history: &[Transaction], reader: usize, read: usize) -> Option<u32> {
     match history.get(reader)?.operations.get(read)? {
         Operation::Read { key, .. } => Some(*key),
@@ -45,7 +45,7 @@ pub(crate) fn ends_with(values: &[u32], end: &[u32]) -> bool
     end.len() <= values.len() && &values[values.len() - end.len()..] == end
 }
 
-/// What the operations of the transaction before the place append to the key.
+/// What the operations of the transaction before the position append to the key.
 pub(crate) fn own_before(
     alloc: Global,
     history: &[Transaction],
@@ -65,7 +65,7 @@ pub(crate) fn own_before(
     appended_by(alloc, &operations[..place], of)
 }
 
-/// What the operations of the transaction from the place on append to the key.
+/// What the operations of the transaction from the position on append to the key.
 pub(crate) fn own_after(
     alloc: Global,
     history: &[Transaction],

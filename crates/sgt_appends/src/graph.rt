@@ -1,7 +1,7 @@
-//! The graph of the transactions and the ends of the lines: what must come before what, by few links.
+//! The precedence graph of the transactions and the ends of the lines, with few links.
 //!
-//! Its nodes are the transactions, and for each line its end, after all who saw the whole line and before all who append
-//! a value that is not in it.
+//! Its nodes are the transactions, and an end for each line. The end comes after all that saw the whole line, and
+//! before all that append a value that is not in it.
 ghost use Rattle.std.specs.Prelude.{◌≡◌, ◌≢◌, ◌<◌, ◌↔◌, ◌⊎◌, ℕ, [], Some, None, OnOk, IfOk, IfSome, IsNone};
 ghost use Rattle.sgt_appends.specs.Graphs.{AreWithin};
 ghost use Rattle.sgt_appends.specs.Lists.{Has};
@@ -19,7 +19,7 @@ use sgt_model::NoMemory;
 use std::alloc::Global;
 use std::collections::BTreeSet;
 
-/// Links between nodes below a number.
+/// Links between nodes with numbers below a limit.
 #[derive(Drop)]
 pub struct Graph {
     pub nodes: usize,
@@ -27,7 +27,7 @@ pub struct Graph {
 }
 
 impl Graph {
-    /// No links between nodes below the number.
+    /// No links, between nodes below the number.
     pub fn new(alloc: Global, nodes: usize) -> Self
         ensures { AreWithin result.links.items result.nodes }
     {
@@ -74,8 +74,8 @@ impl Graph {
         Ok(())
     }
 
-    /// Adds the links that the values which the read saw make: from who appends one to who appends the next, and from
-    /// who appends the last of others to the reader.
+    /// Adds the links from the values that the read saw: from the appender of each value to the appender of the next,
+    /// and from the appender of the last value of others to the reader.
     fn add_seen(&mut self, appends: &AppendIndex, read: Read<'_>) -> Result<(), NoMemory>
         requires { AreWithin self.old.links.items self.old.nodes }
         ensures { OnOk result (AreWithin self.new.links.items self.new.nodes) }
@@ -117,7 +117,8 @@ impl Graph {
         Ok(())
     }
 
-    /// Adds the link from the reader to who appends the first value of the line that it does not know, or to the line's end.
+    /// Adds the link from the reader to the appender of the first value of the line that it does not know, or to the
+    /// line's end.
     fn add_missed(
         &mut self,
         alloc: Global,
@@ -151,7 +152,7 @@ impl Graph {
         })
     }
 
-    /// Adds the link from the end of the line to the transaction, if it appends at the position a value that is not in the line.
+    /// Adds the link from the end of the line to the transaction, if its append at the position is not in the line.
     fn add_unseen(
         &mut self,
         history: &[Transaction],
@@ -178,7 +179,7 @@ impl Graph {
     }
 }
 
-/// The end of the line in which the value is not that the transaction appends at the position.
+/// The end of the line, if the value that the transaction appends at the position is not in it.
 fn end_before(
     history: &[Transaction],
     lines: &Lines,
@@ -201,7 +202,7 @@ fn end_before(
     }
 }
 
-/// Who appends the first value of the line that the reader neither saw nor appends, and where.
+/// The appender of the first value of the line that the reader neither saw nor appends, and the position of the append.
 fn first_unknown(
     alloc: Global,
     appends: &AppendIndex,
@@ -223,7 +224,7 @@ fn first_unknown(
     Ok(None)
 }
 
-/// Who appends the value to the key, and where, if the reader neither saw nor appends it.
+/// The appender of the value to the key, and the position of the append, if the reader neither saw nor appends it.
 fn unknown_at(
     appends: &AppendIndex,
     seen: &BTreeSet<u32>,
@@ -256,7 +257,7 @@ fn set_of(alloc: Global, values: &[u32]) -> Result<BTreeSet<u32>, NoMemory>
     Ok(set)
 }
 
-/// The edges between transactions that the links of a cycle make. Two links through the end of a line make one edge.
+/// The edges between transactions that the links of a cycle imply. Two links through the end of a line make one edge.
 pub fn edges_of(alloc: Global, transactions: usize, cycle: &[Link]) -> Result<Vec<Edge>, NoMemory> {
     let mut edges = Vec::new(alloc);
     for (place, link) in cycle.iter().enumerate() {
@@ -278,7 +279,7 @@ pub fn edges_of(alloc: Global, transactions: usize, cycle: &[Link]) -> Result<Ve
     Ok(edges)
 }
 
-/// The link after the one at the place; after the last one the first.
+/// The link after the one at the index; after the last one the first.
 fn next_of(cycle: &[Link], place: usize) -> Option<Link> {
     match cycle.get(place.checked_add(1)?) {
         Some(next) => Some(*next),
@@ -286,7 +287,7 @@ fn next_of(cycle: &[Link], place: usize) -> Option<Link> {
     }
 }
 
-/// The reason of an edge through the end of a line: the read by the one link and the append by the other.
+/// The reason of an edge through the end of a line: the read of the one link and the append of the other.
 fn joined(read: Reason, append: Reason) -> Reason {
     match (read, append) {
         (Reason::Missed { read, .. }, Reason::Missed { append, .. }) => {

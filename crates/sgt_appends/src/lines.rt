@@ -1,6 +1,6 @@
 //! The line of each key: its longest version.
 //!
-//! The version of a read is what it saw, with what its transaction appends to the key after it.
+//! The version of a read is what it saw, followed by what its transaction appends to the key after it.
 ghost use Rattle.std.specs.Prelude.{◌≡◌, ◌+◌, ◌↔◌, ◌⊎◌, ℕ, Some, None, IfOk, OnOk, IfSome, IsNone, length};
 ghost use Rattle.sgt_appends.specs.Lists.{Has};
 ghost use Rattle.sgt_appends.specs.Precedences.{AppendsOnce};
@@ -27,7 +27,7 @@ pub struct Line {
 #[derive(Drop)]
 pub struct Lines {
     lines: BTreeMap<u32, Line>,
-    /// The keys, by the numbers of their lines.
+    /// The keys, by line number.
     keys: Vec<u32>,
 }
 
@@ -66,7 +66,7 @@ impl Lines {
         self.keys.len()
     }
 
-    /// Takes the versions of the reads of the transaction.
+    /// Adds the versions of the transaction's reads.
     fn add_transaction(
         &mut self,
         alloc: Global,
@@ -85,7 +85,7 @@ impl Lines {
         Ok(())
     }
 
-    /// Takes the version of the read at the position of the transaction, if it committed.
+    /// Adds the version of the read at the position of the transaction, if it committed.
     fn add_position(
         &mut self,
         alloc: Global,
@@ -106,7 +106,7 @@ impl Lines {
         }
     }
 
-    /// Takes the version for the line of its key, if it is longer.
+    /// Makes the version the line of its key, if it is longer.
     fn offer(&mut self, key: u32, values: Vec<u32>) -> Result<(), NoMemory>
         ensures { OnOk result (IsOffered (line_in self.old) (line_in self.new) (keys_in self.old) (keys_in self.new) key values.items) }
     {
@@ -124,7 +124,7 @@ impl Lines {
         Ok(())
     }
 
-    /// Takes the values for the line of the key, with this number.
+    /// Makes the values the line of the key, with this number.
     fn put(&mut self, key: u32, number: usize, values: Vec<u32>) -> Result<(), NoMemory>
         ensures line { OnOk result (IsWithLine (line_in self.old) (line_in self.new) key number values.items) }
         ensures keys { OnOk result (keys_in self.new ≡ keys_in self.old) }
@@ -134,7 +134,7 @@ impl Lines {
     }
 }
 
-/// What the read saw, with what its transaction appends to the key after it.
+/// What the read saw, followed by what its transaction appends to the key after it.
 fn version(alloc: Global, history: &[Transaction], read: Read<'_>) -> Result<Vec<u32>, NoMemory>
     ensures { IfOk result (λ values. values.items
         ≡ version_of history.now read.entry.reader read.entry.position read.entry.key read.entry.seen.now) }
@@ -145,7 +145,7 @@ fn version(alloc: Global, history: &[Transaction], read: Read<'_>) -> Result<Vec
     Ok(values)
 }
 
-/// The values of all lines, by their keys.
+/// The values of all lines, by key.
 pub fn all_values(alloc: Global, lines: &Lines) -> Result<BTreeSet<(u32, u32)>, NoMemory>
     requires { AreNumbered (line_in lines.now) (keys_in lines.now) }
     ensures { IfOk result (λ set. (k v : ℕ) → has_pair set k v ↔ Has (values_in (line_in lines.now) k) v) }
@@ -157,7 +157,7 @@ pub fn all_values(alloc: Global, lines: &Lines) -> Result<BTreeSet<(u32, u32)>, 
     Ok(set)
 }
 
-/// Notes the values of the line of the key.
+/// Adds the values of the key's line.
 fn note_line(set: &mut BTreeSet<(u32, u32)>, lines: &Lines, key: u32) -> Result<(), NoMemory>
     ensures { OnOk result ((k v : ℕ) → has_pair set.new k v
         ↔ (has_pair set.old k v ⊎ ((key ≡ k) × Has (values_in (line_in lines.now) key) v))) }
@@ -168,7 +168,7 @@ fn note_line(set: &mut BTreeSet<(u32, u32)>, lines: &Lines, key: u32) -> Result<
     }
 }
 
-/// Notes the values of the key.
+/// Adds the values of the key.
 fn note_values(set: &mut BTreeSet<(u32, u32)>, key: u32, values: &[u32]) -> Result<(), NoMemory>
     ensures { OnOk result ((k v : ℕ) → has_pair set.new k v ↔ (has_pair set.old k v ⊎ ((key ≡ k) × Has values.now v))) }
 {

@@ -48,7 +48,7 @@ fn names_each(alloc: Global, history: &[Transaction], order: &[usize]) -> Result
     Ok(names_right(history, order, named.as_mut_slice()) && all_named(history, named.as_slice()))
 }
 
-/// A mark for each transaction, and none is set.
+/// A mark for each transaction; none is set.
 pub(crate) fn none_named(alloc: Global, len: usize) -> Result<Vec<bool>, NoMemory>
     ensures len { IfOk result (λ named. length named.items ≡ len) }
     ensures none { IfOk result (λ named. (t : ℕ) → get_or named.items t false ≡ false) }

@@ -1,4 +1,4 @@
-//! Faults of reads, looked for in one pass over what each read saw.
+//! Faults of reads, found in one pass over what each read saw.
 ghost use Rattle.std.specs.Prelude.{◌≡◌, ℕ, List, Some, IfSome, IsNone, IfOk};
 ghost use Rattle.sgt_appends.specs.Runs.{Ended, MayRun};
 ghost use Rattle.sgt_appends.specs.Precedences.{Appends};
@@ -21,9 +21,9 @@ pub struct Read<'a> {
     pub reader: usize,
     /// The position of the read in it.
     pub position: usize,
-    /// The key that it reads.
+    /// The key that was read.
     pub key: u32,
-    /// What it saw there.
+    /// The values that it saw.
     pub seen: &'a [u32],
 }
 
@@ -107,7 +107,7 @@ fn fault_here(
     }
 }
 
-/// What is wrong with the read.
+/// The fault of the read, if any.
 fn fault_of(
     alloc: Global,
     history: &[Transaction],
@@ -134,7 +134,8 @@ fn fault_of(
     Ok(None)
 }
 
-/// What is wrong with the read at a value, after those before it. `last` has for each transaction the position of its last one.
+/// The fault of the read at a value, after those before it. `last` has for each transaction the position of its last
+/// one.
 fn fault_at(
     history: &[Transaction],
     appends: &AppendIndex,
@@ -172,7 +173,7 @@ fn fault_at(
     Ok(None)
 }
 
-/// Where a transaction that did not abort appends the value to the key.
+/// Where a transaction that is not aborted appends the value to the key.
 fn written_by(
     history: &[Transaction],
     appends: &AppendIndex,

@@ -1,6 +1,6 @@
-//! An answer for a history in time about linear, n log n, in its size.
+//! An answer for a history, in time about linear in its size: n log n.
 //!
-//! It is not proved that the answer shows whether the history is serializable: `judge` tests it.
+//! No proof says that the answer shows whether the history is serializable: `judge` tests it.
 ghost use Rattle.std.specs.Prelude.{◌≡◌, ◌<◌, ℕ};
 ghost use Rattle.sgt_appends.specs.Precedences.{AppendsOnce};
 ghost use Rattle.sgt_appends.specs.Orders.{AllClean};
@@ -15,7 +15,7 @@ use crate::transaction::{Status, Transaction};
 use sgt_model::NoMemory;
 use std::alloc::Global;
 
-/// An order of the transactions, or what shows that there is none.
+/// An order of the transactions, or a witness that there is none.
 pub fn solve(
     alloc: Global,
     history: &[Transaction],
@@ -37,7 +37,7 @@ pub fn solve(
     }
 }
 
-/// The transactions among the nodes that did not abort.
+/// The transactions among the nodes, without the aborted ones.
 fn not_aborted(
     alloc: Global,
     history: &[Transaction],

@@ -1,4 +1,4 @@
-//! The nodes of a graph sorted along its links, or links that lead from a node back to it.
+//! Topological sort: the nodes of a graph sorted along its links, or a cycle.
 ghost use Rattle.std.specs.Prelude.{◌≡◌, ◌≢◌, ◌<◌, ◌≤◌, ℕ, List, [], true, false, length, IfOk, OnOk, IfSome, IsNone, IsSome, IsTrue, IfErr, ◌∷◌, slice_set};
 ghost use Rattle.std.proofs.Common.{get_or};
 ghost use Rattle.sgt_appends.specs.declared.sorting.Link.{Link};
@@ -14,11 +14,11 @@ use std::alloc::Global;
 /// A link of a graph, whose nodes are numbers, with its reason.
 #[derive(Clone, Copy, Debug, PartialEq, Eq)]
 pub struct Link {
-    /// The node that comes first.
+    /// The node that comes first: the source.
     pub from: usize,
-    /// The node that comes later.
+    /// The node that comes later: the target.
     pub to: usize,
-    /// Why it does.
+    /// The reason of the link.
     pub reason: Reason,
 }
 
@@ -61,7 +61,7 @@ fn visit_all(
     Ok(None)
 }
 
-/// Gives ranks to the node and all that lead to it, or finds a cycle.
+/// Gives ranks to the node and to all nodes that lead to it, or finds a cycle.
 fn visit(
     alloc: Global,
     links: &[Link],
@@ -104,7 +104,7 @@ fn visit(
     }
 }
 
-/// Marks the node, and returns whether it was marked.
+/// Marks the node, and returns whether it was marked before.
 fn mark(met: &mut [bool], node: usize) -> bool
     requires { node < length met.old }
     ensures was { result ≡ get_or met.old node false }
@@ -115,7 +115,7 @@ fn mark(met: &mut [bool], node: usize) -> bool
     was
 }
 
-/// The next link to the node from one that has no rank.
+/// The next link to the node from a node without a rank.
 fn next_link(
     links: &[Link],
     heads: &mut [usize],
@@ -168,7 +168,7 @@ fn place(
     Ok(())
 }
 
-/// A zero for each node.
+/// A list of zeros, one for each node.
 fn zeros(alloc: Global, len: usize) -> Result<Vec<usize>, NoMemory>
     ensures len { IfOk result (λ zeros. length zeros.items ≡ len) }
     ensures none { IfOk result (λ zeros. (i : ℕ) → get_or zeros.items i 0 ≡ 0) }
@@ -180,7 +180,7 @@ fn zeros(alloc: Global, len: usize) -> Result<Vec<usize>, NoMemory>
     Ok(zeros)
 }
 
-/// For each link the one before it to the same node; in `heads` the last to each node.
+/// For each link the previous one to the same node; `heads` has the last link to each node.
 fn chain(alloc: Global, links: &[Link], heads: &mut [usize]) -> Result<Vec<usize>, NoMemory>
     requires within { AreWithin links.now (length heads.old) }
     requires none { (v : ℕ) → get_or heads.old v 0 ≡ 0 }
@@ -217,14 +217,14 @@ fn round(alloc: Global, path: Vec<Link>, link: Link) -> Result<Vec<Link>, NoMemo
     Ok(cycle)
 }
 
-/// The ranks of the nodes, from 1 on, and the nodes in the order of their ranks.
+/// The ranks of the nodes, from 1 on, and the nodes in rank order.
 #[derive(Debug, Drop, PartialEq, Eq)]
 pub struct Sorted {
     pub ranks: Vec<usize>,
     pub order: Vec<usize>,
 }
 
-/// The nodes below the number sorted along the links, or a cycle.
+/// The nodes below the number, sorted along the links, or a cycle.
 pub fn sort(
     alloc: Global,
     links: &[Link],

@@ -1,4 +1,4 @@
-//! Histories of a few transactions, checked.
+//! Tests of histories with a few transactions.
 
 use crate::anomaly::{Anomaly, name_of};
 use crate::check::{Verdict, Witness, check_appends};
@@ -47,7 +47,7 @@ fn is_serial(alloc: Global, history: &[Transaction]) -> Result<bool, NoMemory> {
     Ok(matches!(&verdict, Verdict::Serial(_)))
 }
 
-/// What the witness is called that shows that the history is not serializable.
+/// The name of the witness that the history is not serializable.
 fn named(alloc: Global, history: &[Transaction]) -> Result<Option<Anomaly>, NoMemory> {
     match check_appends(alloc, history)? {
         Verdict::Violated(witness) => Ok(Some(name_of(history, &witness))),
@@ -98,7 +98,7 @@ fn values_that_are_appended_twice(rt: HostRuntime) -> Result<(), Fail> {
     Ok(())
 }
 
-/// A committed transaction that appends the value to key 0 and saw these values there before and after.
+/// A committed transaction that appends the value to key 0, and saw these values before and after.
 fn around(
     alloc: Global,
     before: &[u32],
@@ -123,7 +123,7 @@ fn around(
     Ok(history)
 }
 
-/// The fault that is named, with the reader and the position of the read.
+/// The fault found, with the reader and the position of the read.
 fn fault_of(
     alloc: Global,
     history: &[Transaction],
@@ -161,7 +161,8 @@ fn next(number: u64) -> u64 {
     ((number % 65537) * 75 + 74) % 65537
 }
 
-/// An operation on a key whose list is this one, by a number: an append of the value, or a read that may miss the last value.
+/// An operation, by a number, on a key whose list is this one: an append of the value, or a read that may miss the last
+/// value.
 fn operation(
     alloc: Global,
     number: u64,

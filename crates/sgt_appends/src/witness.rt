@@ -1,4 +1,4 @@
-//! What shows that a history is not serializable.
+//! Witnesses that a history is not serializable.
 ghost use Rattle.std.specs.Prelude.{◌≡◌, ◌<◌, ◌↔◌, ℕ, List, IsTrue, IfSome, length};
 ghost use Rattle.sgt_appends.specs.Lists.{Has, StandsBefore};
 ghost use Rattle.sgt_appends.specs.Runs.{IsSerializable};
@@ -8,20 +8,20 @@ ghost use Rattle.sgt_appends.specs.Witnesses.{AllPrecede};
 
 use crate::transaction::{Operation, Status, Transaction};
 
-/// Why one transaction precedes another. Operations are named by their places in their transactions.
+/// Why one transaction precedes another. Operations are named by their positions in their transactions.
 #[derive(Clone, Copy, Debug, PartialEq, Eq)]
 pub enum Reason {
-    /// The later one has read a value that the earlier one appends.
+    /// The later one read a value that the earlier one appends.
     Seen {
         append: usize,
         read: usize,
     },
-    /// The earlier one has read a list without a value that the later one appends.
+    /// The earlier one read a list without a value that the later one appends.
     Missed {
         read: usize,
         append: usize,
     },
-    /// A reader has seen a value of the earlier one before one of the later one.
+    /// A reader saw a value of the earlier one before one of the later one.
     InOrder {
         first: usize,
         second: usize,
@@ -30,7 +30,7 @@ pub enum Reason {
     },
 }
 
-/// One transaction precedes another.
+/// An edge: one transaction precedes another.
 #[derive(Clone, Copy, Debug, PartialEq, Eq)]
 pub struct Edge {
     pub from: usize,
@@ -38,7 +38,7 @@ pub struct Edge {
     pub reason: Reason,
 }
 
-/// Whether the edges lead from a transaction back to itself, each by what was observed.
+/// Whether the edges form a cycle, each by what was observed.
 pub fn is_cycle(history: &[Transaction], edges: &[Edge]) -> bool
     requires { AppendsOnce history.now }
     ensures { IsTrue result → ¬ IsSerializable history.now }
@@ -57,7 +57,7 @@ pub fn is_cycle(history: &[Transaction], edges: &[Edge]) -> bool
     at == start
 }
 
-/// Whether each edge is by what was observed.
+/// Whether each edge follows from what was observed.
 pub fn all_hold(history: &[Transaction], edges: &[Edge]) -> bool
     ensures { IsTrue result → AllPrecede history.now edges.now }
 {
@@ -69,7 +69,7 @@ pub fn all_hold(history: &[Transaction], edges: &[Edge]) -> bool
     true
 }
 
-/// Whether what was observed says that the one precedes the other.
+/// Whether what was observed shows that one transaction precedes the other.
 fn holds(history: &[Transaction], edge: &Edge) -> bool
     ensures { IsTrue result → Precedes history.now edge.now.from edge.now.to }
 {
@@ -138,7 +138,7 @@ fn were_seen(
     }
 }
 
-/// The key and the value that the transaction appends there.
+/// The key and the value of the transaction's append at the position.
 pub(crate) fn append_at(
     history: &[Transaction],
     transaction: usize,
@@ -153,7 +153,7 @@ pub(crate) fn append_at(
     }
 }
 
-/// What the transaction, which committed, has read there at the key.
+/// What the transaction, which committed, read at the position from the key.
 pub(crate) fn read_at<'a>(
     history: &'a [Transaction],
     transaction: usize,

@@ -16,7 +16,7 @@ pub legal_first : (s : Setting) (h : List Entry) (n : ℕ) → Legal s (reverse 
 legal_first s h n legal = legal_older s (reverse (drop n h)) (reverse (take n h))
     (subst (λ l. Legal s l) (ap reverse (sym (take-append-drop n h)) ∙ reverse-append (take n h) (drop n h)) legal)
 
--- so is each after those before it
+-- each entry is legal after those before it
 pub legal_next : (s : Setting) (h : List Entry) (i : ℕ) (e : Entry) → take (i + 1) h ≡ take i h ++ e ∷ [] → Legal s (reverse h)
     → Legal s (e ∷ reverse (take i h))
 legal_next s h i e next legal = subst (λ l. Legal s l) (one_more h i e next) (legal_first s h (i + 1) legal)

@@ -115,7 +115,7 @@ module _ (past : List Entry) (e : Entry) where
       now_live = live_is (start_count past) ∙ ap₂ (λ a o. a && is_none o) (lt-ltb (start_count past) (start_count past + 1) (omega arith))
           (unstarted-no_fate s past legal (start_count past) (omega arith))
 
-  -- one that is undone ends with those that fall
+  -- one that is undone ends, with those aborted in cascade
   one_undone : is_start e.reply ≡ false → (u : Undoing past e.event e.reply) → count_ended e.reply ≡ length u.fell + 1
       → length (live_ones (e ∷ past)) + count_ended e.reply ≡ length (live_ones past) + count_started e.reply
   one_undone none u b =
@@ -165,12 +165,12 @@ started_or_ended (reply.Aborted why fell) = inl refl
 started_or_ended (reply.Refused code fell) = inl refl
 started_or_ended _ = inr refl
 
--- as many are live after an entry as were before it, with the one that it started and without those that it ended
+-- after an entry as many are live as before it, plus the one that it started, minus those that it ended
 pub live_count : (s : Setting) (past : List Entry) (e : Entry) → Legal s (e ∷ past)
     → length (live_ones (e ∷ past)) + count_ended e.reply ≡ length (live_ones past) + count_started e.reply
 live_count s past e legal = by_effect past e s legal.0 (effect s past e.event e.reply legal.1)
 
--- an entry ends no more than were live
+-- an entry ends at most as many as were live
 pub ends_live : (s : Setting) (past : List Entry) (e : Entry) → Legal s (e ∷ past) → count_ended e.reply ≤ length (live_ones past)
 ends_live s past e legal = let n = live_count s past e legal in elim (started_or_ended e.reply) [
   | inl none ↦ omega arith
@@ -181,7 +181,7 @@ kept_none : (p : ℕ → Bool) → ((t : ℕ) → p t ≡ false) → (ts : List 
 kept_none p none [] = refl
 kept_none p none (t ∷ ts) = ap (λ b. length (cond b (t ∷ filter p ts) (filter p ts))) (none t) ∙ kept_none p none ts
 
--- none is counted among the live ones where nobody is live, and only there
+-- the count of live transactions is 0 exactly if none is live
 pub none_counted : (past : List Entry) → (length (live_ones past) ≡ 0) ↔ ((t : ℕ) → live past t ≡ false)
 none_counted past = (λ no_one t. not_live no_one t (live past t) refl, λ none. kept_none (live past) none (started_ones past))
   where
@@ -201,7 +201,7 @@ take_whole (suc n) [] le = refl
 take_whole zero (e ∷ h) le = absurd (omega arith)
 take_whole (suc n) (e ∷ h) le = ap (λ l. e ∷ l) (take_whole n h (omega arith))
 
--- at the end of the history the count of the live ones tells whether nobody is live
+-- at the end of the history the count of live transactions shows whether any is live
 pub at_end : (h : List Entry) (i workers count : ℕ) → length h ≤ i → count ≡ length (live_ones (reverse (take i h)))
     → ((n : ℕ) → n ≤ i → length (live_ones (reverse (take n h))) ≤ workers) → ((nat_eq count 0 ≡ true) ↔ (FewLive h workers × AllEnded h))
 at_end h i workers count whole is before = (

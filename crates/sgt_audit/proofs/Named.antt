@@ -1,4 +1,4 @@
--- What outcomes name that stand: started transactions, and entries that are there.
+-- True outcomes name started transactions and existing entries.
 use Rattle.std.proofs.Common.{◌≡◌, ℕ, ◌<◌, Bool, List, [], ◌∷◌, length, reverse, Some, slice_get, sym, ap, subst, ◌∙◌}
 use Rattle.std.specs.List.{All, AllZip, flat_map}
 use Rattle.std.specs.Option.{option_and_then, option_to_list}
@@ -59,7 +59,7 @@ module _ (history : List Entry) (tries : ℕ) where
   all_started (job ∷ jobs) (o ∷ outcomes) all = All-append is_started (transactions_of history o)
       (flat_map (transactions_of history) outcomes) (transactions_started job o all.0) (all_started jobs outcomes all.1)
 
-  -- all entries that are named are there
+  -- all entries that are named exist
   pub all_there : {N : Type 0} (jobs : List Job) (outcomes : List (Outcome N)) → AllZip (OutcomeStands history tries) jobs outcomes
       → All is_entry (flat_map entries_of outcomes)
   all_there [] [] all = All-nil is_entry

@@ -1,4 +1,4 @@
--- What goes on item by item: how it is with one item more.
+-- Steps item by item: the state with one item more.
 use Rattle.std.proofs.Common.{◌≡◌, ℕ, ◌+◌, ◌<◌, ◌≤◌, Bool, true, false, List, [], ◌∷◌, ◌++◌, length, get_or, take, refl, sym, ap, ◌∙◌, arith}
 use Rattle.std.specs.List.{count_by, flat_map}
 use Rattle.std.proofs.lemmas.Grind.{flat_map-append}
@@ -20,7 +20,7 @@ counted p xs i x false within is it =
     let more = count_by_more_no p xs i x within (ap p (sym is) ∙ it) in
     rw it (omega arith)
 
--- so many counted before x, and whether x is counted: so many with it
+-- the count before x, plus 1 if x is counted, is the count with x
 pub added : {X : Type 0} (p : X → Bool) (xs : List X) (i : ℕ) (x : X) {n one : ℕ} → i < length xs → x ≡ get_or xs i x
     → n ≡ count_by p (take i xs) → one ≡ count_by p (x ∷ []) → n + one ≡ count_by p (take (i + 1) xs)
 added p xs i x within is so it = let next = counted p xs i x (p x) within is refl in omega arith

@@ -1,4 +1,4 @@
--- Lists of numbers of which none comes twice.
+-- Lists of numbers without repetition.
 use Rattle.std.proofs.Common.{◌≡◌, ℕ, ◌+◌, ◌<◌, Bool, true, false, cond, not, ◌&&◌, ◌||◌, ◌⊎◌, nat_eq, List, [], ◌∷◌, ◌++◌, length, get_or, set, refl, sym, ap, subst, inl, inr, ◌∙◌, arith}
 use Rattle.std.proofs.lemmas.List.{get_or-set_same, get_or-set_other}
 use Rattle.std.proofs.lemmas.Bool.{cases_eq, true≢false, eqb-true, eq-eqb, ne_eqb, or_cases, or_left, or_right}
@@ -63,7 +63,7 @@ pub distinct_front : (l more : List ℕ) → Distinct (l ++ more) → Distinct l
 distinct_front [] more d = tt
 distinct_front (w ∷ l) more d = ((λ m. d.0 (member_front w l more m)), distinct_front l more d.1)
 
--- one that is in the list comes twice if it comes again
+-- a number in the list occurs twice if it occurs again
 pub pushed_twice : (l : List ℕ) (v : ℕ) → Member v l → Distinct (l ++ v ∷ []) → ⊥
 pushed_twice [] v m d = m
 pushed_twice (w ∷ l) v (inl e) d = d.0 (subst (λ x. Member x (l ++ v ∷ [])) e (last l))
@@ -73,7 +73,7 @@ pushed_twice (w ∷ l) v (inl e) d = d.0 (subst (λ x. Member x (l ++ v ∷ []))
     last (x ∷ l) = inr (last l)
 pushed_twice (w ∷ l) v (inr m) d = pushed_twice l v m d.1
 
--- what rises has none twice
+-- a list that rises has no number twice
 rising_above : (t u : ℕ) (l : List ℕ) → Rising (t ∷ l) → Member u l → t < u
 rising_above t u [] r m = absurd m
 rising_above t u (v ∷ l) r (inl e) = subst (λ x. t < x) (sym e) r.0
@@ -84,7 +84,7 @@ rising_distinct [] r = tt
 rising_distinct (t ∷ []) r = ((λ m. m), tt)
 rising_distinct (t ∷ u ∷ l) r = ((λ m. let less = rising_above t t (u ∷ l) r m in omega arith), rising_distinct (u ∷ l) r.1)
 
--- taking some out
+-- removing some
 
 abbrev without : ℕ → List ℕ → List ℕ
 without g xs = filter (λ u. not (nat_eq g u)) xs
@@ -107,7 +107,7 @@ one_less g (x ∷ xs) d m = go (one_less g xs d.1) (nat_eq g x) refl
         later (inl same) = absurd (true≢false (sym (eq-eqb g x same) ∙ e))
         later (inr k) = k
 
--- of a list without repetition as many are left as it has more than those that are taken out of it
+-- removing numbers from a list without repetition shortens it by their count
 pub some_less : (gone xs : List ℕ) → Distinct gone → Distinct xs → ((u : ℕ) → Member u gone → Member u xs)
     → length (filter (λ u. not (is_among gone u)) xs) + length gone ≡ length xs
 some_less [] xs d e all =
@@ -135,7 +135,7 @@ some_less (g ∷ gone) xs d e all =
     neither true b = refl
     neither false b = refl
 
--- a table of what is seen
+-- a table of the numbers seen
 
 -- one more is marked
 pub marked_more : (seen : List Bool) (l : List ℕ) (x k : ℕ) → x < length seen → get_or seen k false ≡ is_among l k

@@ -1,4 +1,4 @@
--- What rows tell: whose a transaction is, that it failed, and which of two came after the other.
+-- Facts from rows: the job of a transaction, that it failed, and which of two came after the other.
 use Rattle.std.proofs.Common.{◌≡◌, ◌↔◌, ℕ, ◌<◌, ◌≤◌, true, false, inl, inr, arith, List, length, get_or, Some, None, refl, sym, subst, ◌∙◌, slice_get}
 use Rattle.std.proofs.lemmas.Bool.{true≢false}
 use Rattle.std.proofs.lemmas.Option.{none-some, same_Some, slice_get_cases, slice_get_past, slice_get_read, slice_get_within}
@@ -9,7 +9,7 @@ use Rattle.sgt_audit.specs.Lives.{AreLives}
 use Rattle.sgt_audit.specs.Outcomes.{call_for, IsFailed, IsOf}
 use Rattle.sgt_audit.specs.Spans.{EndsBefore}
 
--- the row that stands at a place, and one behind them all
+-- the row at an index, and one after all of them
 pub lent : (lives : List Life) (n t : ℕ) (life : Life) → n < length lives → life ≡ get_or lives n life → n ≡ t
     → slice_get lives t ≡ Some life
 lent lives n t life within is same =
@@ -38,7 +38,7 @@ module _ (past : List Entry) (lives : List Life) (are : AreLives past lives) (fi
   )
 
 module _ (past : List Entry) (lives : List Life) (are : AreLives past lives) (job : Job) (t : ℕ) where
-  -- one that has no row was not started
+  -- a transaction without a row was not started
   pub unstarted : slice_get lives t ≡ None → ¬ IsOf past job t
   unstarted out of = let less : t < length lives = subst (λ n. t < n) (sym are.counted) of.started in
       elim (slice_get_cases lives t).1 [

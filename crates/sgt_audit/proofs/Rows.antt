@@ -26,7 +26,7 @@ starts_not : (r : Reply) (t : ℕ) → is_start r ≡ false → starts_as r t �
 starts_not (reply.Started u) t e = absurd (true≢false e)
 starts_not _ t e = refl
 
--- the row that a row of the longer table was
+-- the old row of a row in the longer table
 was_row : (f : Life → Life) (o : Option Life) (life : Life) → option_map f o ≡ Some life → (old : Life) × (o ≡ Some old) × (life ≡ f old)
 was_row f None life e = absurd (none-some life e)
 was_row f (Some old) life e = (old, refl, sym (same_Some (f old) life e))
@@ -86,7 +86,7 @@ lives_ended s past e lives after legal none are rows count = record {
           failed = ap (λ o. has_failed (option_or o (fate_of past t))) q;
         }
 
--- what stands in a list with one more at the end
+-- the item at an index of a list with one more at the end
 pushed : (lives : List Life) (new : Life) (t : ℕ) (life : Life) → slice_get (lives ++ new ∷ []) t ≡ Some life
     → ((t < length lives) × (slice_get lives t ≡ Some life)) ⊎ ((t ≡ length lives) × (life ≡ new))
 pushed [] new zero life at = inr (refl, sym (same_Some new life at))
@@ -162,7 +162,7 @@ lives_started s past e lives legal p args event_is reply_is are = record {
       failed = ap has_failed (same_fate (start_count past) ∙ unstarted-no_fate s past legal (start_count past) (omega arith));
     }
 
--- an entry that is answered Started
+-- an entry with the reply Started
 pub lives_started_by : (s : Setting) (past : List Entry) (e : Entry) (lives : List Life) (t : ℕ) → Legal s past
     → LegalReply s past e.event e.reply → e.reply ≡ reply.Started t → AreLives past lives → AreLives (e ∷ past)
     (with_started (length past) e.event lives)
@@ -181,7 +181,7 @@ ended_twice number true false (Some life) = refl
 ended_twice number false true (Some life) = refl
 ended_twice number false false (Some life) = refl
 
--- the row of t once the first of those that fell are ended, and once x is ended too, which is the next
+-- the row of t after the first ones aborted in cascade are ended, and after the next one, x, is ended too
 pub fallen_more : (number : ℕ) (fell : List ℕ) (i x t : ℕ) (old mid new : Option Life) → i < length fell → x ≡ get_or fell i x
     → mid ≡ option_map (λ life. cond (list_any (λ u. nat_eq u t) (take i fell)) (ended_life number true life) life) old
     → new ≡ option_map (λ life. cond (nat_eq x t) (ended_life number true life) life) mid

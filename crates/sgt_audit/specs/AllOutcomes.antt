@@ -13,7 +13,7 @@ use Rattle.sgt_audit.specs.Outcomes.{OutcomeStands}
 
 -- what is named
 
--- the entry that an outcome names, if it does
+-- the entry that an outcome names, if any
 abbrev pub entries_of : {N : Type 0} → Outcome N → List ℕ
 entries_of (outcome.Done n) = n ∷ []
 entries_of (outcome.Asked n) = n ∷ []
@@ -23,7 +23,7 @@ entries_of (outcome.Left note) = []
 entries_of outcome.Untaken = []
 entries_of outcome.NoMemory = []
 
--- the transaction that entry n names, if it names one
+-- the transaction that entry n names, if any
 abbrev pub transaction_at : List Entry → ℕ → List ℕ
 transaction_at history n = option_to_list (option_and_then (λ (e : Entry). named_by e.event) (slice_get history n))
 
@@ -42,32 +42,32 @@ abbrev pub is_done : {N : Type 0} → Outcome N → Bool
 is_done (outcome.Done n) = true
 is_done _ = false
 
--- whether its worker left in its midst
+-- whether its worker left while it had the job
 abbrev pub is_left : {N : Type 0} → Outcome N → Bool
 is_left (outcome.Left note) = true
 is_left _ = false
 
--- whether nobody took it
+-- whether no worker took it
 abbrev pub is_untaken : {N : Type 0} → Outcome N → Bool
 is_untaken outcome.Untaken = true
 is_untaken _ = false
 
--- whether it ended for want of memory
+-- whether it ended because an allocation failed
 abbrev pub is_no_memory : {N : Type 0} → Outcome N → Bool
 is_no_memory outcome.NoMemory = true
 is_no_memory _ = false
 
 -- all of them
 
--- what outcomes are counted for: each commit is told; a quit was asked for by the gate or for want of memory; no more are left
--- than there are workers; and nobody fails to take a job but where all workers have left
+-- the counts that must agree. Each commit is some job's outcome. Each abort by the caller is due to the gate or to a
+-- failed allocation. At most as many workers left as there are. A job is left untaken only if all workers have left
 pub record CountsAgree {N : Type 0} (history : List Entry) (outcomes : List (Outcome N)) (workers : ℕ) : Type 0 where
   pub commits : count_by (λ (e : Entry). is_commit e.reply) history ≡ count_by is_done outcomes
   pub quits : count_by (λ (e : Entry). is_quit e.reply) history ≤ count_by is_left outcomes + count_by is_no_memory outcomes
   pub left : count_by is_left outcomes ≤ workers
   pub untaken : 0 < count_by is_untaken outcomes → count_by is_left outcomes ≡ workers
 
--- after no entry are more transactions live
+-- after every entry at most this many transactions are live
 abbrev pub FewLive : List Entry → ℕ → Type 0
 FewLive history workers = (n : ℕ) → length (live_ones (reverse (take n history))) ≤ workers
 
@@ -75,8 +75,9 @@ FewLive history workers = (n : ℕ) → length (live_ones (reverse (take n histo
 abbrev pub AllEnded : List Entry → Type 0
 AllEnded history = (t : ℕ) → live (reverse history) t ≡ false
 
--- one outcome for each job, which says of the history and the job what is so; no transaction and no entry is named twice, by
--- one outcome or by two; the counts agree; never are more transactions live than there are workers, and at the end none is
+-- one outcome for each job, which is true of the history and the job; no transaction and no entry is named twice, by
+-- one outcome or by two. The counts agree. At most as many transactions are live as there are workers, and none at the
+-- end
 pub record OutcomesStand {N : Type 0} (history : List Entry) (jobs : List Job) (outcomes : List (Outcome N)) (workers tries : ℕ) : Type 0 where
   pub each : AllZip (OutcomeStands history tries) jobs outcomes
   pub transactions_once : Distinct (flat_map (transactions_of history) outcomes)

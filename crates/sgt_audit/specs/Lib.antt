@@ -1,4 +1,4 @@
--- what the outcomes of jobs say of a history: each by itself, and all together
+-- what the outcomes of jobs say of a history: each alone, and all together
 pub mod Spans
 pub mod Outcomes
 pub mod AllOutcomes

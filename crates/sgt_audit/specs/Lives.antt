@@ -1,4 +1,4 @@
--- What a history says of each transaction, as one table by its number.
+-- What a history says of each transaction, as one table by transaction number.
 use Rattle.std.specs.Prelude.{◌≡◌, ℕ, Bool, false, List, [], ◌∷◌, ◌++◌, length, Option, Some, None, slice_get}
 use Rattle.sgt_model.specs.declared.event.Event.{Event}
 use Rattle.sgt_model.specs.declared.event.Event.TheVariants.{Start, Step, Commit, Quit}
@@ -17,7 +17,7 @@ pub record IsLife (past : List Entry) (t : ℕ) (life : Life) : Type 0 where
   pub ended : ended_at past t ≡ life.ended
   pub failed : has_failed (fate_of past t) ≡ life.failed
 
--- the history says nothing of t
+-- the history does not mention t
 pub record NoLife (past : List Entry) (t : ℕ) : Type 0 where
   pub started : started_at past t ≡ None
   pub ended : ended_at past t ≡ None
@@ -28,16 +28,16 @@ pub record AreLives (past : List Entry) (lives : List Life) : Type 0 where
   pub each : (t : ℕ) (life : Life) → slice_get lives t ≡ Some life → IsLife past t life
   pub none : (t : ℕ) → slice_get lives t ≡ None → NoLife past t
 
--- the row of one that this entry ended
+-- the row of a transaction that this entry ended
 abbrev pub ended_life : ℕ → Bool → Life → Life
 ended_life number failed life = record life { ended = Some number; failed = failed }
 
--- the row after an entry that ended its transaction in this way, if it did
+-- the row after an entry, if that entry ended its transaction in this way
 abbrev pub life_after : ℕ → Option Fate → Life → Life
 life_after number None life = life
 life_after number (Some f) life = ended_life number (has_failed (Some f)) life
 
--- the rows after an event that was answered Started
+-- the rows after an event with the reply Started
 abbrev pub with_started : ℕ → Event → List Life → List Life
 with_started number (Start p args) lives = lives ++ record { procedure = p; args = args; started = number; ended = None; failed = false } ∷ []
 with_started number (Step t) lives = lives

@@ -1,5 +1,5 @@
--- What each outcome says of the history. The history stands here as a report has it, oldest entry first, so that entry n is
--- the n-th of the list; what is read newest entry first is read of its reverse.
+-- What each outcome says of the history. Here the history is listed oldest first, as in a report, so that entry n is
+-- the n-th of the list. Definitions that need it newest first take its reverse.
 use Rattle.std.specs.Prelude.{◌≡◌, ℕ, ◌+◌, ◌<◌, Bool, true, false, List, length, reverse, Option, Some, None, slice_get, slice_index}
 use Rattle.std.specs.List.{All}
 use Rattle.sgt_model.specs.declared.reply.Reply.{Reply}
@@ -21,14 +21,14 @@ use Rattle.sgt_audit.specs.Spans.{EndsBefore}
 abbrev pub call_for : Job → Call
 call_for job = record { procedure = job.procedure; args = job.args }
 
--- t is a transaction of the job: it was started with the job's procedure and arguments
+-- t belongs to the job: it was started with the job's procedure and arguments
 pub record IsOf (past : List Entry) (job : Job) (t : ℕ) : Type 0 where
   pub started : t < start_count past
   pub call : call_of past t ≡ call_for job
 
 -- fates
 
--- aborted by a cycle, or fallen
+-- aborted by a cycle or in cascade
 abbrev pub has_failed : Option Fate → Bool
 has_failed None = false
 has_failed (Some fate.Committed) = false
@@ -39,7 +39,7 @@ has_failed (Some (fate.Fell first)) = true
 
 -- outcomes
 
--- entry n has such a reply, and it is one to a transaction of the job
+-- entry n has such a reply, to an event of a transaction of the job
 pub record Ends (is : Reply → Bool) (history : List Entry) (job : Job) (n : ℕ) : Type 0 where
   pub entry : Entry
   pub there : slice_get history n ≡ Some entry
@@ -48,20 +48,20 @@ pub record Ends (is : Reply → Bool) (history : List Entry) (job : Job) (n : �
   pub names : named_by entry.event ≡ Some t
   pub is_of : IsOf (reverse history) job t
 
--- entry n is a start with the job's procedure and arguments, and was refused
+-- entry n refuses a start with the job's procedure and arguments
 pub record StartIsRefused (history : List Entry) (job : Job) (n : ℕ) : Type 0 where
   pub entry : Entry
   pub there : slice_get history n ≡ Some entry
   pub asks : call_at entry.event ≡ Some (call_for job)
   pub reply_is : refuses_start entry.reply ≡ true
 
--- t is a transaction of the job that was aborted by a cycle, or fell
+-- t is a transaction of the job that was aborted by a cycle or in cascade
 pub record IsFailed (past : List Entry) (job : Job) (t : ℕ) : Type 0 where
   pub is_of : IsOf past job t
   pub failed : has_failed (fate_of past t) ≡ true
 
--- as many attempts as there may be tries, each a transaction of the job that was aborted by a cycle or fell, and each but the
--- first started after the one before it had ended
+-- there are as many attempts as tries are allowed; each is a transaction of the job that was aborted by a cycle or in
+-- cascade. Each but the first was started after the previous one had ended
 pub record GaveUp (past : List Entry) (tries : ℕ) (job : Job) (attempts : List ℕ) : Type 0 where
   pub as_many : length attempts ≡ tries
   pub failed : All (IsFailed past job) attempts

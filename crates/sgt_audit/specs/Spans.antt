@@ -1,5 +1,5 @@
--- Where in a history a transaction was started and where it ended. Entries are numbered from 0 at the oldest; the history
--- is read newest entry first.
+-- Where in a history a transaction was started and where it ended. Entries are numbered from 0, oldest first; the
+-- history is listed newest first.
 use Rattle.std.specs.Prelude.{◌≡◌, ℕ, ◌<◌, Bool, false, cond, nat_eq, List, [], ◌∷◌, length, Option, Some, None}
 use Rattle.std.specs.Option.{is_some}
 use Rattle.sgt_model.specs.declared.reply.Reply.{Reply}
@@ -12,12 +12,12 @@ abbrev pub starts_as : Reply → ℕ → Bool
 starts_as (reply.Started u) t = nat_eq u t
 starts_as _ t = false
 
--- the entry that started t, if one did
+-- the entry that started t, if any
 abbrev pub started_at : List Entry → ℕ → Option ℕ
 started_at [] t = None
 started_at (e ∷ past) t = cond (starts_as e.reply t) (Some (length past)) (started_at past t)
 
--- the entry that ended t, if one did: its commit, its abort, or the abort with which it fell
+-- the entry that ended t, if any: its commit, its abort, or the abort that aborted it in cascade
 abbrev pub ended_at : List Entry → ℕ → Option ℕ
 ended_at [] t = None
 ended_at (e ∷ past) t = cond (is_some (ending_in e.event e.reply t)) (Some (length past)) (ended_at past t)

@@ -1,4 +1,4 @@
-//! The audit: whether the outcomes of all jobs say of a legal history what is so.
+//! The audit: whether the outcomes of all jobs are true of a legal history.
 ghost use Rattle.std.specs.Prelude.{◌≡◌, ◌↔◌, IsTrue, IfOk, reverse};
 ghost use Rattle.sgt_model.specs.Settings.{Setting};
 ghost use Rattle.sgt_model.specs.Legality.{Legal};
@@ -15,10 +15,10 @@ use sgt_log::History;
 use sgt_model::NoMemory;
 use std::alloc::Global;
 
-/// Whether the outcomes of the jobs say of a legal history what is so: `OutcomesStand`. It goes a few times through the
-/// history, the jobs and the transactions that are named, and never searches one for the sake of another.
+/// Whether the outcomes of the jobs are true of a legal history: `OutcomesStand`. It makes a few passes over the
+/// history, the jobs and the named transactions, and never searches one for each element of another.
 ///
-/// `NoMemory` where a growth was refused.
+/// `NoMemory` if an allocation failed.
 pub fn audit<N>(
     alloc: Global,
     history: &History,

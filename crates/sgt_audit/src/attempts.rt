@@ -1,4 +1,4 @@
-//! Which transactions are a job's, and what became of those that failed.
+//! Which transactions belong to a job, and how its failed attempts ended.
 ghost use Rattle.std.specs.Prelude.{◌≡◌, ◌↔◌, ℕ, ◌+◌, ◌<◌, true, IsTrue, List, length, slice_index};
 ghost use Rattle.std.specs.List.{All};
 ghost use Rattle.sgt_model.specs.declared.entry.Entry.{Entry};
@@ -10,14 +10,14 @@ use crate::lives::Life;
 use sgt_dispatch::Job;
 use sgt_model::{Args, Tid};
 
-/// Whether these are the procedure and the arguments of the job.
+/// Whether the job has this procedure and these arguments.
 pub fn is_call(procedure: u16, args: &Args, job: &Job) -> bool
     ensures { IsTrue result ↔ (call_for job.now ≡ record { procedure = procedure; args = args.now }) }
 {
     procedure == job.procedure && args.as_slice() == job.args.as_slice()
 }
 
-/// Whether the transaction is one of the job.
+/// Whether the transaction belongs to the job.
 pub fn is_of(lives: &[Life], job: &Job, t: Tid) -> bool
     ensures { (past : List Entry) → AreLives past lives.now → (IsTrue result ↔ IsOf past job.now t) }
 {
@@ -27,7 +27,7 @@ pub fn is_of(lives: &[Life], job: &Job, t: Tid) -> bool
     }
 }
 
-/// Whether the attempts are all that the job may have, each failed, one after another.
+/// Whether the attempts are as many as the job may have, each failed, one after another.
 pub fn gave_up(lives: &[Life], tries: u32, job: &Job, attempts: &[Tid]) -> bool
     ensures { (past : List Entry) → AreLives past lives.now
         → (IsTrue result ↔ GaveUp past tries job.now attempts.now) }
@@ -37,7 +37,7 @@ pub fn gave_up(lives: &[Life], tries: u32, job: &Job, attempts: &[Tid]) -> bool
         && are_in_turn(lives, attempts)
 }
 
-/// Whether each is a transaction of the job that was aborted by a cycle, or fell.
+/// Whether each is a transaction of the job that was aborted by a cycle or in cascade.
 fn all_failed(lives: &[Life], job: &Job, attempts: &[Tid]) -> bool
     ensures { (past : List Entry) → AreLives past lives.now
         → (IsTrue result ↔ All (IsFailed past job.now) attempts.now) }
@@ -50,7 +50,7 @@ fn all_failed(lives: &[Life], job: &Job, attempts: &[Tid]) -> bool
     true
 }
 
-/// Whether it is a transaction of the job that was aborted by a cycle, or fell.
+/// Whether it is a transaction of the job that was aborted by a cycle or in cascade.
 fn is_failed(lives: &[Life], job: &Job, t: Tid) -> bool
     ensures { (past : List Entry) → AreLives past lives.now → (IsTrue result ↔ IsFailed past job.now t) }
 {
@@ -60,7 +60,7 @@ fn is_failed(lives: &[Life], job: &Job, t: Tid) -> bool
     }
 }
 
-/// Whether each but the first was started after the one before it had ended.
+/// Whether each but the first was started after the previous one had ended.
 fn are_in_turn(lives: &[Life], attempts: &[Tid]) -> bool
     ensures { (past : List Entry) → AreLives past lives.now
         → (IsTrue result ↔ ((k : ℕ) → k + 1 < length attempts.now

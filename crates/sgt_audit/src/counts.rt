@@ -1,4 +1,4 @@
-//! What outcomes are counted for.
+//! Counts of outcomes, compared with the history.
 ghost use Rattle.std.specs.Prelude.{◌≡◌, ◌↔◌, IsTrue, [], ◌∷◌};
 ghost use Rattle.std.specs.List.{count_by};
 ghost use Rattle.sgt_model.specs.declared.entry.Entry.{Entry};
@@ -17,7 +17,7 @@ struct Kinds {
     no_memory: usize,
 }
 
-/// Whether commits, quits and workers that left are as many as the outcomes say.
+/// Whether the numbers of commits, aborts by the caller and workers that left agree with the outcomes.
 pub fn counts_agree<N>(history: &History, outcomes: &[Outcome<N>], workers: u32) -> bool
     ensures { IsTrue result ↔ CountsAgree history.now.entries outcomes.now workers }
 {
@@ -42,7 +42,7 @@ fn commits_in(history: &History) -> usize
     count
 }
 
-/// How many entries abort because the caller quit.
+/// How many entries abort a transaction at the caller's request.
 fn quits_in(history: &History) -> usize
     ensures { result ≡ count_by (λ (e : Entry). is_quit e.reply) history.now.entries }
 {
@@ -78,7 +78,7 @@ fn kinds_of<N>(outcomes: &[Outcome<N>]) -> Kinds
     kinds
 }
 
-/// One of the outcome's own kind, if it is counted.
+/// One, in the field of the outcome's kind, if that kind is counted.
 fn kind_of<N>(outcome: &Outcome<N>) -> Kinds
     ensures done { result.done ≡ count_by is_done (outcome.now ∷ []) }
     ensures left { result.left ≡ count_by is_left (outcome.now ∷ []) }

@@ -1,4 +1,4 @@
-//! Of which job an event is.
+//! Which job an event belongs to.
 ghost use Rattle.std.specs.Prelude.{◌≡◌, ◌↔◌, ℕ, IsTrue, Some, List};
 ghost use Rattle.sgt_model.specs.declared.entry.Entry.{Entry};
 ghost use Rattle.sgt_model.specs.Progress.{call_at};
@@ -12,7 +12,7 @@ use sgt_dispatch::Job;
 use sgt_log::EntryRef;
 use sgt_model::Event;
 
-/// Whether the event is a start of the job.
+/// Whether the event starts the job.
 pub fn asks_for(event: &Event, job: &Job) -> bool
     ensures { IsTrue result ↔ (call_at event.now ≡ Some (call_for job.now)) }
 {

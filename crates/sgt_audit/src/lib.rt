@@ -1,14 +1,15 @@
-//! What becomes of jobs that are run as transactions, and the test of what is told of it.
+//! The outcomes of jobs that run as transactions, and the test of those outcomes.
 //!
-//! A job is one call of a procedure. What became of it is an [`Outcome`], which names entries of a history or transactions in
-//! it. What each outcome says of the history stands in `specs/Outcomes.antt`, and what all of them say together in
-//! `specs/AllOutcomes.antt`. [`audit`] looks whether they say what is so: each of its job, none of what another names, and none
-//! too few.
+//! A job is one call of a procedure. Its result is an [`Outcome`], which names entries of a history or transactions in
+//! it. `specs/Outcomes.antt` defines what each outcome says of the history, and `specs/AllOutcomes.antt` what all of
+//! them say together. [`audit`] tests whether they are true: each of its job, none of what another names, and none too
+//! few.
 //!
-//! It runs nothing, and knows no engine and no threads: it is given a legal history, jobs and outcomes, whoever made them.
+//! It runs nothing, and depends on no engine and no threads: its input is a legal history, jobs and outcomes, whoever
+//! made them.
 //!
 //! ```
-//! // of the one job of this history, which entry 4 commits: told so, and told as committed by an entry that is a step
+//! // Entry 4 commits the one job of this history. The first outcome says so; the second names entry 3, a step.
 //! assert!(audit(alloc, history, &jobs, &[Outcome::<Infallible>::Done(4)], 1, 100)?);
 //! assert!(!audit(alloc, history, &jobs, &[Outcome::<Infallible>::Done(3)], 1, 100)?);
 //! ```

@@ -7,7 +7,7 @@ ghost use Rattle.sgt_audit.specs.AllOutcomes.{FewLive, AllEnded};
 
 use sgt_log::{EntryRef, History};
 
-/// Whether after no entry more transactions are live than there are workers, and at the end none is.
+/// Whether after every entry at most as many transactions are live as there are workers, and none at the end.
 pub fn live_counts_stand(history: &History, workers: u32) -> bool
     requires { (s : Setting) × Legal s (reverse history.now.entries) }
     ensures { IsTrue result ↔ (FewLive history.now.entries workers × AllEnded history.now.entries) }

@@ -15,20 +15,20 @@ use std::alloc::Global;
 /// What a history says of one transaction.
 #[derive(Drop)]
 pub struct Life {
-    /// Its procedure and arguments.
+    /// The procedure and arguments.
     pub procedure: u16,
     pub args: Args,
-    /// The entry that started it.
+    /// The entry that started the transaction.
     pub started: usize,
-    /// The entry that ended it, if one did.
+    /// The entry that ended it, if any.
     pub ended: Option<usize>,
-    /// Whether it was aborted by a cycle, or fell.
+    /// Whether it was aborted by a cycle or in cascade.
     pub failed: bool,
 }
 
-/// A row for each transaction, by its number. It goes once through the history.
+/// A row for each transaction, by its number. Makes one pass over the history.
 ///
-/// `NoMemory` where a growth was refused.
+/// `NoMemory` if an allocation failed.
 pub fn lives_of(alloc: Global, history: &History) -> Result<Vec<Life>, NoMemory>
     requires { (s : Setting) × Legal s (reverse history.now.entries) }
     ensures { IfOk result (λ lives. AreLives (reverse history.now.entries) lives.items) }
@@ -40,7 +40,7 @@ pub fn lives_of(alloc: Global, history: &History) -> Result<Vec<Life>, NoMemory>
     Ok(lives)
 }
 
-/// Adds what an entry says, whose number is this.
+/// Adds what the entry with this number says.
 fn add_entry(lives: &mut Vec<Life>, number: usize, entry: &EntryRef<'_>) -> Result<(), NoMemory>
     ensures { (s : Setting) (past : List Entry) → LegalReply s past entry.now.event entry.now.reply
         → Legal s past → length past ≡ number → AreLives past lives.old.items
@@ -69,7 +69,7 @@ fn add_started(lives: &mut Vec<Life>, number: usize, event: Event) -> Result<(),
     Ok(())
 }
 
-/// Ends the rows of those that this entry ended.
+/// Ends the rows of the transactions that this entry ended.
 fn end_those(lives: &mut Vec<Life>, number: usize, entry: &EntryRef<'_>)
     ensures rows { (t : ℕ) → slice_get lives.new.items t
         ≡ option_map (life_after number (ending_in entry.now.event entry.now.reply t)) (slice_get lives.old.items t) }
@@ -81,7 +81,7 @@ fn end_those(lives: &mut Vec<Life>, number: usize, entry: &EntryRef<'_>)
     }
 }
 
-/// Ends the rows of those that fell with this entry.
+/// Ends the rows of the transactions that were aborted in cascade by this entry.
 fn end_fallen(lives: &mut Vec<Life>, number: usize, fell: &[Tid])
     ensures rows { (t : ℕ) → slice_get lives.new.items t
         ≡ option_map (λ life. cond (list_any (λ u. nat_eq u t) fell.now) (ended_life number true life) life)

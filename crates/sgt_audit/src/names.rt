@@ -1,4 +1,4 @@
-//! What outcomes name, and that nothing is named twice.
+//! The entries and transactions that outcomes name, and whether any is named twice.
 ghost use Rattle.std.specs.Prelude.{◌≡◌, ◌↔◌, ◌++◌, ℕ, ◌<◌, IsTrue, IfOk, OnOk, List};
 ghost use Rattle.std.specs.List.{All, flat_map};
 ghost use Rattle.std.specs.Option.{option_to_list};
@@ -12,7 +12,7 @@ use std::alloc::Global;
 
 /// The entries that the outcomes name, in their order.
 ///
-/// `NoMemory` where a growth was refused.
+/// `NoMemory` if an allocation failed.
 pub fn entries_named<N>(alloc: Global, outcomes: &[Outcome<N>]) -> Result<Vec<u64>, NoMemory>
     ensures { IfOk result (λ named. named.items ≡ flat_map entries_of outcomes.now) }
 {
@@ -25,7 +25,7 @@ pub fn entries_named<N>(alloc: Global, outcomes: &[Outcome<N>]) -> Result<Vec<u6
     Ok(named)
 }
 
-/// The entry that an outcome names, if it does.
+/// The entry that an outcome names, if any.
 fn entry_of<N>(outcome: &Outcome<N>) -> Option<u64>
     ensures { option_to_list result ≡ entries_of outcome.now }
 {
@@ -37,7 +37,7 @@ fn entry_of<N>(outcome: &Outcome<N>) -> Option<u64>
 
 /// The transactions that the outcomes name, in their order.
 ///
-/// `NoMemory` where a growth was refused.
+/// `NoMemory` if an allocation failed.
 pub fn transactions_named<N>(
     alloc: Global,
     history: &History,
@@ -67,7 +67,7 @@ fn add_named_by<N>(
     }
 }
 
-/// Adds the transaction that entry n names, if it names one.
+/// Adds the transaction that entry n names, if any.
 fn add_named_at(named: &mut Vec<u64>, history: &History, n: u64) -> Result<(), NoMemory>
     ensures { OnOk result (named.new.items ≡ named.old.items ++ transaction_at history.now.entries n) }
 {
@@ -89,9 +89,9 @@ fn add_all(named: &mut Vec<u64>, tids: &[Tid]) -> Result<(), NoMemory>
     Ok(())
 }
 
-/// Whether no number comes twice. It marks each in a table with an item for each number that there may be.
+/// Whether no number occurs twice. Marks each in a table that has one item for each possible number.
 ///
-/// `NoMemory` where that table was refused.
+/// `NoMemory` if that table could not be allocated.
 pub fn none_twice(alloc: Global, numbers: &[u64], bound: usize) -> Result<bool, NoMemory>
     requires { All (λ n. n < bound) numbers.now }
     ensures { IfOk result (λ once. IsTrue once ↔ Distinct numbers.now) }

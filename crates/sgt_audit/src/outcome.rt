@@ -1,15 +1,15 @@
-//! What can become of a job.
+//! The outcomes of a job.
 use sgt_model::Tid;
 
-/// What became of a job. Entries of the history are named by their numbers, counted from 0.
+/// The outcome of a job. Entries of the history are named by their numbers, counted from 0.
 #[derive(Debug, Drop)]
 pub enum Outcome<N> {
     /// This entry committed the job's transaction.
     Done(u64),
-    /// This entry aborted the job's transaction, whose procedure asked a code.
+    /// This entry aborted the job's transaction, whose procedure raised a code.
     Asked(u64),
-    /// As many transactions as there may be tries were started for the job, one after another, and each was aborted by a
-    /// cycle or fell.
+    /// `Gave`, the job gave up: it used all its attempts, one after another. Each attempt was a transaction that was
+    /// aborted by a cycle or in cascade.
     Gave(Vec<Tid>),
     /// This entry refused to start a transaction for the job.
     Refused(u64),
@@ -17,6 +17,6 @@ pub enum Outcome<N> {
     Left(N),
     /// No worker took the job.
     Untaken,
-    /// A call for the job was refused memory. Its transaction, if it had one, was quit, and the worker went on.
+    /// An allocation failed in a call for the job. Its transaction, if it had one, was quit, and the worker continued.
     NoMemory,
 }

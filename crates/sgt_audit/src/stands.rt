@@ -1,4 +1,4 @@
-//! Whether each outcome says of the history and its job what is so.
+//! Whether each outcome is true of the history and its job.
 ghost use Rattle.std.specs.Prelude.{◌≡◌, ◌↔◌, ℕ, IsTrue, Option, length, reverse};
 ghost use Rattle.std.specs.List.{AllZip};
 ghost use Rattle.sgt_audit.specs.Lives.{AreLives};
@@ -12,7 +12,7 @@ use crate::outcome::Outcome;
 use sgt_dispatch::Job;
 use sgt_log::History;
 
-/// Whether there is one outcome for each job, and each says what is so.
+/// Whether there is one outcome for each job, and each is true.
 pub fn all_stand<N>(
     history: &History,
     lives: &[Life],
@@ -34,7 +34,7 @@ pub fn all_stand<N>(
     true
 }
 
-/// Whether an outcome says what is so.
+/// Whether an outcome is true.
 fn stands<N>(history: &History, lives: &[Life], job: &Job, outcome: &Outcome<N>, tries: u32) -> bool
     requires { AreLives (reverse history.now.entries) lives.now }
     ensures { IsTrue result ↔ OutcomeStands history.now.entries tries job.now outcome.now }
@@ -59,7 +59,7 @@ fn is_committed(history: &History, lives: &[Life], job: &Job, n: u64) -> bool
     }
 }
 
-/// Whether entry n aborted a transaction of the job that asked a code, at the step or at the commit.
+/// Whether entry n aborted a transaction of the job with a code, at the step or at the commit.
 fn is_asked(history: &History, lives: &[Life], job: &Job, n: u64) -> bool
     requires { AreLives (reverse history.now.entries) lives.now }
     ensures { IsTrue result ↔ Ends is_ask history.now.entries job.now n }

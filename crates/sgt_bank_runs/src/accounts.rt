@@ -35,14 +35,14 @@ pub const LIMITS: Limits = Limits {
     asks: Asks::AtStep,
 };
 
-/// The same, where asks are answered at the commit.
+/// The same, with codes reported at commit.
 pub const LIMITS_AT_COMMIT: Limits = Limits {
     live: 32,
     begins: 4_000_000_000,
     asks: Asks::AtCommit,
 };
 
-/// A call of this procedure with these arguments, of which there are at most four.
+/// A call of this procedure with at most four arguments.
 pub fn job(number: u32, procedure: u16, args: &[i64]) -> Job {
     Job {
         number,
@@ -51,7 +51,7 @@ pub fn job(number: u32, procedure: u16, args: &[i64]) -> Job {
     }
 }
 
-/// The account of this name. All begin with the same.
+/// The account of this name. All have the same initial balances.
 fn account(name: i64) -> Account {
     Account {
         name,
@@ -61,7 +61,7 @@ fn account(name: i64) -> Account {
     }
 }
 
-/// Runs the jobs on five accounts, over these bodies of the layers.
+/// Runs the jobs on five accounts, over these implementations of the layers.
 pub fn run_on<R: Records, A: Accesses, G: Graph, W: Threads + Wait + Sync>(
     rt: &W,
     alloc: Global,
@@ -82,7 +82,7 @@ pub fn run_on<R: Records, A: Accesses, G: Graph, W: Threads + Wait + Sync>(
     run_bank::<R, A, G, W>(rt, alloc, opening, jobs, crew, gates)
 }
 
-/// The same over the bodies that the program uses. It prints this of the report, or why there is none.
+/// The same over the implementations that the program uses. Prints this of the report, or why there is none.
 pub fn run<W: Threads + Wait + Sync + Print>(
     rt: &W,
     alloc: Global,
@@ -98,7 +98,7 @@ pub fn run<W: Threads + Wait + Sync + Print>(
     }
 }
 
-/// What the customer of this name has on the checking account.
+/// The checking balance of the customer of this name.
 pub fn checking(database: &Database, name: u32) -> i64 {
     match Key::new(2, i64::from(name).wrapping_add(100)) {
         Some(key) => database.get(key).unwrap_or(0),
@@ -106,7 +106,7 @@ pub fn checking(database: &Database, name: u32) -> i64 {
     }
 }
 
-/// What all customers have, on both accounts.
+/// The total of all customers, over both accounts.
 pub fn held(database: &Database) -> i64 {
     let mut total = 0i64;
     for (key, value) in database.rows() {

@@ -1,5 +1,5 @@
-//! A bank, run as `sgt bank` does, and printed with its history: of each entry the line that asks for it in a script and the line
-//! of its reply, and then the report.
+//! A bank, run as `sgt bank` does, and printed with its history. Each entry has the line that asks for it in a script
+//! and the line of its reply. The report follows.
 use crate::gates::Gates;
 use sgt_access::{Accesses, PerKey};
 use sgt_bank::{bank_of, read_input, report_text};
@@ -17,14 +17,14 @@ use std::io::{ErrorKind, Input, Print, Write};
 use std::sync::Wait;
 use std::thread::Threads;
 
-/// How many workers run jobs, and how often each job is tried.
+/// The number of workers that run jobs, and how often each job is tried.
 #[derive(Clone, Copy)]
 pub struct Crew {
     pub workers: u32,
     pub tries: u32,
 }
 
-/// Runs the jobs on an engine of the opening, over these bodies of the layers.
+/// Runs the jobs on an engine with this initial database, over these implementations of the layers.
 pub fn run_bank<R: Records, A: Accesses, G: Graph, W: Threads + Wait + Sync>(
     rt: &W,
     alloc: Global,
@@ -39,7 +39,8 @@ pub fn run_bank<R: Records, A: Accesses, G: Graph, W: Threads + Wait + Sync>(
     run::<R, A, G, Gates, W>(rt, alloc, bank, jobs, crew.workers, crew.tries, gates)
 }
 
-/// Runs the bank of standard input, and prints it. Where it has no report it prints why, in a line that begins with `no report`.
+/// Runs the bank of standard input, and prints it. If it has no report it prints why, in a line that starts with `no
+/// report`.
 pub fn run_input_bank<W: Print + Input + Threads + Wait + Sync>(
     rt: &W,
     alloc: Global,
@@ -73,7 +74,7 @@ fn write<W: Print>(rt: &W, alloc: Global, report: &Report<u64>) -> io::Result<()
     io::writer(rt).write_all(text.as_slice())
 }
 
-/// The lines of the history, and behind them the report.
+/// The lines of the history, followed by the report.
 fn text(alloc: Global, report: &Report<u64>) -> io::Result<Vec<u8>> {
     let outcomes = report.outcomes.as_slice();
     if outcomes.len() > 1_000_000 {
@@ -87,7 +88,7 @@ fn text(alloc: Global, report: &Report<u64>) -> io::Result<Vec<u8>> {
     Ok(text)
 }
 
-/// The lines of all entries, each with that of its reply behind it.
+/// The lines of all entries, each followed by that of its reply.
 fn lines(alloc: Global, history: &History) -> io::Result<Vec<u8>> {
     let mut text = Vec::new(alloc);
     for place in 0..history.len() {
@@ -110,13 +111,13 @@ fn append_event(text: &mut Vec<u8>, event: &Event) -> Result<(), AllocError> {
     }
 }
 
-/// Adds the line of a call of this transaction, which begins with these words.
+/// Adds the line of a call of this transaction, which starts with these words.
 fn append_call(text: &mut Vec<u8>, words: &str, t: Tid) -> Result<(), AllocError> {
     append_numbered(text, words.as_bytes(), t.0)?;
     text.extend_from_slice(b"]\n")
 }
 
-/// Adds the line of a start. Commas stand between its numbers.
+/// Adds the line of a start. Commas separate its numbers.
 fn append_start(text: &mut Vec<u8>, procedure: u16, args: &[i64]) -> Result<(), AllocError> {
     append_numbered(text, b"[\"start\",", procedure)?;
     let mut before = ",[";

@@ -16,10 +16,10 @@ use std::io::Print;
 use std::sync::Wait;
 use std::thread::Threads;
 
-/// How many jobs the crowd has.
+/// The number of jobs.
 const JOBS: u32 = 1000;
 
-/// Runs sixteen workers on five accounts, and prints what they came to.
+/// Runs sixteen workers on five accounts, and prints the result.
 pub fn run_crowd<W: Threads + Wait + Sync + Print>(
     rt: &W,
     alloc: Global,
@@ -44,8 +44,8 @@ pub fn run_crowd<W: Threads + Wait + Sync + Print>(
     )
 }
 
-/// Runs the jobs that were done by one worker over other bodies of the layers, in the order of their commits, and prints what the crowd
-/// came to and whether it is the same.
+/// Runs the committed jobs by one worker over other implementations of the layers, in commit order. Prints the result
+/// of the crowd and whether it is the same.
 pub fn run_compared<W: Threads + Wait + Sync + Print>(
     rt: &W,
     alloc: Global,
@@ -75,8 +75,8 @@ fn run_alone<W: Threads + Wait + Sync + Print>(
     }
 }
 
-/// Prints how many jobs were done, what all customers hold at the end, and whether one worker leaves the same database and is told the
-/// same answers.
+/// Prints how many jobs were committed, what all customers hold at the end, and whether one worker leaves the same
+/// database and gets the same answers.
 fn print_same<W: Print>(
     rt: &W,
     alloc: Global,
@@ -90,7 +90,7 @@ fn print_same<W: Print>(
     println!(rt; "done {done}, held {held}, alone the same: rows {rows}, answers {answers}")
 }
 
-/// Whether the commits have the same answers, in their order.
+/// Whether the commits have the same answers, in order.
 fn same_answers(alloc: Global, one: &History, other: &History) -> Result<bool, AllocError> {
     let answers = answers_in(alloc, one)?;
     Ok(answers == answers_in(alloc, other)?)
@@ -104,7 +104,7 @@ fn many_jobs(alloc: Global) -> Result<Vec<Job>, AllocError> {
     Ok(jobs)
 }
 
-/// The job of this number: a deposit, a look at a balance, or all that a name has for the next name.
+/// The job of this number: a deposit, a query of a balance, or a transfer of all that a name has to the next name.
 fn job_of(number: u32) -> Job {
     let index = number % ACCOUNTS;
     let name = i64::from(index).wrapping_add(1);
@@ -116,7 +116,7 @@ fn job_of(number: u32) -> Job {
     }
 }
 
-/// The jobs that were done, in the order of their commits, each numbered anew.
+/// The committed jobs, in commit order, renumbered.
 fn done_jobs(alloc: Global, jobs: &[Job], report: &Report<u64>) -> Result<Vec<Job>, AllocError> {
     let by_index = jobs_by_index(alloc, report)?;
     let mut done = Vec::with_capacity(alloc, jobs.len())?;
@@ -138,7 +138,7 @@ fn push_done(done: &mut Vec<Job>, jobs: &[Job], number: Option<u32>) -> Result<(
     Ok(())
 }
 
-/// By the indices of the history, the job that was done there.
+/// For each index of the history, the job that was committed there.
 fn jobs_by_index(alloc: Global, report: &Report<u64>) -> Result<Vec<Option<u32>>, AllocError> {
     let mut by_index = Vec::from_elem(alloc, None, report.history.len())?;
     let mut number = 0u32;
@@ -153,7 +153,7 @@ fn jobs_by_index(alloc: Global, report: &Report<u64>) -> Result<Vec<Option<u32>>
     Ok(by_index)
 }
 
-/// The replies of the commits, in their order.
+/// The replies of the commits, in order.
 fn answers_in(alloc: Global, history: &History) -> Result<Vec<Reply>, AllocError> {
     let mut answers = Vec::with_capacity(alloc, history.len())?;
     for place in 0..history.len() {

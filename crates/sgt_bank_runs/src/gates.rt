@@ -1,37 +1,38 @@
-//! Gates that hold workers back or let them leave, by a plan.
+//! Gates that block workers or make them leave, by a plan.
 use sgt_workers::{Gate, Outcome, Pass};
 use std::sync::atomic::{AtomicU64, AtomicUsize, Ordering};
 use std::thread;
 
-/// How often a worker looks whether it may go on.
+/// How often a worker checks whether it may go on.
 const TURNS: u32 = 10_000_000;
 
-/// Which workers are held, and which leave.
+/// Which workers are blocked, and which leave.
 #[derive(Clone, Copy)]
 pub enum Plan {
-    /// Everybody goes.
+    /// Every worker goes on.
     Open,
-    /// Worker 1 is held before its first call until worker 0 has made 2, and worker 0 there until worker 1 has finished a job.
+    /// Worker 1 waits before its first call until worker 0 has made 2. Worker 0 then waits until worker 1 has finished
+    /// a job.
     SecondFirst,
-    /// Both workers are held before their fifth call until both have made 4, and worker 1 there until worker 0 has made 5.
+    /// Both workers wait before their fifth call until both have made 4. Worker 1 then waits until worker 0 has made 5.
     BothRead,
-    /// A worker that has made so many calls leaves.
+    /// A worker that has made this many calls leaves.
     LeavesAt(u64),
-    /// Each of so many workers above worker 0 starts once the one before it has made 4 calls, and is held at 4 calls of its own until
-    /// the job of worker 0 is finished. Worker 0 leaves at 4 calls, once all of them have made 4.
+    /// This many workers follow worker 0. Each starts once the previous one has made 4 calls. After 4 calls of its own
+    /// it waits until the job of worker 0 is finished. Worker 0 leaves at 4 calls, once all of them have made 4.
     DeepFall(u64),
-    /// Everybody goes, and a worker that is told of a finished job waits there until so many are finished. So no lock may be held while
-    /// a gate is told.
+    /// Every worker goes on. One that is notified of a finished job waits in that call until this many are finished. So
+    /// no lock may be held during the notification.
     FinishTogether(u64),
-    /// Workers leave at random: before one call of `odds`, drawn by the seed, the worker and the calls that it has made. Before each
-    /// call a worker gives way to others, so that many transactions are live at once. With odds of 0 everybody goes.
+    /// Workers leave at random: before one call of `odds`, by the seed, the worker and its number of calls. Before each
+    /// call a worker yields to others, so that many transactions are live at once. With odds of 0 every worker goes on.
     Random { seed: u32, odds: u32 },
 }
 
-/// Of how many jobs a gate notes what it was told, by their numbers from 0.
+/// The number of jobs, from 0 on, for which a gate records its notifications.
 const NOTED: usize = 6;
 
-/// What became of a job, as a gate was told.
+/// The outcome of a job, as a gate was notified.
 #[derive(Clone, Copy, Debug, PartialEq, Eq)]
 pub enum Finish {
     Done,
@@ -54,7 +55,7 @@ const FINISHES: [Finish; 7] = [
 ];
 
 impl Finish {
-    /// What became of a job with this outcome.
+    /// The recorded form of a job with this outcome.
     fn of<N>(outcome: &Outcome<N>) -> Self {
         match outcome {
             Outcome::Done(_) => Finish::Done,
@@ -68,7 +69,7 @@ impl Finish {
     }
 }
 
-/// What a gate was told of one job: how often, and at the last time by which worker and what became of it.
+/// A gate's notifications of one job: how many, and of the last the worker and the outcome.
 #[derive(Drop)]
 struct Note {
     count: AtomicU64,
@@ -77,7 +78,7 @@ struct Note {
 }
 
 impl Note {
-    /// Nothing was told yet.
+    /// No notification yet.
     fn none() -> Self {
         Note {
             count: AtomicU64::new(0),
@@ -87,7 +88,7 @@ impl Note {
     }
 }
 
-/// The gate of a plan, and what it was told.
+/// The gate of a plan, and its notifications.
 #[derive(Drop)]
 pub struct Gates {
     plan: Plan,
@@ -97,12 +98,12 @@ pub struct Gates {
     arrived: AtomicU64,
     finished: AtomicU64,
     notes: [Note; NOTED],
-    /// How many waited in vain while they were told of a finished job.
+    /// How many waited in vain in the notification of a finished job.
     vain: AtomicU64,
 }
 
 impl Gates {
-    /// No call made, no job finished.
+    /// No call made and no job finished.
     pub fn new(plan: Plan) -> Self {
         Gates {
             plan,
@@ -122,13 +123,13 @@ impl Gates {
         }
     }
 
-    /// How many jobs were told to be finished.
+    /// How many jobs were reported finished.
     pub fn finished(&self) -> u64 {
         self.finished.load(Ordering::SeqCst)
     }
 
-    /// How often the job of this number was told to be finished, and at the last time by which worker and as what. Of jobs that
-    /// are not noted nothing was told.
+    /// How often the job of this number was reported finished, and of the last report the worker and the outcome. Jobs
+    /// that are not recorded count as never reported.
     pub fn finish_of(&self, job: usize) -> Option<(u64, u64, Finish)> {
         let note = self.notes.get(job)?;
         let count = note.count.load(Ordering::SeqCst);
@@ -139,12 +140,12 @@ impl Gates {
         Some((count, note.worker.load(Ordering::SeqCst), *finish))
     }
 
-    /// Whether nobody waited in vain while being told of a finished job.
+    /// Whether no worker waited in vain in the notification of a finished job.
     pub fn all_in_time(&self) -> bool {
         self.vain.load(Ordering::SeqCst) == 0
     }
 
-    /// Notes what became of a job.
+    /// Records the outcome of a job.
     fn note_finish(&self, worker: u8, job: u32, finish: Finish) {
         if let Some(note) = self.notes.get(job as usize) {
             note.count.fetch_add(1, Ordering::SeqCst);
@@ -154,7 +155,7 @@ impl Gates {
         }
     }
 
-    /// Notes that a worker has made so many calls.
+    /// Records that a worker has made this many calls.
     fn note(&self, worker: u8, calls: u64) {
         match worker {
             0 => self.calls_of_first.store(calls, Ordering::SeqCst),
@@ -225,7 +226,7 @@ fn leave_if(leaves: bool, calls: u64) -> Pass<u64> {
     if leaves { Pass::Leave(calls) } else { Pass::Go }
 }
 
-/// Waits until the number is reached, and tells whether it was in time. At each turn it gives way to other threads.
+/// Waits until the number is reached, and returns whether it was in time. Yields to other threads at each turn.
 fn reaches(number: &AtomicU64, least: u64) -> bool {
     for _ in 0..TURNS {
         if number.load(Ordering::SeqCst) >= least {
@@ -236,12 +237,12 @@ fn reaches(number: &AtomicU64, least: u64) -> bool {
     false
 }
 
-/// Goes on once the number is reached, and leaves where it is not in time.
+/// Goes on once the number is reached, and leaves if it is not reached in time.
 fn go_at(number: &AtomicU64, least: u64, calls: u64) -> Pass<u64> {
     leave_if(!reaches(number, least), calls)
 }
 
-/// Whether a worker is drawn to leave. It gives way to others first.
+/// Whether the draw makes a worker leave. Yields to others first.
 fn leaves(seed: u32, odds: u32, worker: u8, calls: u64) -> bool {
     if odds == 0 {
         return false;
@@ -251,7 +252,7 @@ fn leaves(seed: u32, odds: u32, worker: u8, calls: u64) -> bool {
     drawn(drawn(own).wrapping_add(calls)) % u64::from(odds) == 0
 }
 
-/// A number drawn from another.
+/// A pseudorandom number made from another.
 fn drawn(x: u64) -> u64 {
     let x = x.wrapping_mul(6_364_136_223_846_793_005);
     let x = x.wrapping_add(1_442_695_040_888_963_407);

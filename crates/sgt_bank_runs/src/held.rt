@@ -1,5 +1,5 @@
-//! Workers that are held by gates until the others have come to where they are wanted: that workers run side by side, that the lock
-//! is let go between two calls, and that the gate is asked.
+//! Workers that gates block until the others have arrived: this shows that workers run concurrently, that the lock is
+//! freed between two calls, and that the gate is asked.
 use crate::accounts::{BALANCE, DEPOSIT_CHECKING, LIMITS, TRANSACT_SAVING, WRITE_CHECK, job, run};
 use crate::banks::Crew;
 use crate::gates::{Gates, Plan};
@@ -12,8 +12,8 @@ use std::io::Print;
 use std::sync::Wait;
 use std::thread::Threads;
 
-/// Runs that are refused, by the number of the first of two jobs, the most live ones, the workers and the tries; and two that are
-/// not.
+/// Runs that are refused, each by the number of the first of two jobs, the limit of live transactions, the workers and
+/// the tries; and two that are not.
 const REFUSALS: [(u32, u32, u32, u32); 9] = [
     (1, 0, 17, 0),
     (1, 0, 0, 1),
@@ -26,7 +26,7 @@ const REFUSALS: [(u32, u32, u32, u32); 9] = [
     (0, 1, 1, 1),
 ];
 
-/// Two deposits to different customers. The second worker makes all its calls between two of the first one's.
+/// Two deposits to different customers. The second worker makes all its calls between two calls of the first.
 pub fn second_commits_first<W: Threads + Wait + Sync + Print>(
     rt: &W,
     alloc: Global,
@@ -60,7 +60,7 @@ pub fn one_gives_up<W: Threads + Wait + Sync + Print>(
     run(rt, alloc, LIMITS, &jobs, crew, &gates, Printed::Counts)
 }
 
-/// A job that asks, two that are refused, one that is done, and two more.
+/// A job that aborts with a code, two that are refused, one that is committed, and two more.
 fn jobs_of_each_outcome() -> [Job; 6] {
     [
         job(0, TRANSACT_SAVING, &[2, -501]),
@@ -72,7 +72,7 @@ fn jobs_of_each_outcome() -> [Job; 6] {
     ]
 }
 
-/// One worker, which is made to leave after so many calls, in the midst of its fifth job.
+/// One worker, which the gate makes leave after this many calls, during its fifth job.
 pub fn each_outcome<W: Threads + Wait + Sync + Print>(
     rt: &W,
     alloc: Global,
@@ -99,7 +99,7 @@ pub fn each_outcome<W: Threads + Wait + Sync + Print>(
     Ok(())
 }
 
-/// Two deposits by two workers. Each, when it is told of its finished job, waits there until the other is told too.
+/// Two deposits by two workers. Each, when notified of its finished job, waits there until the other is notified too.
 pub fn finish_together<W: Threads + Wait + Sync + Print>(rt: &W, alloc: Global) -> io::Result<()> {
     println!(rt; "two workers finish together:")?;
     let jobs = [
@@ -122,7 +122,7 @@ pub fn finish_together<W: Threads + Wait + Sync + Print>(rt: &W, alloc: Global) 
     )
 }
 
-/// What is refused before any growth, the first fault before the others.
+/// The errors found before any allocation, the first fault before the others.
 pub fn refusals<W: Threads + Wait + Sync + Print>(rt: &W, alloc: Global) -> io::Result<()> {
     for (first, live, workers, tries) in &REFUSALS {
         print!(rt; "job {first}, {live} live, {workers} workers, {tries} tries: ")?;
@@ -135,7 +135,7 @@ pub fn refusals<W: Threads + Wait + Sync + Print>(rt: &W, alloc: Global) -> io::
     Ok(())
 }
 
-/// What a run of two jobs is refused for. Its first job has this number.
+/// The error of a run of two jobs. Its first job has this number.
 fn run_refusal<W: Threads + Wait + Sync + Print>(
     rt: &W,
     alloc: Global,

@@ -1,4 +1,4 @@
-//! Workers that leave, and what they leave behind.
+//! Workers that leave, and the state after that.
 use crate::accounts::{DEPOSIT_CHECKING, LIMITS, job, run};
 use crate::banks::Crew;
 use crate::gates::{Gates, Plan};
@@ -10,7 +10,7 @@ use std::io::Print;
 use std::sync::Wait;
 use std::thread::Threads;
 
-/// A worker that leaves before each call of a job, before the first of all, and not at all.
+/// A worker that leaves before each call of a job, before the very first call, and not at all.
 pub fn leave_at_each_call<W: Threads + Wait + Sync + Print>(
     rt: &W,
     alloc: Global,
@@ -22,7 +22,7 @@ pub fn leave_at_each_call<W: Threads + Wait + Sync + Print>(
     Ok(())
 }
 
-/// One deposit of 100 by one worker, which leaves after so many calls.
+/// One deposit of 100 by one worker, which leaves after this many calls.
 fn leaves_after<W: Threads + Wait + Sync + Print>(
     rt: &W,
     alloc: Global,
@@ -38,7 +38,7 @@ fn leaves_after<W: Threads + Wait + Sync + Print>(
     run(rt, alloc, LIMITS, &jobs, crew, &gates, Printed::Leaver)
 }
 
-/// Sixteen workers, of whom each reads what the one before it has written, and the first leaves.
+/// Sixteen workers: each reads what the previous one has written, and the first leaves.
 pub fn deep_fall<W: Threads + Wait + Sync + Print>(rt: &W, alloc: Global) -> io::Result<()> {
     println!(rt; "the first of sixteen leaves, and the others have read from it:")?;
     run_deposits(rt, alloc, 16, 16, &Gates::new(Plan::DeepFall(16)))
@@ -50,7 +50,7 @@ pub fn all_leave<W: Threads + Wait + Sync + Print>(rt: &W, alloc: Global) -> io:
     run_deposits(rt, alloc, 100, 4, &Gates::new(Plan::LeavesAt(0)))
 }
 
-/// Tells what a run of deposits came to, and how its history ends.
+/// Prints the result of a run of deposits, and the end of its history.
 fn run_deposits<W: Threads + Wait + Sync + Print>(
     rt: &W,
     alloc: Global,
@@ -71,7 +71,7 @@ fn run_deposits<W: Threads + Wait + Sync + Print>(
     )
 }
 
-/// So many deposits of 1 to the first account.
+/// This many deposits of 1 to the first account.
 fn deposits(alloc: Global, count: u32) -> Result<Vec<Job>, AllocError> {
     let mut jobs = Vec::with_capacity(alloc, count as usize)?;
     for number in 0..count {

@@ -1,15 +1,16 @@
-//! Runs banks on workers, as the test command and the measures in `bench` do, and prints what they look at from outside. Its first
-//! word says which run:
+//! Runs banks on workers, for the test command and the measurements in `bench`, and prints what they check from
+//! outside. The first argument selects the run:
 //!
-//!     sgt_bank_runs bank WORKERS TRIES [SEED ODDS]    the bank of standard input; one call of so many makes its worker leave
-//!     sgt_bank_runs quit                              a session whose quit is refused all memory
-//!     sgt_bank_runs scripts                           the scripts of standard input, the length of each in four bytes before it
+//!     sgt_bank_runs bank WORKERS TRIES [SEED ODDS]    the bank of standard input; one call in ODDS makes its worker leave
+//!     sgt_bank_runs quit                              a session that quits while all allocations fail
+//!     sgt_bank_runs scripts                           the scripts of standard input, each after its length in four bytes
 //!
-//! Without a word it prints what has to come out of many runs whatever the schedule, and then the bank of standard input by one
-//! worker; that stands in `stdout`. The first runs have gates, which hold each worker until the others have come to where they are
-//! wanted: so it is told here, and by no proof, that workers run side by side, that the lock is let go between two calls, and that
-//! the gate is asked. Then workers leave: one at each call of a job, the first of sixteen that have read from each other, and all at
-//! once. The last has sixteen workers on five accounts, and compares with its jobs run by one worker in the order of their commits.
+//! Without an argument it makes many runs, whose output does not depend on the schedule, and then runs the bank of
+//! standard input by one worker. `stdout` has the expected output. The first runs have gates, which block each worker
+//! until the others have arrived. So these runs test, without proof, that workers run concurrently, that the lock is
+//! freed between two calls, and that the gate is asked. Then workers leave: one at each call of a job, the first of
+//! sixteen that have read from each other, and all at once. The last run has sixteen workers on five accounts, and
+//! compares the result with its jobs run by one worker in commit order.
 #![tactic(auto)]
 
 mod accounts;
@@ -36,7 +37,7 @@ use std::sync::Wait;
 use std::thread::Threads;
 use std::{env, io};
 
-/// The number of this word, or another where it is none.
+/// The number of this argument, or the other number if it is none.
 fn number(words: &[String], place: usize, other: u32) -> u32 {
     match words.get(place) {
         Some(word) => word.as_str().parse::<u32>().unwrap_or(other),
@@ -44,7 +45,7 @@ fn number(words: &[String], place: usize, other: u32) -> u32 {
     }
 }
 
-/// Runs the bank of standard input by these words.
+/// Runs the bank of standard input with these arguments.
 fn run_named_bank<W: Print + Input + Threads + Wait + Sync>(
     rt: &W,
     alloc: Global,
@@ -61,7 +62,7 @@ fn run_named_bank<W: Print + Input + Threads + Wait + Sync>(
     run_input_bank(rt, alloc, crew, &Gates::new(plan))
 }
 
-/// The runs whose schedule is given, or does not matter.
+/// The runs whose schedule is fixed, or does not matter.
 fn run_schedules<W: Print + Threads + Wait + Sync>(rt: &W, alloc: Global) -> io::Result<()> {
     second_commits_first(rt, alloc)?;
     finish_together(rt, alloc)?;
@@ -87,7 +88,7 @@ fn run_all<W: Print + Input + Threads + Wait + Sync>(rt: &W, alloc: Global) -> i
     run_input_bank(rt, alloc, crew, &Gates::new(Plan::Open))
 }
 
-/// The run that these words name.
+/// The run of these arguments.
 fn run<W: Print + Input + Threads + Wait + Sync>(
     rt: &W,
     alloc: Global,

@@ -1,4 +1,4 @@
-//! What runs of jobs came to, as text.
+//! The results of runs of jobs, as text.
 use crate::accounts::{ACCOUNTS, checking};
 use crate::crowd::run_compared;
 use sgt_dispatch::Job;
@@ -12,13 +12,13 @@ use std::sync::Wait;
 use std::thread::Threads;
 use std::{fmt, io};
 
-/// How many jobs came to what.
+/// The number of jobs of each outcome.
 #[derive(Clone, Copy)]
 struct Counts {
     done: u32,
     asked: u32,
     given_up: u32,
-    /// The attempts at the jobs that were given up.
+    /// The attempts at the jobs that gave up.
     attempts: usize,
     refused: u32,
     left: u32,
@@ -76,24 +76,24 @@ impl fmt::Display for Counts {
     }
 }
 
-/// What is printed of a report.
+/// The printed part of a report.
 #[derive(Clone, Copy)]
 pub enum Printed<'a> {
     /// That there is one.
     Report,
-    /// How many jobs came to what.
+    /// The number of jobs of each outcome.
     Counts,
-    /// The same, behind the transactions of the entries.
+    /// The same, after the transactions of the entries.
     Order,
     /// The outcomes and the last reply.
     Leaver,
-    /// How many jobs came to what, the size of the history, and its aborts.
+    /// The number of jobs of each outcome, the size of the history, and its aborts.
     Aborts,
-    /// Whether these jobs come to the same by one worker.
+    /// Whether these jobs have the same result by one worker.
     Compared { limits: Limits, jobs: &'a [Job] },
 }
 
-/// Prints this of a report.
+/// Prints this part of a report.
 pub fn print_report<W: Threads + Wait + Sync + Print>(
     rt: &W,
     alloc: Global,
@@ -110,13 +110,13 @@ pub fn print_report<W: Threads + Wait + Sync + Print>(
     }
 }
 
-/// Prints of which transactions the entries are, and how many jobs came to what.
+/// Prints the transactions of the entries, and the number of jobs of each outcome.
 fn print_ordered<W: Print>(rt: &W, report: &Report<u64>) -> io::Result<()> {
     print_order(rt, &report.history)?;
     print_counts(rt, report)
 }
 
-/// Prints what a run of deposits came to, and how its history ends.
+/// Prints the result of a run of deposits, and the end of its history.
 fn print_deposits<W: Print>(rt: &W, alloc: Global, report: &Report<u64>) -> io::Result<()> {
     print_counts(rt, report)?;
     print_size(rt, report)?;
@@ -135,7 +135,7 @@ fn print_leaver<W: Print>(rt: &W, alloc: Global, report: &Report<u64>) -> io::Re
     }
 }
 
-/// Prints how many jobs came to what, and what all customers have on their checking accounts.
+/// Prints the number of jobs of each outcome, and what all customers have on their checking accounts.
 fn print_counts<W: Print>(rt: &W, report: &Report<u64>) -> io::Result<()> {
     let counts = Counts::of(report.outcomes.as_slice());
     print!(rt; "{counts}; checking")?;
@@ -145,7 +145,7 @@ fn print_counts<W: Print>(rt: &W, report: &Report<u64>) -> io::Result<()> {
     println!(rt)
 }
 
-/// Prints how many entries the history has, and whether the database is as it was opened.
+/// Prints the number of entries of the history, and whether the database is the initial one.
 fn print_size<W: Print>(rt: &W, report: &Report<u64>) -> io::Result<()> {
     let is_as_opened = report.database.rows() == report.opening.rows();
     println!(rt;
@@ -173,7 +173,7 @@ fn print_aborts<W: Print>(rt: &W, alloc: Global, history: &History) -> io::Resul
     Ok(())
 }
 
-/// Prints of which transactions the entries are.
+/// Prints the transactions of the entries.
 fn print_order<W: Print>(rt: &W, history: &History) -> io::Result<()> {
     print!(rt; "entries of")?;
     for place in 0..history.len() {

@@ -1,5 +1,5 @@
-//! A session that quits what it has started. Behind its first line it has no need of memory but for further starts, so that
-//! from there on all memory may be refused from outside.
+//! A session that quits what it has started. After its first line of output, only further starts allocate. So from
+//! there on every allocation may be made to fail from outside.
 ghost use Rattle.std.specs.Prelude.{◌≡◌, [], IfOk};
 ghost use Rattle.sgt_engine.specs.EngineView.{setting_of};
 
@@ -25,7 +25,7 @@ const LIMITS: Limits = Limits {
     asks: Asks::AtStep,
 };
 
-/// What is told of a transaction that was started, and of one that was quit, where nobody fell.
+/// The text for a transaction that was started, and for one that was quit with nothing aborted in cascade.
 const STARTED: &str = "started";
 
 const QUIT: &str = "aborted quit fell none";
@@ -37,7 +37,7 @@ const ACCOUNT: Account = Account {
     checking: 1000,
 };
 
-/// An engine with one account, where nothing was done yet.
+/// An engine with one account and no events yet.
 fn new_engine(alloc: Global) -> Result<SgtEngine, MakeError>
     ensures { IfOk result (λ engine. engine.past ≡ []) }
 {
@@ -56,7 +56,7 @@ fn balance() -> Event {
     }
 }
 
-/// Makes a call, and tells what became of it in words, which take no memory.
+/// Makes a call, and returns its result in words. The words need no allocation.
 fn call<N: Named, R: Records, A: Accesses, G: Graph, W: Wait>(
     rt: &W,
     shared: &Shared<N, R, A, G>,
@@ -77,7 +77,7 @@ fn call<N: Named, R: Records, A: Accesses, G: Graph, W: Wait>(
     }
 }
 
-/// Starts transactions until one is not started, and answers how many were, and what became of the last.
+/// Starts transactions until a start fails. Returns how many were started, and the result of the last call.
 fn start_many<N: Named, R: Records, A: Accesses, G: Graph, W: Wait>(
     rt: &W,
     shared: &Shared<N, R, A, G>,
@@ -92,7 +92,7 @@ fn start_many<N: Named, R: Records, A: Accesses, G: Graph, W: Wait>(
     (LIMITS.begins, STARTED)
 }
 
-/// Quits so many transactions from this number on, and answers how many of them were quit.
+/// Quits this many transactions from this number on, and returns how many were quit.
 fn quit_many<N: Named, R: Records, A: Accesses, G: Graph, W: Wait>(
     rt: &W,
     shared: &Shared<N, R, A, G>,
@@ -109,7 +109,7 @@ fn quit_many<N: Named, R: Records, A: Accesses, G: Graph, W: Wait>(
     quit
 }
 
-/// Shares the engine with one session, and prints what that is answered.
+/// Shares the engine with one session, and prints the session's replies.
 fn play<N: Named, R: Records, A: Accesses, G: Graph, W: Wait + Print>(
     rt: &W,
     alloc: Global,
@@ -127,7 +127,7 @@ fn play<N: Named, R: Records, A: Accesses, G: Graph, W: Wait + Print>(
     }
 }
 
-/// Tells what the first of the sessions is answered.
+/// Prints the replies of the first session.
 fn run_first<N: Named, R: Records, A: Accesses, G: Graph, W: Wait + Print>(
     rt: &W,
     shared: &Shared<N, R, A, G>,
@@ -139,7 +139,7 @@ fn run_first<N: Named, R: Records, A: Accesses, G: Graph, W: Wait + Print>(
     }
 }
 
-/// Starts a transaction and quits it, and then starts and quits as many as it may.
+/// Starts a transaction and quits it. Then starts and quits as many as it can.
 fn run_session<N: Named, R: Records, A: Accesses, G: Graph, W: Wait + Print>(
     rt: &W,
     shared: &Shared<N, R, A, G>,
@@ -152,7 +152,7 @@ fn run_session<N: Named, R: Records, A: Accesses, G: Graph, W: Wait + Print>(
     println!(rt; "{} quit", quit_many(rt, shared, session, 1, started))
 }
 
-/// Tells what a session is answered that starts a transaction and quits it.
+/// Prints the replies of a session that starts a transaction and quits it.
 pub fn run_quits<W: Wait + Print>(rt: &W, alloc: Global) -> io::Result<()> {
     match new_engine(alloc) {
         Ok(engine) => play::<Brand, _, _, _, _>(rt, alloc, engine, Blank::new(1)),

@@ -6,7 +6,7 @@ use std::alloc::{AllocError, Global};
 use std::io;
 use std::io::{Input, Print, Read, Write};
 
-/// What a script writes, and behind it a line that says how it ended.
+/// The output of a script, followed by a line that says how it ended.
 fn output_of(alloc: Global, script: &[u8]) -> Result<Vec<u8>, AllocError> {
     let mut reader = Reader::new(script);
     let mut writer = Writer::new(Vec::new(alloc));
@@ -33,14 +33,14 @@ fn append_fault(alloc: Global, text: &mut Vec<u8>, fault: &Fault) -> Result<(), 
     text.extend_from_slice(line.as_bytes())
 }
 
-/// The first script, and what stands behind it; none where it is not whole. Its length stands in the four bytes before it, the
+/// The first script, and the bytes after it; none if it is incomplete. The four bytes before it have its length, the
 /// highest first.
 fn first(input: &[u8]) -> Option<(&[u8], &[u8])> {
     let (length, rest) = input.split_first_chunk::<4>()?;
     rest.split_at_checked(u32::from_be_bytes(*length) as usize)
 }
 
-/// Runs the scripts of standard input, one behind the other, and prints what each writes.
+/// Runs the scripts of standard input, one after another, and prints the output of each.
 pub fn run_scripts<R: Print + Input>(rt: &R, alloc: Global) -> io::Result<()> {
     let mut input = Vec::new(alloc);
     rt.reader().read_to_end(&mut input)?;

@@ -1,4 +1,4 @@
--- Each step keeps the rule of the feed.
+-- Each step preserves the rule of the feed (queue).
 use Rattle.std.proofs.Common.{◌≡◌, ℕ, ◌+◌, ◌-◌, ◌<◌, true, false, true≢false, ⊎_elim, List, [], ◌∷◌, ◌++◌, set, refl, ap, sym, ◌∙◌, append_assoc, cond, All, arith}
 use Rattle.std.specs.List.{sum_by}
 use Rattle.std.proofs.lemmas.List.Sums.{sum_by-cons, sum_by-append}
@@ -15,7 +15,7 @@ use Rattle.sgt_dispatch.specs.Fifo.{IsFifo, IsTold}
 use Rattle.sgt_dispatch.proofs.Subsequences.{IsSubsequence-nil, IsSubsequence-append, IsSubsequence-push}
 use Rattle.sgt_dispatch.proofs.Sums.{EachLog-set, EachLog-push, EachLog-one, sum_by-set_log, sum_by-push_log, sum_by-has_log, sum_by-every_part}
 
--- the fields of `IsFifo` that are said of each log
+-- the fields of `IsFifo` about each log
 abbrev PutIs : ℕ → List Item → ℕ → Log → Type 0
 PutIs putter items number log = log.is_putter ≡ true → (number ≡ putter) × (log.put ≡ items)
 

@@ -7,13 +7,13 @@ module _ {A : Type 0} where
   IsSubsequence-nil [] = refl
   IsSubsequence-nil (y ∷ ys) = inl (IsSubsequence-nil ys)
 
-  -- with more behind the list
+  -- with more after the list
   pub IsSubsequence-append : (xs ys zs : List A) → IsSubsequence xs ys → IsSubsequence xs (ys ++ zs)
   IsSubsequence-append xs [] zs s = subst (λ (l : List A). IsSubsequence l zs) (sym s) (IsSubsequence-nil zs)
   IsSubsequence-append xs (y ∷ ys) zs s = ⊎_elim (λ t. inl (IsSubsequence-append xs ys zs t))
       (λ t. inr (t.0, t.1, IsSubsequence-append t.0 ys zs t.2)) s
 
-  -- with one more behind both
+  -- with one more at the end of both
   pub IsSubsequence-push : (xs ys : List A) (x : A) → IsSubsequence xs ys → IsSubsequence (xs ++ x ∷ []) (ys ++ x ∷ [])
   IsSubsequence-push xs [] x s = inr ([], ap (λ (l : List A). l ++ x ∷ []) s, refl)
   IsSubsequence-push xs (y ∷ ys) x s = ⊎_elim (λ t. inl (IsSubsequence-push xs ys x t))

@@ -1,4 +1,4 @@
--- Facts and sums over the logs of a feed, of which a step changes one or adds one.
+-- Facts and sums over the logs of a feed (queue), of which a step changes or adds one.
 use Rattle.std.proofs.Common.{◌≡◌, ◌≢◌, ℕ, zero, suc, ◌+◌, ◌≤◌, ⊎_elim, List, [], ◌∷◌, ◌++◌, set, refl, ap, sym, subst, arith}
 use Rattle.std.specs.List.{sum_by}
 use Rattle.std.proofs.lemmas.List.Sums.{sum_by-cons, sum_by-append}
@@ -48,7 +48,7 @@ module _ (f : Log → ℕ) where
   sum_by-has_log (other ∷ logs) zero log at = omega (arith, ap f (some-injective other log at), sum_by-cons f other logs)
   sum_by-has_log (other ∷ logs) (suc k) log at = omega (arith, sum_by-cons f other logs, sum_by-has_log logs k log at)
 
--- where a log with no part adds nothing
+-- if a log with no share adds nothing
 module _ (f parts : Log → ℕ) where
   abbrev AddsNothing : List Log → Type 0
   AddsNothing = EachLog (λ _ log. parts log ≡ 0 → f log ≡ 0)
@@ -60,7 +60,7 @@ module _ (f parts : Log → ℕ) where
       let here = nothing 0 log refl (omega (arith, more, none)) in
       let rest = sum_by-no_part logs (λ k. nothing (suc k)) (omega (arith, more, none)) in omega (arith, sum_by-cons f log logs, here, rest)
 
-  -- a log with every part has the whole sum
+  -- a log with every share has the whole sum
   pub sum_by-every_part : (logs : List Log) (k : ℕ) (log : Log) → AddsNothing logs → get_elem? logs k ≡ some log
       → sum_by parts logs ≡ parts log → sum_by f logs ≡ f log
   sum_by-every_part [] k log nothing at all = absurd (some-ne-none log (sym at))

@@ -6,7 +6,8 @@ use Rattle.sgt_dispatch.specs.Accounts.{AccountsForItems}
 use Rattle.sgt_dispatch.specs.Logs.{EachLog, weight_of}
 use Rattle.sgt_dispatch.specs.Subsequences.{IsSubsequence}
 
--- What was put is what is gone and then what the feed holds. What is gone was taken, each item as often, and by each taker in order
+-- The items sent are the ones gone, followed by those that the feed holds. Exactly the items gone were received, each
+-- item as often, and by each taker in order
 pub record IsFifo (held : List Item) (logs : List Log) : Type 0 where
   pub putter : ℕ
   pub gone : List Item
@@ -16,7 +17,7 @@ pub record IsFifo (held : List Item) (logs : List Log) : Type 0 where
   pub once : (weigh : Item → ℕ) → sum_by (weight_of weigh) logs ≡ sum_by weigh gone
   pub spent : EachLog (λ _ log. log.parts ≡ 0 → (log.taken ≡ []) × (log.joined ≡ [])) logs
 
--- what the putter learns when it joins: it cannot have more than every part, and who has every part knows of all that was taken
+-- what the putter learns when it joins: its shares are at most 17, and with all 17 it knows of everything received
 pub record IsTold (log : Log) (held : List Item) : Type 0 where
   pub few : log.parts ≤ 17
   pub accounts : AccountsForItems log.put log.joined held (log.parts ≡ 17)

@@ -1,11 +1,11 @@
--- What the ends of a feed know.
+-- What the ends of a feed (queue) know.
 use Rattle.std.specs.Prelude.{◌≡◌, ℕ, ◌+◌, true, false, List, [], sum_by}
 use mathlib.Core.Option.{some}
 use lib.ListN.{get_elem?}
 use Rattle.sgt_dispatch.specs.declared.item.Item.{Item}
 use Rattle.sgt_dispatch.specs.declared.log.Log.{Log}
 
--- the putter's log of a new feed, with every part
+-- the putter's log of a new feed, with every share
 abbrev pub first_log : Log
 first_log = record { parts = 17; is_putter = true; put = []; taken = []; joined = [] }
 
@@ -13,7 +13,7 @@ first_log = record { parts = 17; is_putter = true; put = []; taken = []; joined 
 abbrev pub taker_log : Log
 taker_log = record { parts = 1; is_putter = false; put = []; taken = []; joined = [] }
 
--- what is left of a log that was joined to another
+-- what remains of a log that was joined to another
 abbrev pub spent_log : Log
 spent_log = record { parts = 0; is_putter = false; put = []; taken = []; joined = [] }
 
@@ -21,6 +21,6 @@ spent_log = record { parts = 0; is_putter = false; put = []; taken = []; joined 
 abbrev pub EachLog : (ℕ → Log → Type 0) → List Log → Type 0
 EachLog P logs = (number : ℕ) (log : Log) → get_elem? logs number ≡ some log → P number log
 
--- the items that a log and those that were joined to it have taken, weighed and added up
+-- the items that a log and those joined to it have received, weighed and added up
 abbrev pub weight_of : (Item → ℕ) → Log → ℕ
 weight_of weigh log = sum_by weigh log.taken + sum_by (sum_by weigh) log.joined

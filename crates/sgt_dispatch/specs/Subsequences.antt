@@ -1,4 +1,4 @@
--- Some items of a list, in its order.
+-- Subsequences of a list.
 use Rattle.std.specs.Prelude.{◌≡◌, ◌⊎◌, List, [], ◌∷◌}
 
 -- xs is ys with some items left out

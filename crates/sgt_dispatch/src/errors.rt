@@ -5,13 +5,13 @@ use thiserror::Error;
 /// Why a feed could not be made.
 #[derive(Clone, Copy, Debug, PartialEq, Eq, Error)]
 pub enum FeedError {
-    /// The room is not from 1 to [`MOST_ROOM`](crate::MOST_ROOM).
+    /// The capacity is not from 1 to [`MOST_ROOM`](crate::MOST_ROOM).
     #[error("the room is out of its range")]
     BadRoom,
     /// The number of takers is not from 1 to [`MOST_TAKERS`](crate::MOST_TAKERS).
     #[error("the number of takers is out of its range")]
     BadTakers,
-    /// The memory for it was refused.
+    /// An allocation failed.
     #[error("no memory")]
     NoMemory,
 }

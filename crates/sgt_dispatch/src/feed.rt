@@ -1,4 +1,4 @@
-//! How a feed is made, and the most that it may hold.
+//! Makes a feed, and limits its size.
 ghost use Rattle.std.specs.Prelude.{◌≡◌, ◌-◌, ◌<◌, ◌≤◌, ◌↔◌, [], Err, IfOk, IfErr, OnOk, All, vec_len, vec_capacity};
 ghost use Rattle.crossbeam_channel.specs.Claims.{view, IsSeatAt};
 ghost use Rattle.crossbeam_channel.specs.Ends.{sends_on, receives_on};
@@ -15,7 +15,7 @@ use crate::taker::Taker;
 use crossbeam_channel::{Pass, RuledReceiver, RuledSender, bounded_with};
 use std::alloc::{AllocError, Global};
 
-/// The most room that a feed may be made with.
+/// The greatest capacity of a feed.
 pub const MOST_ROOM: usize = 1024;
 
 /// The most jobs that a feed may be made for.
@@ -24,14 +24,16 @@ pub const MOST_JOBS: usize = 1_000_000;
 /// The most takers that a feed may have.
 pub const MOST_TAKERS: usize = 16;
 
-/// A feed of jobs. No value of it is made: its ends are all there is of it.
+/// A feed: a queue of jobs. No value of it is made: it consists of its ends alone.
 pub struct Feed;
 
 impl Feed {
-    /// The ends of a new feed, which holds up to `room` items: its putter, and so many takers.
+    /// The ends of a new feed, which holds up to `room` items: its putter and its takers.
     ///
-    /// `BadRoom` where the room is not from 1 to `MOST_ROOM`; `BadTakers` where the number of takers is not from 1 to
-    /// `MOST_TAKERS`; `NoMemory` where a growth was refused. They are tested in this order.
+    /// The errors are tested in this order:
+    /// - `BadRoom`: the capacity is not from 1 to `MOST_ROOM`.
+    /// - `BadTakers`: the number of takers is not from 1 to `MOST_TAKERS`.
+    /// - `NoMemory`: an allocation failed.
     pub fn make(
         alloc: Global,
         room: usize,
@@ -52,10 +54,10 @@ impl Feed {
         ends_of(alloc, room, takers)
     }
 
-    /// As `make`, with room for so many jobs and a stop for each taker, so that nobody waits for room with as many. That is tested;
-    /// no clause speaks of who waits.
+    /// Like `make`, with capacity for this many jobs and a stop for each taker, so that sending that many never blocks.
+    /// Tests check that; no clause says who waits.
     ///
-    /// `BadRoom` where the jobs are over `MOST_JOBS`; then `BadTakers` and `NoMemory`, as in `make`.
+    /// `BadRoom` if the jobs are over `MOST_JOBS`; then `BadTakers` and `NoMemory`, as in `make`.
     pub fn make_for(
         alloc: Global,
         jobs: usize,
@@ -91,7 +93,7 @@ fn ends_of(alloc: Global, room: usize, takers: usize) -> Result<(Putter, Vec<Tak
     Ok((Putter::new(sender, pass, takers), list))
 }
 
-/// So many takers, each with a pass that is cut off the putter's.
+/// This many takers, each with a pass split off the putter's.
 fn takers_of(
     sender: &RuledSender<Item, Log, Fifo>,
     receiver: &RuledReceiver<Item, Log, Fifo>,

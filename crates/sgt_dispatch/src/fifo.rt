@@ -1,4 +1,4 @@
-//! The rule of the feed, and what each step does to the log of the end that makes it.
+//! The rule of the feed, and how each step changes the log of its end.
 ghost use Rattle.std.specs.Prelude.{◌≡◌, ◌+◌, ◌-◌, ◌++◌, [], ◌∷◌};
 ghost use Rattle.sgt_dispatch.specs.Logs.{first_log, taker_log, spent_log};
 ghost use Rattle.sgt_dispatch.specs.Fifo.{IsFifo, IsTold};
@@ -16,7 +16,7 @@ impl Protocol<Item, Log> for Fifo {
     ghost first = { first_log };
 }
 
-/// A send: the item joins at the back.
+/// A send: appends the item at the back.
 pub(crate) struct PutStep;
 
 impl Outcome<Item, Log> for PutStep {
@@ -27,7 +27,7 @@ impl Lesson<Item, Log> for PutStep {
     ghost fact = { λ log items. Unit {0} };
 }
 
-/// A receive: the item leaves at the front.
+/// A receive: removes the item at the front.
 pub(crate) struct TakeStep;
 
 impl Outcome<Item, Log> for TakeStep {
@@ -38,7 +38,7 @@ impl Lesson<Item, Log> for TakeStep {
     ghost fact = { λ log items. Unit {0} };
 }
 
-/// A pass for a taker is cut off the putter's.
+/// Splits a taker's pass off the putter's.
 pub(crate) struct CutStep;
 
 impl Split<Log> for CutStep {
@@ -47,7 +47,7 @@ impl Split<Log> for CutStep {
     ghost right = { λ log. taker_log };
 }
 
-/// A taker's pass joins the putter's.
+/// Joins a taker's pass to the putter's.
 pub(crate) struct JoinStep;
 
 impl Join<Log> for JoinStep {

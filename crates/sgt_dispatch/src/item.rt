@@ -1,11 +1,11 @@
-//! What a feed carries.
+//! The items of a feed.
 use crate::job::Job;
 
-/// What a feed carries.
+/// An item of a feed.
 #[derive(Debug, Drop, PartialEq, Eq)]
 pub enum Item {
-    /// A job for the taker that takes it.
+    /// A job for the taker that receives it.
     Job(Job),
-    /// A sign to one taker that no job is left for it.
+    /// A stop: no job is left for the taker that receives it.
     Stop,
 }

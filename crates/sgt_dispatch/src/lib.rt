@@ -1,11 +1,12 @@
-//! A feed of jobs: one putter and up to 16 takers, each of which may be in a thread of its own.
+//! A feed of jobs: a queue with one producer, the putter, and up to 16 consumers, the takers. Each end may run in a
+//! thread of its own.
 //!
-//! What is put first is taken first, and each item is taken once. The [`Putter`] puts jobs, and a stop for each taker; a
-//! [`Taker`] takes until it gets one, and leaves. What it knows of its items stays behind as a [`Stub`]. Once its threads
-//! have ended the putter joins them one by one, and each time the account is told anew ([`Putter::join`]): it is proved for
-//! every order of the threads' steps.
+//! The queue is first in, first out, and each item is received once. The [`Putter`] sends jobs, and one stop for each
+//! taker. A [`Taker`] receives until it gets a stop, and leaves. Its record of its items remains as a [`Stub`]. Once
+//! the takers' threads have ended, the putter joins the stubs one by one. Each join extends the account of all items
+//! ([`Putter::join`]). It is proved for every order of the threads' steps.
 //!
-//! It runs no job and starts no thread. That a call which waits ever returns is not promised, nor that a taker gets a fair
+//! It runs no job and starts no thread. It promises neither that a blocking call returns nor that a taker gets a fair
 //! share.
 //!
 //! ```

@@ -1,17 +1,18 @@
-//! What each end of a feed knows of what was put and taken. It stands in proofs alone.
+//! What each end of a feed (queue) knows of the items sent and received. Exists in proofs only.
 use crate::item::Item;
 use std::collections::LinkedList;
 
-/// What one end of a feed knows. It stands in proofs alone: no value of it is ever made.
+/// What one end of a feed knows. Exists in proofs only: no value of it is ever made.
 pub struct Log {
-    /// Its share of the right to know the whole. All logs of a feed have 17 together: a taker has one, the putter the others.
+    /// Its share of the right to know the whole. The logs of a feed have 17 shares together: each taker has one, the
+    /// putter the rest.
     pub parts: u64,
-    /// Whether it is the putter's.
+    /// Whether it is the putter's log.
     pub is_putter: bool,
-    /// What it has put, in order.
+    /// What it has sent, in order.
     pub put: LinkedList<Item>,
-    /// What it has taken, in order.
+    /// What it has received, in order.
     pub taken: LinkedList<Item>,
-    /// What each taker that was joined to it had taken.
+    /// What each taker joined to it had received.
     pub joined: LinkedList<LinkedList<Item>>,
 }

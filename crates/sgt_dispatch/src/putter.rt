@@ -1,4 +1,4 @@
-//! The end of a feed that puts.
+//! The producer of a feed.
 ghost use Rattle.std.specs.Prelude.{◌≡◌, ◌<◌, if◌then◌else◌, OnOk, OnErr, IfErr};
 ghost use Rattle.crossbeam_channel.specs.Claims.{IsSeatAt};
 ghost use Rattle.crossbeam_channel.specs.Ends.{sends_on};
@@ -14,7 +14,7 @@ use crossbeam_channel::{Pass, RuledSender};
 use std::marker::Model;
 use std::sync::Wait;
 
-/// The one end of a feed that puts. It joins what its takers leave behind.
+/// The one producer of a feed. It joins what its takers leave.
 #[derive(Drop)]
 pub struct Putter {
     sender: RuledSender<Item, Log, Fifo>,
@@ -35,7 +35,7 @@ impl Model for Putter {
 }
 
 impl Putter {
-    /// The putter of a feed, with the pass from which those of its takers were cut.
+    /// The putter of a feed, with the pass from which its takers' passes were split.
     pub(crate) fn new(
         sender: RuledSender<Item, Log, Fifo>,
         pass: Pass<Item, Log>,
@@ -52,7 +52,7 @@ impl Putter {
         }
     }
 
-    /// Puts a job at the back, in one step, or hands it back: then all takers have left. It waits while the feed is full.
+    /// Puts a job at the back, in one step. Returns the job if all takers have left. Blocks while the feed is full.
     pub fn put<R: Wait>(&mut self, rt: &R, job: Job) -> Result<(), Job>
         ensures put { OnOk result (self.new ≡ with_put (Of.Job job) self.old) }
         ensures back { IfErr result (λ back. back ≡ job) }
@@ -70,8 +70,8 @@ impl Putter {
         }
     }
 
-    /// Puts a stop at the back, in one step. `false` says that it did not: then all takers have left. It waits while the feed
-    /// is full.
+    /// Puts a stop at the back, in one step. Returns `false` if all takers have left; then nothing was put. Blocks
+    /// while the feed is full.
     pub fn stop<R: Wait>(&mut self, rt: &R) -> bool
         ensures { self.new ≡ (if result then with_put Of.Stop self.old else self.old) }
     {
@@ -80,8 +80,8 @@ impl Putter {
             .is_ok()
     }
 
-    /// Joins what a taker of this feed left behind. It tells of the takers joined so far that what they took is among what was
-    /// put, none of it more often and each one's in order; with all joined, that it is just what left the feed.
+    /// Joins what a taker of this feed left. What the joined takers received is then known to be among the items sent,
+    /// in each taker's order, and no item more often. Once all are joined, it is exactly what left the feed.
     pub fn join(self, stub: Stub) -> Putter
         requires { stub.feed ≡ self.feed }
         ensures joined { result ≡ with_joined stub.taken self }

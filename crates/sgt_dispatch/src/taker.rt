@@ -1,4 +1,4 @@
-//! The ends of a feed that take, and what they leave behind.
+//! The consumers of a feed, and what they leave when they end.
 ghost use Rattle.std.specs.Prelude.{◌≡◌};
 ghost use Rattle.crossbeam_channel.specs.Claims.{IsSeatAt};
 ghost use Rattle.crossbeam_channel.specs.Ends.{receives_on};
@@ -12,18 +12,18 @@ use crossbeam_channel::{Pass, RuledReceiver};
 use std::marker::Model;
 use std::sync::Wait;
 
-/// What a taker got.
+/// The result of a take.
 #[derive(Debug, Drop, PartialEq, Eq)]
 pub enum Take {
     /// The job at the front.
     Job(Job),
     /// The stop at the front.
     Stop,
-    /// Nothing: the feed was found empty, and its putter gone.
+    /// Nothing: the feed was empty, and its putter gone.
     Gone,
 }
 
-/// One of the ends of a feed that take.
+/// One consumer of a feed.
 #[derive(Drop)]
 pub struct Taker {
     receiver: RuledReceiver<Item, Log, Fifo>,
@@ -42,7 +42,7 @@ impl Model for Taker {
     ghost invariant = { λ t. IsSeatAt (receives_on t.receiver) t.pass × IsTaker t.pass };
 }
 
-/// What a taker leaves behind: what it knows, and no end of the feed. The putter joins it.
+/// What a taker leaves: its record of its items, and no end of the feed. The putter joins it.
 #[derive(Drop)]
 pub struct Stub {
     pub(crate) pass: Pass<Item, Log>,
@@ -68,7 +68,7 @@ impl Taker {
         Taker { receiver, pass }
     }
 
-    /// Takes what is at the front, in one step. It waits while the feed is empty and its putter is there.
+    /// Takes the item at the front, in one step. Blocks while the feed is empty and its putter exists.
     pub fn take<R: Wait>(&mut self, rt: &R) -> Take
         ensures { self.new ≡ after_take result self.old }
     {
@@ -79,7 +79,7 @@ impl Taker {
         }
     }
 
-    /// Takes no more. A putter that waits for room is let go once all takers have left.
+    /// Ends this taker. A putter that waits for capacity is released once all takers have left.
     pub fn leave(self) -> Stub
         ensures { result ≡ self }
     {

@@ -1,4 +1,4 @@
-//! The engine that a run begins with, and what its accounts hold.
+//! The engine at the start of a run, and the totals of its accounts.
 
 use sgt_access::Accesses;
 use sgt_engine::Engine;
@@ -10,8 +10,8 @@ use std::alloc::Global;
 use std::io;
 use std::io::Print;
 
-/// An engine over any bodies of the layers, with SmallBank's procedures, these accounts and no event yet; or none where memory
-/// was wanting.
+/// An engine over any implementations of the layers, with SmallBank's procedures, these accounts and no event yet. None
+/// if an allocation failed.
 pub fn open<R: Records, A: Accesses, G: Graph>(
     alloc: Global,
     accounts: &[Account],
@@ -22,12 +22,12 @@ pub fn open<R: Records, A: Accesses, G: Graph>(
     Engine::new(alloc, database, procedures, limits).ok()
 }
 
-/// Tells that memory was wanting.
+/// Prints that an allocation failed.
 pub fn print_no_memory(rt: &impl Print) -> io::Result<()> {
     println!(rt; "no memory")
 }
 
-/// What so many customers, from this number on, have committed in all.
+/// The committed total of this many customers, from this number on.
 pub fn total<R: Records, A: Accesses, G: Graph>(
     engine: &Engine<R, A, G>,
     first: i64,
@@ -43,7 +43,7 @@ pub fn total<R: Records, A: Accesses, G: Graph>(
     total
 }
 
-/// What a customer has committed in this table, the savings (1) or the checkings (2).
+/// The committed balance of a customer in this table: savings (1) or checkings (2).
 fn balance<R: Records, A: Accesses, G: Graph>(
     engine: &Engine<R, A, G>,
     table: u8,

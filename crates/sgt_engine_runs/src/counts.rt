@@ -3,18 +3,18 @@ use sgt_log::History;
 use sgt_model::{Cause, Reply, Tids};
 use std::fmt;
 
-/// How many replies of each kind there were. A count stays at the greatest number of its type.
+/// The number of replies of each kind. A count stops at the greatest number of its type.
 #[derive(Clone, Copy)]
 pub struct Counts {
     starts: u64,
     commits: u64,
-    /// Aborts of a transaction's own, by their causes.
+    /// Direct aborts, by cause.
     cycles: u64,
     asks: u64,
     quits: u64,
-    /// Refusals at a commit.
+    /// Refusals at commit.
     refusals: u64,
-    /// The transactions that fell with these.
+    /// The transactions that were aborted in cascade with these.
     fallen: u64,
     waits: u64,
 }
@@ -53,7 +53,7 @@ impl Counts {
         }
     }
 
-    /// Counts an abort, and those that fell with it.
+    /// Counts an abort, and those aborted in cascade with it.
     fn note_abort(&mut self, cause: &Cause, fell: &Tids) {
         match cause {
             Cause::Cycle(_) => self.cycles = self.cycles.saturating_add(1),
@@ -63,7 +63,7 @@ impl Counts {
         self.note_fallen(fell);
     }
 
-    /// Counts those that fell.
+    /// Counts the transactions aborted in cascade.
     fn note_fallen(&mut self, fell: &Tids) {
         self.fallen = self.fallen.saturating_add(fell.len() as u64);
     }

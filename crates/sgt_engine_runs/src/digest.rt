@@ -1,4 +1,4 @@
-//! Digests of what an engine has answered and of what it holds.
+//! Digests of an engine's replies and of its contents.
 use crate::refusals::Refusals;
 use sgt_access::Accesses;
 use sgt_engine::Engine;
@@ -9,24 +9,24 @@ use sgt_model::{Cause, Fate, NoMemory, Reply, Tids};
 use sgt_records::Records;
 use std::alloc::Global;
 
-/// Where the 64-bit FNV-1a hash begins, and what it multiplies by.
+/// The offset basis of the 64-bit FNV-1a hash, and its prime.
 const BASIS: u64 = 14_695_981_039_346_656_037;
 
 const PRIME: u64 = 1_099_511_628_211;
 
-/// The 64-bit FNV-1a hashes of what an engine has answered and of what it holds, each line with its end.
+/// The 64-bit FNV-1a hashes of an engine's replies and of its contents, each line with its newline.
 #[derive(Clone, Copy)]
 pub struct Digests {
-    /// Of the replies' lines.
+    /// The hash of the replies' lines.
     pub replies: u64,
-    /// Of the same, where each walk is told by its first member alone.
+    /// The same, with only the first member of each path.
     pub first_members: u64,
-    /// Of the committed database's lines.
+    /// The hash of the committed database's lines.
     pub database: u64,
 }
 
 impl Digests {
-    /// The digests of an engine. What is refused memory is tried once more.
+    /// The digests of an engine. A call with a failed allocation is repeated once.
     pub fn of<R: Records, A: Accesses, G: Graph>(
         alloc: Global,
         engine: &Engine<R, A, G>,
@@ -47,7 +47,7 @@ impl Digests {
     }
 }
 
-/// The digest of the replies, and the one with the first members alone.
+/// The digest of the replies, and the one with only the first members.
 fn of_replies(
     alloc: Global,
     history: &History,
@@ -65,8 +65,8 @@ fn of_replies(
     Ok((whole, first))
 }
 
-/// The hash with a reply's line behind what it was taken of. The line is room for the text, which is made once more where
-/// it is refused memory.
+/// Extends the hash by a reply's line. The line is capacity for the text. The text is made once more if an allocation
+/// failed.
 fn with_line(
     hash: u64,
     line: &mut Vec<u8>,
@@ -93,7 +93,7 @@ fn of_database<R: Records, A: Accesses, G: Graph>(
     Ok(hashed(BASIS, lines.as_slice()))
 }
 
-/// Leaves of a walk its first member alone.
+/// Removes all members of a path but the first.
 fn shorten(reply: &mut Reply) {
     match reply {
         Reply::Aborted { cause, .. } => shorten_cause(cause),
@@ -112,7 +112,7 @@ fn shorten_cause(cause: &mut Cause) {
     }
 }
 
-/// The hash with these bytes behind what it was taken of.
+/// Extends the hash by these bytes.
 fn hashed(hash: u64, bytes: &[u8]) -> u64 {
     let mut hash = hash;
     for byte in bytes {

@@ -1,4 +1,5 @@
-//! A list of 10,000 events, drawn one by one for those who are live then, and what it is applied to.
+//! A list of 10,000 random events, drawn one by one for the transactions then live, and the engine that it is applied
+//! to.
 
 use crate::accounts;
 use crate::draws::Draws;
@@ -12,13 +13,13 @@ use sgt_records::Records;
 use sgt_smallbank::Account;
 use std::alloc::Global;
 
-/// How many events the list has.
+/// The number of events in the list.
 const EVENTS: u32 = 10_000;
 
 /// The first customer's number.
 pub const CUSTOMER: i64 = 101;
 
-/// The accounts that the list begins with.
+/// The initial accounts of the list.
 pub const ACCOUNTS: [Account; 3] = [
     Account {
         name: 1,
@@ -40,7 +41,7 @@ pub const ACCOUNTS: [Account; 3] = [
     },
 ];
 
-/// The limits of a run: how many may be live, and when an ask is answered.
+/// The limits of a run: how many may be live, and when codes are reported.
 pub fn limits(live: u32, asks: Asks) -> Limits {
     Limits {
         live,
@@ -49,7 +50,7 @@ pub fn limits(live: u32, asks: Asks) -> Limits {
     }
 }
 
-/// Where an ask is answered, in a word.
+/// When codes are reported, in a word.
 pub fn place_of(asks: Asks) -> &'static str {
     match asks {
         Asks::AtStep => "step",
@@ -57,7 +58,8 @@ pub fn place_of(asks: Asks) -> &'static str {
     }
 }
 
-/// An engine over any bodies of the layers, with the accounts and no event yet; or none where memory was wanting, twice.
+/// An engine over any implementations of the layers, with the accounts and no event yet. None if allocations failed
+/// twice.
 pub fn open<R: Records, A: Accesses, G: Graph>(
     alloc: Global,
     limits: Limits,
@@ -74,7 +76,7 @@ pub fn open<R: Records, A: Accesses, G: Graph>(
     }
 }
 
-/// Draws the events and applies them, each once more where memory was refused: the refusal has changed nothing.
+/// Draws the events and applies them. Repeats each once if an allocation failed: a failure has changed nothing.
 pub fn apply_all<R: Records, A: Accesses, G: Graph>(
     engine: &mut Engine<R, A, G>,
     refusals: &mut Refusals,

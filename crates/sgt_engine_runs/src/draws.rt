@@ -1,7 +1,7 @@
-//! A generator of numbers.
+//! A generator of pseudorandom numbers.
 
-/// A generator of numbers that look random: the linear congruential one of the C standard's example, which keeps 31 bits and
-/// gives all but the lowest 16 of them.
+/// A pseudorandom generator: the linear congruential one of the C standard's example. It stores 31 bits and returns all
+/// but the lowest 16.
 #[derive(Drop)]
 pub struct Draws {
     state: u32,

@@ -1,6 +1,6 @@
-//! A run that needs no more memory the longer it is: once 100,000 entries stand in the history no more transactions are started,
-//! and when the last one has ended the history is cut off. Up to 8 transactions of SmallBank's five procedures are live,
-//! interleaved at random.
+//! A run whose memory does not grow with its length. Once the history has 100,000 entries, no more transactions are
+//! started. When the last one has ended, the history is cut. Up to 8 transactions of SmallBank's five procedures are
+//! live, interleaved at random.
 
 use crate::accounts::{open, print_no_memory, total};
 use crate::draws::Draws;
@@ -15,7 +15,7 @@ use std::alloc::{AllocGlobal, Global};
 use std::io;
 use std::io::Print;
 
-/// How many accounts there are, and what each customer has in each of the two.
+/// The number of accounts, and each customer's initial balance in each of the two.
 const ACCOUNTS: usize = 100;
 
 const BALANCE: i64 = 100_000;
@@ -23,7 +23,7 @@ const BALANCE: i64 = 100_000;
 /// The number of the first customer, whose name is 0.
 const CUSTOMER: i64 = 1_000;
 
-/// From so many entries on nothing is started, until the history is cut off.
+/// From this many entries on, no transaction starts until the history is cut.
 const MOST_ENTRIES: usize = 100_000;
 
 const LIMITS: Limits = Limits {
@@ -32,21 +32,21 @@ const LIMITS: Limits = Limits {
     asks: Asks::AtStep,
 };
 
-/// Those who send events to an engine.
+/// The clients that send events to an engine.
 #[derive(Drop)]
 struct Clients<'a, R: Records, A: Accesses, G: Graph> {
     engine: &'a mut Engine<R, A, G>,
     draws: Draws,
-    /// Whose procedure has just ended: it commits next.
+    /// The transaction whose procedure has just ended: it commits next.
     ended: Option<Tid>,
-    /// How often the history was cut off.
+    /// How often the history was cut.
     cuts: u64,
-    /// The most entries that a history has had when it was cut off.
+    /// The most entries that a history had when it was cut.
     most_entries: usize,
 }
 
 impl<'a, R: Records, A: Accesses, G: Graph> Clients<'a, R, A, G> {
-    /// Those of an engine that has answered nothing.
+    /// The clients of an engine without events.
     fn new(engine: &'a mut Engine<R, A, G>) -> Self {
         Clients {
             engine,
@@ -57,7 +57,7 @@ impl<'a, R: Records, A: Accesses, G: Graph> Clients<'a, R, A, G> {
         }
     }
 
-    /// Sends so many events.
+    /// Sends this many events.
     fn send_all(&mut self, alloc: Global, events: u64) -> Result<(), NoMemory> {
         for _ in 0..events {
             self.ready(alloc)?;
@@ -66,8 +66,7 @@ impl<'a, R: Records, A: Accesses, G: Graph> Clients<'a, R, A, G> {
         Ok(())
     }
 
-    /// Tells how many events were sent, how often the history was cut off, the most entries that it has held, and what the accounts
-    /// hold.
+    /// Prints the number of events and of cuts, the most entries of the history, and the balances of the accounts.
     fn print(&self, rt: &impl Print, sent: u64) -> io::Result<()> {
         println!(rt;
             "events {sent} cuts {} most entries {} in all {}",
@@ -77,7 +76,7 @@ impl<'a, R: Records, A: Accesses, G: Graph> Clients<'a, R, A, G> {
         )
     }
 
-    /// Cuts the history off, where it is long and nothing is live.
+    /// Cuts the history if it is long and nothing is live.
     fn ready(&mut self, alloc: Global) -> Result<(), NoMemory> {
         if self.engine.history().len() < MOST_ENTRIES || self.engine.sched().live_count() > 0 {
             return Ok(());
@@ -104,8 +103,8 @@ impl<'a, R: Records, A: Accesses, G: Graph> Clients<'a, R, A, G> {
         Ok(())
     }
 
-    /// The event to be sent next: a commit of the one that has just ended; a start where few are live, one time of four, and
-    /// where none is; else a step of one of them.
+    /// The next event: a commit of the transaction whose procedure has just ended; else, if few are live, a start one
+    /// time in four, and always if none is; else a step of a live one.
     fn next(&mut self) -> Event {
         if let Some(t) = self.ended {
             return Event::Commit(t);
@@ -142,12 +141,12 @@ fn accounts(alloc: Global) -> Result<Vec<Account>, NoMemory> {
     Ok(accounts)
 }
 
-/// Sends so many events, and prints at each tenth of the way how far it has come.
+/// Sends this many events, and prints its progress at each tenth.
 pub fn run_endless(rt: &(impl AllocGlobal + Print), events: u64) -> io::Result<()> {
     run_endless_on::<SlabRecords, PerKey, BitGraph>(rt, events)
 }
 
-/// The same over these bodies of the layers.
+/// The same over these implementations of the layers.
 fn run_endless_on<R: Records, A: Accesses, G: Graph>(
     rt: &(impl AllocGlobal + Print),
     events: u64,
@@ -164,7 +163,7 @@ fn open_accounts<R: Records, A: Accesses, G: Graph>(alloc: Global) -> Option<Eng
     open(alloc, accounts.as_slice(), LIMITS)
 }
 
-/// Sends so many events to an engine that has answered nothing.
+/// Sends this many events to an engine without events.
 fn run_clients<R: Records, A: Accesses, G: Graph>(
     rt: &(impl AllocGlobal + Print),
     engine: &mut Engine<R, A, G>,

@@ -1,8 +1,8 @@
-//! The events of the drawn list, by a drawn number.
+//! The events of the drawn list, by random number.
 use sgt_model::{Args, Event, Tid};
 
-/// A start of one of SmallBank's procedures by its number: the name, and behind it an amount, or the name that an Amalgamate goes
-/// to; Balance takes the name alone.
+/// A start of one of SmallBank's procedures by its number: the name, then an amount, or the second name for an
+/// Amalgamate. Balance takes only the name.
 pub fn start(procedure: u16, name: i64, deposit: i64, other: i64) -> Event {
     let mut args = Args::new();
     args.push(name);
@@ -16,8 +16,9 @@ pub fn start(procedure: u16, name: i64, deposit: i64, other: i64) -> Event {
     Event::Start { procedure, args }
 }
 
-/// The event for a drawn number, where these are live. By the number's lowest three bits it is a start, five times of eight
-/// a step, a commit or a quit; where nothing is live it is a start. The bits above them say of which.
+/// The event for a random number, with these transactions live. The lowest three bits decide its kind: a start, a step
+/// (five of eight), a commit or a quit. If nothing is live it is a start. The bits above select the transaction or
+/// call.
 pub fn event_for(drawn: u32, live: &[Tid]) -> Event {
     if live.is_empty() || drawn % 8 == 0 {
         let name = 1 + i64::from(drawn / 64 % 3);

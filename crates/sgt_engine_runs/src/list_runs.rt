@@ -1,4 +1,4 @@
-//! Runs of the drawn list of events, and what is printed of them.
+//! Runs of the drawn list of events, and their output.
 
 use crate::accounts::{print_no_memory, total};
 use crate::counts::Counts;
@@ -15,13 +15,13 @@ use std::alloc::{AllocGlobal, Global};
 use std::io;
 use std::io::Print;
 
-/// Runs the list on an engine with up to eight live, with asks answered at the step and at the commit, and prints how many of each
-/// kind of reply there were, what the committed accounts hold in all, and a digest of the replies' lines. Then it runs the list
-/// over other bodies of the layers too, with up to 8 and up to 32 live, and prints the digests for each: of the replies, of the
-/// replies where each walk is printed by its first member alone, and of the committed database.
+/// Runs the list on an engine with up to eight live, with codes reported at the step and at commit. Prints the number
+/// of replies of each kind, the total of the committed accounts, and a digest of the replies' lines. Then runs the list
+/// over other implementations of the layers too, with up to 8 and up to 32 live. Prints three digests for each: of the
+/// replies, of the replies with only the first member of each path, and of the committed database.
 ///
-/// What is refused memory once is tried again, so that whichever one allocation is refused, it prints the same but for the last
-/// line: that counts the calls that were refused memory.
+/// A call in which an allocation failed is repeated once. So whichever single allocation fails, the output is the same
+/// except for the last line: that counts the calls with a failed allocation.
 pub fn run_drawn(rt: &(impl AllocGlobal + Print)) -> io::Result<()> {
     let mut refusals = Refusals { calls: 0 };
     for asks in &[Asks::AtStep, Asks::AtCommit] {
@@ -35,7 +35,7 @@ pub fn run_drawn(rt: &(impl AllocGlobal + Print)) -> io::Result<()> {
     println!(rt; "refused memory {}", refusals.calls)
 }
 
-/// Runs the list on an engine over these bodies, and prints what became of it.
+/// Runs the list on an engine over these implementations, and prints the result.
 fn run_engine<R: Records, A: Accesses, G: Graph>(
     rt: &(impl AllocGlobal + Print),
     asks: Asks,
@@ -47,7 +47,7 @@ fn run_engine<R: Records, A: Accesses, G: Graph>(
     }
 }
 
-/// Applies the list to the engine, and prints what became of it.
+/// Applies the list to the engine, and prints the result.
 fn run_events<R: Records, A: Accesses, G: Graph>(
     rt: &(impl AllocGlobal + Print),
     engine: &mut Engine<R, A, G>,
@@ -63,7 +63,7 @@ fn run_events<R: Records, A: Accesses, G: Graph>(
     print_quit(rt, engine)
 }
 
-/// Prints that a list was refused memory, where it was.
+/// Prints that an allocation failed for a list, if one did.
 fn print_applied(rt: &impl Print, applied: Result<(), NoMemory>) -> io::Result<()> {
     match applied {
         Ok(()) => Ok(()),
@@ -71,13 +71,13 @@ fn print_applied(rt: &impl Print, applied: Result<(), NoMemory>) -> io::Result<(
     }
 }
 
-/// Prints how many events the history has, and how many replies of each kind.
+/// Prints the number of events in the history, and of replies of each kind.
 fn print_counts(rt: &impl Print, history: &History) -> io::Result<()> {
     let counts = Counts::of(history);
     println!(rt; "events {}\n{counts}", history.len())
 }
 
-/// Prints the digest of the replies alone.
+/// Prints only the digest of the replies.
 fn print_replies(rt: &impl Print, digests: Result<Digests, NoMemory>) -> io::Result<()> {
     match digests {
         Ok(digests) => println!(rt; "digest {:016x}", digests.replies),
@@ -85,7 +85,7 @@ fn print_replies(rt: &impl Print, digests: Result<Digests, NoMemory>) -> io::Res
     }
 }
 
-/// Prints the end of an engine where all have quit.
+/// Prints the end of an engine after all have quit.
 fn print_quit<R: Records, A: Accesses, G: Graph>(
     rt: &impl Print,
     engine: &Engine<R, A, G>,
@@ -95,7 +95,7 @@ fn print_quit<R: Records, A: Accesses, G: Graph>(
     println!(rt; "live when all have quit {live}\ncommitted total {total}")
 }
 
-/// Quits those who are live, which takes no memory. Who falls before its turn is over then.
+/// Quits the live transactions, which allocates nothing. One aborted in cascade before its turn has ended already.
 fn quit_all<R: Records, A: Accesses, G: Graph>(
     engine: &mut Engine<R, A, G>,
     refusals: &mut Refusals,
@@ -106,7 +106,8 @@ fn quit_all<R: Records, A: Accesses, G: Graph>(
     }
 }
 
-/// Runs the list by these limits, over the plain bodies of the layers and over the quick ones, which `sgt` has.
+/// Runs the list by these limits, over the plain implementations of the layers and over the quick ones, which `sgt`
+/// uses.
 fn run_bodies(
     rt: &(impl AllocGlobal + Print),
     limits: Limits,
@@ -122,7 +123,7 @@ fn run_bodies(
     print_digests(rt, quick, "SlabRecords PerKey BitGraph")
 }
 
-/// The digests of a run over these bodies.
+/// The digests of a run over these implementations.
 fn digests<R: Records, A: Accesses, G: Graph>(
     alloc: Global,
     limits: Limits,
@@ -143,7 +144,7 @@ fn digests_on<R: Records, A: Accesses, G: Graph>(
     Digests::of(alloc, engine, refusals)
 }
 
-/// Prints the digests of a run over these bodies.
+/// Prints the digests of a run over these implementations.
 fn print_digests(
     rt: &impl Print,
     digests: Result<Digests, NoMemory>,

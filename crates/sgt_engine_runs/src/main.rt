@@ -1,12 +1,13 @@
-//! Runs events on an engine of SmallBank, as the test command and the measures in `bench` do. Its one word says which run:
+//! Runs events on an engine of SmallBank, for the test command and the measurements in `bench`. Its only argument
+//! selects the run:
 //!
-//!     sgt_engine_runs again, oldest, newest or cut    a row's events, for where memory is refused
-//!     sgt_engine_runs drawn                           10,000 events that are drawn, over other bodies of the layers too
-//!     sgt_engine_runs EVENTS                          so many events, in memory that does not grow with them
+//!     sgt_engine_runs again, oldest, newest or cut    a row's events, with failed allocations
+//!     sgt_engine_runs drawn                           10,000 random events, over other implementations of the layers too
+//!     sgt_engine_runs EVENTS                          this many events, in memory that does not grow with them
 //!
-//! Without a word it makes three of them one after another, `again`, `drawn` and one of 250,000 events. What these have to print
-//! stands in `stdout`. Which event comes next in a drawn run is read off a number that a generator draws, and off who is live
-//! then. So it is the same each time, and one wrong reply changes what comes after it.
+//! Without an argument it makes three runs, one after another: `again`, `drawn` and one of 250,000 events. `stdout` has
+//! the expected output of these. In a drawn run, the next event depends on a generated number and on the live
+//! transactions. So the run is the same each time, and one wrong reply changes what comes after it.
 #![tactic(auto)]
 
 mod accounts;
@@ -29,7 +30,7 @@ use std::alloc::AllocGlobal;
 use std::io::Print;
 use std::{env, io};
 
-/// Makes the run that this word names.
+/// Makes the run of this argument.
 fn run_named(rt: &(impl AllocGlobal + Print), word: &str) -> io::Result<()> {
     match word {
         "again" => run_plan(rt, Plan::Again),

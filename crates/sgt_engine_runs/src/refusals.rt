@@ -1,13 +1,13 @@
-//! A count of the calls that were refused memory.
+//! A count of the calls in which an allocation failed.
 
-/// How many calls were refused memory. The count stays at the greatest number of its type.
+/// How many calls had a failed allocation. The count stops at the greatest number of its type.
 #[derive(Drop)]
 pub struct Refusals {
     pub calls: u64,
 }
 
 impl Refusals {
-    /// Counts a call if it was refused, and answers whether it was.
+    /// Counts a call if an allocation failed in it, and returns whether it did.
     pub fn note(&mut self, refused: bool) -> bool {
         if refused {
             self.calls = self.calls.saturating_add(1);

@@ -1,5 +1,6 @@
-//! The events of the row `two_level_cascade` on `Engine::apply`, made to be run where memory is refused, as `tests/growths.py` does.
-//! It prints which events are refused memory, and whether the history, the committed values and who is live are as before.
+//! Runs the events of the row `two_level_cascade` on `Engine::apply`, for runs with failed allocations, as
+//! `tests/growths.py` makes them. Prints the events in which an allocation failed, and whether the history, the
+//! committed values and the live transactions are unchanged.
 
 use crate::accounts::{open, print_no_memory};
 use crate::events::start;
@@ -36,22 +37,22 @@ const LIMITS: Limits = Limits {
     asks: Asks::AtStep,
 };
 
-/// What a run does besides applying the row's events.
+/// Additional actions of a run.
 #[derive(Clone, Copy)]
 pub enum Plan {
-    /// It makes an event that was refused memory once more, and goes on.
+    /// It repeats an event in which an allocation failed, and goes on.
     Again,
-    /// The same; and it cuts the history off behind the row, then while a transaction is live, and then behind its quit.
+    /// The same, and it cuts the history: after the row, then while a transaction is live, and then after its quit.
     Cut,
-    /// Where an event was refused memory it quits all who are live, and applies no further event.
+    /// If an allocation failed in an event, it quits all live transactions, and applies no further event.
     Quit(Order),
 }
 
-/// How many events the row has.
+/// The number of events of the row.
 const EVENTS: u32 = 18;
 
-/// The row's events: a deposit, an Amalgamate that reads what it stored, and a Balance that reads what that one stored. Then
-/// the deposit is quit.
+/// The row's events: a deposit, an Amalgamate that reads its write, and a Balance that reads the Amalgamate's write.
+/// Then the deposit is quit.
 fn event_at(place: u32) -> Event {
     match place {
         0 => start(1, 1, 10, 0),
@@ -64,12 +65,12 @@ fn event_at(place: u32) -> Event {
     }
 }
 
-/// Runs the row by this plan, and prints its replies and then the committed values.
+/// Runs the row by this plan. Prints its replies, then the committed values.
 pub fn run_plan(rt: &(impl AllocGlobal + Print), plan: Plan) -> io::Result<()> {
     run_plan_on::<SlabRecords, PerKey, BitGraph>(rt, plan)
 }
 
-/// The same over these bodies of the layers.
+/// The same over these implementations of the layers.
 fn run_plan_on<R: Records, A: Accesses, G: Graph>(
     rt: &(impl AllocGlobal + Print),
     plan: Plan,
@@ -80,7 +81,7 @@ fn run_plan_on<R: Records, A: Accesses, G: Graph>(
     }
 }
 
-/// The run on an engine that has answered nothing.
+/// The run on an engine without events.
 fn run_row<R: Records, A: Accesses, G: Graph>(
     rt: &(impl AllocGlobal + Print),
     engine: &mut Engine<R, A, G>,
@@ -105,7 +106,7 @@ fn carry_out<R: Records, A: Accesses, G: Graph>(
     run.print_end(rt)
 }
 
-/// Applies the row's events, but none behind one that all who are live were quit for.
+/// Applies the row's events, but none after an event for which all live transactions were quit.
 fn apply_all<R: Records, A: Accesses, G: Graph>(
     rt: &impl Print,
     run: &mut Run<'_, R, A, G>,
@@ -119,8 +120,8 @@ fn apply_all<R: Records, A: Accesses, G: Graph>(
     Ok(())
 }
 
-/// Applies an event. Where it is refused memory, all who are live are quit, if this is the plan, and the answer is false; else the
-/// event is made once more.
+/// Applies an event. If an allocation fails, the plan decides: either all live transactions are quit and this returns
+/// false, or the event is repeated once.
 fn apply<R: Records, A: Accesses, G: Graph>(
     rt: &impl Print,
     run: &mut Run<'_, R, A, G>,
@@ -138,8 +139,8 @@ fn apply<R: Records, A: Accesses, G: Graph>(
     Ok(true)
 }
 
-/// Cuts, starts one more transaction, is told that it is live, quits it, and cuts again; but no more than the first where that is
-/// refused memory twice.
+/// Cuts, starts one more transaction, tries to cut while it is live, quits it, and cuts again. If allocations of the
+/// first cut fail twice, it does nothing more.
 fn cut_and_go_on<R: Records, A: Accesses, G: Graph>(
     rt: &(impl AllocGlobal + Print),
     run: &mut Run<'_, R, A, G>,
@@ -153,7 +154,7 @@ fn cut_and_go_on<R: Records, A: Accesses, G: Graph>(
     run.print_end(rt)
 }
 
-/// Cuts the history off; once more where that was refused memory.
+/// Cuts the history; once more if an allocation failed.
 fn cut<R: Records, A: Accesses, G: Graph>(
     rt: &(impl AllocGlobal + Print),
     run: &mut Run<'_, R, A, G>,

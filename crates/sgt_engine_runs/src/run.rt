@@ -1,4 +1,4 @@
-//! A run of events on an engine, with what it prints after each.
+//! A run of events on an engine, with its output after each.
 use sgt_access::Accesses;
 use sgt_engine::{CutError, Engine};
 use sgt_format::append_reply;
@@ -10,33 +10,33 @@ use std::alloc::{AllocGlobal, Global};
 use std::io;
 use std::io::{ErrorKind, Print, Write};
 
-/// At least as many bytes as the line of a reply can have.
+/// At least the greatest length of a reply's line, in bytes.
 const LONGEST_REPLY: usize = 1024;
 
-/// At least as many entries as a run can have.
+/// At least the greatest number of entries of a run.
 const MOST_ENTRIES: usize = 100;
 
-/// The records that the row's events touch, by table and number.
+/// The records that the row's events access, by table and number.
 const RECORDS: [(u8, i64); 6] = [(0, 1), (0, 2), (1, 101), (1, 102), (2, 101), (2, 102)];
 
-/// Who of the live ones is quit next.
+/// Which live transaction is quit next.
 #[derive(Clone, Copy)]
 pub enum Order {
     Oldest,
     Newest,
 }
 
-/// A run of events on an engine. All that it keeps for itself is taken when it is made: from then on it asks for
-/// memory only where the engine does.
+/// A run of events on an engine. It allocates all that it stores for itself when it is made. After that, only the
+/// engine allocates.
 #[derive(Drop)]
 pub struct Run<'a, R: Records, A: Accesses, G: Graph> {
     engine: &'a mut Engine<R, A, G>,
-    /// The events that were answered, with the replies that came.
+    /// The events that were applied, with their replies.
     answered: Vec<Entry>,
     line: Vec<u8>,
 }
 
-/// What callers see of an engine beside its history.
+/// What callers see of an engine besides its history.
 #[derive(Drop, PartialEq)]
 struct Seen {
     committed: [Option<i64>; 6],
@@ -44,7 +44,7 @@ struct Seen {
 }
 
 impl<'a, R: Records, A: Accesses, G: Graph> Run<'a, R, A, G> {
-    /// A run on an engine that has answered nothing.
+    /// A run on an engine without events.
     pub fn new(alloc: Global, engine: &'a mut Engine<R, A, G>) -> Result<Self, NoMemory> {
         Ok(Run {
             answered: Vec::with_capacity(alloc, MOST_ENTRIES)?,
@@ -53,8 +53,8 @@ impl<'a, R: Records, A: Accesses, G: Graph> Run<'a, R, A, G> {
         })
     }
 
-    /// Applies an event and prints its reply. Where it was refused memory, it prints that, and whether all is as before; and the
-    /// answer is false.
+    /// Applies an event and prints its reply. If an allocation failed, prints that, and whether all is unchanged, and
+    /// returns false.
     pub fn apply(&mut self, rt: &impl Print, event: &Event) -> io::Result<bool> {
         let before = self.seen();
         match self.engine.apply(event.copied()) {
@@ -68,8 +68,8 @@ impl<'a, R: Records, A: Accesses, G: Graph> Run<'a, R, A, G> {
         }
     }
 
-    /// Cuts the history off, and prints how many entries it had and whether they are those that were answered. Where it was
-    /// refused, it prints that, and whether all is as before; and the answer is false.
+    /// Cuts the history. Prints how many entries it had, and whether they are those applied. If the cut was refused,
+    /// prints that, and whether all is unchanged, and returns false.
     pub fn cut(&mut self, rt: &(impl AllocGlobal + Print)) -> io::Result<bool> {
         let before = self.seen();
         match self.engine.cut(rt.alloc()) {
@@ -78,7 +78,7 @@ impl<'a, R: Records, A: Accesses, G: Graph> Run<'a, R, A, G> {
         }
     }
 
-    /// Tells of a history that was cut off.
+    /// Prints the result of a cut.
     fn print_cut(&mut self, rt: &impl Print, past: &History) -> io::Result<bool> {
         let is_whole = is_history(past, self.answered.as_slice());
         self.answered.clear();
@@ -86,7 +86,7 @@ impl<'a, R: Records, A: Accesses, G: Graph> Run<'a, R, A, G> {
         Ok(true)
     }
 
-    /// Tells of what was refused whether all is as before.
+    /// Prints whether all is unchanged after a refusal.
     fn print_refused(&self, rt: &impl Print, refusal: &str, before: &Seen) -> io::Result<bool> {
         let history = verdict(self.has_history());
         let seen = verdict(self.seen() == *before);
@@ -96,7 +96,7 @@ impl<'a, R: Records, A: Accesses, G: Graph> Run<'a, R, A, G> {
         Ok(false)
     }
 
-    /// Quits those who are live, in this order.
+    /// Quits the live transactions, in this order.
     pub fn quit_all(&mut self, rt: &impl Print, order: Order) -> io::Result<()> {
         for _ in 0..MOST_LIVE {
             let Some(t) = self.next_live(order) else {
@@ -107,7 +107,7 @@ impl<'a, R: Records, A: Accesses, G: Graph> Run<'a, R, A, G> {
         Ok(())
     }
 
-    /// Tells the committed values, each with its record, and what is left.
+    /// Prints the committed values, each with its record, and what is left.
     pub fn print_end(&self, rt: &impl Print) -> io::Result<()> {
         for (table, id) in &RECORDS {
             self.print_record(rt, *table, *id)?;
@@ -123,7 +123,7 @@ impl<'a, R: Records, A: Accesses, G: Graph> Run<'a, R, A, G> {
         }
     }
 
-    /// Tells a reply's line.
+    /// Prints a reply's line.
     fn print(&mut self, rt: &impl Print, reply: &Reply) -> io::Result<()> {
         self.line.clear();
         match append_reply(&mut self.line, reply) {
@@ -132,7 +132,7 @@ impl<'a, R: Records, A: Accesses, G: Graph> Run<'a, R, A, G> {
         }
     }
 
-    /// Whether the engine's history is what was answered.
+    /// Whether the engine's history is exactly the events that were applied, with their replies.
     fn has_history(&self) -> bool {
         is_history(self.engine.history(), self.answered.as_slice())
     }
@@ -163,7 +163,7 @@ impl<'a, R: Records, A: Accesses, G: Graph> Run<'a, R, A, G> {
     }
 }
 
-/// Whether a history has just these entries.
+/// Whether a history has exactly these entries.
 fn is_history(history: &History, entries: &[Entry]) -> bool {
     if history.len() != entries.len() {
         return false;

@@ -20,7 +20,7 @@ unfolding below
 below_has zero t less = absurd (omega arith)
 below_has (suc n) t less = elim (cases_lt t n) [ inl early ↦ inr (below_has n t early) | inr last ↦ inl (omega arith) ]
 
--- where the source and all ends are below n, at most n numbers occur
+-- if the source and all ends are below n, at most n numbers occur
 pub occurs_below : (n : ℕ) (links : List (ℕ × ℕ)) (source : ℕ) → source < n → ((t : ℕ) → is_end links t ≡ true → t < n)
     → AtMost n (occurs links source)
 occurs_below n links source first ends = record {
@@ -31,7 +31,7 @@ occurs_below n links source first ends = record {
       [ inl same ↦ let e : source ≡ t = eqb-true source t same in omega arith | inr end ↦ ends t end ]);
 }
 
--- where only numbers below n pass the test, at most n do
+-- if only numbers below n pass the test, at most n do
 pub few_below : (n : ℕ) (test : ℕ → Bool) → ((t : ℕ) → test t ≡ nat_lt t n) → n ≤ 31 → AtMost 31 test
 few_below n test is few = record {
   among = below n;

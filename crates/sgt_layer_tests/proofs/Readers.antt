@@ -1,4 +1,4 @@
--- Who has read from whom, in the test of those that fall.
+-- Who has read from whom, in the test of cascading aborts.
 use Rattle.std.specs.Prelude.{ℕ, [], ◌∷◌}
 use Rattle.std.proofs.Common.{inl, inr, sym}
 use Rattle.sgt_model.specs.State.{Has}

@@ -1,4 +1,4 @@
-//! Which accesses rival each other.
+//! Which accesses conflict with each other.
 ghost use Rattle.std.specs.Prelude.{◌≡◌, ◌≤◌, ◌+◌, [], length};
 
 use sgt_access::{Accesses, OneList, PerKey};
@@ -14,14 +14,14 @@ fn accesses_rival(rt: HostRuntime) -> Result<(), Fail> {
     Ok(())
 }
 
-/// Whether a body of the trait answers as it should.
+/// Whether an implementation of the trait returns what it should.
 fn answers<A: Accesses>(alloc: Global, saving: Key, checking: Key) -> Result<bool, NoMemory> {
     let two = two_readers(&mut A::empty(alloc), checking)?;
     let three = one_of_three(&mut A::empty(alloc), saving, checking)?;
     Ok(two && three)
 }
 
-/// Two have looked at a key, and the first is forgotten.
+/// Two have read a key, and the first is removed.
 fn two_readers<A: Accesses>(accesses: &mut A, key: Key) -> Result<bool, NoMemory>
     requires { A.list accesses.old ≡ [] }
 {
@@ -34,7 +34,7 @@ fn two_readers<A: Accesses>(accesses: &mut A, key: Key) -> Result<bool, NoMemory
     Ok(store & look & other & are_rivals(accesses, 2, key, Kind::Store, &[Tid(1)]))
 }
 
-/// Three have looked at one key and stored in another, and the second of them is forgotten, and comes again.
+/// Three have read one key and written another. The second of them is removed, and comes again.
 fn one_of_three<A: Accesses>(accesses: &mut A, looked: Key, stored: Key) -> Result<bool, NoMemory>
     requires { A.list accesses.old ≡ [] }
 {
@@ -50,7 +50,7 @@ fn one_of_three<A: Accesses>(accesses: &mut A, looked: Key, stored: Key) -> Resu
     Ok(first & second & again & are_rivals(accesses, 2, stored, Kind::Look, &[Tid(0)]))
 }
 
-/// Notes an access, with its room taken before.
+/// Records an access, after its capacity is reserved.
 fn note<A: Accesses>(accesses: &mut A, t: u32, key: Key, kind: Kind) -> Result<(), NoMemory>
     ensures { length (A.list accesses.new) ≤ length (A.list accesses.old) + 1 }
 {
@@ -65,7 +65,7 @@ fn forget<A: Accesses>(accesses: &mut A, t: u32)
     accesses.forget(Tid(t));
 }
 
-/// Whether these are the rivals of an access, and it says that there are any exactly where one is wanted.
+/// Whether these are the rivals of an access. It must report that there are any exactly if some are expected.
 fn are_rivals<A: Accesses>(accesses: &A, t: u32, key: Key, kind: Kind, wanted: &[Tid]) -> bool
     requires { length (A.list accesses.now) ≤ 32 }
 {

@@ -1,4 +1,4 @@
-//! Who falls with an abort.
+//! Which transactions an abort aborts in cascade.
 
 use sgt_cascade::fallers;
 use sgt_model::{Tid, Tids};

@@ -1,4 +1,4 @@
-//! What a graph answers.
+//! The replies of a graph.
 ghost use Rattle.std.specs.Prelude.{◌≡◌, ◌≢◌, ◌+◌, ◌<◌, ◌≤◌, ℕ, [], ◌∷◌, nat_lt};
 
 use sgt_graph::{BitGraph, Graph, PairGraph, Verdict};
@@ -10,14 +10,14 @@ fn graphs_answer(rt: HostRuntime) {
     assert!(rt; answers::<BitGraph>());
 }
 
-/// Whether a body of the trait answers as it should.
+/// Whether an implementation of the trait returns what it should.
 fn answers<G: Graph>() -> bool {
     let (three, removed) = (three_nodes::<G>(), way_through_removed::<G>());
     let (ring, anew) = (ring_of_all::<G>(), place_used_anew::<G>());
     three && removed && ring && anew
 }
 
-/// A ring is refused, and a shorter way is not. Then the first is removed.
+/// An edge that closes a cycle is refused, and one that shortens a path is not. Then the first is removed.
 fn three_nodes<G: Graph>() -> bool {
     let mut graph = nodes_below::<G>(3);
     let first = accepts(&mut graph, 3, 0, 1);
@@ -32,20 +32,20 @@ fn three_nodes<G: Graph>() -> bool {
     are_all(&[first, tested, second, ring, shorter, least, removed])
 }
 
-/// The one in the middle of a way is removed, and a pair leads back from its end.
+/// The middle of a path is removed, and an edge is added from its end back to its start.
 fn way_through_removed<G: Graph>() -> bool {
     let (mut graph, made) = chain::<G>(3);
     graph.remove(Tid(1));
     made & (graph.insert(Tid(0), &only(2)) == Verdict::Accepted)
 }
 
-/// As many as there can be, one after another, and a pair from the last to the first.
+/// As many as there can be, in a path, and an edge from the last to the first.
 fn ring_of_all<G: Graph>() -> bool {
     let (mut graph, made) = chain::<G>(32);
     made & refuses_ring(&mut graph, 32)
 }
 
-/// The last of as many as there can be is removed and added again. It comes first then, and not last.
+/// The last of as many as there can be is removed and added again. It then comes first, not last.
 fn place_used_anew<G: Graph>() -> bool {
     let (mut graph, made) = chain::<G>(32);
     remove_last(&mut graph, 31);
@@ -56,7 +56,7 @@ fn place_used_anew<G: Graph>() -> bool {
     are_all(&[made, alone, first, last])
 }
 
-/// A graph of the numbers below n, with a pair from each to the next, and whether they were all added.
+/// A graph of the numbers below n, with an edge from each to the next, and whether they were all added.
 fn chain<G: Graph>(n: u32) -> (G, bool)
     requires few { n ≤ 32 }
     ensures nodes { (u : ℕ) → G.nodes result.0 u ≡ nat_lt u n }
@@ -69,7 +69,7 @@ fn chain<G: Graph>(n: u32) -> (G, bool)
     (graph, made)
 }
 
-/// A graph of the numbers below n, with no pairs.
+/// A graph of the numbers below n, without edges.
 fn nodes_below<G: Graph>(n: u32) -> G
     requires few { n ≤ 32 }
     ensures nodes { (u : ℕ) → G.nodes result u ≡ nat_lt u n }
@@ -98,7 +98,7 @@ fn remove_last<G: Graph>(graph: &mut G, n: u32)
     graph.remove(Tid(n));
 }
 
-/// Whether a pair between two numbers below n is added, and closes no cycle.
+/// Whether an edge between two numbers below n is added, and closes no cycle.
 fn accepts<G: Graph>(graph: &mut G, n: u32, from: u32, to: u32) -> bool
     requires nodes { (u : ℕ) → G.nodes graph.old u ≡ nat_lt u n }
     requires from { from < n }
@@ -109,7 +109,7 @@ fn accepts<G: Graph>(graph: &mut G, n: u32, from: u32, to: u32) -> bool
     refused(graph, n, from, to).is_none()
 }
 
-/// Whether a pair from the last of the numbers below n to the first closes a ring of them all.
+/// Whether an edge from the last of the numbers below n to the first closes a cycle of them all.
 fn refuses_ring<G: Graph>(graph: &mut G, n: u32) -> bool
     requires nodes { (u : ℕ) → G.nodes graph.old u ≡ nat_lt u n }
     requires some { 1 < n }
@@ -119,7 +119,7 @@ fn refuses_ring<G: Graph>(graph: &mut G, n: u32) -> bool
     refused(graph, n, n - 1, 0) == Some(below(n))
 }
 
-/// The walk along which a pair between two numbers below n would close a cycle; None where it is added.
+/// The path along which an edge between two numbers below n would close a cycle; None if the edge is added.
 fn refused<G: Graph>(graph: &mut G, n: u32, from: u32, to: u32) -> Option<Tids>
     requires nodes { (u : ℕ) → G.nodes graph.old u ≡ nat_lt u n }
     requires from { from < n }
@@ -138,12 +138,12 @@ fn are_least<G: Graph>(graph: &G, wanted: [Option<Tid>; 2]) -> bool {
     [graph.least_pred(Tid(1)), graph.least_pred(Tid(2))] == wanted
 }
 
-/// Whether all of these are so.
+/// Whether all of these hold.
 fn are_all(facts: &[bool]) -> bool {
     !facts.contains(&false)
 }
 
-/// The numbers below n, rising.
+/// The numbers below n, in ascending order.
 fn below(n: u32) -> Tids
     requires few { n ≤ 32 }
 {
@@ -154,7 +154,7 @@ fn below(n: u32) -> Tids
     tids
 }
 
-/// One number.
+/// A set of one number.
 fn only(t: u32) -> Tids
     ensures { result ≡ t ∷ [] }
 {

@@ -1,7 +1,7 @@
-//! Tests of the layers by their public calls, in a crate of their own: a crate with tests is proved twice, and these would be
-//! proved again for nothing. What is said of a trait is asked of each of its bodies.
+//! Tests of the layers by their public calls, in a crate of their own: a crate with tests is proved twice, and these
+//! would be proved again for nothing. Each property of a trait is tested on all its implementations.
 //!
-//! It has no function for others to call. What a test shows is in its name, or in the names of its rows.
+//! No public functions. The name of a test, or of its rows, says what it shows.
 #![tactic(auto)]
 
 #[cfg(test)]

@@ -1,4 +1,4 @@
-//! What is found at a key after writes that are undone or settled.
+//! The values of a key after writes that are undone or committed.
 ghost use Rattle.std.specs.Prelude.{◌≡◌, [], IfOk};
 ghost use Rattle.sgt_model.specs.Contents.{Key};
 
@@ -15,7 +15,7 @@ fn records_are_written_undone_and_settled(rt: HostRuntime) -> Result<(), Fail> {
     Ok(())
 }
 
-/// Whether a body of the trait answers as it should.
+/// Whether an implementation of the trait returns what it should.
 fn answers<R: Records>(alloc: Global) -> Result<bool, NoMemory> {
     let key = Key::new(3, 7).unwrap();
     let undone = undone_beneath(alloc, &mut opened::<R>(alloc, &[(key, 1)])?, key)?;
@@ -24,7 +24,7 @@ fn answers<R: Records>(alloc: Global) -> Result<bool, NoMemory> {
     Ok(undone && twice && reserved)
 }
 
-/// Records over an opening of these rows.
+/// Records over an initial database of these rows.
 fn opened<R: Records>(alloc: Global, rows: &[(Key, i64)]) -> Result<R, NoMemory>
     ensures { IfOk result (λ records. (k : Key) → R.chain records k ≡ []) }
 {
@@ -32,7 +32,7 @@ fn opened<R: Records>(alloc: Global, rows: &[(Key, i64)]) -> Result<R, NoMemory>
     R::build(alloc, &opening)
 }
 
-/// Two write over a committed 1. The first is undone, and the second settled.
+/// Two write over a committed 1. The first is undone, and the second committed.
 fn undone_beneath<R: Records>(alloc: Global, records: &mut R, key: Key) -> Result<bool, NoMemory>
     requires { (k : Key) → R.chain records.old k ≡ [] }
 {
@@ -50,7 +50,7 @@ fn undone_beneath<R: Records>(alloc: Global, records: &mut R, key: Key) -> Resul
     Ok(written & undone & settled & value & rows)
 }
 
-/// One writes twice where there is nothing, and is undone.
+/// One writes twice where no value is, and is undone.
 fn written_twice<R: Records>(records: &mut R, key: Key) -> Result<bool, NoMemory>
     requires { (k : Key) → R.chain records.old k ≡ [] }
 {
@@ -63,19 +63,19 @@ fn written_twice<R: Records>(records: &mut R, key: Key) -> Result<bool, NoMemory
     Ok(written & holds(records, key, Top::Nothing, None))
 }
 
-/// Room is taken for a key that nobody writes.
+/// Capacity is reserved for a key that nobody writes.
 fn reserved_alone<R: Records>(alloc: Global, records: &mut R, key: Key) -> Result<bool, NoMemory> {
     records.reserve(key)?;
     let nothing = holds(records, key, Top::Nothing, None);
     Ok(nothing & has_rows(alloc, records, &[])?)
 }
 
-/// Whether this is what a look at the key finds, and what is committed there.
+/// Whether a read of the key returns this, and whether this is committed there.
 fn holds<R: Records>(records: &R, key: Key, top: Top, committed: Option<i64>) -> bool {
     (records.top(key) == top) & (records.committed(key) == committed)
 }
 
-/// Whether these are the rows that are committed.
+/// Whether these are the committed rows.
 fn has_rows<R: Records>(alloc: Global, records: &R, rows: &[(Key, i64)]) -> Result<bool, NoMemory> {
     Ok(records.all(alloc)?.rows() == rows)
 }

@@ -3,7 +3,7 @@ use sgt_model::{Args, Database, Key, NoMemory, Tid, Tids, is_value};
 use std::alloc::Global;
 use std::test::Fail;
 
-/// Whether arguments of these values are full; None where they are too many.
+/// Whether arguments of these values are full; None if there are too many values.
 fn are_full(values: &[i64]) -> Option<bool> {
     Some(Args::from_slice(values)?.is_full())
 }
@@ -18,7 +18,7 @@ fn lists_are_bounded(rt: HostRuntime) {
     assert!(rt; empty && tids.copied().as_slice() == [Tid(7), Tid(3)].as_slice());
 }
 
-/// A database that those of these rows were put into whose values are in range.
+/// A database with those of these rows whose values are in range.
 pub fn filled(alloc: Global, rows: &[(Key, i64)]) -> Result<Database, NoMemory> {
     let mut database = Database::empty(alloc);
     for (key, value) in rows {

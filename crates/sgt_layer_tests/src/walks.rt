@@ -1,4 +1,4 @@
-//! The search for a walk: what it finds, what it does not, and the most that it can meet.
+//! The search for a path: what it finds, what it does not, and the most that it can visit.
 ghost use Rattle.std.specs.Prelude.{◌≡◌, ◌<◌, ℕ, true, [], ◌∷◌};
 ghost use Rattle.sgt_cycle.specs.Links.{is_end};
 
@@ -46,7 +46,7 @@ fn finds_the_way_by_rows(rt: HostRuntime) {
     assert!(rt; path.as_slice() == [0, 1, 31].as_slice() && none.is_none());
 }
 
-/// What is made of two sets: both together, what both have, the first without the second, and whether they meet.
+/// The results on two sets: their union, intersection and difference, and whether they intersect.
 fn combined(set: u32, other: u32) -> (u32, u32, u32, bool) {
     (
         indices::joined(set, other),
@@ -82,7 +82,7 @@ fn indices_are_looked_at(rt: HostRuntime) {
     assert!(rt; looked_at(0, 0) == (false, None));
 }
 
-/// One number.
+/// A set of one number.
 fn only(t: u32) -> Tids
     ensures { result ≡ t ∷ [] }
 {
@@ -91,7 +91,7 @@ fn only(t: u32) -> Tids
     tids
 }
 
-/// A link from each of 32 numbers to each that is greater.
+/// An edge from each of 32 numbers to each greater one.
 fn forward_pairs() -> Bounded<(Tid, Tid), 496>
     ensures { (t : ℕ) → is_end result t ≡ true → t < 32 }
 {

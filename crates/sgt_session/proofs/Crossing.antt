@@ -1,5 +1,5 @@
--- A `&Shared` may cross threads. It is proved part by part, each up to its own fields, since one search through the whole does not
--- come to its end.
+-- A `&Shared` may cross threads. It is proved part by part, each up to its own fields: one search through the whole
+-- does not end.
 use denote.RattleType.{RattleType}
 use denote.Param.Send.{IsSend, IsSync, sendable}
 use Rattle.std.proofs.Crossing.{crosses}

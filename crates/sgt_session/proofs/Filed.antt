@@ -12,7 +12,7 @@ receipts-length [] es same = refl
 receipts-length (n ∷ ns) [] same = absurd (omega (arith, same))
 receipts-length (n ∷ ns) (e ∷ es) same = let h = receipts-length ns es (omega (arith, same)) in omega (arith, h)
 
--- the receipt at a place
+-- the receipt at an index
 pub receipts-at : (ns : List ℕ) (es : List Entry) (place n : ℕ) (e : Entry) → slice_get ns place ≡ Some n
     → slice_get es place ≡ Some e → slice_get (receipts_of ns es) place ≡ Some (receipt_of n e)
 receipts-at [] es place n e number entry = absurd cc
@@ -23,7 +23,7 @@ receipts-at (m ∷ ns) (d ∷ es) zero n e number entry =
     rw (one, two) refl
 receipts-at (m ∷ ns) (d ∷ es) (suc place) n e number entry = receipts-at ns es place n e number entry
 
--- the entry of the receipt at a place
+-- the entry of the receipt at an index
 pub receipts-entry : (ns : List ℕ) (es : List Entry) (place : ℕ) → length ns ≡ length es
     → option_map entry_of (slice_get (receipts_of ns es) place) ≡ slice_get es place
 receipts-entry [] [] place same = refl
@@ -32,7 +32,7 @@ receipts-entry (n ∷ ns) [] place same = absurd (omega (arith, same))
 receipts-entry (n ∷ ns) (e ∷ es) zero same = refl
 receipts-entry (n ∷ ns) (e ∷ es) (suc place) same = receipts-entry ns es place (omega (arith, same))
 
--- the number of the receipt at a place
+-- the number of the receipt at an index
 pub receipts-number : (ns : List ℕ) (es : List Entry) (place n : ℕ) → length ns ≡ length es → slice_get ns place ≡ Some n
     → option_map (λ (r : Receipt). r.number) (slice_get (receipts_of ns es) place) ≡ Some n
 receipts-number [] es place n same number = absurd cc

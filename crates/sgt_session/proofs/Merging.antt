@@ -9,12 +9,12 @@ use Rattle.sgt_session.specs.declared.receipt.Receipt.{Receipt}
 use Rattle.sgt_session.specs.Receipts.{receipt_of, entry_of, ReceiptStands}
 use Rattle.sgt_session.specs.Accounts.{named, Rises, AccountsForHistory}
 
--- the entries from number n on are what is left of the sessions, taken one by one
+-- the entries from number n on are the sessions' remaining receipts, taken one by one
 abbrev pub Merge : ℕ → List Entry → List (List Receipt) → Type 0
 Merge n [] S = (k : ℕ) (rs : List Receipt) → slice_get S k ≡ Some rs → rs ≡ []
 Merge n (e ∷ es) S = (i : ℕ) × (rest : List Receipt) × (slice_get S i ≡ Some (receipt_of n e ∷ rest)) × Merge (n + 1) es (set S i rest)
 
--- what is left of each session
+-- the remaining receipts of each session
 abbrev pub left : List ℕ → List (List Receipt) → List (List Receipt)
 left at [] = []
 left [] (rs ∷ S) = rs ∷ S
@@ -153,13 +153,13 @@ pub totals : (S : List (List Receipt)) → total S ≡ sum_by length S
 totals [] = refl
 totals (rs ∷ S) = (let t = totals S in omega (arith, t, sum_by-cons (λ (x : List Receipt). length x) rs S))
 
--- at the end nothing is left
+-- at the end nothing remains
 pub ends : (n : ℕ) (S : List (List Receipt)) → total S ≡ 0 → Merge n [] S
 ends n [] none k rs at = absurd cc
 ends n (xs ∷ S) none zero rs at = (let is : xs ≡ rs = cc in is_empty rs (omega (arith, ap length is)))
 ends n (xs ∷ S) none (suc k) rs at = ends n S (omega arith) k rs at
 
--- at the beginning all is left
+-- at the beginning all remain
 pub begins : (k : ℕ) (S : List (List Receipt)) → length S ≤ k → left (replicate k 0) S ≡ S
 begins zero [] le = refl
 begins (suc k) [] le = refl

@@ -1,4 +1,4 @@
--- The entry of the receipt that was filed last.
+-- The entry of the receipt that was appended last.
 use Rattle.std.proofs.Common.{◌≡◌, ◌∙◌, ◌∷◌, ap, sym}
 use Rattle.sgt_model.specs.declared.entry.Entry.{Entry}
 use Rattle.sgt_engine.specs.EngineView.{EngineView, with_entry}

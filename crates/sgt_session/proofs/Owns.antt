@@ -1,4 +1,4 @@
--- How many transactions a session has to hold for live.
+-- How many transactions a session must treat as live.
 use Rattle.std.proofs.Common.{◌≡◌, ℕ, ◌+◌, ◌<◌, ◌≤◌, Bool, true, false, cond, List, [], ◌∷◌, ◌++◌, length, Option, Some, None, refl, sym, arith}
 use Rattle.std.proofs.lemmas.List.{length-append}
 use Rattle.sgt_model.specs.declared.event.Event.{Event}
@@ -33,7 +33,7 @@ quit-few : (b : Bool) (t : ℕ) (own : List ℕ) → is_open t own ≡ b → 1 +
 quit-few true t own is = (let h = open_without-fewer t own is in omega (arith, h))
 quit-few false t own is = (let h = open_without-few t own in omega (arith, h))
 
--- so much room is enough, whatever the reply
+-- this capacity is enough, whatever the reply
 pub room_needed-enough : (e : Event) (own : List ℕ) (r : Reply) → 1 + length (open_by own e r) ≤ room_needed e own
 room_needed-enough (Start p args) own r = (let h = with_one-few (started_number r) own in omega (arith, h))
 room_needed-enough (Step t) own r = without_if-few (tells_end r) t own
@@ -50,7 +50,7 @@ pub noted : (old new : List Receipt) (own own' : List ℕ) (r : Receipt) → own
     → own' ≡ open_by own r.event r.reply → own' ≡ open_of new
 noted old new own own' r is longer then = rw (then, is, longer) (sym (open_from-append [] old r))
 
--- there is room for the ends of those that are open after it
+-- there is capacity for the ends of those that are open after it
 pub fits : (own own' : List ℕ) (e : Event) (r : Receipt) (count room room' : ℕ) → own' ≡ own → r.event ≡ e
     → ((x : Reply) → 1 + length (open_by own e x) ≤ room) → count ≡ length (open_by own' r.event r.reply) → room' + 1 ≡ room
     → count ≤ room'

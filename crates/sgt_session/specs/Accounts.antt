@@ -1,22 +1,22 @@
--- The receipts of all sessions as an account of a history.
+-- The receipts of all sessions compared with a history.
 use Rattle.std.specs.Prelude.{◌≡◌, ℕ, ◌+◌, ◌<◌, nat_eq, List, [], ◌∷◌, All, length, count_by}
 use Rattle.std.specs.List.{sum_by}
 use Rattle.sgt_model.specs.declared.entry.Entry.{Entry}
 use Rattle.sgt_session.specs.declared.receipt.Receipt.{Receipt}
 use Rattle.sgt_session.specs.Receipts.{ReceiptStands}
 
--- how often the number is one of the receipts of all sessions
+-- how often the number occurs among the receipts of all sessions
 abbrev pub named : ℕ → List (List Receipt) → ℕ
 named p [] = 0
 named p (rs ∷ sessions) = count_by (λ r. nat_eq r.number p) rs + named p sessions
 
--- the numbers rise, from the first on
+-- the numbers rise, starting at the first
 abbrev pub Rises : List Receipt → Type 0
 Rises [] = Unit {0}
 Rises (r ∷ rs) = All (λ s. r.number < s.number) rs × Rises rs
 
--- the receipts of the sessions are the entries of the history, oldest first, each once, and those of a session rise in the
--- order of its calls
+-- the sessions' receipts are the entries of the history, oldest first, each once; the receipts of one session rise in
+-- the order of its calls
 pub record AccountsForHistory (history : List Entry) (sessions : List (List Receipt)) : Type 0 where
   pub counted : length history ≡ sum_by length sessions
   pub stands : All (λ rs. All (λ r. ReceiptStands history r) rs) sessions

@@ -1,4 +1,4 @@
--- What `close` hands back where it does not close.
+-- What `close` returns if it fails.
 use Rattle.std.specs.Prelude.{◌≡◌, ℕ, ◌<◌, List, length}
 use Rattle.sgt_session.specs.declared.receipt.Receipt.{Receipt}
 use Rattle.sgt_records.specs.declared.records.Records.{Ghosts as RecordsGhosts}
@@ -8,7 +8,7 @@ use Rattle.sgt_session.specs.declared.named.Named.{Ghosts as NamedGhosts}
 use Rattle.sgt_session.specs.declared.close.CloseError.{CloseError}
 use Rattle.sgt_session.specs.declared.close.CloseError.TheVariants.{StillHeld, Mismatch}
 
--- what was given comes back: a session is missing, or all are there
+-- the input is returned: a session is missing, or all are there
 abbrev pub Held : {N R A G : Type 0} {n : NamedGhosts N} {r : RecordsGhosts R} {a : AccessesGhosts A} {g : GraphGhosts G}
     → CloseError N R A G n r a g → List (List Receipt) → ℕ → Type 0
 Held (StillHeld shared back) sessions all = (back.items ≡ sessions) × (length sessions < all)

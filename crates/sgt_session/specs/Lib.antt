@@ -1,9 +1,9 @@
--- the setting of a name that is picked
+-- the configuration of a name that is picked
 pub mod Settings
 -- receipts, and what they say of a history
 pub mod Receipts
 pub mod Accounts
 -- what a session knows of the transactions that it started
 pub mod Own
--- what `close` hands back
+-- what `close` returns if it fails
 pub mod Closing

@@ -1,5 +1,5 @@
--- Which transactions of its own a session has to hold for live, by its receipts alone. One that fell with another is among them
--- until a call that names it is told so.
+-- The session's own transactions that it must treat as live, by its receipts alone. One that was aborted in cascade
+-- stays among them until a call that names it returns so.
 use Rattle.std.specs.Prelude.{ℕ, ◌+◌, Bool, not, cond, nat_eq, List, [], ◌∷◌, ◌++◌, length, Option, Some, None}
 use Rattle.std.specs.List.{filter, list_any}
 use Rattle.sgt_model.specs.declared.event.Event.{Event}
@@ -18,7 +18,7 @@ abbrev pub open_without : Option ℕ → List ℕ → List ℕ
 open_without None own = own
 open_without (Some t) own = filter (λ u. not (nat_eq u t)) own
 
--- those that are open after an event and its reply
+-- those that are open after an event with its reply
 abbrev pub open_by : List ℕ → Event → Reply → List ℕ
 open_by own e r = open_without (over_in e r) (with_one (started_in e r) own)
 
@@ -27,16 +27,16 @@ abbrev pub open_from : List ℕ → List Receipt → List ℕ
 open_from own [] = own
 open_from own (r ∷ rs) = open_from (open_by own r.event r.reply) rs
 
--- those that the session started, and of whose end none of its receipts of calls that name them tells
+-- those that the session started, while no receipt of its calls that name them reports their end
 abbrev pub open_of : List Receipt → List ℕ
 open_of rs = open_from [] rs
 
--- t is one of them
+-- t is one of the open transactions
 abbrev pub is_open : ℕ → List ℕ → Bool
 is_open t own = list_any (λ u. nat_eq u t) own
 
--- how many receipts there has to be room for: that of the event, and one of an end of each that is open after it. A quit of an
--- open one uses the room of its end
+-- how many receipts must have capacity: that of the event, and one end of each transaction that is open after it.
+-- Quitting an open one uses the capacity of its end
 abbrev pub room_needed : Event → List ℕ → ℕ
 room_needed (Start p args) own = length own + 2
 room_needed (Step t) own = length own + 1

@@ -1,4 +1,4 @@
--- Receipts, one by one.
+-- Single receipts.
 use Rattle.std.specs.Prelude.{◌≡◌, ℕ, true, List, [], ◌∷◌, slice_get, Some}
 use Rattle.sgt_model.specs.declared.event.Event.TheVariants.{Commit}
 use Rattle.sgt_model.specs.declared.entry.Entry.{Entry}
@@ -15,7 +15,7 @@ receipts_of [] es = []
 receipts_of (n ∷ ns) [] = []
 receipts_of (n ∷ ns) (e ∷ es) = receipt_of n e ∷ receipts_of ns es
 
--- what callers see of the receipts of a session: the receipts, in the order of its calls, and for how many more there is room
+-- what callers see of a session's receipts: the receipts, in the order of its calls, and the capacity for more
 pub record ReceiptsView : Type 0 where
   pub receipts : List Receipt
   pub room : ℕ
@@ -24,11 +24,11 @@ pub record ReceiptsView : Type 0 where
 abbrev pub entry_of : Receipt → Entry
 entry_of r = record { event = r.event; reply = r.reply }
 
--- the receipt's entry stands in the history, at its number
+-- the receipt's entry is in the history, at its number
 abbrev pub ReceiptStands : List Entry → Receipt → Type 0
 ReceiptStands history r = slice_get history r.number ≡ Some (entry_of r)
 
--- this is the newest entry of a past, which is read newest entry first
+-- this is the newest entry of a history that is listed newest first
 abbrev pub IsNewest : Entry → List Entry → Type 0
 IsNewest entry past = (before : List Entry) × (past ≡ entry ∷ before)
 

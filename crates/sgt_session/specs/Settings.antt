@@ -1,4 +1,4 @@
--- A setting for those who pick their own.
+-- A configuration for callers who pick their own.
 use Rattle.std.specs.Prelude.{[], None}
 use Rattle.sgt_model.specs.declared.limits.Asks.TheVariants.{AtStep}
 use Rattle.sgt_model.specs.Settings.{Setting, setting}

@@ -45,7 +45,7 @@ fn owner<N: Named>(
     None
 }
 
-/// Whether the receipt of this index is the entry's.
+/// Whether the receipt at this index is the entry's.
 fn is_next(receipts: &Receipts, at: usize, number: u64, entry: &EntryRef<'_>) -> bool
     ensures receipt { IsTrue result → slice_get receipts.now.receipts at ≡ Some (receipt_of number entry.now) }
     ensures fits { IsTrue result → at + 1 < 2 ^ 64 }

@@ -1,4 +1,4 @@
-//! The close: the engine comes out of its lock where the receipts are its history.
+//! Closing: takes the engine out of its lock if the receipts are its history.
 ghost use Rattle.std.specs.Prelude.{◌≡◌, IfOk, IfErr, length, reverse};
 ghost use Rattle.sgt_model.specs.Legality.{Legal};
 ghost use Rattle.sgt_engine.specs.EngineView.{setting_of};
@@ -22,24 +22,24 @@ pub struct Closed<N: Named, R: Records, A: Accesses, G: Graph> {
     pub sessions: Vec<Session<N>>,
 }
 
-/// Why `close` did not close. What was given is handed back.
+/// Why `close` failed. It returns its input.
 #[derive(Drop)]
 pub enum CloseError<N: Named, R: Records, A: Accesses, G: Graph> {
     /// Fewer sessions were given than were made. This is tested first.
     StillHeld(Shared<N, R, A, G>, Vec<Session<N>>),
-    /// The receipts are not the entries, each once, or those of a session do not rise by number.
+    /// The receipts are not the entries, each once, or the numbers of one session's receipts do not rise.
     Mismatch(Shared<N, R, A, G>, Vec<Session<N>>),
 }
 
 impl<N: Named, R: Records, A: Accesses, G: Graph> Shared<N, R, A, G> {
-    /// Takes the engine out of its lock, where all sessions are there and their receipts are the entries of its history, each
-    /// once; those of each session rise by number, in the order of its calls. So each call's reply rests on all that its
-    /// session had seen. The history is gone through once, and compared with the next receipt of each session; this takes no
-    /// memory.
+    /// Takes the engine out of its lock, if all sessions are there and their receipts are the entries of its history,
+    /// each once. The numbers of each session's receipts must rise, in the order of its calls. So each call's reply
+    /// depends on all that its session had seen before. One pass compares the history with the next receipt of each
+    /// session; it allocates nothing.
     ///
-    /// A session of another `Shared` has another type, so none can be among them.
+    /// A session of another `Shared` has another type, so it cannot be among them.
     ///
-    /// `StillHeld` and `Mismatch` hand back what was given.
+    /// `StillHeld` and `Mismatch` return the input.
     pub fn close(
         self,
         sessions: Vec<Session<N>>,

@@ -1,17 +1,21 @@
-//! Sessions: threads that share one engine, under one lock, with a receipt for each call and an account that closes.
+//! Sessions: threads that share one engine under one lock. Each call has a receipt, and closing compares all receipts
+//! with the history.
 //!
-//! [`Shared`] is an engine under its lock. A [`Session`] is one caller's way to it: each of its calls is one hold of the lock,
-//! one event of the engine, and one [`Receipt`] that the session keeps, filed in the same hold. A commit that has to wait
-//! begins to wait in that hold and is made again after each end of a transaction. [`Shared::close`] takes the engine back out,
-//! where all sessions are there and their receipts are the entries of its history, each once.
+//! [`Shared`] is an engine under its lock. A [`Session`] is one caller's access to it. Each of its calls holds the lock
+//! once and makes one event of the engine. Its [`Receipt`] is appended to the session's receipts before the lock is
+//! freed. A commit that has to wait begins to wait in that same hold of the lock, and is repeated after each end of a
+//! transaction. [`Shared::close`] takes the engine back out. It requires that all sessions are there, and that their
+//! receipts are the entries of the history, each once.
 //!
-//! So what holds of the engine's history holds of what the threads were told: its events are theirs, in the order of their
-//! holds. It is no scheduler of threads: which of them comes next, whether one that waits is ever woken, and how long anything
-//! takes is not promised. A thread that ends should end its transactions, or commits that have to wait for them never go on.
+//! So what holds for the engine's history holds for the replies that the threads got: its events are theirs, in the
+//! order in which they held the lock. This is no scheduler of threads. It does not promise which thread comes next,
+//! whether a waiting one is ever woken, or how long anything takes. A thread should end its transactions before it
+//! ends; otherwise commits that wait for them never return.
 //!
-//! Which engine a session is of is told by its type: a name `N` that a call of a program picks, with the setting of the engine
-//! and the number of sessions. So a session fits its own `Shared` alone. A function that works with sessions is generic over
-//! the name, and is called once with `Brand`; what the name stands for is picked in the caller's proof (`Named`).
+//! A session's type says which engine it belongs to: a name `N`, which a call of a program picks together with the
+//! engine's configuration and the number of sessions. So a session fits only its own `Shared`. A function that works
+//! with sessions is generic over the name, and is called once with `Brand`. The caller's proof picks what the name
+//! stands for (`Named`).
 //!
 //! ```
 //! fn two_threads<N: Named + Send + Sync, R: Threads + Wait + Sync>(
@@ -31,7 +35,7 @@
 //!     Some(shared.close(sessions).ok()?.engine)
 //! }
 //!
-//! /// A deposit of 1.00. Where a call was refused memory the transaction is quit, so that nobody waits for it.
+//! /// A deposit of 1.00. If an allocation fails, the transaction is quit, so that nobody waits for it.
 //! fn deposit<N: Named, W: Wait>(
 //!     rt: &W,
 //!     shared: &Shared<N, ListRecords, OneList, PairGraph>,
@@ -49,7 +53,7 @@
 //!     session
 //! }
 //!
-//! /// Two reads and a write, and the commit, which waits where it has to.
+//! /// Two reads and a write, then the commit, which waits if it has to.
 //! fn finish<N: Named, W: Wait>(
 //!     rt: &W,
 //!     shared: &Shared<N, ListRecords, OneList, PairGraph>,
@@ -71,9 +75,9 @@
 //! ghosts-two_threads-N-Named g a = record { setting = setting_of a.engine; sessions = a.blank.parts }
 //! ```
 //!
-//! The history grows with each call. Threads that run for days end their transactions now and then, start no more until all have
-//! ended, and close; the history is cut off, and new threads go on with new sessions, from the committed database. Each part has
-//! a name of its own, and so a setting of its own:
+//! The history grows with each call. Threads that run for days should cut it now and then: start no more transactions
+//! until all have ended, and close. Then cut the history, and continue from the committed database with new threads and
+//! new sessions. Each part has a name of its own, and so a configuration of its own:
 //!
 //! ```
 //! fn part<R: Threads + Wait + Sync>(
@@ -90,8 +94,9 @@
 //! }
 //! ```
 //!
-//! That a reference to a `Shared` may cross threads is too deep for one search. `shared_sync` of `proofs/Crossing.antt` says it;
-//! an `Answers.antt` gives it to the search, with what says the same of the layers.
+//! The search cannot show by itself that a reference to a `Shared` may cross threads. `shared_sync` of
+//! `proofs/Crossing.antt` states it. An `Answers.antt` gives it to the search, with the same statements about the
+//! layers.
 #![tactic(auto)]
 
 mod accounts;

@@ -4,47 +4,48 @@ use sgt_model::Event;
 use std::sync::{Mutex, MutexGuard, Wait};
 use std::thread;
 
-/// How often a thread that found the lock taken looks again before it sleeps.
+/// How often a thread that found the lock taken tries again before it sleeps.
 const LOOKS: u32 = 12;
 
-/// How often it lets others run before it looks again, where its call starts a transaction. Before each further look it is
-/// twice as often.
+/// How often it yields to others before it tries again, if its call starts a transaction. The count doubles before each
+/// further try.
 const START_PAUSE: u32 = 1_024;
 
-/// The same, where its call starts none.
+/// The same, if its call starts none.
 const PAUSE: u32 = 8;
 
-/// The most often that it lets others run before a look.
+/// The most that it yields before one try.
 const LONGEST_PAUSE: u32 = 8_192;
 
-/// The turn of a call that starts a transaction, where it found the engine's lock taken. The next such call may look for the
+/// The turn of a call that starts a transaction and found the engine's lock taken. The next such call may try for the
 /// lock once this is dropped.
 pub type Turn<'l> = Option<MutexGuard<'l, ()>>;
 
-/// How the calls of all sessions take the engine's lock, each by its kind. Of the threads whose call starts a transaction and that
-/// found the lock taken, one looks for it and the others sleep, each until it has its turn.
+/// How the calls of all sessions take the engine's lock, by their kind. Among the threads whose call starts a
+/// transaction and that found the lock taken, one tries for it; the others sleep until their turn.
 #[derive(Drop)]
 pub struct LockPolicy {
     turn: Mutex<()>,
 }
 
 impl LockPolicy {
-    /// Nobody waits.
+    /// No thread waits.
     pub fn new() -> Self {
         LockPolicy {
             turn: Mutex::new(()),
         }
     }
 
-    /// Takes the engine's lock for a call of this event. A thread that finds it taken looks again some times, and lets others run
-    /// before, each time for longer: to wake one that sleeps costs whoever leaves the lock more than a call, and one that looks
-    /// too often slows the one that has it.
+    /// Takes the engine's lock for a call of this event. A thread that finds it taken tries again some times. Before
+    /// each try it yields to others, longer each time. Waking a sleeping thread costs the one that frees the lock more
+    /// than a call. Trying too often slows the one that holds it.
     ///
-    /// A start has time: nobody waits yet for a transaction that is not there. The calls of a live one are to be over soon, since
-    /// others may have to wait for its end. So under load few transactions are live at once, and few conflict.
+    /// A start can wait: no other transaction depends on one that has not started. The calls of a live one should
+    /// finish soon, since others may have to wait for its end. So under load few transactions are live at once, and few
+    /// conflict.
     ///
-    /// The turn is to be dropped behind the lock, so that the next start is not woken while the lock is held. The room for the call's
-    /// receipt is there before the lock is taken.
+    /// Drop the turn after the lock, so that the next start is not woken while the lock is held. The capacity for the
+    /// call's receipt is reserved before the lock is taken.
     pub fn lock<'l, W: Wait, T>(
         &'l self,
         rt: &W,
@@ -64,7 +65,7 @@ impl LockPolicy {
     }
 }
 
-/// Looks for the lock, the first time after such a pause.
+/// Tries for the lock, the first time after this many yields.
 fn look_for<'l, W: Wait, T>(rt: &W, lock: &'l Mutex<T>, pause: u32) -> MutexGuard<'l, T> {
     for look in 0..LOOKS {
         let_others_run((pause << look).min(LONGEST_PAUSE));
@@ -75,7 +76,7 @@ fn look_for<'l, W: Wait, T>(rt: &W, lock: &'l Mutex<T>, pause: u32) -> MutexGuar
     lock.lock(rt)
 }
 
-/// Lets other threads run, so often.
+/// Yields to other threads this many times.
 fn let_others_run(times: u32) {
     for _ in 0..times {
         thread::yield_now();

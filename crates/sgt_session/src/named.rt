@@ -6,13 +6,13 @@ ghost use Rattle.sgt_session.specs.Settings.{none};
 use std::marker::Brand;
 use std::sync::ledger::Ledger;
 
-/// Which engine the sessions are of: the name of a ledger of their calls, that stands for a setting too. A program's type of
-/// that name is `Brand`, and each call that passes it picks what the name stands for.
+/// Which engine the sessions belong to: the name of a ledger of their calls, which stands for a configuration too. A
+/// program's type of that name is `Brand`. Each call that passes it picks what the name stands for.
 pub trait Named: Ledger {
-    /// What the engine was made of: its opening contents, its procedures and its limits.
+    /// The engine's configuration: its initial database, its procedures and its limits.
     ghost setting: { Setting };
 
-    /// How many sessions there are. They are the parts of the ledger; `Shared::new` and `close` ask for that.
+    /// How many sessions there are. They are the parts of the ledger; `Shared::new` and `close` require that.
     ghost sessions: { ℕ };
 }
 

@@ -1,4 +1,4 @@
-//! How an engine is put under its lock, with its sessions.
+//! Puts an engine under its lock, and makes its sessions.
 ghost use Rattle.std.specs.Prelude.{◌≡◌, ◌≤◌, [], replicate, vec_capacity, MatchResult};
 ghost use Rattle.sgt_engine.specs.EngineView.{setting_of};
 
@@ -16,7 +16,7 @@ use std::alloc::Global;
 use std::sync::Mutex;
 use std::sync::ledger::{Blank, Share};
 
-/// What was given to `Shared::new`, handed back for want of memory.
+/// An allocation failed in `Shared::new`: its input, returned.
 #[derive(Drop)]
 pub struct NewError<R: Records, A: Accesses, G: Graph> {
     pub engine: Engine<R, A, G>,
@@ -24,10 +24,10 @@ pub struct NewError<R: Records, A: Accesses, G: Graph> {
 }
 
 impl<N: Named, R: Records, A: Accesses, G: Graph> Shared<N, R, A, G> {
-    /// Puts an engine with an empty history under a lock, and makes 1 to 64 sessions for it, each with one part of the ledger
-    /// and no receipt.
+    /// Puts an engine with an empty history under a lock, and makes 1 to 64 sessions for it. Each has one part of the
+    /// ledger and no receipt.
     ///
-    /// `NewError` where a growth was refused.
+    /// `NewError` if an allocation failed.
     pub fn new(
         alloc: Global,
         engine: Engine<R, A, G>,

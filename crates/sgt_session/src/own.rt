@@ -1,4 +1,4 @@
-//! The transactions that a session has started and not seen end, and the capacity for their receipts.
+//! The transactions that a session started and has not seen end, and the capacity for their receipts.
 ghost use Rattle.std.specs.Prelude.{◌≡◌, ◌+◌, ◌<◌, ◌≤◌, ℕ, true, length, OnOk};
 ghost use Rattle.std.specs.Result.{IsOk};
 ghost use Rattle.std.specs.Vec.{vec_len, vec_capacity};
@@ -11,15 +11,16 @@ use crate::receipts::Receipts;
 use sgt_log::EntryRef;
 use sgt_model::{Event, NoMemory, Tid};
 
-/// Stands for the room that a call needs: only `make_receipt_room` gives it, and the engine's lock is taken for nothing less. So no
-/// thread waits for the lock while the receipts of another one grow.
+/// Shows that the capacity for a call is reserved. Only `make_receipt_room` makes it, and taking the engine's lock
+/// requires it. So no thread waits for the lock while another one's receipts grow.
 #[derive(Drop)]
 pub struct ReceiptRoom(());
 
-/// Takes the room that a call of this event needs, whatever it is answered: for its receipt, and for the receipt of one end of
-/// each transaction that is open after it. A quit of an open one has it, and takes no memory.
+/// Reserves the capacity that a call of this event needs, whatever its reply: for its receipt, and for one end receipt
+/// of each transaction that is open after it. Quitting an open transaction allocates nothing, since its capacity is
+/// reserved.
 ///
-/// `NoMemory` where a growth was refused.
+/// `NoMemory` if an allocation failed.
 pub fn make_receipt_room(
     receipts: &mut Receipts,
     own: &mut Vec<Tid>,
@@ -42,7 +43,7 @@ pub fn make_receipt_room(
     Ok(ReceiptRoom(()))
 }
 
-/// How many receipts there has to be room for.
+/// How many more receipts must have capacity.
 fn room_needed(event: &Event, own: &[Tid]) -> usize
     ensures { result ≡ room_needed event.now own.now }
 {
@@ -59,7 +60,7 @@ fn room_needed(event: &Event, own: &[Tid]) -> usize
     }
 }
 
-/// Notes what an entry tells of the session's own transactions. This takes no memory.
+/// Records what an entry says of the session's own transactions. Allocates nothing.
 pub fn note(own: &mut Vec<Tid>, entry: &EntryRef<'_>)
     requires { length (with_one (started_in entry.now.event entry.now.reply) own.old.items) ≤ vec_capacity own.old }
     ensures own { own.new.items ≡ open_by own.old.items entry.now.event entry.now.reply }
@@ -69,7 +70,7 @@ pub fn note(own: &mut Vec<Tid>, entry: &EntryRef<'_>)
     drop_ended(own, entry);
 }
 
-/// Adds the transaction that an entry starts, if it does.
+/// Adds the transaction that an entry starts, if any.
 fn add_started(own: &mut Vec<Tid>, entry: &EntryRef<'_>)
     requires { length (with_one (started_in entry.now.event entry.now.reply) own.old.items) ≤ vec_capacity own.old }
     ensures { own.new.items ≡ with_one (started_in entry.now.event entry.now.reply) own.old.items }
@@ -79,7 +80,7 @@ fn add_started(own: &mut Vec<Tid>, entry: &EntryRef<'_>)
     }
 }
 
-/// Takes out the transaction that an entry tells to have ended, if it does.
+/// Removes the transaction that an entry ends by its reply, if any.
 fn drop_ended(own: &mut Vec<Tid>, entry: &EntryRef<'_>)
     ensures { own.new.items ≡ open_without (over_in entry.now.event entry.now.reply) own.old.items }
 {

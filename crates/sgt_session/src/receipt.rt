@@ -3,7 +3,7 @@ ghost use Rattle.std.specs.Prelude.{◌≡◌};
 
 use sgt_model::{Event, Reply};
 
-/// What a session was told of one call: the entry of the history that the call is, and its number there, counted from 0.
+/// What one call returned to a session: the call's entry in the history, and its number there, counted from 0.
 #[derive(Debug, Drop, PartialEq, Eq)]
 pub struct Receipt {
     pub number: u64,
@@ -12,7 +12,7 @@ pub struct Receipt {
 }
 
 impl Receipt {
-    /// A copy, which takes no memory.
+    /// A copy. Allocates nothing.
     pub fn copied(&self) -> Self
         ensures { result ≡ self.now }
     {

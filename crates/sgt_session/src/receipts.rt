@@ -12,19 +12,20 @@ use sgt_model::NoMemory;
 use std::alloc::Global;
 use std::marker::Model;
 
-/// How many receipts' room is touched at a time: some 5 MB.
+/// How many receipts are prefaulted at a time: about 5 MB.
 const AT_ONCE: usize = 65_536;
 
-/// The receipts of one session, in the order of its calls. A receipt takes 80 bytes, and what its lists hold: 4 for each
-/// transaction, 8 for each value.
+/// The receipts of one session, in the order of its calls. A receipt takes 80 bytes, and its lists take 4 for each
+/// transaction and 8 for each value.
 ///
-/// There is room for some more receipts, whatever they are: one that is filed uses it up, and takes no memory.
+/// There is capacity for some more receipts, whatever they hold: appending one uses that capacity, and allocates
+/// nothing.
 #[derive(Drop)]
 pub struct Receipts {
     numbers: Vec<u64>,
     // The entries that have these numbers.
     calls: History,
-    // How far the room was touched.
+    // How far the memory is prefaulted.
     touched: usize,
 }
 
@@ -44,7 +45,7 @@ impl Model for Receipts {
 }
 
 impl Receipts {
-    /// No receipts, and no room. This takes no memory.
+    /// No receipts and no capacity. Allocates nothing.
     pub(crate) fn new(alloc: Global) -> Self
         ensures { result ≡ record { receipts = []; room = 0 } }
     {
@@ -69,7 +70,7 @@ impl Receipts {
         self.numbers.is_empty()
     }
 
-    /// The receipt at a place.
+    /// The receipt at an index.
     pub fn at(&self, place: usize) -> Receipt
         requires { place < length self.now.receipts }
         ensures { slice_get self.now.receipts place ≡ Some result }
@@ -82,7 +83,7 @@ impl Receipts {
         }
     }
 
-    /// The receipt at a place, if there is one.
+    /// The receipt at an index, if there is one.
     pub fn get(&self, place: usize) -> Option<Receipt>
         ensures { result ≡ slice_get self.now.receipts place }
     {
@@ -93,7 +94,7 @@ impl Receipts {
         }
     }
 
-    /// The number of the receipt at a place.
+    /// The number of the receipt at an index.
     fn number(&self, place: usize) -> u64
         requires { place < length self.now.receipts }
         ensures { option_map (λ (r : Receipt). r.number) (slice_get self.now.receipts place) ≡ Some result }
@@ -101,7 +102,7 @@ impl Receipts {
         self.numbers[place]
     }
 
-    /// The entry of the receipt at a place, read where it stands.
+    /// The entry of the receipt at an index, by reference.
     fn entry(&self, place: usize) -> EntryRef<'_>
         requires { place < length self.now.receipts }
         ensures { option_map entry_of (slice_get self.now.receipts place) ≡ Some result }
@@ -109,7 +110,7 @@ impl Receipts {
         self.calls.entry(place)
     }
 
-    /// Whether at a place there is the receipt of this entry, whose number is this.
+    /// Whether the receipt at an index has this entry and this number.
     pub(crate) fn is_at(&self, place: usize, number: u64, entry: &EntryRef<'_>) -> bool
         ensures receipt { IsTrue result → slice_get self.now.receipts place ≡ Some (receipt_of number entry.now) }
         ensures fits { IsTrue result → place + 1 < 2 ^ 64 }
@@ -121,7 +122,7 @@ impl Receipts {
         }
     }
 
-    /// The newest receipt, of some.
+    /// The newest receipt of a list that is not empty.
     pub fn last(&self) -> Receipt
         requires { 0 < length self.now.receipts }
         ensures { (rs : List Receipt) (r : Receipt) → self.now.receipts ≡ rs ++ r ∷ [] → result ≡ r }
@@ -129,7 +130,7 @@ impl Receipts {
         self.at(self.len() - 1)
     }
 
-    /// The number of the newest receipt, of some.
+    /// The number of the newest receipt, of a list that is not empty.
     pub fn last_number(&self) -> u64
         requires { 0 < length self.now.receipts }
         ensures { (rs : List Receipt) (r : Receipt) → self.now.receipts ≡ rs ++ r ∷ [] → result ≡ r.number }
@@ -137,7 +138,7 @@ impl Receipts {
         self.number(self.len() - 1)
     }
 
-    /// The entry of the newest receipt, of some, read where it stands.
+    /// The entry of the newest receipt, by reference, of a list that is not empty.
     pub fn last_entry(&self) -> EntryRef<'_>
         requires { 0 < length self.now.receipts }
         ensures { (rs : List Receipt) (r : Receipt) → self.now.receipts ≡ rs ++ r ∷ [] → result ≡ entry_of r }
@@ -145,9 +146,9 @@ impl Receipts {
         self.entry(self.len() - 1)
     }
 
-    /// Makes room for so many more receipts, whatever they are. It is not lessened where there was more. Receipts stay.
+    /// Reserves capacity for this many more receipts, whatever they hold. Capacity never shrinks. Receipts stay.
     ///
-    /// `NoMemory` where a growth was refused; the room stays then.
+    /// `NoMemory` if an allocation failed; the capacity stays then.
     pub(crate) fn make_room(&mut self, count: usize) -> Result<(), NoMemory>
         ensures receipts { self.new.receipts ≡ self.old.receipts }
         ensures room { OnOk result (count ≤ self.new.room) }
@@ -158,9 +159,9 @@ impl Receipts {
         self.calls.reserve(count)
     }
 
-    /// Takes memory for so many more receipts, but for what their lists will hold. Receipts and room stay.
+    /// Allocates memory for this many more receipts, without the contents of their lists. Receipts and capacity stay.
     ///
-    /// `NoMemory` where a growth was refused.
+    /// `NoMemory` if an allocation failed.
     pub(crate) fn reserve(&mut self, count: usize) -> Result<(), NoMemory>
         ensures receipts { self.new.receipts ≡ self.old.receipts }
         ensures no_less { self.old.room ≤ self.new.room }
@@ -169,8 +170,9 @@ impl Receipts {
         self.calls.reserve_entries(count)
     }
 
-    /// Touches the memory of the next receipts, where they have come to the end of what was touched: receipts are filed under the
-    /// engine's lock, so without this all threads would wait for that memory; here each gets its own, beside the others.
+    /// Prefaults the memory of the next receipts once they reach the end of what was prefaulted. Receipts are appended
+    /// under the engine's lock: without this, all threads would wait for that memory. Here each thread gets its own,
+    /// beside the others.
     pub(crate) fn touch_room(&mut self)
         ensures { self.new ≡ self.old }
     {
@@ -180,7 +182,7 @@ impl Receipts {
         }
     }
 
-    /// Files the receipt of a history's newest entry, in the room that there is.
+    /// Appends the receipt of a history's newest entry, within the reserved capacity.
     pub(crate) fn file_newest(&mut self, history: &History)
         requires room { 0 < self.old.room }
         requires some { 0 < length history.now.entries }

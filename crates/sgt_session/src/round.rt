@@ -1,4 +1,4 @@
-//! What lies under the lock: the engine and the book of calls.
+//! The state under the lock: the engine and the book of calls.
 ghost use Rattle.std.specs.Prelude.{◌≡◌, ◌+◌, ◌<◌, ◌≤◌, ℕ, true, [], ◌∷◌, ◌++◌, length, vec_len, vec_capacity, OnOk, OnErr, reverse};
 ghost use Rattle.std.specs.List.{sum_by};
 ghost use Rattle.std.specs.Result.{IsOk};
@@ -20,7 +20,7 @@ use sgt_records::Records;
 use std::marker::Model;
 use std::sync::ledger::{Book, Share};
 
-/// What lies under the lock: the engine, with a book of the calls that sessions have made. Contracts see it as its engine.
+/// The state under the lock: the engine, with a book of the sessions' calls. Contracts see it as its engine.
 #[derive(Drop)]
 pub struct Round<N: Named, R: Records, A: Accesses, G: Graph> {
     engine: Engine<R, A, G>,
@@ -53,8 +53,8 @@ impl<N: Named, R: Records, A: Accesses, G: Graph> Round<N, R, A, G> {
         Round { engine, calls }
     }
 
-    /// One event of the engine, with its receipt filed. `NoMemory` where the engine was refused a growth; then nothing has
-    /// changed.
+    /// Makes one event of the engine, and appends its receipt. `NoMemory` if an allocation in the engine failed; then
+    /// nothing has changed.
     pub fn apply(
         &mut self,
         event: Event,
@@ -86,7 +86,7 @@ impl<N: Named, R: Records, A: Accesses, G: Graph> Round<N, R, A, G> {
         self.engine.history()
     }
 
-    /// Puts the shares of all sessions together for a moment: they have counted as many calls as there are entries.
+    /// Joins the shares of all sessions for a moment: they have counted one call for each entry.
     pub fn audit(&mut self, sessions: &mut Vec<Session<N>>)
         requires { (0 < vec_len sessions.old) × (N.parts ≤ vec_len sessions.old) }
         ensures same { self.new ≡ self.old }

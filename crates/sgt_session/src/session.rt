@@ -21,10 +21,11 @@ use std::marker::Model;
 use std::sync::Wait;
 use std::sync::ledger::{Book, Share};
 
-/// One caller's way to the engine. Contracts see it as its receipts, in the order of its calls.
+/// One caller's access to the engine. Contracts see it as its receipts, in the order of its calls.
 ///
-/// It holds one part of the ledger of all calls, and has counted there as many calls as it has receipts. It keeps room for
-/// the receipt of one end of each transaction that it started and of whose end no call of its own that named it was told.
+/// It holds one part of the ledger of all calls, and has counted one call there for each of its receipts. It reserves
+/// capacity for one end receipt of each transaction that it started. The reservation lasts until a call that names the
+/// transaction returns its end.
 #[derive(Drop)]
 pub struct Session<N: Named> {
     share: Share<N>,
@@ -49,7 +50,7 @@ impl<N: Named> Model for Session<N> {
 }
 
 impl<N: Named> Session<N> {
-    /// A session that has made no call, with one part of the ledger. This takes no memory.
+    /// A session that has made no call, with one part of the ledger. Allocates nothing.
     pub(crate) fn new(alloc: Global, share: Share<N>) -> Self
         requires { (share.parts ≡ 1) × (share.amount ≡ 0) }
         ensures { result ≡ [] }
@@ -61,9 +62,10 @@ impl<N: Named> Session<N> {
         }
     }
 
-    /// Takes room for the receipts of so many more calls, so that their list has no need to grow until then. Nothing else changes.
+    /// Reserves capacity for the receipts of this many more calls, so that their list does not grow until then. Nothing
+    /// else changes.
     ///
-    /// `NoMemory` where the growth was refused.
+    /// `NoMemory` if an allocation failed.
     pub fn reserve(&mut self, calls: usize) -> Result<(), NoMemory>
         ensures { self.new ≡ self.old }
     {
@@ -85,7 +87,7 @@ impl<N: Named> Session<N> {
         self.receipts.last()
     }
 
-    /// The number of the entry of the last call.
+    /// The number of the last call's entry.
     pub fn last_number(&self) -> u64
         requires { 0 < length self.now }
         ensures { (rs : List Receipt) (r : Receipt) → self.now ≡ rs ++ r ∷ [] → result ≡ r.number }
@@ -93,7 +95,7 @@ impl<N: Named> Session<N> {
         self.receipts.last_number()
     }
 
-    /// The entry of the last call, read where it stands.
+    /// The last call's entry, by reference.
     pub fn last_entry(&self) -> EntryRef<'_>
         requires { 0 < length self.now }
         ensures { (rs : List Receipt) (r : Receipt) → self.now ≡ rs ++ r ∷ [] → result ≡ entry_of r }
@@ -101,15 +103,15 @@ impl<N: Named> Session<N> {
         self.receipts.last_entry()
     }
 
-    /// One event of the engine, under one hold of the lock. Its receipt is filed in that hold, and handed out. A reply that
-    /// ends a live transaction wakes the commits that wait.
+    /// Makes one event of the engine while holding the lock once. Appends the receipt before it frees the lock, and
+    /// returns it. A reply that ends a live transaction wakes the waiting commits.
     ///
-    /// `NoMemory` where a growth was refused; then there is no receipt, and the engine has not changed. What the session
-    /// needs is taken before the lock. For a quit of a transaction that this session started, and of whose end none of its calls
-    /// that named it was told, it needs nothing; and the engine needs nothing where that transaction is live: so such a quit is
-    /// not refused.
+    /// `NoMemory` if an allocation failed; then there is no receipt, and the engine has not changed. The session
+    /// allocates before it takes the lock. Quitting a transaction that this session started cannot fail, as long as the
+    /// transaction is live and none of the session's calls that named it has returned its end. Neither session nor
+    /// engine allocates then.
     ///
-    /// A commit that has to wait is answered `Waits` at once, as any other call.
+    /// A commit that has to wait returns `Waits` at once, as any other call.
     pub fn call<R: Records, A: Accesses, G: Graph, W: Wait>(
         &mut self,
         rt: &W,
@@ -123,7 +125,7 @@ impl<N: Named> Session<N> {
         Ok(self.last())
     }
 
-    /// As `call`, where the receipt is only filed: `last` hands it out.
+    /// Like `call`, but only appends the receipt: `last` returns it.
     pub fn make<R: Records, A: Accesses, G: Graph, W: Wait>(
         &mut self,
         rt: &W,
@@ -134,7 +136,7 @@ impl<N: Named> Session<N> {
             (λ _. (r : Receipt) × (r.event ≡ event) × (self.new ≡ self.old ++ r ∷ []))
             (λ _. self.new ≡ self.old) }
     {
-        // A start has time, and a session that is alone keeps nobody waiting.
+        // A start can wait, and a session that is alone delays nobody.
         if shared.sessions > 1 && matches!(event, Event::Start { .. }) {
             self.receipts.touch_room();
         }
@@ -142,13 +144,13 @@ impl<N: Named> Session<N> {
         Ok(())
     }
 
-    /// Commits, and waits where another transaction has to end first: it makes the event anew after each wake, until the reply
-    /// is another than `Waits`. Each of these calls has its receipt; the last one is handed out. Where it has to wait it
-    /// begins to do so in the hold of the call that was answered so, so no end of a transaction is missed in between.
+    /// Commits, and waits if another transaction has to end first. It repeats the event after each wake, until the
+    /// reply is not `Waits`. Each of these calls has its receipt; the last one is returned. A wait begins before the
+    /// lock of the call that returned `Waits` is freed, so no end of a transaction is missed in between.
     ///
-    /// `NoMemory` where a growth was refused; the receipts so far stay. Nothing says that it returns: the transaction that it
-    /// waits for has to end, and its thread has to be given its turn. So it may wait for ever, and it does where it waits for an
-    /// older transaction of its own session which no other session ends.
+    /// `NoMemory` if an allocation failed; the receipts so far stay. This call may block for ever: the other
+    /// transaction has to end, and its thread has to be scheduled. It does block for ever if it waits for an older
+    /// transaction of its own session which no other session ends.
     pub fn commit<R: Records, A: Accesses, G: Graph, W: Wait>(
         &mut self,
         rt: &W,
@@ -163,7 +165,7 @@ impl<N: Named> Session<N> {
         Ok(self.last())
     }
 
-    /// As `commit`, where the last receipt is only filed: `last` hands it out.
+    /// Like `commit`, but only appends the last receipt: `last` returns it.
     pub fn make_commit<R: Records, A: Accesses, G: Graph, W: Wait>(
         &mut self,
         rt: &W,
@@ -182,8 +184,8 @@ impl<N: Named> Session<N> {
         unreachable!()
     }
 
-    /// One event, with its receipt filed. If the reply is `Waits` and the call `may_wait`, it begins to wait in the same hold of
-    /// the lock, and returns after a wake. Returns whether it waited.
+    /// Makes one event and appends its receipt. If the reply is `Waits` and the call `may_wait`, it begins to wait
+    /// before it frees the lock, and returns after a wake. Returns whether it waited.
     fn make_one<R: Records, A: Accesses, G: Graph, W: Wait>(
         &mut self,
         rt: &W,
@@ -205,7 +207,7 @@ impl<N: Named> Session<N> {
         Ok(waited)
     }
 
-    /// A share with no part, of this session's ledger.
+    /// A share of this session's ledger that holds no part.
     pub(crate) fn no_part(&mut self) -> Share<N>
         ensures same { self.new ≡ self.old }
         ensures none { (result.parts ≡ 0) × (result.amount ≡ 0) }
@@ -214,7 +216,7 @@ impl<N: Named> Session<N> {
     }
 }
 
-/// Lends each session's part and count to `seen` until all are together, and gives them back.
+/// Lends each session's part and count to `seen` until all are together, and returns them.
 pub(crate) fn lend<N: Named>(sessions: &mut [Session<N>], calls: &mut Book<N>, seen: &mut Share<N>)
     requires { (N.parts ≤ seen.old.parts + length sessions.old) × (seen.old.parts ≤ N.parts) }
     ensures sessions { sessions.new ≡ sessions.old }

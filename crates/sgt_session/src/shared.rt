@@ -10,8 +10,8 @@ use sgt_graph::Graph;
 use sgt_records::Records;
 use std::sync::Mutex;
 
-/// An engine under its lock, for the sessions that were made with it. Whenever the lock is free the engine has the setting of
-/// N and a legal history, with as many entries as all sessions have made calls.
+/// An engine under its lock, for the sessions that were made with it. Whenever the lock is free, the engine has the
+/// configuration of N and a legal history. The history has one entry for each call of all sessions.
 #[derive(Drop)]
 pub struct Shared<N: Named, R: Records, A: Accesses, G: Graph> {
     pub(crate) round: Mutex<Round<N, R, A, G>>,

@@ -1,4 +1,4 @@
-//! Commits that wait for the end of another transaction, and what wakes them.
+//! Commits that wait for the end of another transaction, and the wakes that end their waits.
 ghost use Rattle.std.specs.Prelude.{◌≡◌, ◌&&◌};
 ghost use Rattle.std.specs.Sync.Mutex.{mutex_guard_value};
 ghost use Rattle.sgt_model.specs.Questions.{is_ending, is_wait};
@@ -13,24 +13,25 @@ use sgt_log::EntryRef;
 use sgt_records::Records;
 use std::sync::{Condvar, MutexGuard, Wait};
 
-/// Where commits wait until a live transaction ends.
+/// The commits that wait until a live transaction ends.
 #[derive(Drop)]
 pub struct Waiters {
     ended: Condvar,
 }
 
 impl Waiters {
-    /// Nobody waits.
+    /// No commit waits.
     pub fn new() -> Self {
         Waiters {
             ended: Condvar::new(),
         }
     }
 
-    /// Ends the hold of the lock of a call that was answered with this entry, and then its turn. If the reply is `Waits` and the call
-    /// `may_wait`, it begins to wait in that hold, and returns after a wake. Returns whether it waited.
+    /// Ends the turn of a call that got this entry: frees its lock, then its turn. If the reply is `Waits` and the call
+    /// `may_wait`, the wait begins while the lock is still held, and this returns after a wake. Returns whether it
+    /// waited.
     ///
-    /// The entry is the newest under the lock. So nothing has ended since the call was told to wait, and no wake is missed.
+    /// The entry is the newest under the lock. So nothing has ended since the reply, and no wake is missed.
     pub fn end_hold<'l, W: Wait, N: Named, R: Records, A: Accesses, G: Graph>(
         &self,
         rt: &W,
@@ -52,8 +53,8 @@ impl Waiters {
         waits
     }
 
-    /// Wakes all who wait where the entry ends a live transaction, and tells whether it did. No other entry lets a commit go
-    /// on.
+    /// Wakes all waiting commits if the entry ends a live transaction, and returns whether it does. No other entry can
+    /// unblock a commit.
     pub fn wake_after(&self, entry: &EntryRef<'_>) -> bool
         ensures { result ≡ is_ending entry.now.reply }
     {

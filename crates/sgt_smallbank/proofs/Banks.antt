@@ -19,23 +19,23 @@ found_at : (o : Option ℤ) (code : ℕ) (go : ℤ → Run) (m : Contents) (next
 found_at None code go m next then = refl
 found_at (Some v) code go m next then = then v refl
 
--- a look at what is a key
+-- a read of a valid key
 look_step : (fits : Bool) (k : Key) (code : ℕ) (go : ℤ → Run) (m : Contents) (next : ℤ → Outcome) → fits ≡ true
     → ((v : ℤ) → m k ≡ Some v → serial (go v) m ≡ next v) → serial (cond fits (looks k (λ o. if_found code o go)) wrong) m
     ≡ if_present code (m k) next
 look_step fits k code go m next e then = rw e (found_at (m k) code go m next then)
 
--- a store of a value in what is a key
+-- a write of a value to a valid key
 put_step : (fits is_one : Bool) (k : Key) (v : ℤ) (rest : Run) (m : Contents) (last : Outcome) → fits ≡ true → is_one ≡ true
     → serial rest (put_in m k v) ≡ last → serial (cond fits (cond is_one (puts k v rest) wrong) wrong) m ≡ last
 put_step fits is_one k v rest m last e f then = rw (e, f) then
 
--- a store of 0
+-- a write of 0
 put_zero : (fits : Bool) (k : Key) (rest : Run) (m : Contents) (last : Outcome) → fits ≡ true
     → serial rest (put_in m k (pos 0)) ≡ last → serial (cond fits (puts k (pos 0) rest) wrong) m ≡ last
 put_zero fits k rest m last e then = rw e then
 
--- a code asked where a test holds
+-- a code raised if a test holds
 ask_step : (test : Bool) (code : ℕ) (rest : Run) (m : Contents) (next : Outcome) → serial rest m ≡ next
     → serial (cond test (raises code) rest) m ≡ refused_if test code next
 ask_step true code rest m next then = refl
@@ -46,7 +46,7 @@ ranged : (fits : Bool) (z : ℤ) (go : ℤ → Run) (m : Contents) (next : ℤ �
 ranged true z go m next then = then refl
 ranged false z go m next then = refl
 
--- a number that is to be a value
+-- a number that must be a value
 range_step : (z : ℤ) (go : ℤ → Run) (m : Contents) (next : ℤ → Outcome) → ((x : ℤ) → is_value x ≡ true → serial (go x) m ≡ next x)
     → serial (with_value (cond (is_value z) (is z) over) go) m ≡ in_range z next
 range_step z go m next then = ranged (is_value z) z go m next (then z)
@@ -60,7 +60,7 @@ tested true z y ys ns m f g is_f is_g = which (int_lt z y)
     which false = is_g
 tested false z y ys ns m f g is_f is_g = refl
 
--- a number that is to be a value, compared with another
+-- a number that must be a value, compared with another
 test_step : (z y : ℤ) (ys ns : Run) (m : Contents) (f g : Outcome) → serial ys m ≡ f → serial ns m ≡ g
     → serial (with_condition (compared int_lt (cond (is_value z) (is z) over) (is y)) ys ns) m ≡ cond (is_value z)
     (cond (int_lt z y) f g) (Asked 1000)
@@ -73,14 +73,14 @@ subtracted : (fits : Bool) (z y : ℤ) (go : ℤ → Run) (m : Contents) (next :
 subtracted true z y go m next then = range_step (z -ℤ y) go m next then
 subtracted false z y go m next then = refl
 
--- a number less another, both of which are to be values
+-- a number minus another; both must be values
 subtract_step : (z y : ℤ) (go : ℤ → Run) (m : Contents) (next : ℤ → Outcome)
     → ((x : ℤ) → is_value x ≡ true → serial (go x) m ≡ next x)
     → serial (with_value (both (λ a b. cond (is_value (a -ℤ b)) (is (a -ℤ b)) over) (cond (is_value z) (is z) over) (is y)) go) m
     ≡ in_range z (λ x. in_range (x -ℤ y) next)
 subtract_step z = subtracted (is_value z) z
 
--- a range that both branches begin with
+-- a range check with which both branches start
 range_first : (test fits : Bool) (f g e : Outcome) → cond test (cond fits f e) (cond fits g e) ≡ cond fits (cond test f g) e
 range_first true true f g e = refl
 range_first true false f g e = refl
@@ -96,11 +96,11 @@ first_value a rest values = (Decides-is_value a).1 (values 0 a (omega arith))
 second_value : (a b : ℤ) (rest : List ℤ) → All IsValue (a ∷ b ∷ rest) → is_value b ≡ true
 second_value a b rest values = (Decides-is_value b).1 (values 1 b (omega arith))
 
--- so is what stands in the contents
+-- so are the contents
 held_value : (m : Contents) → HoldValues m → (k : Key) (v : ℤ) → m k ≡ Some v → is_value v ≡ true
 held_value m hold k v at = (Decides-is_value v).1 (subst (λ o. IfSome o IsValue) at (hold k))
 
--- ---- the five
+-- ---- the five procedures
 
 module _ (m : Contents) (hold : HoldValues m) where
   balance_is : (args : List ℤ) → length args ≡ 1 → All IsValue args → serial (run_with balance args) m ≡ bank 0 args m
@@ -167,7 +167,7 @@ module _ (m : Contents) (hold : HoldValues m) where
       ∙ ap (λ o. cond (is_value (s +ℤ c)) o (Asked 1000)) (range_first (int_lt (s +ℤ c) amount) (is_value (c -ℤ amount)) _ _ _)))))
   write_check_is (a ∷ b ∷ d ∷ rest) count values = absurd (omega arith)
 
--- the law, from what it says of each
+-- the law, from the law of each
 along : (n : ℕ) (q p : ProcedureText) (args : List ℤ) (m : Contents) → Some q ≡ Some p
     → (length args ≡ q.args → serial (run_with q args) m ≡ bank n args m) → length args ≡ p.args
     → serial (run_with p args) m ≡ bank n args m

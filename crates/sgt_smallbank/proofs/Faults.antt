@@ -1,4 +1,4 @@
--- The rows that accounts put, one after another, and their faults.
+-- The rows that accounts write, one after another, and their faults.
 use Rattle.std.proofs.Common.{◌≡◌, ℕ, ℤ, Bool, true, false, cond, List, [], ◌∷◌, ◌++◌, Option, Some, None, refl, ap, sym, ◌∙◌, ◌+◌, ◌<◌, length, take, get_or, All}
 use Rattle.std.proofs.lemmas.List.{take_more}
 use Rattle.std.proofs.lemmas.List.Elements.{All-nil, All-cons}
@@ -13,7 +13,7 @@ use Rattle.sgt_smallbank.proofs.Values.{Decides-is_value}
 
 -- ---- one account
 
--- the rows of an account, put one after another
+-- the rows of an account, written one after another
 pub rows_put : (before named saved after : Contents) (a : Account) (name saving checking : Key) (u v w : ℤ)
     → ((k : Key) → named k ≡ put_in before name u k) → ((k : Key) → saved k ≡ put_in named saving v k)
     → ((k : Key) → after k ≡ put_in saved checking w k) → name ≡ name_key a → u ≡ a.customer → saving ≡ saving_key a → v ≡ a.saving
@@ -51,7 +51,7 @@ rows_next before after accounts i d within same put k =
     ∙ ap (λ m. m k) (sym (with_accounts-append (λ key. None) (take i accounts) (get_or accounts i d)))
     ∙ ap (λ accounts. opened accounts k) (sym (take_more accounts i d within))
 
--- where neither of two has a fault
+-- if neither of two has a fault
 neither : (o p : Option OpeningFault) → option_or o p ≡ None → (o ≡ None) × (p ≡ None)
 neither None p e = (refl, e)
 neither (Some f) p e = absurd cc

@@ -9,7 +9,7 @@ use Rattle.sgt_proc.specs.declared.flaw.Flaw.TheVariants.{HighRegister, UnsetReg
 use Rattle.sgt_proc.specs.Flaws.{in_block, high_register, no_argument, high_table, bad_code, bad_literal, uses_unset, most_answers, size, depth, exprs_depth, IsFlawless}
 use Rattle.sgt_smallbank.specs.Texts.{balance, deposit_checking, transact_saving, amalgamate, write_check}
 
--- the test holds of some number below this one
+-- the test holds for some number below this one
 abbrev pub some_below : ℕ → (ℕ → Bool) → Bool
 some_below zero test = false
 some_below (suc n) test = test n || some_below n test
@@ -36,7 +36,7 @@ tests p =
     ∷ in_block bad_literal p.body
     ∷ []
 
--- what they come to where there is no flaw
+-- their results if there is no flaw
 abbrev pub none_found : List Bool
 none_found = false ∷ false ∷ false ∷ false ∷ false ∷ false ∷ false ∷ false ∷ false ∷ false ∷ []
 

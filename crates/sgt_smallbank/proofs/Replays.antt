@@ -31,7 +31,7 @@ use Rattle.sgt_smallbank.proofs.Banks.{serial_is_bank}
 
 -- ---- one transaction that was committed or refused
 
--- the bank's procedures stand first
+-- the bank's procedures come first
 pub record IsOneOf (others : List ProcedureText) (n : ℕ) : Type 0 where
   pub program : ProcedureText
   pub of_bank : slice_get procedures n ≡ Some program
@@ -133,7 +133,7 @@ pub replay_is_bank : ReplayIsSerial → CommittedAreAdmitted → ReplaysHoldValu
 replay_is_bank serially admitted hold_values opening others limits past hold legal =
     commits_are_bank serially admitted hold_values opening others limits hold past legal
 
--- ---- what accounts open
+-- ---- the initial database of accounts
 
 is_value-fact : (v : ℤ) → is_value v ≡ true → IsValue v
 is_value-fact v e =

@@ -1,4 +1,4 @@
--- The rows that accounts put in a database, and what may be wrong with accounts.
+-- The database rows of accounts, and the faults that accounts may have.
 use Rattle.std.specs.Prelude.{◌≡◌, ◌≢◌, ℕ, ℤ, Bool, ◌&&◌, cond, List, [], ◌∷◌, ◌++◌, Option, Some, None}
 use Rattle.std.specs.Option.{option_or}
 use Rattle.std.specs.List.{list_any}
@@ -44,7 +44,7 @@ pub record IsInRange (a : Account) : Type 0 where
   pub saving : IsValue a.saving
   pub checking : IsValue a.checking
 
--- the same as a test
+-- the same, as a test
 abbrev pub is_in_range : Account → Bool
 is_in_range a = is_value a.name && (is_value a.customer && (is_value a.saving && is_value a.checking))
 
@@ -56,15 +56,15 @@ has_name accounts name = list_any (λ a. int_eq a.name name) accounts
 abbrev pub has_customer : List Account → ℤ → Bool
 has_customer accounts customer = list_any (λ a. int_eq a.customer customer) accounts
 
--- what is wrong with an account behind these: a number is out of range, or else one of these has its name, or else one has
--- its customer
+-- the fault of an account that comes after these: a number is out of range, or else one of these has its name, or else
+-- one has its customer
 abbrev pub fault_behind : List Account → Account → Option OpeningFault
 fault_behind earlier a =
     cond (is_in_range a)
     (cond (has_name earlier a.name) (Some SameName) (cond (has_customer earlier a.customer) (Some SameCustomer) None))
     (Some Range)
 
--- the fault of the first account that has one, behind these
+-- the fault of the first account that has one, if these come before
 abbrev pub first_fault : List Account → List Account → Option OpeningFault
 first_fault earlier [] = None
 first_fault earlier (a ∷ accounts) = option_or (fault_behind earlier a) (first_fault (earlier ++ a ∷ []) accounts)
@@ -79,7 +79,7 @@ number_of SameName = 1
 number_of SameCustomer = 2
 number_of Range = 3
 
--- why accounts are refused: by the first fault of all, or, where there are some and none has a fault, for want of memory
+-- why accounts are refused: the first fault of all; or, if there are accounts and none has a fault, a failed allocation
 abbrev pub AreRefused : List Account → BadOpening → Type 0
 AreRefused accounts (Fault fault) = fault_of accounts ≡ Some fault
 AreRefused accounts NoMemory = (accounts ≢ []) × (fault_of accounts ≡ None)

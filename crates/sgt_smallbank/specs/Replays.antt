@@ -1,4 +1,4 @@
--- The bank in a replay: what each committed or refused transaction of one of the five procedures did and was told.
+-- The bank in a replay: what each committed or refused transaction of one of the five procedures did, and its reply.
 use Rattle.std.specs.Prelude.{◌≡◌, ◌<◌, List, [], ◌∷◌, ◌++◌, None}
 use Rattle.sgt_model.specs.declared.entry.Entry.{Entry}
 use Rattle.sgt_model.specs.declared.limits.Limits.{Limits}
@@ -19,10 +19,10 @@ use Rattle.sgt_smallbank.specs.Texts.{procedures}
 use Rattle.sgt_smallbank.specs.Arithmetic.{bank}
 use Rattle.sgt_smallbank.specs.Accounts.{opened, fault_of}
 
--- where an entry commits a transaction of one of the five procedures, which are numbered from 0: the bank's arithmetic, on the
--- contents that those before it left, is done with the answers that the transaction was told, and leaves the contents that the
--- replay goes on with. Where an entry refuses one, the bank's arithmetic on those contents asks the code that it was told, and
--- the replay goes on with the same contents
+-- an entry that commits a transaction of one of the five procedures, which are numbered from 0: on the contents that
+-- those before it left, the bank's arithmetic ends with the answers of the reply, and leaves the contents with which
+-- the replay continues. An entry that refuses one: on those contents, the bank's arithmetic raises the code of the
+-- reply, and the replay continues with the same contents
 abbrev pub CommitIsBank : Setting → List Entry → Event → Reply → Type 0
 CommitIsBank s past event (reply.Committed answers) =
     (call_of past (subject event)).procedure < 5
@@ -45,19 +45,19 @@ CommitIsBank s past event reply.NotEnded = Unit {0}
 CommitIsBank s past event (reply.Waits t) = Unit {0}
 CommitIsBank s past event (reply.Aborted why fell) = Unit {0}
 
--- so it is at each entry
+-- this holds for each entry
 abbrev pub CommitsAreBank : Setting → List Entry → Type 0
 CommitsAreBank s [] = Unit {0}
 CommitsAreBank s (e ∷ past) = CommitsAreBank s past × CommitIsBank s past e.event e.reply
 
--- the setting that has the bank's procedures, and behind them these
+-- the configuration with the bank's procedures, followed by these
 abbrev pub bank_setting : Contents → List ProcedureText → Limits → Setting
 bank_setting opening others limits = setting opening (procedures ++ others) limits
 
--- where the opening holds values, so it is in every legal history
+-- if the initial database holds values, this holds in every legal history
 abbrev pub ReplayIsBank : Type 0
 ReplayIsBank = (opening : Contents) (others : List ProcedureText) (limits : Limits) (past : List Entry) → HoldValues opening → Legal (bank_setting opening others limits) past → CommitsAreBank (bank_setting opening others limits) past
 
--- what accounts without a fault open holds values
+-- the initial database of accounts without a fault holds values
 abbrev pub OpeningsHoldValues : Type 0
 OpeningsHoldValues = (accounts : List Account) → fault_of accounts ≡ None → HoldValues (opened accounts)

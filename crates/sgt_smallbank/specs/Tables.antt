@@ -1,4 +1,4 @@
--- The records of SmallBank, each by its table and its number.
+-- The records of SmallBank, by table and number.
 use Rattle.std.specs.Prelude.{ℤ}
 use Rattle.sgt_model.specs.Contents.{Key}
 

@@ -63,16 +63,16 @@ amalgamate = record {
       empty)))))))))));
 }
 
--- register 3 becomes the checking in register 2 less the amount, and less 100 more where the saving in register 1 and the
--- checking together are smaller than the amount
+-- register 3 becomes the checking in register 2 minus the amount, and minus 100 more if the saving in register 1 and
+-- the checking together are less than the amount
 abbrev pub charge : Block → Block
 charge =
     choose (less (sum (reg 1) (reg 2)) (arg 1))
     (save 3 (diff (diff (reg 2) (arg 1)) (num (pos 100))) empty)
     (save 3 (diff (reg 2) (arg 1)) empty)
 
--- an amount is taken from the checking of a name's customer, and 100 more where saving and checking together are smaller
--- than it. A negative amount raises 2, first of all
+-- an amount is taken from the checking of a name's customer, and 100 more if saving and checking together are less than
+-- it. A negative amount raises 2, first of all
 abbrev pub write_check : ProcedureText
 write_check = record {
   args = 2;
@@ -87,6 +87,6 @@ write_check = record {
       empty))))));
 }
 
--- the five, each by its number
+-- the five procedures, by number
 abbrev pub procedures : List ProcedureText
 procedures = balance ∷ deposit_checking ∷ transact_saving ∷ amalgamate ∷ write_check ∷ []

@@ -1,4 +1,4 @@
-//! The accounts of a bank, and the database that they open.
+//! The accounts of a bank, and the database made from them.
 ghost use Rattle.std.specs.Prelude.{◌≡◌, ◌≢◌, ◌↔◌, [], All, None, IsSome, IfSome, OnOk, OnErr, IfOk, IfErr};
 ghost use Rattle.sgt_model.specs.Contents.{Key};
 ghost use Rattle.sgt_model.specs.Databases.{contents_of};
@@ -9,26 +9,26 @@ use crate::tables::{ACCOUNT, CHECKING, SAVING};
 use sgt_model::{Database, Key, NoMemory, is_value};
 use std::alloc::Global;
 
-/// A bank account: its name, the customer that it belongs to, and what the customer has. An opening takes each of the four
-/// only where it lies within fifteen digits.
+/// A bank account: its name, its customer, and the customer's two balances. `opening` accepts each of the four numbers
+/// only if it lies within fifteen digits.
 #[derive(Clone, Copy, Debug, PartialEq, Eq)]
 pub struct Account {
-    /// The name, a number that the five procedures are given.
+    /// The name: a number, the argument of the five procedures.
     pub name: i64,
     /// The customer's number.
     pub customer: i64,
-    /// What the customer has on the savings account, in whole cents.
+    /// The savings balance, in whole cents.
     pub saving: i64,
-    /// What the customer has on the checking account, in whole cents; it may be negative.
+    /// The checking balance, in whole cents; it may be negative.
     pub checking: i64,
 }
 
-/// The database with the rows of these accounts and no others: in table 0 each customer by name, in table 1 each saving and
-/// in table 2 each checking by customer.
+/// The database with the rows of these accounts and no others. Table 0 has the customer of each name. Table 1 has each
+/// customer's saving, and table 2 each customer's checking.
 ///
-/// The first account with a fault decides: a number out of range, else a name that an earlier account has, else such a
-/// customer. All accounts are tested, each against all before it, before the first growth: memory is wanting only where no
-/// account has a fault.
+/// The first account with a fault decides. Its faults are tested in this order: a number out of range, a name that an
+/// earlier account has, a customer that an earlier account has. All accounts are tested, each against all before it,
+/// before the first allocation. So `NoMemory` comes only if no account has a fault.
 pub fn opening(alloc: Global, accounts: &[Account]) -> Result<Database, BadOpening>
     ensures contents { IfOk result (λ database. (k : Key) → contents_of database k ≡ opened accounts.now k) }
     ensures no_fault { OnOk result (fault_of accounts.now ≡ None) }
@@ -53,7 +53,7 @@ fn first_fault(accounts: &[Account]) -> Option<OpeningFault>
     None
 }
 
-/// What is wrong with an account that comes after these.
+/// The fault of an account that comes after these.
 fn fault_behind(earlier: &[Account], account: &Account) -> Option<OpeningFault>
     ensures { result ≡ fault_behind earlier.now account.now }
 {
@@ -108,7 +108,7 @@ fn database_of(alloc: Global, accounts: &[Account]) -> Result<Database, NoMemory
     Ok(database)
 }
 
-/// Puts the rows of an account into the database.
+/// Writes the rows of an account into the database.
 fn put_rows(database: &mut Database, account: &Account) -> Result<(), NoMemory>
     requires { IsInRange account.now }
     ensures { OnOk result
@@ -123,7 +123,8 @@ fn put_rows(database: &mut Database, account: &Account) -> Result<(), NoMemory>
     Ok(())
 }
 
-/// The keys of an account's rows, by its name, of its saving and of its checking, unless one of its numbers is no value.
+/// The keys of an account's rows: by its name, of its saving and of its checking. None if one of its numbers is not a
+/// value.
 fn keys(account: &Account) -> Option<(Key, Key, Key)>
     ensures keys { IfSome result
         (λ k. k ≡ (name_key account.now, saving_key account.now, checking_key account.now)) }

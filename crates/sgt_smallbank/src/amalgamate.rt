@@ -11,8 +11,8 @@ use crate::tables::{CHECKING, SAME_NAME, SAVING};
 use sgt_model::{Cond, Expr, NoMemory, Procedure};
 use std::alloc::Global;
 
-/// Amalgamate(from, to): moves all that the customer of the first name has, saving and checking, to the checking of the
-/// customer of the second name, and answers how much that is.
+/// Amalgamate(from, to): moves the saving and the checking of the first name's customer to the checking of the second
+/// name's customer, and answers the amount moved.
 pub(crate) fn amalgamate(alloc: Global) -> Result<Procedure, NoMemory>
     ensures { IfOk result (λ p. procedure_text p ≡ amalgamate) }
 {

@@ -8,7 +8,7 @@ use crate::tables::{CHECKING, SAVING};
 use sgt_model::{Expr, NoMemory, Procedure};
 use std::alloc::Global;
 
-/// Balance(name): the sum of the saving and the checking of the name's customer.
+/// Balance(name): answers the sum of the saving and the checking of the name's customer.
 pub(crate) fn balance(alloc: Global) -> Result<Procedure, NoMemory>
     ensures { IfOk result (λ p. procedure_text p ≡ balance) }
 {

@@ -1,13 +1,13 @@
-//! Why accounts open no database.
+//! Why no database could be made from accounts.
 ghost use Rattle.std.specs.Prelude.{◌≡◌};
 ghost use Rattle.sgt_smallbank.specs.declared.errors.BadOpening.TheVariants as bad_opening;
 
 use sgt_model::NoMemory;
 
-/// Why accounts open no database.
+/// Why no database could be made from accounts.
 #[derive(Clone, Copy, Debug, PartialEq, Eq)]
 pub enum BadOpening {
-    /// An account has this fault, and none before it has one.
+    /// An account has this fault, and no account before it has one.
     Fault(OpeningFault),
     /// An allocation failed. There are accounts, and none has a fault.
     NoMemory,
@@ -21,12 +21,12 @@ impl From<NoMemory> for BadOpening {
     }
 }
 
-/// What is wrong with an account of an opening. A number out of range is named first, then its name, then its customer.
+/// The fault of an account. A number out of range is reported first, then the name, then the customer.
 #[derive(Clone, Copy, Debug, PartialEq, Eq)]
 pub enum OpeningFault {
-    /// An earlier account has its name.
+    /// An earlier account has the same name.
     SameName,
-    /// An earlier account has its customer.
+    /// An earlier account has the same customer.
     SameCustomer,
     /// One of its four numbers does not lie within fifteen digits.
     Range,
@@ -35,7 +35,7 @@ pub enum OpeningFault {
 impl OpeningFault {
     ghost use Rattle.sgt_smallbank.specs.Accounts.{number_of};
 
-    /// The number that names it to a user, from 1 to 3.
+    /// The number that is reported to a user, from 1 to 3.
     pub fn number(self) -> u8
         ensures { result ≡ number_of self }
     {

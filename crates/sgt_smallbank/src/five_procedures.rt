@@ -13,11 +13,11 @@ use sgt_model::{NoMemory, Procedure};
 use sgt_proc::{Checked, check};
 use std::alloc::Global;
 
-/// How many procedures SmallBank has. They are numbered from 0, and those of an opening from here.
+/// How many procedures SmallBank has. They are numbered from 0; the procedures of an opening line follow.
 pub const PROCEDURES: u16 = 5;
 
-/// The five procedures, each by its number: Balance, DepositChecking, TransactSaving, Amalgamate and
-/// WriteCheck. Only memory can be wanting.
+/// The five procedures, by number: Balance, DepositChecking, TransactSaving, Amalgamate and WriteCheck. The only error
+/// is a failed allocation.
 pub fn procedures(alloc: Global) -> Result<Vec<Checked>, NoMemory>
     ensures texts { IfOk result (λ list. list.items ≡ procedures) }
     ensures count { IfOk result (λ list. vec_len list ≡ PROCEDURES) }
@@ -31,7 +31,7 @@ pub fn procedures(alloc: Global) -> Result<Vec<Checked>, NoMemory>
     Ok(list)
 }
 
-/// The procedure, which has no flaw, as one that may run.
+/// The procedure, which has no shape error, as one that may run.
 fn checked(procedure: Procedure) -> Checked
     requires { IsFlawless (procedure_text procedure) }
     ensures { result ≡ procedure_text procedure }

@@ -1,4 +1,4 @@
-//! The statements and expressions that the five procedures are made of.
+//! The statements and expressions of the five procedures.
 ghost use Rattle.std.specs.Prelude.{◌≡◌, [], ◌∷◌, IfOk};
 ghost use Rattle.sgt_model.specs.ProcedureTexts.{expr_text, cond_text, in_front, block_of};
 ghost use Rattle.sgt_model.specs.Syntax.{Block, empty, choose, sum, diff};
@@ -7,7 +7,7 @@ use crate::tables::{ACCOUNT, NO_BALANCE, UNKNOWN_NAME};
 use sgt_model::{Cond, Expr, NoMemory, Statement};
 use std::alloc::Global;
 
-/// Sets the register to the customer of the name that is this argument.
+/// Sets the register to the customer of the name in this argument.
 pub(crate) fn look_up_customer(reg: u8, name: u8) -> Statement
     ensures { result ≡ Statement.Look reg ACCOUNT (Expr.Arg name) UNKNOWN_NAME }
 {
@@ -56,7 +56,7 @@ pub(crate) fn answer(value: Expr) -> Statement
     Statement::Answer { value }
 }
 
-/// A branch of this one statement.
+/// A branch with this one statement.
 pub(crate) fn alone(alloc: Global, statement: Statement) -> Result<Vec<Statement>, NoMemory>
     ensures { IfOk result (λ v. v.items ≡ statement ∷ []) }
 {
@@ -70,7 +70,7 @@ pub(crate) fn ask(code: u16) -> Statement
     Statement::Ask { code }
 }
 
-/// Goes through the branch where the condition holds, and else does nothing.
+/// Runs the branch if the condition holds, else does nothing.
 pub(crate) fn only_where(alloc: Global, cond: Cond, yes: Vec<Statement>) -> Statement
     ensures { (rest : Block) → in_front result rest ≡ choose (cond_text cond) (block_of yes.items) empty rest }
 {
@@ -90,7 +90,7 @@ pub(crate) fn sum_of(alloc: Global, left: Expr, right: Expr) -> Result<Expr, NoM
     Ok(Expr::Sum(left, right))
 }
 
-/// The first less the second.
+/// The first minus the second.
 pub(crate) fn difference_of(alloc: Global, left: Expr, right: Expr) -> Result<Expr, NoMemory>
     ensures { IfOk result (λ e. expr_text e ≡ diff (expr_text left) (expr_text right)) }
 {

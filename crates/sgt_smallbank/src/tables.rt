@@ -9,20 +9,20 @@ pub(crate) const SAVING: u8 = 1;
 /// The table of the checking balances by customer.
 pub(crate) const CHECKING: u8 = 2;
 
-/// Asked where no account has the name.
+/// Raised if no account has the name.
 pub(crate) const UNKNOWN_NAME: u16 = 1;
 
-/// Asked where an amount is negative that may not be.
+/// Raised if an amount is negative that may not be.
 pub(crate) const NEGATIVE_AMOUNT: u16 = 2;
 
-/// Asked where the saving would be negative.
+/// Raised if the saving would be negative.
 pub(crate) const NEGATIVE_SAVING: u16 = 3;
 
-/// Asked where the money would go from a name to the same name.
+/// Raised if the money would go from a name to the same name.
 pub(crate) const SAME_NAME: u16 = 4;
 
-/// Asked where a customer has no saving or no checking.
+/// Raised if a customer has no saving or no checking.
 pub(crate) const NO_BALANCE: u16 = 5;
 
-/// What a check costs that saving and checking together do not cover, in cents.
+/// The penalty of a check that saving and checking together do not cover, in cents.
 pub(crate) const PENALTY: i64 = 100;

@@ -12,8 +12,9 @@ use crate::tables::{CHECKING, NEGATIVE_AMOUNT, PENALTY, SAVING};
 use sgt_model::{Cond, Expr, NoMemory, Procedure, Statement};
 use std::alloc::Global;
 
-/// WriteCheck(name, amount): takes the amount, which may not be negative, from the checking of the name's customer, and 100
-/// cents more where saving and checking together are smaller than it, and answers the new checking, which may be negative.
+/// WriteCheck(name, amount): takes the amount, which may not be negative, from the checking of the name's customer. It
+/// takes 100 cents more if saving and checking together are less than the amount. It answers the new checking, which
+/// may be negative.
 pub(crate) fn write_check(alloc: Global) -> Result<Procedure, NoMemory>
     ensures { IfOk result (λ p. procedure_text p ≡ write_check) }
 {
@@ -32,7 +33,7 @@ pub(crate) fn write_check(alloc: Global) -> Result<Procedure, NoMemory>
     Ok(Procedure { args: 2, body })
 }
 
-/// Sets register 3 to the checking less the amount, and less the penalty too where the amount is not covered.
+/// Sets register 3 to the checking minus the amount, and minus the penalty too if the amount is not covered.
 fn charge(alloc: Global) -> Result<Statement, NoMemory>
     ensures { IfOk result (λ s. (rest : Block) → in_front s rest ≡ charge rest) }
 {
@@ -44,7 +45,7 @@ fn charge(alloc: Global) -> Result<Statement, NoMemory>
     Ok(Statement::If { cond, yes, no })
 }
 
-/// The checking less the amount and the penalty.
+/// The checking minus the amount and the penalty.
 fn less_penalty(alloc: Global) -> Result<Expr, NoMemory>
     ensures { IfOk result (λ e. expr_text e ≡ diff (diff (reg 2) (arg 1)) (num (pos 100))) }
 {

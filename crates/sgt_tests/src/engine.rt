@@ -1,5 +1,5 @@
-//! The engine over the simple bodies of its layers: the replies to a list of events, the database behind them, and limits that
-//! are refused.
+//! The engine over the simple implementations of its layers: the replies to a list of events, the database after them,
+//! and limits that are refused.
 
 use json::Scratch;
 use sgt_access::OneList;
@@ -16,7 +16,7 @@ type SimpleEngine = Engine<ListRecords, OneList, PairGraph>;
 
 type SimpleRan = Ran<ListRecords, OneList, PairGraph>;
 
-/// One procedure, which stores 4 in record 7 of table 3, looks at it again, and answers what it finds.
+/// One procedure, which writes 4 to record 7 of table 3, reads it back, and answers the value.
 const OPENING: &str =
     r#"{"limits":[1,1000],"accounts":[],"procedures":[[0,[["put",3,7,4],["look",0,3,7,6],["answer",["reg",0]]]]]}"#;
 
@@ -44,25 +44,25 @@ fn replies(a: Global, history: &History) -> Result<Vec<u8>, NoMemory> {
     Ok(text)
 }
 
-/// The lines of the replies, and those of the database behind them.
+/// The lines of the replies, then those of the database after them.
 fn told(a: Global, engine: &SimpleEngine) -> Result<Vec<u8>, Fail> {
     let mut text = replies(a, engine.history())?;
     append_database(&mut text, &engine.database(a)?)?;
     Ok(text)
 }
 
-/// What is seen behind events.
+/// The observation after some events.
 #[derive(Drop)]
 struct Seen {
     /// How many were applied.
     done: usize,
-    /// What is committed in record 7 of table 3.
+    /// The committed value of record 7 of table 3.
     committed: Option<i64>,
     /// The lines of the replies, and those of the database.
     text: Vec<u8>,
 }
 
-/// What is seen of an engine behind events.
+/// The observation of an engine after events.
 fn looked_at(a: Global, ran: &SimpleRan) -> Result<Seen, Fail> {
     Ok(Seen {
         done: ran.done,
@@ -71,7 +71,7 @@ fn looked_at(a: Global, ran: &SimpleRan) -> Result<Seen, Fail> {
     })
 }
 
-/// What is seen behind these events.
+/// The observation after these events.
 fn seen_behind(a: Global, events: &[Event]) -> Result<Seen, Fail> {
     let Opening {
         limits,
@@ -81,28 +81,28 @@ fn seen_behind(a: Global, events: &[Event]) -> Result<Seen, Fail> {
     looked_at(a, &run_list(a, database, procedures, limits, events)?)
 }
 
-/// What is seen behind the events of these lines.
+/// The observation after the events of these lines.
 fn seen_of(a: Global, lines: &str) -> Result<Seen, Fail> {
     seen_behind(a, events_of(a, lines)?.as_slice())
 }
 
-/// Whether this is told behind these events, all of which are applied.
+/// Whether these lines are returned after these events, all of which are applied.
 fn is_answered(a: Global, lines: &str, want: &str) -> Result<bool, Fail> {
     Ok(seen_of(a, lines)?.text.as_slice() == want.as_bytes())
 }
 
-/// A store, a look at it, and a commit.
+/// A write, a read of it, and a commit.
 const STORE: &str = r#"["start",0,[]]
 ["step",0]
 ["step",0]
 ["step",0]
 ["commit",0]"#;
 
-/// What is shown, events, and what is told behind them.
+/// What is shown, events, and the lines expected after them.
 type Row = (&'static str, &'static str, &'static str);
 
-/// A value that is stored and not committed is not in the database. Where a quit after a store has refusals round it, and then comes a
-/// transaction that goes the whole way, each event has its entry.
+/// An uncommitted write is not in the database. If a quit after a write has refusals around it, and then a transaction
+/// commits, each event has its entry.
 const ROWS: [Row; 3] = [
     (
         "an own write is read back",
@@ -147,7 +147,7 @@ over committed
     ),
 ];
 
-/// What the first row shows that is answered anything else.
+/// What the first row with any other reply shows.
 fn first_wrong(a: Global, rows: &[Row]) -> Result<&'static str, Fail> {
     for (what, lines, want) in rows {
         if !is_answered(a, lines, want)? {
@@ -188,7 +188,7 @@ fn limited(a: Global, live: u32, begins: u32) -> Result<SimpleEngine, MakeError>
     Engine::new(a, Database::empty(a), Vec::new(a), limits)
 }
 
-/// Whether an engine of these limits is refused for them.
+/// Whether an engine refuses these limits.
 fn is_refused(a: Global, live: u32, begins: u32) -> bool {
     limited(a, live, begins).err() == Some(MakeError::BadLimits)
 }
@@ -200,7 +200,7 @@ fn limits_are_refused(rt: HostRuntime) {
     assert!(rt; is_refused(a, 1, 0) && is_refused(a, 1, 4_000_000_001));
 }
 
-/// The event of this number, of starts with the steps and the commit behind each.
+/// The event of this number, from a list of starts, each followed by its steps and commit.
 fn event(number: u32) -> Event {
     let t = Tid(number / 5);
     match number % 5 {
@@ -213,7 +213,7 @@ fn event(number: u32) -> Event {
     }
 }
 
-/// So many events.
+/// This many events.
 fn events(a: Global, count: u32) -> Result<Vec<Event>, NoMemory> {
     let mut events = Vec::new(a);
     for number in 0..count {
@@ -222,7 +222,7 @@ fn events(a: Global, count: u32) -> Result<Vec<Event>, NoMemory> {
     Ok(events)
 }
 
-/// Whether all of so many events are applied.
+/// Whether this many events are all applied.
 fn are_applied(a: Global, count: u32) -> Result<bool, Fail> {
     Ok(seen_behind(a, events(a, count)?.as_slice())?.done == count as usize)
 }

@@ -1,12 +1,12 @@
-//! A reader counts a call that failed, a writer also one that took nothing of something, and neither counts another. The text of a
-//! failure that no input shows.
+//! A reader counts its failed calls. A writer also counts a call that accepted nothing of a non-empty buffer. Neither
+//! counts any other call. The text of a failure that no input shows.
 
 use sgt_input::{Fault, Reader, Sink, Source, Writer};
 use std::io;
 use std::io::{ErrorKind, Read, Write};
 use std::test::Fail;
 
-/// What each call of a reader or a writer does.
+/// The behaviour of each call of a reader or a writer.
 #[derive(Drop)]
 enum Call {
     TakesAll,
@@ -38,7 +38,7 @@ impl Write for Call {
     }
 }
 
-/// Whether a read fails, and the count behind it.
+/// Whether a read fails, and the count after it.
 fn reads(call: Call) -> (bool, u64) {
     let mut reader = Reader::new(call);
     let mut room = [0; 4];
@@ -46,14 +46,14 @@ fn reads(call: Call) -> (bool, u64) {
     (is_failed, reader.failures)
 }
 
-/// Whether a write of these bytes fails, and the count behind it.
+/// Whether a write of these bytes fails, and the count after it.
 fn writes(call: Call, bytes: &[u8]) -> (bool, u64) {
     let mut writer = Writer::new(call);
     let is_failed = writer.write(bytes).is_err();
     (is_failed, writer.failures)
 }
 
-/// Fails at its first call and works from then on. It counts its calls.
+/// Fails at its first call and works from then on. Counts its calls.
 #[derive(Drop)]
 struct FailsOnce {
     calls: u32,
@@ -91,7 +91,7 @@ impl Write for FailsOnce {
     }
 }
 
-/// Whether a call failed, how many failures are counted after it, and how many calls were made of what stands below.
+/// Whether a call failed, how many failures are counted after it, and how many calls reached the layer below.
 type Seen = (bool, u64, u32);
 
 const FAILED: Seen = (true, 1, 1);

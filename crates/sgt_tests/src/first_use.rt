@@ -1,4 +1,4 @@
-//! The engine of the program, used as the first page of the repository shows it.
+//! The program's engine, used as the README shows it.
 
 use sgt_assembly::{SgtEngine, open_engine};
 use sgt_format::read_opening;
@@ -12,7 +12,8 @@ fn opened(alloc: Global) -> Result<SgtEngine, Fail> {
     Ok(open_engine(alloc, read_opening(alloc, 1, line.as_bytes())?)?)
 }
 
-/// A deposit of 100, from its start to its commit, and what is committed on the account then; None where it is not committed.
+/// A deposit of 100, from its start to its commit, and the account's committed value after it; None if it is not
+/// committed.
 fn deposit(engine: &mut SgtEngine) -> Result<Option<i64>, Fail> {
     let args = Args::from_slice([1, 100].as_slice()).unwrap();
     engine.apply(Event::Start { procedure: 1, args })?;

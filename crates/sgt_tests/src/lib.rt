@@ -1,7 +1,7 @@
-//! Tests of the other crates, in a crate of their own: a crate with tests is proved twice, and these would be proved again
-//! for nothing.
+//! Tests of the other crates, in a crate of their own: a crate with tests is proved twice, and these would be proved
+//! again for nothing.
 //!
-//! It has no function for others to call. What a test shows is in its name, or in the names of its rows.
+//! No public functions. The name of a test, or of its rows, says what it shows.
 #![tactic(auto)]
 
 #[cfg(test)]

@@ -5,7 +5,7 @@ use sgt_model::{Database, LEAST, MOST, NoMemory};
 use std::alloc::Global;
 use std::test::Fail;
 
-/// What a line says, where it is a record line, and the record that it puts, where all is in range.
+/// What a line contains, if it is a record line, and the record that it writes, if all is in range.
 fn read(alloc: Global, line: &[u8]) -> Result<String, Fail> {
     match read_record_line(alloc, line)? {
         Some(said) => told(alloc, &said),
@@ -13,7 +13,7 @@ fn read(alloc: Global, line: &[u8]) -> Result<String, Fail> {
     }
 }
 
-/// The numbers of a record line, and its record, if it puts one.
+/// The numbers of a record line, and its record, if it writes one.
 fn told(alloc: Global, said: &RecordLine) -> Result<String, Fail> {
     let RecordLine {
         table,
@@ -29,7 +29,7 @@ fn told(alloc: Global, said: &RecordLine) -> Result<String, Fail> {
     }
 }
 
-/// Lines of records, of records out of range, and lines that are no record lines. Behind each stands what is read.
+/// Lines of records, of records out of range, and lines that are no record lines. Each is followed by what is read.
 const LINES: &str = r#"["record",8,-1,9223372036854775807]: 8 -1 9223372036854775807 puts none
 ["record",2,101,-30]: 2 101 -30 puts Key { table: 2, id: 101 } -30
 ["record",8,0,0]: 8 0 0 puts none
@@ -82,7 +82,7 @@ fn bytes_are_read(rt: HostRuntime) -> Result<(), Fail> {
     Ok(())
 }
 
-/// The database that these lines make, which have a table, a number there and a value.
+/// The database of these lines, each with a table, a record number and a value.
 fn filled(alloc: Global, lines: &[(i64, i64, i64)]) -> Result<Database, NoMemory> {
     let mut database = Database::empty(alloc);
     for (table, number, value) in lines {

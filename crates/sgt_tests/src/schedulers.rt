@@ -1,6 +1,7 @@
-//! Each call of a scheduler over the simple bodies of its layers, with what it is answered: one transaction by itself, commits that
-//! wait, and an abort that takes its readers along. Between the events it is asked who is live, what a commit would end, what is
-//! committed, whom a store would come behind, and whom one has to wait for.
+//! Each call of a scheduler over the simple implementations of its layers, with its reply: one transaction by itself,
+//! commits that wait, and an abort that aborts its readers in cascade. Queries between the events ask who is live, what
+//! a commit would end, and what is committed. They also ask which transactions a write would come after, and which one
+//! must be waited for.
 
 use json::Scratch;
 use sgt_access::{Accesses, OneList};
@@ -14,7 +15,7 @@ use std::test::Fail;
 
 type ListSched = Sched<ListRecords, OneList, PairGraph>;
 
-/// The scheduler of an opening.
+/// The scheduler with an initial database.
 fn opened(alloc: Global, line: &str) -> Result<ListSched, Fail> {
     let Opening {
         limits,
@@ -39,19 +40,19 @@ fn ends(sched: &ListSched, t: u32) -> bool {
     sched.ends(&Event::Commit(Tid(t)))
 }
 
-/// What is committed at the record of this number.
+/// The committed value of the record with this number.
 fn committed(sched: &ListSched, id: i64) -> Option<i64> {
     sched.records().committed(Key::new(0, id)?)
 }
 
-/// Whom a store of the second transaction into record 7 would come behind.
+/// The transactions that a write of the second transaction to record 7 would come after.
 fn rivals(sched: &ListSched) -> Option<Tids> {
     let key = Key::new(0, 7)?;
     Some(sched.accesses().rivals(Tid(1), key, Kind::Store))
 }
 
-/// What is seen between events: who is live, and how many; whether a commit would end the first and the third; what is
-/// committed at the records 0, 1, 2, 3 and 7; the rivals; and whom the first has to wait for.
+/// The observation between events: who is live, and how many; whether a commit would end the first and the third; the
+/// committed values of records 0, 1, 2, 3 and 7; the rivals; and the transactions that the first must wait for.
 fn seen(alloc: Global, sched: &ListSched) -> Result<String, AllocError> {
     let (live, count) = (sched.live(), sched.live_count());
     let ends = [ends(sched, 0), ends(sched, 2)];
@@ -73,7 +74,7 @@ fn replied(alloc: Global, sched: &mut ListSched, event: &Event) -> Result<String
     Ok(format!(in alloc; "{reply:?}")?)
 }
 
-/// The answer to an event in short, and what stands in the place then.
+/// The short form of the reply to an event, and the reply in `place` then.
 fn shortened(
     alloc: Global,
     sched: &mut ListSched,
@@ -84,7 +85,7 @@ fn shortened(
     Ok(format!(in alloc; "{brief:?}, {place:?}")?)
 }
 
-/// What is said to a line: what is seen; or to an event, or to one behind `short`, which is answered in short.
+/// The response to a line: the observation; or the reply to an event; or, after `short`, the reply in short form.
 fn said(
     alloc: Global,
     sched: &mut ListSched,
@@ -103,7 +104,7 @@ fn said(
     replied(alloc, sched, &event)
 }
 
-/// The first line that is not said what stands behind its arrow, or nothing.
+/// The first line whose response differs from the text after its arrow, or nothing.
 fn first_wrong<'a>(alloc: Global, sched: &mut ListSched, lines: &'a str) -> Result<&'a str, Fail> {
     let mut place = Reply::Full;
     for line in lines.lines() {
@@ -115,16 +116,16 @@ fn first_wrong<'a>(alloc: Global, sched: &mut ListSched, lines: &'a str) -> Resu
     Ok("")
 }
 
-/// It looks at the record of its argument, which has to be there, stores 5 in it, and answers what it found. At most two are live, of
-/// three in all.
+/// Reads the record of its argument, which must exist, writes 5 to it, and answers the value read. At most two are
+/// live, and three start in all.
 const PAY: &str =
     r#"{"limits":[2,3],"accounts":[[7,1,0,0]],"procedures":[[1,[["look",0,0,["arg",0],6],["put",0,["arg",0],5],["answer",["reg",0]]]]]}"#;
 
-/// It looks at the record of its first argument, and stores 5 in that of its second. At most three are live.
+/// Reads the record of its first argument, and writes 5 to that of its second. At most three are live.
 const PASS_ON: &str =
     r#"{"limits":[3,10],"accounts":[[0,1,0,0]],"procedures":[[2,[["look",0,0,["arg",0],6],["put",0,["arg",1],5]]]]}"#;
 
-/// What is shown, an opening, and lines with what is said to them.
+/// What is shown, an initial database, and lines with their responses.
 type Row = (&'static str, &'static str, &'static str);
 
 const ROWS: [Row; 10] = [
@@ -269,7 +270,7 @@ seen -> [] 0 [false, false] [Some(1), None, None, None, None] Some([]) None
     ),
 ];
 
-/// The first line that is wrong, of those that are said to the scheduler of an opening.
+/// The first wrong line of those that are run on the scheduler with an initial database.
 fn first_wrong_of<'a>(alloc: Global, opening: &str, lines: &'a str) -> Result<&'a str, Fail> {
     let mut sched = opened(alloc, opening)?;
     first_wrong(alloc, &mut sched, lines)

@@ -1,4 +1,5 @@
-//! Procedures as trees of JSON: what is written of those that were read, and a misfit deeper than a line goes.
+//! Procedures as trees of JSON: what is written for procedures that were read, and a shape error deeper than a line
+//! goes.
 
 use serde_json::Value;
 use sgt_proc::Checked;
@@ -26,7 +27,7 @@ const SMALLBANK: &str =
 [2,[["if",["less",["arg",1],0],[["ask",2]],[]],["look",0,0,["arg",0],1],["look",1,1,["reg",0],5],["look",2,2,["reg",0],5],["if",["less",["sum",["reg",1],["reg",2]],["arg",1]],[["let",3,["diff",["diff",["reg",2],["arg",1]],100]]],[["let",3,["diff",["reg",2],["arg",1]]]]],["put",2,["reg",0],["reg",3]],["answer",["reg",3]]]]
 "#;
 
-/// What is written of the procedure that a line spells.
+/// What is written for the procedure of a line.
 fn rewritten(alloc: Global, line: &str) -> Result<String, Fail> {
     let tree = Value::from_str(alloc, line)?;
     let procedure = read(alloc, &tree)?;
@@ -41,7 +42,7 @@ fn what_is_read_is_written_as_it_was(rt: HostRuntime) -> Result<(), Fail> {
     Ok(())
 }
 
-/// What is written of these procedures, each in a line.
+/// What is written for these procedures, each in a line.
 fn written(alloc: Global, procedures: &[Checked]) -> Result<String, Fail> {
     let mut lines = String::new(alloc);
     for checked in procedures {
@@ -58,15 +59,15 @@ fn smallbank_is_written_as_its_trees(rt: HostRuntime) -> Result<(), Fail> {
     Ok(())
 }
 
-/// A null between so many pieces of text and as many others.
+/// A null after this many pieces of text, followed by as many others.
 fn nested(alloc: Global, before: &str, behind: &str, times: usize) -> Result<String, AllocError> {
     let before = before.repeat(alloc, times)?;
     let behind = behind.repeat(alloc, times)?;
     format!(in alloc; "{before}null{behind}")
 }
 
-/// A procedure that answers sums, more than a line can nest: ten of them, with a null as the second part of the innermost one, stand
-/// first in 124 more.
+/// A procedure that answers sums, nested deeper than a line can be. Ten sums, with a null as the second part of the
+/// innermost, come first in 124 more.
 fn deep_sums(alloc: Global) -> Result<Value, Fail> {
     let outer = nested(alloc, r#"["sum","#, ",0]", 124)?;
     let text = format!(in alloc; r#"[0,[["answer",{outer}]]]"#)?;
@@ -79,7 +80,7 @@ fn deep_sums(alloc: Global) -> Result<Value, Fail> {
     Ok(tree)
 }
 
-/// What is told of the misfit of a tree.
+/// The reported position of the shape error of a tree.
 fn misfit(alloc: Global, tree: &Value) -> Result<String, Fail> {
     match read(alloc, tree).err() {
         Some(error) => Ok(error.to_string(alloc)?),

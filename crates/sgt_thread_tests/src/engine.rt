@@ -23,10 +23,10 @@ pub const TRANSACT_SAVING: u16 = 2;
 
 pub const WRITE_CHECK: u16 = 4;
 
-/// Stores 1 at record 7 of table 3, and raises code 9. It takes no arguments.
+/// Writes 1 to record 7 of table 3, and raises code 9. It takes no arguments.
 pub const PUT_AND_RAISE: u16 = 5;
 
-/// Reads that record, and raises code 8 where there is none.
+/// Reads that record, and raises code 8 if there is none.
 pub const READ_IT: u16 = 6;
 
 const LIMITS: Limits = Limits {
@@ -35,7 +35,7 @@ const LIMITS: Limits = Limits {
     asks: Asks::AtStep,
 };
 
-/// The account of this name. All accounts begin alike.
+/// The account of this name. All accounts start alike.
 fn account(name: i64) -> Account {
     Account {
         name,
@@ -45,13 +45,13 @@ fn account(name: i64) -> Account {
     }
 }
 
-/// Five accounts, of the names 1 to 5, and the procedures.
+/// Five accounts, with the names 1 to 5, and the procedures.
 fn parts(alloc: Global) -> Option<(Database, Vec<Checked>)> {
     let accounts = [account(1), account(2), account(3), account(4), account(5)];
     Some((opening(alloc, &accounts).ok()?, procedures(alloc).ok()?))
 }
 
-/// An engine with the five accounts, where nothing was done yet.
+/// An engine with the five accounts and no events yet.
 pub fn new_engine(alloc: Global) -> Option<ListEngine>
     ensures { IfSome result (λ engine. engine.past ≡ []) }
 {
@@ -87,7 +87,8 @@ fn two_more(alloc: Global) -> Option<(Checked, Checked)> {
     Some((first, second))
 }
 
-/// An engine with the five accounts and the two procedures more, which reports codes at the commit. Nothing was done yet.
+/// An engine with the five accounts and the two additional procedures, which reports codes at commit. It has no events
+/// yet.
 pub fn new_engine_at_commit(alloc: Global) -> Option<ListEngine>
     ensures { IfSome result (λ engine. engine.past ≡ []) }
 {
@@ -103,7 +104,7 @@ pub fn new_engine_at_commit(alloc: Global) -> Option<ListEngine>
     Engine::new(alloc, database, procedures, limits).ok()
 }
 
-/// An engine with the five accounts, where these events were done.
+/// An engine with the five accounts after these events.
 pub fn engine_after(alloc: Global, events: &[Event]) -> Option<ListEngine> {
     let (database, procedures) = parts(alloc)?;
     Some(

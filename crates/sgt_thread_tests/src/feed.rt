@@ -1,4 +1,4 @@
-//! The feed of jobs: what it refuses to make, and what becomes of jobs whose takers are threads.
+//! The feed (queue) of jobs: what it refuses to make, and what becomes of jobs whose takers (consumers) are threads.
 ghost use Rattle.std.specs.Prelude.{◌≡◌, All, IfSome};
 
 use sgt_dispatch::{Feed, FeedError, Job, Putter, Stub, Take, Taker};
@@ -11,18 +11,18 @@ use std::thread::Threads;
 /// Why a taker left.
 #[derive(Clone, Copy, PartialEq, Eq)]
 enum End {
-    /// It had taken as many as it was to take.
+    /// It had taken its full number.
     Enough,
     /// It took a stop.
     Stop,
-    /// The putter was gone.
+    /// The putter (producer) was gone.
     Gone,
 }
 
 /// What a taker did.
 #[derive(Drop)]
 struct Taken {
-    /// The numbers of its jobs, in the order of its takes.
+    /// The numbers of its jobs, in the order taken.
     numbers: Bounded<u32, 100>,
     end: End,
 }
@@ -35,7 +35,7 @@ fn job(number: u32) -> Job {
     }
 }
 
-/// Puts the jobs below a number, until one is handed back: it answers that one's number.
+/// Puts the jobs below a number, until one is returned unsent. Returns the number of that one.
 fn put_jobs<R: Wait>(rt: &R, putter: &mut Putter, jobs: u32) -> Option<u32>
     ensures { putter.new.feed ≡ putter.old.feed }
 {
@@ -47,7 +47,7 @@ fn put_jobs<R: Wait>(rt: &R, putter: &mut Putter, jobs: u32) -> Option<u32>
     None
 }
 
-/// Puts so many stops, and answers how many of them were put.
+/// Puts this many stops, and returns how many were put.
 fn put_stops<R: Wait>(rt: &R, putter: &mut Putter, stops: usize) -> usize
     ensures { putter.new.feed ≡ putter.old.feed }
 {
@@ -60,8 +60,8 @@ fn put_stops<R: Wait>(rt: &R, putter: &mut Putter, stops: usize) -> usize
     put
 }
 
-/// Puts jobs, and then a stop for each taker, unless the putter is to go. It answers the number of the job that was handed back, if
-/// one was, and how many stops were put.
+/// Puts jobs, and then a stop for each taker, unless the plan drops the putter. Returns the number of the job that was
+/// returned unsent, if any, and how many stops were put.
 fn put<R: Wait>(rt: &R, putter: &mut Putter, plan: &Plan) -> (Option<u32>, usize)
     ensures { putter.new.feed ≡ putter.old.feed }
 {
@@ -74,7 +74,7 @@ fn put<R: Wait>(rt: &R, putter: &mut Putter, plan: &Plan) -> (Option<u32>, usize
     (back, put_stops(rt, putter, stops))
 }
 
-/// Puts as it is planned. Where the putter is to go it is not handed back.
+/// Puts as planned. If the plan drops the putter, it is not returned.
 fn put_all<R: Wait>(rt: &R, putter: Putter, plan: &Plan) -> (Option<Putter>, (Option<u32>, usize))
     ensures { IfSome result.0 (λ left. left.feed ≡ putter.feed) }
 {
@@ -87,7 +87,7 @@ fn put_all<R: Wait>(rt: &R, putter: Putter, plan: &Plan) -> (Option<Putter>, (Op
     }
 }
 
-/// Takes once, and notes the number of a job that it got. Otherwise it has to leave.
+/// Takes once, and records the number of a job received. Otherwise the taker must leave.
 fn take<R: Wait>(rt: &R, taker: &mut Taker, numbers: &mut Bounded<u32, 100>) -> Option<End>
     ensures { taker.new.feed ≡ taker.old.feed }
 {
@@ -104,7 +104,7 @@ fn take<R: Wait>(rt: &R, taker: &mut Taker, numbers: &mut Bounded<u32, 100>) -> 
     }
 }
 
-/// Takes up to so many jobs, or until it gets a stop, and leaves.
+/// Takes up to this many jobs, or until a stop, and leaves.
 fn take_some<R: Wait>(rt: &R, taker: Taker, most: u32) -> (Stub, Taken)
     ensures { result.0.feed ≡ taker.feed }
 {
@@ -132,7 +132,7 @@ fn join_all(putter: Putter, left: Vec<(Stub, Taken)>) -> Putter
     putter
 }
 
-/// Whether each taker took its jobs in order, and left for this reason.
+/// Whether each taker received its jobs in order, and left for this reason.
 fn are_in_order(left: &[(Stub, Taken)], end: End) -> bool {
     for (_, taken) in left {
         if taken.end != end || !taken.numbers.as_slice().is_sorted() {
@@ -155,7 +155,7 @@ fn times(left: &[(Stub, Taken)], number: u32) -> u32 {
     times
 }
 
-/// Whether of 100 jobs just those below a number were taken, each once.
+/// Whether, of 100 jobs, exactly those below a number were taken, each once.
 fn are_once(left: &[(Stub, Taken)], jobs: u32) -> bool {
     for number in 0..100 {
         if times(left, number) != u32::from(number < jobs) {
@@ -165,7 +165,7 @@ fn are_once(left: &[(Stub, Taken)], jobs: u32) -> bool {
     true
 }
 
-/// What the putter and the takers do, in a thread each, and what is to come of it.
+/// The plan of the putter and the takers, each in a thread, and its expected result.
 #[derive(Clone, Copy)]
 struct Plan {
     room: usize,
@@ -174,22 +174,22 @@ struct Plan {
     put: u32,
     /// How often each takes at most.
     most: u32,
-    /// How many jobs are to be taken.
+    /// How many jobs must be taken.
     taken: u32,
-    /// Why they are to leave.
+    /// Why the takers must leave.
     end: End,
 }
 
-/// What is seen of a feed: whether the jobs below the number were taken, each once and each taker's in order, and the takers left
-/// for the reason; the number of the job that was handed back, if one was; and how many stops were put.
+/// What is observed of a feed: whether the jobs below the number were taken, each once and in each taker's order, and
+/// the takers left for the reason; the number of the job that was returned unsent, if any; and how many stops were put.
 type Fed = (bool, Option<u32>, usize);
 
-/// Whether the jobs were taken as it is planned.
+/// Whether the jobs were taken as planned.
 fn are_taken(left: &[(Stub, Taken)], plan: &Plan) -> bool {
     are_in_order(left, plan.end) && are_once(left, plan.taken)
 }
 
-/// Whether the takers' threads were made, and took as it is planned. What they left is joined, where the putter is still there.
+/// Whether the takers' threads were made, and took as planned. Joins what they left if the putter still exists.
 fn is_right(putter: Option<Putter>, left: Option<Vec<(Stub, Taken)>>, plan: &Plan) -> bool
     requires { IfSome putter (λ putter. IfSome left (λ left. All (λ taker. taker.0.feed ≡ putter.feed) left.items)) }
 {
@@ -203,7 +203,7 @@ fn is_right(putter: Option<Putter>, left: Option<Vec<(Stub, Taken)>>, plan: &Pla
     is_right
 }
 
-/// The putter and the takers do as it is planned, in a thread each.
+/// Runs the putter and the takers as planned, each in a thread.
 fn fed<R: Threads + Wait + Sync>(rt: &R, putter: Putter, takers: Vec<Taker>, plan: &Plan) -> Fed
     requires { All (λ taker. taker.feed ≡ putter.feed) takers.items }
 {
@@ -215,7 +215,7 @@ fn fed<R: Threads + Wait + Sync>(rt: &R, putter: Putter, takers: Vec<Taker>, pla
     (is_right(putter, left.ok(), plan), back, stops)
 }
 
-/// Feeds the takers as it is planned, and joins them.
+/// Feeds the takers as planned, and joins them.
 fn feed<R: Threads + Wait + Sync>(rt: &R, alloc: Global, plan: &Plan) -> Option<Fed> {
     let (putter, takers) = Feed::make(alloc, plan.room, plan.takers).ok()?;
     Some(fed(rt, putter, takers, plan))
@@ -247,10 +247,10 @@ const TAKERS_LEAVE: Plan = Plan {
     ..TO_THE_END
 };
 
-/// What is shown, a plan, and what may be seen.
+/// What is shown, a plan, and the observations allowed.
 type Row = (&'static str, Plan, &'static [Fed]);
 
-/// Where the takers leave, one more job may be put before the last of them does.
+/// If the takers leave, one more job may be put before the last of them does.
 const ROWS: [Row; 4] = [
     ("each job is taken once", TO_THE_END, &[(true, None, 1)]),
     (
@@ -274,7 +274,7 @@ const ROWS: [Row; 4] = [
     ),
 ];
 
-/// What the first row shows by whose plan anything else is seen.
+/// What the first row with any other observation shows.
 fn first_wrong<R: Threads + Wait + Sync>(rt: &R, alloc: Global, rows: &[Row]) -> &'static str {
     for (what, plan, wanted) in rows {
         let Some(fed) = feed(rt, alloc, plan) else {
@@ -293,7 +293,7 @@ fn jobs_and_ends_are_told(rt: HostRuntime) {
     assert!(rt; wrong.is_empty(), "{wrong}");
 }
 
-/// How many takers a feed is made with, of a room, or for so many jobs.
+/// How many takers a feed gets with this capacity, or for this many jobs.
 fn made(
     alloc: Global,
     room: Option<usize>,
@@ -307,7 +307,7 @@ fn made(
     Ok(takers.len())
 }
 
-/// A room or none, and then a number of jobs; a number of takers; and what comes of it.
+/// A capacity or none, then a number of jobs; a number of takers; and the result.
 type Made = (Option<usize>, usize, usize, Result<usize, FeedError>);
 
 const MADE: [Made; 11] = [
@@ -332,8 +332,8 @@ fn feeds_are_made_or_refused(rt: HostRuntime) {
     }
 }
 
-/// Puts so many jobs, and a stop for each taker, into a feed that was made for them, before anything is taken. It answers the
-/// number of the job that was handed back, if one was, and how many stops were put.
+/// Puts this many jobs, and a stop for each taker, into a feed made for them, before anything is taken. Returns the
+/// number of the job that was returned unsent, if any, and how many stops were put.
 fn put_before_takes<R: Wait>(
     rt: &R,
     alloc: Global,
@@ -346,7 +346,7 @@ fn put_before_takes<R: Wait>(
     Ok((back, stops))
 }
 
-/// Were there too little room, this test would not end.
+/// With too little capacity, this test would not end.
 #[test]
 fn no_put_waits_for_room(rt: HostRuntime) {
     for (jobs, takers) in [(0, 1), (2000, 16)] {

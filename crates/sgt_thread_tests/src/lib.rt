@@ -1,7 +1,7 @@
-//! Tests of the crates whose calls run in threads, and of what threads report. They stand apart from the other tests, so that
-//! those need no thread.
+//! Tests of the crates whose calls run in threads, and of what threads report. They are apart from the other tests, so
+//! that those need no threads.
 //!
-//! It has no function for others to call. What a test shows is in its name, or in the names of its rows.
+//! No public functions. The name of a test, or of its rows, says what it shows.
 #![tactic(auto)]
 
 #[cfg(test)]

@@ -1,4 +1,4 @@
-//! What the outcomes of jobs say of a history: each kind right and wrong.
+//! What the outcomes of jobs say of a history: each kind, true and false.
 
 use crate::engine::{
     BALANCE, DEPOSIT_CHECKING, ListEngine, TRANSACT_SAVING, WRITE_CHECK, engine_after, start,
@@ -26,7 +26,7 @@ const GOOD_BALANCE: Call = (BALANCE, &[1]);
 
 const CHECK: Call = (WRITE_CHECK, &[1, 100]);
 
-/// The call of this name; None where it names none.
+/// The call of this name; none if it names none.
 fn call(name: &str) -> Option<Call> {
     match name {
         "deposit" => Some(DEPOSIT),
@@ -40,17 +40,17 @@ fn call(name: &str) -> Option<Call> {
     }
 }
 
-/// A name, and what stands behind its colon.
+/// A name, and the text after its colon.
 fn parts(word: &str) -> (&str, &str) {
     word.split_once(':').unwrap_or((word, ""))
 }
 
-/// The transaction of the number that a digit stands for.
+/// The transaction number that a digit stands for.
 fn tid(digit: u8) -> Tid {
     Tid(u32::from(digit.saturating_sub(b'0')))
 }
 
-/// A transaction's event of this name: it is a step where the name is that of a call.
+/// The event of this name for a transaction: a step if the name is that of a call.
 fn event(name: &str, t: Tid) -> Event {
     match name {
         "commit" => Event::Commit(t),
@@ -59,7 +59,7 @@ fn event(name: &str, t: Tid) -> Event {
     }
 }
 
-/// Adds what a word says is done: the start of a call, where it names one, and an event for each digit, of that transaction.
+/// Adds the events of a word: the start of a call, if it names one, and an event for each digit, of that transaction.
 fn add_events(events: &mut Vec<Event>, word: &str) -> Result<(), NoMemory> {
     let (name, digits) = parts(word);
     if let Some((procedure, args)) = call(name) {
@@ -79,7 +79,7 @@ fn events_of(alloc: Global, deeds: &str) -> Result<Vec<Event>, NoMemory> {
     Ok(events)
 }
 
-/// An engine where these deeds were done.
+/// An engine after these events.
 fn engine_of(alloc: Global, deeds: &str) -> Option<ListEngine> {
     let events = events_of(alloc, deeds).ok()?;
     engine_after(alloc, events.as_slice())
@@ -93,7 +93,7 @@ fn tids_of(alloc: Global, digits: &str) -> Result<Vec<Tid>, NoMemory> {
     Ok(tids)
 }
 
-/// What is told of a job by a name, with an entry's number or digits of transactions; None where it is no name of that.
+/// The outcome of a job by its name, with an entry's number or digits of transactions; none if it is no such name.
 fn told(alloc: Global, name: &str, digits: &str) -> Option<Outcome<u8>> {
     let entry = digits.parse::<u64>().unwrap_or(0);
     match name {
@@ -108,7 +108,7 @@ fn told(alloc: Global, name: &str, digits: &str) -> Option<Outcome<u8>> {
     }
 }
 
-/// The job of this call that comes behind so many.
+/// The job of this call, numbered after this many.
 fn job(before: usize, call: Call) -> Job {
     Job {
         number: u32::try_from(before).unwrap_or(0),
@@ -117,14 +117,14 @@ fn job(before: usize, call: Call) -> Job {
     }
 }
 
-/// Jobs, and what is told of them.
+/// Jobs and their outcomes.
 #[derive(Drop)]
 struct Claims {
     jobs: Vec<Job>,
     outcomes: Vec<Outcome<u8>>,
 }
 
-/// Adds a job, where a word names its call, or what the word tells of one.
+/// Adds a job, if a word names its call, or the outcome that the word names.
 fn add_told(alloc: Global, all: &mut Claims, word: &str) -> Option<()> {
     let (name, digits) = parts(word);
     match call(name) {
@@ -133,7 +133,7 @@ fn add_told(alloc: Global, all: &mut Claims, word: &str) -> Option<()> {
     }
 }
 
-/// What these words tell.
+/// The jobs and outcomes of these words.
 fn claims_of(alloc: Global, words: &str) -> Option<Claims> {
     let mut all = Claims {
         jobs: Vec::new(alloc),
@@ -145,7 +145,7 @@ fn claims_of(alloc: Global, words: &str) -> Option<Claims> {
     Some(all)
 }
 
-/// Whether what is told of jobs stands, of so many workers with so many tries.
+/// Whether the outcomes of jobs are true, with this many workers and tries.
 fn stands(
     alloc: Global,
     engine: &ListEngine,
@@ -165,14 +165,14 @@ fn stands(
     .ok()
 }
 
-/// Whether what these words tell stands, with the numbers of workers and tries in a text.
+/// Whether the outcomes of these words are true, with the numbers of workers and tries in a text.
 fn stands_with(alloc: Global, engine: &ListEngine, numbers: &str, words: &str) -> Option<bool> {
     let (workers, tries) = numbers.split_once(' ')?;
     let workers = workers.parse::<u32>().ok()?;
     stands(alloc, engine, workers, tries.parse::<u32>().ok()?, words)
 }
 
-/// What is wanted by this name.
+/// The expectation of this name.
 fn wanted(name: &str) -> Option<bool> {
     match name {
         "right" => Some(true),
@@ -181,7 +181,7 @@ fn wanted(name: &str) -> Option<bool> {
     }
 }
 
-/// Whether what a line tells stands where the line is `right`, and does not where it is `wrong`.
+/// Whether the outcomes of a line are true if the line is `right`, and not if it is `wrong`.
 fn is_as_wanted(alloc: Global, engine: &ListEngine, line: &str) -> bool {
     let (head, words) = line.split_once(" <- ").unwrap_or((line, ""));
     let (want, numbers) = head.split_once(' ').unwrap_or((head, ""));
@@ -189,7 +189,7 @@ fn is_as_wanted(alloc: Global, engine: &ListEngine, line: &str) -> bool {
     stands.is_some() && stands == wanted(want)
 }
 
-/// The first line of a table that is not as wanted; none is empty.
+/// The first line of a table that is not as expected; no line is empty.
 fn first_wrong<'a>(alloc: Global, engine: &ListEngine, table: &'a str) -> &'a str {
     for line in table.lines() {
         if !is_as_wanted(alloc, engine, line) {
@@ -199,7 +199,7 @@ fn first_wrong<'a>(alloc: Global, engine: &ListEngine, table: &'a str) -> &'a st
     ""
 }
 
-/// The first line that is not as wanted after these deeds.
+/// The first line that is not as expected after these events.
 fn first_wrong_after<'a>(alloc: Global, deeds: &str, table: &'a str) -> &'a str {
     match engine_of(alloc, deeds) {
         Some(engine) => first_wrong(alloc, &engine, table),
@@ -207,10 +207,10 @@ fn first_wrong_after<'a>(alloc: Global, deeds: &str, table: &'a str) -> &'a str 
     }
 }
 
-/// What is shown; what is done at an engine; and a table of what is told then: whether that is right, how many workers there are
-/// and how many tries, and behind an arrow the call of each job and what is told of it.
+/// What is shown; the events of an engine; and a table of outcomes. A line of the table says whether they are true.
+/// Then come the numbers of workers and of tries, and after an arrow the call of each job with its outcome.
 ///
-/// A deed is the start of a call with steps of these transactions, or their steps, commits or quits alone.
+/// An event word is the start of a call with steps of these transactions, or their steps, commits or quits alone.
 type Row = (&'static str, &'static str, &'static str);
 
 const ROWS: [Row; 5] = [
@@ -279,7 +279,7 @@ wrong 2 1 <- balance untaken balance untaken balance untaken",
     ),
 ];
 
-/// The first row of which a line is not as wanted, with that line.
+/// The first row with a line that is not as expected, with that line.
 fn first_wrong_row(alloc: Global, rows: &[Row]) -> (&'static str, &'static str) {
     for (what, deeds, table) in rows {
         let wrong = first_wrong_after(alloc, deeds, table);

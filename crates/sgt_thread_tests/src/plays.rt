@@ -1,4 +1,4 @@
-//! What threads do that share an engine, each with a session of its own.
+//! Scripts for threads that share an engine, each with a session of its own.
 
 use crate::engine::{
     BALANCE, DEPOSIT_CHECKING, PUT_AND_RAISE, READ_IT, SharedEngine, TRANSACT_SAVING, start,
@@ -10,57 +10,58 @@ use std::sync::atomic::{AtomicBool, Ordering};
 use std::thread;
 use std::thread::Threads;
 
-/// How often a thread looks whether another has come.
+/// How often a thread checks whether another has arrived.
 const TURNS: u32 = 10_000_000;
 
-/// How many calls a thread makes at most while it waits for those of others.
+/// The most calls of a thread while it waits for calls of others.
 const CALLS: u32 = 1_000_000;
 
-/// How often a thread lets others run, so that those that wait have gone to sleep.
+/// How often a thread yields, so that the waiting ones are asleep by then.
 const NAPS: u32 = 20_000;
 
-/// What the threads do.
+/// The scripts of the threads.
 #[derive(Clone, Copy)]
 pub enum Play {
     /// The first deposits, and the second asks for the balance meanwhile.
     Meet,
-    /// One makes a call of a commit that has to wait.
+    /// One calls a commit that has to wait.
     AskAtOnce,
-    /// The first puts in twice, and two others ask for the balance meanwhile.
+    /// The first deposits twice, and two others ask for the balance meanwhile.
     AskBehindTwo,
-    /// The first deposits and then quits, and the second, which has read the deposit, waits meanwhile.
+    /// The first deposits and then quits. The second, which has read the deposit, waits meanwhile.
     WaitForQuit,
-    /// The first stores and raises a code at its commit, and the second, which has read what it stored, waits meanwhile.
+    /// The first writes and raises a code at its commit. The second, which has read what it wrote, waits meanwhile.
     WaitForRefusal,
 }
 
-/// What a thread does at one time. Its transactions are told by how many it has started behind them; it starts them one after
-/// another, while no other thread starts one.
+/// One step of a thread's script. Its transactions are numbered by how many it has started after them. It starts them
+/// one after another, while no other thread starts one.
 enum Deed {
     /// Starts a transaction of this procedure with these arguments, and makes three steps.
     Starts(u16, &'static [i64]),
-    /// Tells the others that it has come so far.
+    /// Signals to the others that it has come this far.
     Tells,
-    /// Waits until the thread of this seat has told that. Where it does not in time, nothing more is done.
+    /// Waits for the signal of this seat's thread. If it does not come in time, the thread does nothing more.
     Needs(usize),
-    /// Waits until the thread of this seat has told that, as long as there is time.
+    /// Waits for the signal of this seat's thread, as long as there is time.
     Awaits(usize),
-    /// Makes steps of a transaction until the other sessions have made so many calls, and lets their threads go to sleep.
+    /// Makes steps of a transaction until the other sessions have made this many calls, and lets their threads go to
+    /// sleep.
     LetsCall(u32, u64),
-    /// Makes one call of a commit, which does not wait.
+    /// Makes one call of a commit, without waiting.
     CallsCommit(u32),
-    /// Commits, and waits for whom it has to.
+    /// Commits, and waits for others as it must.
     Commits(u32),
-    /// Goes on only where its session has so many receipts.
+    /// Goes on only if its session has this many receipts.
     Counts(usize),
     /// Quits a transaction.
     Quits(u32),
     /// Starts a transaction of this procedure with these arguments, and makes one step.
     StartsShort(u16, &'static [i64]),
-    /// Tells the others that its last call has returned.
+    /// Signals to the others that its last call has returned.
     TellsEnd,
-    /// Looks until the second seat's thread has told that. If it does not in time, starts one more transaction and commits it, so
-    /// that a thread that no end has woken goes on, and the play ends.
+    /// Checks for that signal of the second seat's thread. If it does not come in time, starts one more transaction and
+    /// commits it. So a thread that no end has woken goes on, and the play ends.
     WakesUnlessEnded,
 }
 
@@ -73,8 +74,8 @@ const DEPOSITS: [Deed; 5] = [
     Deed::Commits(0),
 ];
 
-/// Deposits 1.00 on the checking and 0.50 on the saving, in two transactions. The first commits once both others wait for it,
-/// and the second once both wait again.
+/// Deposits 1.00 on the checking and 0.50 on the saving, in two transactions. The first commits once both others wait
+/// for it, the second once both wait again.
 const PUTS_IN_TWICE: [Deed; 9] = [
     Deed::Starts(DEPOSIT_CHECKING, &[1, 100]),
     Deed::Starts(TRANSACT_SAVING, &[1, 50]),
@@ -87,7 +88,7 @@ const PUTS_IN_TWICE: [Deed; 9] = [
     Deed::Commits(0),
 ];
 
-/// Asks for the balance once all is stored, and commits behind whom it has read from.
+/// Asks for the balance once all is written, and commits after those that it has read from.
 const ASKS: [Deed; 4] = [
     Deed::Needs(0),
     Deed::Starts(BALANCE, &[1]),
@@ -95,7 +96,7 @@ const ASKS: [Deed; 4] = [
     Deed::Commits(0),
 ];
 
-/// The same where two ask: each makes a call of its commit first, so it has made six calls when it waits.
+/// The same for two that ask: each calls its commit once first, so it has made six calls when it waits.
 const ASKS_TWICE: [Deed; 5] = [
     Deed::Needs(0),
     Deed::Starts(BALANCE, &[1]),
@@ -104,7 +105,8 @@ const ASKS_TWICE: [Deed; 5] = [
     Deed::Commits(0),
 ];
 
-/// Asks for a balance behind an own deposit. A call of that commit is answered at once, with one receipt; then both are committed.
+/// Asks for a balance after an own deposit. A call of that commit returns at once, with one receipt; then both are
+/// committed.
 const ASKS_BEHIND_OWN: [Deed; 6] = [
     Deed::Starts(DEPOSIT_CHECKING, &[1, 100]),
     Deed::Starts(BALANCE, &[1]),
@@ -114,7 +116,7 @@ const ASKS_BEHIND_OWN: [Deed; 6] = [
     Deed::CallsCommit(0),
 ];
 
-/// Deposits 1.00, and quits once the other has asked to commit. Its end has to wake the other.
+/// Deposits 1.00, and quits once the other has asked to commit. Its end must wake the other.
 const DEPOSITS_AND_QUITS: [Deed; 6] = [
     Deed::Starts(DEPOSIT_CHECKING, &[1, 100]),
     Deed::Tells,
@@ -124,7 +126,8 @@ const DEPOSITS_AND_QUITS: [Deed; 6] = [
     Deed::WakesUnlessEnded,
 ];
 
-/// Asks for the balance once all is stored, commits behind whom it has read from, and tells when that call has returned.
+/// Asks for the balance once all is written, commits after those that it has read from, and signals when that call has
+/// returned.
 const ASKS_AND_TELLS: [Deed; 5] = [
     Deed::Needs(0),
     Deed::Starts(BALANCE, &[1]),
@@ -133,8 +136,8 @@ const ASKS_AND_TELLS: [Deed; 5] = [
     Deed::TellsEnd,
 ];
 
-/// Stores, and commits once the other has asked to commit. Its procedure raises a code, so the commit is refused, and that end has
-/// to wake the other.
+/// Writes, and commits once the other has asked to commit. Its procedure raises a code, so the commit is refused, and
+/// that end must wake the other.
 const STORES_AND_RAISES: [Deed; 6] = [
     Deed::StartsShort(PUT_AND_RAISE, &[]),
     Deed::Tells,
@@ -144,7 +147,7 @@ const STORES_AND_RAISES: [Deed; 6] = [
     Deed::WakesUnlessEnded,
 ];
 
-/// Reads what was stored, commits behind the one that stored it, and tells when that call has returned.
+/// Reads what was written, commits after the writer, and signals when that call has returned.
 const READS_AND_TELLS: [Deed; 5] = [
     Deed::Needs(0),
     Deed::StartsShort(READ_IT, &[]),
@@ -153,7 +156,7 @@ const READS_AND_TELLS: [Deed; 5] = [
     Deed::TellsEnd,
 ];
 
-/// What the thread of this seat does in a play.
+/// The script of this seat's thread in a play.
 fn deeds(play: Play, seat: usize) -> &'static [Deed] {
     match (play, seat) {
         (Play::Meet, 0) => &DEPOSITS,
@@ -168,8 +171,8 @@ fn deeds(play: Play, seat: usize) -> &'static [Deed] {
     }
 }
 
-/// What is played, and which seats' threads have told that they have come so far: the first that all is stored, and the others that
-/// they ask for the balance.
+/// A play, and the seats whose threads have signalled: the first that all is written, the others that they ask for the
+/// balance.
 #[derive(Drop)]
 struct Stage {
     play: Play,
@@ -178,7 +181,7 @@ struct Stage {
     has_ended: AtomicBool,
 }
 
-/// Waits for a flag, and tells whether it was raised in time.
+/// Waits for a flag, and returns whether it was raised in time.
 fn is_raised(flag: &AtomicBool) -> bool {
     for _ in 0..TURNS {
         if flag.load(Ordering::SeqCst) {
@@ -189,14 +192,14 @@ fn is_raised(flag: &AtomicBool) -> bool {
     false
 }
 
-/// Lets the threads that wait go to sleep.
+/// Lets the waiting threads go to sleep.
 fn naps() {
     for _ in 0..NAPS {
         thread::yield_now();
     }
 }
 
-/// Makes three steps of a transaction, and tells whether no call was refused memory.
+/// Makes three steps of a transaction, and returns whether no allocation failed.
 fn steps<N: Named, W: Wait>(
     rt: &W,
     shared: &SharedEngine<N>,
@@ -223,8 +226,8 @@ fn started<N: Named, W: Wait>(
     }
 }
 
-/// Makes steps at the procedure's end, which change nothing, until the other sessions have made so many calls, and lets their
-/// threads go to sleep.
+/// Makes steps at the procedure's end, which change nothing, until the other sessions have made this many calls. Then
+/// lets their threads go to sleep.
 fn lets_others_call<N: Named, W: Wait>(
     rt: &W,
     shared: &SharedEngine<N>,
@@ -247,7 +250,7 @@ fn lets_others_call<N: Named, W: Wait>(
     true
 }
 
-/// Starts a transaction, which is the newest one then, and makes three steps.
+/// Starts a transaction, then the newest, and makes three steps.
 fn starts<N: Named, W: Wait>(
     rt: &W,
     shared: &SharedEngine<N>,
@@ -264,7 +267,7 @@ fn starts<N: Named, W: Wait>(
     }
 }
 
-/// Starts a transaction, which is the newest one then, and makes one step.
+/// Starts a transaction, then the newest, and makes one step.
 fn starts_short<N: Named, W: Wait>(
     rt: &W,
     shared: &SharedEngine<N>,
@@ -281,7 +284,8 @@ fn starts_short<N: Named, W: Wait>(
     }
 }
 
-/// Starts a transaction and commits it, unless the other's last call returns in time. The history shows it if it was needed.
+/// Starts a transaction and commits it, unless the other's last call returns in time. The history shows whether it was
+/// needed.
 fn wakes_unless_ended<N: Named, W: Wait>(
     rt: &W,
     shared: &SharedEngine<N>,
@@ -294,12 +298,12 @@ fn wakes_unless_ended<N: Named, W: Wait>(
     }
 }
 
-/// The transaction behind which a thread has started so many.
+/// The transaction after which a thread has started this many.
 fn before(newest: Tid, behind: u32) -> Tid {
     Tid(newest.0.saturating_sub(behind))
 }
 
-/// Does a deed by the session, and tells whether it goes on.
+/// Does a step of the script by the session, and returns whether to go on.
 fn does<N: Named, W: Wait>(
     rt: &W,
     shared: &SharedEngine<N>,
@@ -342,7 +346,7 @@ fn flag(stage: &Stage, seat: usize) -> &AtomicBool {
     stage.has_told.get(seat).unwrap_or(&stage.has_told[0])
 }
 
-/// Does a deed beside the session, and tells whether it goes on.
+/// Does a step of the script beside the session, and returns whether to go on.
 fn meets(stage: &Stage, seat: usize, deed: &Deed) -> bool {
     match deed {
         Deed::Tells => {
@@ -362,7 +366,7 @@ fn meets(stage: &Stage, seat: usize, deed: &Deed) -> bool {
     }
 }
 
-/// Does what the thread of this seat does.
+/// Runs the script of this seat's thread.
 fn plays<N: Named, W: Wait>(
     rt: &W,
     shared: &SharedEngine<N>,
@@ -381,7 +385,7 @@ fn plays<N: Named, W: Wait>(
     }
 }
 
-/// A thread for each session, of which there are at most three.
+/// A thread for each session; at most three sessions.
 pub fn all_play<N: Named + Send + Sync, R: Threads + Wait + Sync>(
     rt: &R,
     shared: &SharedEngine<N>,

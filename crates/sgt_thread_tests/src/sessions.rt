@@ -1,4 +1,4 @@
-//! Sessions: threads that share one engine, and what their transactions are told.
+//! Sessions: threads that share one engine, and the replies that their transactions get.
 ghost use Rattle.std.specs.Prelude.{◌≡◌, ◌≤◌, [], IsTrue};
 ghost use Rattle.sgt_engine.specs.EngineView.{setting_of};
 
@@ -16,7 +16,7 @@ use std::sync::Wait;
 use std::sync::ledger::Blank;
 use std::thread::Threads;
 
-/// The engine behind all sessions.
+/// The engine that all sessions share.
 fn closed<N: Named>(shared: SharedEngine<N>, sessions: Vec<Session<N>>) -> Option<ListEngine>
     requires { N.sessions ≡ N.parts }
 {
@@ -38,7 +38,7 @@ fn close_late<N: Named, W: Wait>(
     closed(shared, sessions)
 }
 
-/// Where a session is missing all are handed back, and close once it has come.
+/// If a session is missing, all are returned; they close once it has come.
 fn close_again<N: Named, W: Wait>(
     rt: &W,
     error: CloseError<N, ListRecords, OneList, PairGraph>,
@@ -52,7 +52,7 @@ fn close_again<N: Named, W: Wait>(
     }
 }
 
-/// The last session is kept back while the others close. It joins those that are handed back.
+/// The last session is held back while the others close. It joins those that are returned.
 fn close_too_early<N: Named, W: Wait>(
     rt: &W,
     shared: SharedEngine<N>,
@@ -64,8 +64,8 @@ fn close_too_early<N: Named, W: Wait>(
     close_again(rt, shared.close(sessions).err()?, last)
 }
 
-/// Threads play, each with a session, and leave an engine behind. A close without one of the sessions hands all back, and one with
-/// all of them closes.
+/// Threads play, each with a session, and leave an engine. A close without one of the sessions returns all, and one
+/// with all of them closes.
 fn played_out<N: Named + Send + Sync, R: Threads + Wait + Sync>(
     rt: &R,
     shared: SharedEngine<N>,
@@ -80,7 +80,7 @@ fn played_out<N: Named + Send + Sync, R: Threads + Wait + Sync>(
     close_too_early(rt, shared, sessions, last)
 }
 
-/// So many threads play on an engine, each with a session.
+/// This many threads play on an engine, each with a session.
 fn run<N: Named + Send + Sync, R: Threads + Wait + Sync>(
     rt: &R,
     alloc: Global,
@@ -130,14 +130,14 @@ fn left_by<R: Threads + Wait + Sync>(
     played(rt, alloc, engine, threads, play)
 }
 
-/// Cuts the history of an engine off, and tells whether that was done.
+/// Cuts the history of an engine, and returns whether that was done.
 fn is_cut(alloc: Global, engine: &mut ListEngine) -> bool
     ensures { IsTrue result → (engine.new.past ≡ []) }
 {
     engine.cut(alloc).is_ok()
 }
 
-/// Two new sessions meet on what a cut has left.
+/// Two new sessions meet on the engine after a cut.
 fn met_behind_a_cut<R: Threads + Wait + Sync>(
     rt: &R,
     alloc: Global,
@@ -150,12 +150,12 @@ fn met_behind_a_cut<R: Threads + Wait + Sync>(
     played(rt, alloc, engine, 2, Play::Meet)
 }
 
-/// Two threads meet, and two new sessions behind a cut.
+/// Two threads meet, and two new sessions after a cut.
 fn left_behind_a_cut<R: Threads + Wait + Sync>(rt: &R, alloc: Global) -> Option<ListEngine> {
     met_behind_a_cut(rt, alloc, left_by(rt, alloc, 2, Play::Meet)?)
 }
 
-/// What is compared of a reply.
+/// The compared part of a reply.
 #[derive(Clone, Copy, PartialEq, Eq)]
 enum Told {
     Started,
@@ -165,11 +165,11 @@ enum Told {
     Committed(Option<i64>),
     Quit,
     Refused(u16),
-    /// It has fallen with this one before.
+    /// It was aborted in cascade by this one before.
     Fell(u32),
 }
 
-/// What is compared of the reply to a step.
+/// The compared part of the reply to a step.
 fn stepped(reply: &Reply) -> Option<Told> {
     match reply {
         Reply::Looked { value, .. } => Some(Told::Looked(*value)),
@@ -178,7 +178,7 @@ fn stepped(reply: &Reply) -> Option<Told> {
     }
 }
 
-/// What is compared of the reply to a commit.
+/// The compared part of the reply to a commit.
 fn ended(reply: &Reply) -> Option<Told> {
     match reply {
         Reply::Waits(first) => Some(Told::Waits(first.0)),
@@ -189,7 +189,7 @@ fn ended(reply: &Reply) -> Option<Told> {
     }
 }
 
-/// What is compared of the reply to a quit. One of a transaction that has ended is not.
+/// The compared part of the reply to a quit. None for a transaction that has ended.
 fn quit(reply: &Reply) -> Option<Told> {
     match reply {
         Reply::Aborted { .. } => Some(Told::Quit),
@@ -197,7 +197,7 @@ fn quit(reply: &Reply) -> Option<Told> {
     }
 }
 
-/// Whether a reply tells that this transaction was started.
+/// Whether a reply says that this transaction was started.
 fn is_started(reply: &Reply, t: Tid) -> bool {
     match reply {
         Reply::Started(started) => *started == t,
@@ -205,7 +205,7 @@ fn is_started(reply: &Reply, t: Tid) -> bool {
     }
 }
 
-/// What is compared of an entry of a transaction: its start, its accesses, and its commits.
+/// The compared part of an entry of a transaction: its start, its accesses, and its commits.
 fn compared(entry: &Entry, t: Tid) -> Option<Told> {
     match &entry.event {
         Event::Start { .. } if is_started(&entry.reply, t) => Some(Told::Started),
@@ -216,7 +216,7 @@ fn compared(entry: &Entry, t: Tid) -> Option<Told> {
     }
 }
 
-/// Whether the one of this number is this.
+/// Whether the reply with this number is this.
 fn is_at(all: &[Told], number: usize, one: &Told) -> bool {
     match all.get(number) {
         Some(other) => *other == *one,
@@ -224,17 +224,17 @@ fn is_at(all: &[Told], number: usize, one: &Told) -> bool {
     }
 }
 
-/// Whether this tells once more to wait for the same one as the last of so many. So it is after a wake without cause, which a
-/// commit may have.
+/// Whether this is one more `Waits` for the same transaction as the last of these. It occurs after a wake without
+/// cause, which a commit may have.
 fn waits_again(all: &[Told], count: usize, one: &Told) -> bool {
     matches!(one, Told::Waits(_)) && count > 0 && is_at(all, count - 1, one)
 }
 
-/// How often a commit may be told once more to wait for the same one. A wake without cause is rare; a commit that asks again and
-/// again in place of waiting is told so thousands of times.
+/// How often a commit may get one more `Waits` for the same transaction. A wake without cause is rare. A commit that
+/// asks again and again instead of waiting gets thousands.
 const MOST_REPEATS: u32 = 8;
 
-/// Whether the transaction was told just this, each wait once or a few times more.
+/// Whether the transaction got exactly these replies, each wait once or a few times more.
 fn is_told(history: &History, t: Tid, all: &[Told]) -> bool {
     let mut count: usize = 0;
     let mut repeats: u32 = 0;
@@ -253,7 +253,7 @@ fn is_told(history: &History, t: Tid, all: &[Told]) -> bool {
     count == all.len() && repeats <= MOST_REPEATS
 }
 
-/// Whether each of these transactions was told just this.
+/// Whether each of these transactions got exactly these replies.
 fn all_told(history: &History, all: &[(u32, &[Told])]) -> bool {
     for (t, told) in all {
         if !is_told(history, Tid(*t), told) {
@@ -263,7 +263,7 @@ fn all_told(history: &History, all: &[(u32, &[Told])]) -> bool {
     true
 }
 
-/// Whether each of these transactions of an engine was told just this.
+/// Whether each of these transactions of an engine got exactly these replies.
 fn are_told(engine: Option<ListEngine>, all: &[(u32, &[Told])]) -> bool {
     match engine {
         Some(engine) => all_told(engine.history(), all),
@@ -279,7 +279,7 @@ const DEPOSITED: [Told; 5] = [
     Told::Committed(Some(1100)),
 ];
 
-/// The third look finds what is not committed yet.
+/// The third read finds what is not committed yet.
 const ASKED: [Told; 6] = [
     Told::Started,
     Told::Looked(Some(101)),
@@ -300,7 +300,8 @@ const ASKED_BEHIND_TWO: [Told; 7] = [
     Told::Committed(Some(1650)),
 ];
 
-/// What is shown, how many threads play what, and what transactions of theirs are told. Of one that is not started nothing is told.
+/// What is shown, how many threads play what, and the replies that their transactions get. One that is not started gets
+/// none.
 type Row = (&'static str, u16, Play, &'static [(u32, &'static [Told])]);
 
 /// The deposit, which is quit once the other waits.
@@ -312,7 +313,7 @@ const QUIT: [Told; 5] = [
     Told::Quit,
 ];
 
-/// It has read the deposit that is quit, and is told so at its commit.
+/// It has read the deposit that is quit; its commit returns so.
 const FELL: [Told; 6] = [
     Told::Started,
     Told::Looked(Some(101)),
@@ -322,10 +323,10 @@ const FELL: [Told; 6] = [
     Told::Fell(0),
 ];
 
-/// It stores, and is refused at its commit.
+/// It writes, and is refused at its commit.
 const REFUSED: [Told; 3] = [Told::Started, Told::Wrote(1), Told::Refused(9)];
 
-/// It has read what the refused one stored.
+/// It has read what the refused one wrote.
 const FELL_WITH_REFUSED: [Told; 4] = [
     Told::Started,
     Told::Looked(Some(1)),
@@ -366,7 +367,7 @@ const ROWS: [Row; 5] = [
     ),
 ];
 
-/// What the first row shows whose transactions are told anything else.
+/// What the first row shows whose transactions get any other reply.
 fn first_wrong<R: Threads + Wait + Sync>(rt: &R, alloc: Global, rows: &[Row]) -> &'static str {
     for (what, threads, play, all) in rows {
         if !are_told(left_by(rt, alloc, *threads, *play), all) {
@@ -382,7 +383,7 @@ fn sessions_are_told_what_they_share(rt: HostRuntime) {
     assert!(rt; wrong.is_empty(), "{wrong}");
 }
 
-/// The same as two that meet, told of the accounts that those before them have left.
+/// The same as two that meet, with the balances that those before them have left.
 const AGAIN: [(u32, &[Told]); 2] = [
     (
         0,

@@ -1,4 +1,4 @@
--- What a run of jobs is given.
+-- The input of a run of jobs.
 use Rattle.std.specs.Prelude.{◌≡◌, ℕ, ◌≤◌, List, length, Some, slice_get}
 use Rattle.sgt_model.specs.declared.limits.Limits.{Limits}
 use Rattle.sgt_model.specs.Bounds.{AreInRange}
@@ -7,7 +7,7 @@ use Rattle.sgt_model.specs.Settings.{Setting, setting}
 use Rattle.sgt_dispatch.specs.declared.job.Job.{Job}
 use Rattle.sgt_workers.specs.declared.bank.Bank.{Bank}
 
--- what the engine of a bank is made of
+-- the configuration of a bank's engine
 abbrev pub engine_setting : Bank → Setting
 engine_setting bank = setting (contents_of bank.opening) bank.procedures.items bank.limits
 
@@ -19,7 +19,7 @@ AreWorkers workers = (1 ≤ workers) × (workers ≤ 16)
 abbrev pub AreTries : ℕ → Type 0
 AreTries tries = (1 ≤ tries) × (tries ≤ 1000)
 
--- an engine can have these limits, and each worker may have a transaction live
+-- an engine accepts these limits, and each worker may have a live transaction
 abbrev pub AreLimitsFor : ℕ → Limits → Type 0
 AreLimitsFor workers limits = AreInRange limits × (workers ≤ limits.live)
 

@@ -1,10 +1,10 @@
--- What running a crew leaves behind.
+-- What a pool of workers leaves when it ends.
 use Rattle.std.specs.Prelude.{◌≡◌}
 use Rattle.sgt_dispatch.specs.Ends.{PutterState}
 use Rattle.sgt_workers.specs.declared.errors.PoolError.{PoolError}
 use Rattle.sgt_workers.specs.declared.errors.PoolError.TheVariants as error
 
--- an error of the run itself, and not of what it was given
+-- an error of the run itself, not of its input
 abbrev pub IsRunError : PoolError → Type 0
 IsRunError error.BadWorkers = ⊥
 IsRunError error.BadTries = ⊥

@@ -1,4 +1,4 @@
--- what a run of jobs is given, what its crew leaves behind, and what its report says
+-- the input of a run of jobs, what its pool leaves, and the claims of its report
 pub mod Banks
 pub mod Crews
 pub mod Reports

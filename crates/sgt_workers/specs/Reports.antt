@@ -1,4 +1,4 @@
--- What the report of a run says.
+-- What the report of a run claims.
 use Rattle.std.specs.Prelude.{◌≡◌, ℕ, List, reverse}
 use Rattle.sgt_model.specs.Aborts.{AbortsHaveCause}
 use Rattle.sgt_model.specs.CommitOrder.{CommitsInOrder}
@@ -14,8 +14,8 @@ use Rattle.sgt_dispatch.specs.declared.job.Job.{Job}
 use Rattle.sgt_audit.specs.AllOutcomes.{AllEnded, OutcomesStand}
 use Rattle.sgt_workers.specs.declared.report.Report.{Report}
 
--- what holds of the report of a run of these jobs, where the engine was made of this setting: the history is legal, and each
--- outcome says of it what is so; and each part of what every legal history has, with the database that it leaves
+-- what holds for the report of a run of these jobs, if the engine has this configuration: the history is legal, and
+-- each outcome is true of it. Each part of what every legal history has holds too, with the resulting database
 pub record IsReportOf {N : Type 0} (s : Setting) (jobs : List Job) (workers tries : ℕ) (r : Report N) : Type 0 where
   pub opening : (k : Key) → contents_of r.opening k ≡ s.opening k
   pub legal : Legal s (reverse r.history.entries)

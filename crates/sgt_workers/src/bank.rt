@@ -1,4 +1,4 @@
-//! What jobs are run on, the limits of a run, and the test of what it is given.
+//! The database and limits of a run, and the test of its input.
 ghost use Rattle.std.specs.Prelude.{◌≡◌, ◌↔◌, IsTrue, Result, Ok, Err};
 ghost use Rattle.sgt_workers.specs.declared.errors.PoolError.TheVariants as PoolError;
 ghost use Rattle.sgt_workers.specs.Banks.{AreWorkers, AreTries, AreLimitsFor, AreNumbered, AreJobs};
@@ -14,7 +14,7 @@ pub const MOST_WORKERS: u32 = 16;
 /// The most tries that a job may have.
 pub const MOST_TRIES: u32 = 1000;
 
-/// What jobs are run on. The procedures are numbered from 0 in their order.
+/// The database, procedures and limits that jobs run on. The procedures are numbered from 0 in their order.
 #[derive(Drop)]
 pub struct Bank {
     pub opening: Database,
@@ -22,7 +22,8 @@ pub struct Bank {
     pub limits: Limits,
 }
 
-/// Whether a run can be made of these; else the first of `BadWorkers`, `BadTries`, `BadLimits` and `BadJobs` that is so.
+/// Tests whether a run can be made of these. Else returns the first of `BadWorkers`, `BadTries`, `BadLimits` and
+/// `BadJobs` that applies.
 pub fn check(limits: &Limits, jobs: &[Job], workers: u32, tries: u32) -> Result<(), PoolError>
     ensures bad_workers { (result ≡ Err PoolError.BadWorkers) ↔ (¬ AreWorkers workers) }
     ensures bad_tries { (result ≡ Err PoolError.BadTries) ↔ (AreWorkers workers × (¬ AreTries tries)) }

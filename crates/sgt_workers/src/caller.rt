@@ -13,23 +13,23 @@ use sgt_session::{Named, Session, Shared};
 use std::alloc::Global;
 use std::sync::Wait;
 
-/// What one attempt at a job came to.
+/// The result of one attempt at a job.
 #[derive(Drop)]
 enum Attempt<X> {
-    /// This transaction was aborted by a cycle, or fell. The job may be tried again.
+    /// This transaction was aborted by a cycle or in cascade. The job may be tried again.
     Failed(Tid),
     /// The job needs no further attempt.
     Final(Outcome<X>),
 }
 
-/// Why a worker stops in the midst of an attempt. A transaction that is live then is to be quit.
+/// Why a worker stops during an attempt. Its transaction, if live, must be quit.
 #[derive(Drop)]
 enum Halt<X> {
     /// The gate makes it leave.
     Leave(X),
-    /// A call was refused memory.
+    /// An allocation failed in a call.
     NoMemory,
-    /// The entry of this number answers the call with what no legal history answers there.
+    /// The entry of this number is an unexpected reply: no legal history has it there.
     Astray(u64),
 }
 
@@ -40,7 +40,7 @@ impl<X> From<NoMemory> for Halt<X> {
 }
 
 impl<X> Halt<X> {
-    /// What becomes of the job. An entry that is astray is no refusal of a start, so the audit finds it.
+    /// The outcome of the job. An unexpected reply is no refusal of a start, so the audit finds it.
     fn into_outcome(self) -> Outcome<X> {
         match self {
             Halt::Leave(note) => Outcome::Left(note),
@@ -50,7 +50,7 @@ impl<X> Halt<X> {
     }
 }
 
-/// One worker's session, and who is asked before each call of it.
+/// One worker's session, and the gate that is asked before each call to it.
 #[derive(Drop)]
 pub struct Caller<'a, N: Named, R: Records, A: Accesses, G: Graph, T: Gate, W: Wait> {
     pub rt: &'a W,
@@ -69,7 +69,7 @@ impl<'a, N: Named, R: Records, A: Accesses, G: Graph, T: Gate, W: Wait> Caller<
     T,
     W,
 > {
-    /// Tries the job until an attempt does not fail, at most so many times.
+    /// Tries the job until an attempt does not fail, at most this many times.
     pub fn run_job(&mut self, alloc: Global, job: &Job, tries: u32) -> Outcome<T::Note> {
         let mut attempts = Vec::new(alloc);
         for _ in 0..tries {
@@ -86,7 +86,7 @@ impl<'a, N: Named, R: Records, A: Accesses, G: Graph, T: Gate, W: Wait> Caller<
         Outcome::Gave(attempts)
     }
 
-    /// One attempt. Whatever it comes to, its transaction is not live any more.
+    /// One attempt. Whatever its result, its transaction is no longer live.
     fn attempt(&mut self, job: &Job) -> Attempt<T::Note> {
         let start = Event::Start {
             procedure: job.procedure,
@@ -112,7 +112,7 @@ impl<'a, N: Named, R: Records, A: Accesses, G: Graph, T: Gate, W: Wait> Caller<
         }
     }
 
-    /// Steps until the procedure is at its end, and commits.
+    /// Steps until the procedure ends, and commits.
     fn run_transaction(&mut self, t: Tid) -> Result<Attempt<T::Note>, Halt<T::Note>> {
         for _ in self.rt.forever() {
             self.call(Event::Step(t))?;
@@ -129,7 +129,7 @@ impl<'a, N: Named, R: Records, A: Accesses, G: Graph, T: Gate, W: Wait> Caller<
         attempt_of(t, self.session.last_number(), &self.session.last_entry())
     }
 
-    /// One call, where the gate lets it go. Its entry is the session's last.
+    /// One call, if the gate allows it. Its entry is the session's last.
     fn call(&mut self, event: Event) -> Result<(), Halt<T::Note>>
         ensures { OnOk result (0 < length self.new.session) }
     {
@@ -138,7 +138,7 @@ impl<'a, N: Named, R: Records, A: Accesses, G: Graph, T: Gate, W: Wait> Caller<
         Ok(())
     }
 
-    /// Asks the gate. It is told how many calls the session has made: as many as it has receipts.
+    /// Asks the gate. Passes how many calls the session has made: as many as it has receipts.
     fn pass(&self) -> Result<(), Halt<T::Note>> {
         match self
             .gate
@@ -149,14 +149,14 @@ impl<'a, N: Named, R: Records, A: Accesses, G: Graph, T: Gate, W: Wait> Caller<
         }
     }
 
-    /// Quits a transaction, so that nobody waits for it. Where it is live this takes no memory and succeeds. Where it has fallen
-    /// or ended, the call is answered so, which is one entry more, or is refused memory.
+    /// Quits a transaction, so that no other waits for it. If it is live, this allocates nothing and succeeds. If it
+    /// has ended or was aborted in cascade, the reply says so, which is one entry more, or an allocation fails.
     fn quit(&mut self, t: Tid) {
         let _ = self.session.make(self.rt, self.shared, Event::Quit(t));
     }
 }
 
-/// What the last entry of a transaction, whose number is this, makes of the attempt.
+/// The result of the attempt by the last entry of this transaction; the entry has this number.
 fn attempt_of<X>(t: Tid, number: u64, entry: &EntryRef<'_>) -> Result<Attempt<X>, Halt<X>> {
     if entry.is_commit() {
         return Ok(Attempt::Final(Outcome::Done(number)));

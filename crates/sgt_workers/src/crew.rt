@@ -1,4 +1,4 @@
-//! All workers of a run: their threads, the feed that they take from, and what they leave behind.
+//! The pool of workers of a run: their threads, their queue of jobs, and what they leave when they end.
 ghost use Rattle.std.specs.Prelude.{◌≡◌, ◌≤◌, [], All, IfOk, IfErr, length, vec_len, vec_capacity};
 ghost use Rattle.sgt_workers.specs.Crews.{IsRunError, KeepsTakers};
 
@@ -17,10 +17,10 @@ use std::sync::{Mutex, Wait};
 use std::thread;
 use std::thread::{PromisedHandle, Scope, Threads};
 
-/// Runs the jobs in a thread for each session, and gives the sessions back, with the putter of the jobs, which has joined what each
-/// worker took. Each worker takes room for so many calls.
+/// Runs the jobs in a thread for each session. Returns the sessions, with the putter (producer) of the jobs, which has
+/// joined what each worker received. Each worker reserves capacity for this many calls.
 ///
-/// `NoMemory` where a growth was refused; `Spawn` where a thread could not be made: then no job was put.
+/// `NoMemory` if an allocation failed; `Spawn` if a thread could not be made: then no job was put.
 pub fn run_sessions<
     N: Named + Send + Sync,
     R: Records,
@@ -43,7 +43,7 @@ pub fn run_sessions<
     ensures joined { IfOk result (λ r. r.0.unjoined ≡ 0) }
     ensures error { IfErr result IsRunError }
 {
-    // It holds all jobs at once, so that nobody waits for room in it.
+    // The queue holds all jobs at once, so that sending one never waits for capacity.
     let Ok((putter, takers)) = Feed::make_for(alloc, jobs.len(), sessions.len()) else {
         return Err(PoolError::NoMemory);
     };
@@ -52,7 +52,7 @@ pub fn run_sessions<
     join_passes(alloc, putter, ended)
 }
 
-/// A worker for each session and taker, which takes room for so many calls.
+/// A worker for each session and taker, with capacity reserved for this many calls.
 fn team_of<N: Named>(
     alloc: Global,
     tries: u32,
@@ -92,7 +92,7 @@ fn team_of<N: Named>(
 
 /// Runs the jobs in a thread for each worker, and waits until all have ended.
 ///
-/// `NoMemory` where a growth was refused; `Spawn` where a thread could not be made: then no job was put.
+/// `NoMemory` if an allocation failed; `Spawn` if a thread could not be made: then no job was put.
 fn run_crew<
     N: Named + Send + Sync,
     R: Records,
@@ -146,7 +146,7 @@ fn run_crew<
     Ok((putter, ended))
 }
 
-/// Starts a thread for each worker, until one can't be made.
+/// Starts a thread for each worker, until one cannot be made.
 fn start_all<
     's,
     E,
@@ -183,7 +183,7 @@ fn start_all<
     running
 }
 
-/// Puts the jobs in their order, and then a stop for each worker. It ends early where all workers have left.
+/// Puts the jobs in their order, and then a stop for each worker. Returns early if all workers have left.
 fn put_all<W: Wait>(rt: &W, putter: Putter, jobs: &[Job], stops: usize) -> Putter
     ensures { KeepsTakers putter result }
 {
@@ -201,7 +201,7 @@ fn put_all<W: Wait>(rt: &W, putter: Putter, jobs: &[Job], stops: usize) -> Putte
     putter
 }
 
-/// A copy of the job, which takes no memory.
+/// A copy of the job. Allocates nothing.
 fn copy_of(job: &Job) -> Job
     ensures { result ≡ job.now }
 {
@@ -212,7 +212,7 @@ fn copy_of(job: &Job) -> Job
     }
 }
 
-/// Waits for the end of each thread.
+/// Waits until each thread ends.
 fn join_all<N: Named, W: Threads>(
     rt: &W,
     putter: &Putter,
@@ -231,7 +231,7 @@ fn join_all<N: Named, W: Threads>(
     ended
 }
 
-/// Joins the passes of the feed one by one, and gives the sessions with the putter, of whose takers none is left unjoined.
+/// Joins the passes of the queue one by one. Returns the sessions with the putter, all of whose takers are joined.
 fn join_passes<N: Named>(
     alloc: Global,
     putter: Putter,

@@ -1,7 +1,7 @@
-//! Why a run of jobs has no report.
+//! Why a run of jobs returns no report.
 use thiserror::Error;
 
-/// Why a run of jobs has no report.
+/// Why a run of jobs returns no report.
 #[derive(Clone, Copy, Debug, PartialEq, Eq, Error)]
 pub enum PoolError {
     /// The workers are not from 1 to 16.
@@ -16,13 +16,14 @@ pub enum PoolError {
     /// There are over 1,000,000 jobs, or one has a number that is not its index.
     #[error("the jobs are too many, or not numbered from 0")]
     BadJobs,
-    /// A growth of the run itself was refused. Where a worker's call is refused one, that is its job's outcome.
+    /// An allocation of the run itself failed. If an allocation fails in a worker's call, that is the job's outcome
+    /// instead.
     #[error("no memory")]
     NoMemory,
     /// A thread could not be made.
     #[error("workers not started")]
     Spawn,
-    /// The receipts are not the history's entries, or an outcome says of them what is not so.
+    /// The receipts are not the history's entries, or an outcome is not true of them.
     #[error("receipts differ")]
     Mismatch,
 }

@@ -1,15 +1,15 @@
 //! Workers that run jobs as transactions of one engine.
 //!
-//! A job is one call of a procedure. [`run`] has up to 16 threads take jobs from a feed and make their calls to one engine,
-//! with one hold of its lock for each call. A [`Gate`] is asked before each call, and told of each attempt that failed and of each
-//! job's end. What became of a job is an [`Outcome`], which names entries of the engine's history or transactions in it; `run`
-//! hands out no report whose outcomes say what is not so.
+//! A job is one call of a procedure. [`run`] has up to 16 threads, which take jobs from a queue and make their calls to
+//! one engine. Each call holds the engine's lock once. A [`Gate`] is asked before each call, and notified of each
+//! failed attempt and of each job's end. A job's result is an [`Outcome`], which names entries of the engine's history
+//! or transactions in it. `run` returns no report with an outcome that is not true.
 //!
-//! It knows nothing of procedures, accesses and conflicts: that the history is legal is the engine's promise. Nothing says
-//! that a run comes to its end, nor which worker takes which job.
+//! It knows nothing of procedures, accesses and conflicts: the engine promises that the history is legal. It promises
+//! neither that a run ends, nor which worker takes which job.
 //!
 //! ```
-//! /// Lets everybody go.
+//! /// Lets every worker go on.
 //! #[derive(Drop)]
 //! struct Open;
 //!
@@ -23,7 +23,7 @@
 //!     fn finished(&self, _worker: u8, _job: u32, _outcome: &Outcome<Infallible>) {}
 //! }
 //!
-//! /// One job, on four workers, tried up to 100 times. Its outcome is `Done(4)` where entry 4 of the history commits its
+//! /// One job, on four workers, tried up to 100 times. Its outcome is `Done(4)` if entry 4 of the history commits its
 //! /// transaction.
 //! fn run_one<W: Threads + Wait + Sync>(
 //!     rt: &W,

@@ -1,4 +1,4 @@
-//! The report of a run, and the test that its outcomes say what is so.
+//! The report of a run, and the test that its outcomes are true.
 ghost use Rattle.std.specs.Prelude.{◌≡◌, IfOk, IfErr, OnOk, reverse};
 ghost use Rattle.sgt_audit.specs.AllOutcomes.{OutcomesStand};
 ghost use Rattle.sgt_engine.specs.EngineView.{setting_of};
@@ -16,22 +16,22 @@ use sgt_model::Database;
 use sgt_records::Records;
 use std::alloc::Global;
 
-/// What became of the jobs.
+/// The report of a run: what became of the jobs.
 #[derive(Drop)]
 pub struct Report<N> {
     /// The database before the first job.
     pub opening: Database,
-    /// All that the workers asked, and were answered, oldest entry first.
+    /// Every call of the workers with its reply, oldest entry first.
     pub history: History,
-    /// By the jobs' numbers.
+    /// The outcomes, by job number.
     pub outcomes: Vec<Outcome<N>>,
     /// The database after the last job.
     pub database: Database,
 }
 
-/// The report of a run, where its outcomes stand in the history of the engine.
+/// The report of a run, if its outcomes are true of the engine's history.
 ///
-/// `Mismatch` where one does not; `NoMemory` where a growth was refused.
+/// `Mismatch` if one is not; `NoMemory` if an allocation failed.
 pub fn report_of<R: Records, A: Accesses, G: Graph, X: Drop>(
     alloc: Global,
     engine: Engine<R, A, G>,
@@ -57,9 +57,9 @@ pub fn report_of<R: Records, A: Accesses, G: Graph, X: Drop>(
     })
 }
 
-/// Tests whether the outcomes stand in the history of the engine.
+/// Tests whether the outcomes are true of the engine's history.
 ///
-/// `Mismatch` where one does not; `NoMemory` where a growth was refused.
+/// `Mismatch` if one is not; `NoMemory` if an allocation failed.
 fn test_outcomes<R: Records, A: Accesses, G: Graph, X: Drop>(
     alloc: Global,
     engine: &Engine<R, A, G>,

@@ -24,20 +24,26 @@ use std::sync::ledger::Blank;
 use std::sync::{Mutex, Wait};
 use std::thread::Threads;
 
-/// For how many calls of each job room is taken ahead: a start, six steps, a commit.
+/// How many calls of each job get capacity in advance: a start, six steps, a commit.
 const CALLS_OF_A_JOB: usize = 8;
 
 /// Runs the jobs as transactions of a new engine, each worker in a thread of its own, and reports what became of them.
 ///
-/// A worker takes a job, starts a transaction for it, steps until its procedure is at its end, and commits. An attempt that was
-/// aborted by a cycle, or fell, is made again, up to `tries` in all. The gate is asked before each of these calls. Where a call
-/// is refused memory the transaction is quit, the job has the outcome `NoMemory`, and the worker goes on with the next job.
+/// A worker takes a job, starts a transaction for it, steps until its procedure ends, and commits. If an attempt is
+/// aborted by a cycle or in cascade, the worker tries again, up to `tries` in all. The gate is asked before each of
+/// these calls. If an allocation fails in a call, the transaction is quit, the job has the outcome `NoMemory`, and the
+/// worker continues with the next job.
 ///
-/// `BadWorkers` where the workers are not from 1 to `MOST_WORKERS`; `BadTries` where the tries are not from 1 to `MOST_TRIES`;
-/// `BadLimits` where a limit is out of its range, or fewer transactions may be live than there are workers; `BadJobs` where
-/// there are over `MOST_JOBS`, or a job's number is not its index. These are tested in this order, before any growth. Then
-/// `NoMemory` where a growth of the run itself was refused; `Spawn` where a thread could not be made; and `Mismatch` where the
-/// receipts are not the history's entries, or an outcome does not stand in it.
+/// These errors are tested first, in this order, before any allocation:
+/// - `BadWorkers`: the workers are not from 1 to `MOST_WORKERS`.
+/// - `BadTries`: the tries are not from 1 to `MOST_TRIES`.
+/// - `BadLimits`: a limit is out of its range, or fewer transactions may be live than there are workers.
+/// - `BadJobs`: there are over `MOST_JOBS` jobs, or a job's number is not its index.
+///
+/// Then:
+/// - `NoMemory`: an allocation of the run itself failed.
+/// - `Spawn`: a thread could not be made.
+/// - `Mismatch`: the receipts are not the history's entries, or an outcome is not true of it.
 pub fn run<R: Records, A: Accesses, G: Graph, T: Gate + Sync, W: Threads + Wait + Sync>(
     rt: &W,
     alloc: Global,
@@ -63,7 +69,7 @@ pub fn run<R: Records, A: Accesses, G: Graph, T: Gate + Sync, W: Threads + Wait 
     report_of(alloc, engine, outcomes, jobs, workers, tries)
 }
 
-/// The engine that the jobs were run on, and what became of them.
+/// The engine that the jobs were run on, and the outcomes.
 fn run_bank<R: Records, A: Accesses, G: Graph, T: Gate + Sync, W: Threads + Wait + Sync>(
     rt: &W,
     alloc: Global,
@@ -86,8 +92,8 @@ fn run_bank<R: Records, A: Accesses, G: Graph, T: Gate + Sync, W: Threads + Wait
     let Ok(mut engine) = Engine::<R, A, G>::new(alloc, opening, procedures, limits) else {
         return Err(PoolError::NoMemory);
     };
-    // With room ahead no list is moved while several threads run, which each of their processors would be stopped for. Where it
-    // is refused the lists grow as they need.
+    // With capacity reserved, no list moves while several threads run; a move stops each of their processors. If the
+    // reservation fails, the lists grow as they need.
     let calls = jobs.len().saturating_mul(CALLS_OF_A_JOB);
     let _ = engine.reserve(calls);
     let blank = Blank::new(u64::from(workers));
@@ -106,7 +112,7 @@ fn run_bank<R: Records, A: Accesses, G: Graph, T: Gate + Sync, W: Threads + Wait
     Ok((engine, outcomes.into_inner()))
 }
 
-/// The engine that the jobs were run on, where it has a name, and room for so many calls.
+/// Runs the jobs under a name for the engine, with capacity for this many calls. Returns the engine and the outcomes.
 fn run_named<
     N: Named + Send + Sync,
     R: Records,
@@ -151,7 +157,7 @@ fn run_named<
     Ok(engine)
 }
 
-/// An outcome for each job, which nobody has taken yet.
+/// An outcome for each job: no worker has taken it yet.
 fn all_untaken<X: Drop>(alloc: Global, jobs: usize) -> Result<Vec<Outcome<X>>, PoolError>
     ensures error { IfErr result IsRunError }
 {

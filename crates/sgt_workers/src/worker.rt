@@ -14,28 +14,28 @@ use std::snapshot::Snapshot;
 use std::sync::{Mutex, Wait};
 use std::thread::Promise;
 
-/// What a worker is given for itself.
+/// The input of one worker.
 #[derive(Drop)]
 pub struct Worker<N: Named> {
     pub number: u8,
-    /// How many attempts at a job it makes at most.
+    /// The most attempts at a job.
     pub tries: u32,
-    /// For how many calls it takes room ahead, where it gets it.
+    /// For how many calls it reserves capacity in advance, if it can.
     pub calls: usize,
-    /// Where it keeps the attempts at a job.
+    /// Where it stores the attempts at a job.
     pub alloc: Global,
     pub session: Session<N>,
     pub taker: Taker,
 }
 
-/// What a worker leaves behind.
+/// What a worker leaves when it ends.
 #[derive(Drop)]
 pub struct Ended<N: Named> {
     pub session: Session<N>,
     pub stub: Stub,
 }
 
-/// A worker's promise: what it leaves behind is of its feed.
+/// A worker's promise: what it leaves belongs to its feed (queue).
 #[derive(Drop)]
 pub struct SameFeed(pub Snapshot<Taker>);
 
@@ -43,8 +43,8 @@ impl<N: Named> Promise<Ended<N>> for SameFeed {
     ghost kept_by = { λ p r. r.stub.feed ≡ p.0.value.feed };
 }
 
-/// Takes jobs and runs them until it takes a stop, or the gate makes it leave. What became of each stands at the job's number
-/// among the outcomes. A worker that ends leaves its feed at once.
+/// Takes jobs and runs them until it receives a stop, or the gate makes it leave. Writes each job's outcome at the
+/// job's number among the outcomes. A worker that ends leaves its feed at once.
 pub fn work<N: Named, R: Records, A: Accesses, G: Graph, T: Gate, W: Wait>(
     rt: &W,
     shared: &Shared<N, R, A, G>,
@@ -88,7 +88,7 @@ pub fn work<N: Named, R: Records, A: Accesses, G: Graph, T: Gate, W: Wait>(
     }
 }
 
-/// Puts the outcome at its job's number.
+/// Writes the outcome at its job's number.
 fn put_outcome<X: Drop, W: Wait>(
     rt: &W,
     outcomes: &Mutex<Vec<Outcome<X>>>,

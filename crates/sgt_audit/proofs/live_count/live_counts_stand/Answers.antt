@@ -14,7 +14,7 @@ live_after-live-requires-clause-enough c =
     (legal_next c.requires.0 h i c.entry.result c.entry.ensures.next c.requires.1) in
     omega arith
 
--- as many are live after the entry as were counted
+-- after the entry as many are live as were counted
 counted : (c : After-live_after-live) → c.live_after-live.result ≡ length (live_ones (reverse (take (c.loop-place.place + 1)
     c.args.history.now.entries)))
 counted c =

@@ -11,7 +11,7 @@ within : (c : After-index) → get_or c.args.numbers.now c.loop-n.n-index 0 < le
 within c = subst (λ n. get_or c.args.numbers.now c.loop-n.n-index 0 < n) (sym c.loop-n.invariant.long)
     (c.requires c.loop-n.n-index 0 c.loop-n-test.true)
 
--- which says whether it stands before
+-- which says whether it occurs before
 mark : (c : After-index) → c.index.result.now ≡ is_among (take c.loop-n.n-index c.args.numbers.now)
     (get_or c.args.numbers.now c.loop-n.n-index 0)
 mark c = get_or_read c.loop-n.seen.items (get_or c.args.numbers.now c.loop-n.n-index 0) c.index.result.now (within c) c.index.ensures

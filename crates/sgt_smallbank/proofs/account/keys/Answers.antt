@@ -7,7 +7,7 @@ use Rattle.sgt_smallbank.specs.Accounts.{IsInRange}
 use Rattle.sgt_smallbank.specs.declared.account.Account.{Account}
 use Rattle.sgt_smallbank.proofs.account.keys.Goals as goal
 
--- there are no keys where a number is no value
+-- there are no keys if a number is not a value
 no_keys : {A : Type 0} (account : Account) (result : Option A) → result ≡ None → (IsInRange account → false ≡ true)
     → IsSome result ↔ IsInRange account
 no_keys account None is none = (λ some. absurd (cc), none)

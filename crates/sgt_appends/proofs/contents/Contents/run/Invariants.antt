@@ -3,7 +3,7 @@ use Rattle.sgt_appends.specs.Runs.{SeesAll, after_all}
 use Rattle.sgt_appends.specs.Tables.{stands}
 use Rattle.sgt_appends.proofs.contents.Contents.run.Given as goal
 
--- what is left sees and leaves what the whole does
+-- the rest sees and leaves what the whole does
 abbrev pub invariant-loop-operation : goal.invariant-loop-operation
 invariant-loop-operation l = record {
   sees : SeesAll (drop l.operation-index l.operations) (stands l.self) → SeesAll l.operations (stands l.initial.self);

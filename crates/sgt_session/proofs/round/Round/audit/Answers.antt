@@ -7,7 +7,7 @@ set_own : {X : Type 0} (xs : List X) (x : X) → x ≡ get_or xs 0 x → set xs 
 set_own [] x is = refl
 set_own (y ∷ xs) x is = ap (λ z. z ∷ xs) is
 
--- a list of which all was written back
+-- a list to which all elements were written back
 written_back : {X : Type 0} (xs ys : List X) (len : ℕ) → ys ≡ xs → len ≡ length xs → take len (ys ++ drop (length ys) xs) ≡ xs
 written_back xs ys len same long = rw (same, long) (grind (arith, common_steps))
 
