@@ -29,7 +29,7 @@ rows_next before after contents rows i d within same put k =
     ∙ ap (λ m. m k) (sym (with_rows-append contents (take i rows) (get_or rows i d)))
     ∙ ap (λ rows. with_rows contents rows k) (sym (take_more rows i d within))
 
--- ---- rows told
+-- ---- rows written
 
 -- one more row is written
 pub tell_row : (to : List SgtRow) (rows : List Row) (i : ℕ) (d : Row) (x : SgtRow) → i < length to → i < length rows

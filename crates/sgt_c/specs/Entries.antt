@@ -16,12 +16,12 @@ abbrev pub ReturnsEntry : Option Held → ℕ → SgtEvent → SgtReply → Type
 ReturnsEntry None place asked told = ⊥
 ReturnsEntry (Some h) place asked told = (e : Entry) × (slice_get (reverse h.engine.past) place ≡ Some e) × HoldsEntry asked told e
 
--- there is a history, and it ends before the position
+-- there is a history, and it has no entry at this position
 abbrev pub HasNoEntry : Option Held → ℕ → Type 0
 HasNoEntry None place = ⊥
 HasNoEntry (Some h) place = length h.engine.past ≤ place
 
--- there is a history, and it ends before this start position
+-- there is a history, and it has fewer entries than this position
 abbrev pub HasNoPlace : Option Held → ℕ → Type 0
 HasNoPlace None place = ⊥
 HasNoPlace (Some h) place = length h.engine.past < place

@@ -71,7 +71,7 @@ struct Passed {
     next: usize,
 }
 
-/// Writes the calls from a position on, at most as many as fit, unless the history ends before the position.
+/// Writes the calls from a position on, at most as many as fit. None if the history has fewer entries than the position.
 fn pass(history: &History, from: u64, to: &mut [SgtCall]) -> Option<Passed>
     ensures passed { IfSome result (λ p. ArePassed history.now.entries from to.new p.count p.next) }
     ensures rest { IfSome result (λ p. drop p.count to.new ≡ drop p.count to.old) }

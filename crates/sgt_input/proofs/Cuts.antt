@@ -77,7 +77,7 @@ long_whole within piece line rest last none none' long =
     rw (sym (append_assoc piece line (10 ∷ rest)), whole_lines-first (piece ++ line) rest (no_break-append piece line none none'))
     (long_first within piece line (whole_lines rest ++ last (unended ((piece ++ line) ++ 10 ∷ rest))) none long)
 
--- so a text that begins with a long piece without a byte 10 gives no line
+-- so a text that begins with a long piece without a newline gives no line
 pub long_beginning : (within : Bool) (piece rest : List ℕ) (last : List ℕ → List (List ℕ)) → has_break piece ≡ false
     → 65536 < length piece → last (piece ++ rest) ≡ (piece ++ rest) ∷ []
     → (before_long (whole_lines (piece ++ rest) ++ last (unended (piece ++ rest))) ≡ []) × (ending_of within
