@@ -1,5 +1,5 @@
--- What a handle holds may go to another thread. It is proved part by part, each up to its own fields, since one search through
--- the whole does not come to its end.
+-- The content of a handle may move to another thread. Each part is proved up to its own fields, since one search
+-- through the whole does not end.
 use denote.RattleType.{RattleType}
 use denote.Param.Send.{IsSend, sendable}
 use Rattle.std.proofs.Crossing.{crosses}

@@ -1,4 +1,4 @@
--- The committed values behind a cut.
+-- The committed values after a cut.
 use Rattle.std.proofs.Common.{◌≡◌, ◌<◌, List, [], ◌∷◌, length, refl, ap, ◌∙◌, arith}
 use Rattle.sgt_model.specs.Databases.{contents_of}
 use Rattle.sgt_model.specs.Settings.{Setting}
@@ -7,7 +7,7 @@ use Rattle.sgt_engine.specs.Cuts.{GoesOn}
 use Rattle.sgt_engine.specs.EngineView.{EngineView}
 use Rattle.sgt_c.specs.Cuts.{CommitsAreKept}
 
--- an empty history has settled what was opened
+-- with an empty history the committed values are the initial ones
 pub commits_kept : (before after : EngineView) → GoesOn before after → CommitsAreKept before after
 commits_kept before after on k =
     ap (λ past. settled (contents_of after.opening) past k) on.past ∙ ap (λ (s : Setting). s.opening k) on.setting

@@ -1,4 +1,4 @@
--- Calls that are run one after another, one more.
+-- Calls that are run one after another: one more.
 use Rattle.std.proofs.Common.{◌≡◌, ℕ, zero, suc, ◌+◌, ◌<◌, ◌≤◌, List, [], ◌∷◌, ◌++◌, length, take, drop, get_or, set, refl, sym, ap, ◌∙◌, subst, arith}
 use Rattle.std.proofs.lemmas.List.{drop-drop, drop-set-lt, length-take-le, take_all, take_more}
 use Rattle.std.proofs.lemmas.List.Elements.{All-push}
@@ -27,7 +27,7 @@ ran_next calls outcomes i d o e between after within room all one =
     (one_more (take i calls) outcomes i (get_or calls i d) o e between after (length-take-le i calls (omega (arith, within)))
     (omega (arith, within, room)) all one)
 
--- the outcomes behind it are as they were
+-- the outcomes after it are unchanged
 pub rest_next : (outcomes before : List SgtOutcome) (i : ℕ) (o : SgtOutcome) → drop i outcomes ≡ drop i before
     → drop (i + 1) (set outcomes i o) ≡ drop (i + 1) before
 rest_next outcomes before i o same =
@@ -44,7 +44,7 @@ asked_next calls i d within good so_far = rw (take_more calls i d within) (All-p
 pub all_asked : (calls : List SgtCall) (i : ℕ) → length calls ≤ i → All IsAsked (take i calls) → All IsAsked calls
 all_asked calls i behind so_far = subst (All IsAsked) (take_all i calls behind) so_far
 
--- a call that nothing is said of
+-- a blank call
 abbrev pub no_call : SgtCall
 no_call = record {
   kind = 0;

@@ -1,4 +1,4 @@
--- A reply that is told is read back.
+-- A reply that was written to a struct is read back.
 use Rattle.std.proofs.Common.{◌≡◌, ℕ, ℤ, ◌≤◌, Bool, true, false, T, ◌&&◌, [], ◌∷◌, take, nat_le}
 use Rattle.std.proofs.Common.{Option, Some, None, refl, ap, ap₂, ◌∙◌}
 use Rattle.std.specs.Option.{option_map, option_and_then}

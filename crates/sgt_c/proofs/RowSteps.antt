@@ -1,4 +1,4 @@
--- Rows, one on.
+-- Rows: one more.
 use Rattle.std.proofs.Common.{◌≡◌, ℕ, pos, ◌+◌, ◌<◌, ◌≤◌, cond, List, [], ◌∷◌, ◌++◌, length, map, take, drop, set, get_or, Some, refl, sym, ap, ap₂, ◌∙◌, subst, arith}
 use Rattle.std.specs.List.{All}
 use Rattle.std.proofs.lemmas.List.Elements.{All-head, All-push, All-tail}
@@ -10,7 +10,7 @@ use Rattle.sgt_c.specs.Rows.{IsRow, row_of, with_rows}
 
 -- ---- rows put in
 
--- a row that nothing is said of
+-- a blank row
 abbrev pub none : SgtRow
 none = record { table = 0; spare = 0; number = pos 0; value = pos 0 }
 
@@ -29,9 +29,9 @@ rows_next before after contents rows i d within same put k =
     ∙ ap (λ m. m k) (sym (with_rows-append contents (take i rows) (get_or rows i d)))
     ∙ ap (λ rows. with_rows contents rows k) (sym (take_more rows i d within))
 
--- ---- rows told
+-- ---- rows written
 
--- one row more is told
+-- one more row is written
 pub tell_row : (to : List SgtRow) (rows : List Row) (i : ℕ) (d : Row) (x : SgtRow) → i < length to → i < length rows
     → row_of x ≡ get_or rows i d
     → take i (map row_of to) ≡ take i rows → take (i + 1) (map row_of (set to i x)) ≡ take (i + 1) rows
@@ -41,7 +41,7 @@ tell_row to rows i d x room within is told =
     ∙ ap₂ (λ told r. told ++ r ∷ []) told is
     ∙ sym (take_more rows i d within)
 
--- and those behind it are as they were
+-- and those after it are unchanged
 pub rest_row : (to before : List SgtRow) (i : ℕ) (x : SgtRow) → drop i to ≡ drop i before → drop (i + 1) (set to i x) ≡ drop (i + 1) before
 rest_row to before i x same =
     drop-set-lt (i + 1) to i x (omega arith) ∙ sym (drop-drop 1 i to) ∙ ap (drop 1) same ∙ drop-drop 1 i before

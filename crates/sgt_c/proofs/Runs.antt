@@ -1,4 +1,4 @@
--- A run, entry by entry: who is live meanwhile, and which steps were made.
+-- A run, entry by entry: which transactions are live meanwhile, and which steps were made.
 use Rattle.std.proofs.Common.{◌≡◌, ℕ, ◌+◌, ℤ, Bool, true, false, cond, ◌&&◌, List, ◌∷◌, length, Option, Some, None, nat_eq, nat_lt, is_none, refl, sym, ap, subst, ◌∙◌, arith}
 use Rattle.std.specs.List.{All}
 use Rattle.std.specs.Prelude.{Result, Ok, Err, OnErr}
@@ -20,7 +20,7 @@ use Rattle.sgt_c.specs.Runs.{GivesUp, IsAccess, IsStep, StepsOn, StopsLive, is_a
 
 -- ---- who is live
 
--- a start is answered by the number of those that were started
+-- the reply to a start is the number of earlier starts
 module _ (limits : Limits) (begun living t : ℕ) where
   room_number : (spent full : Bool) → cond spent reply.Spent (cond full reply.Full (reply.Started begun)) ≡ reply.Started t → t ≡ begun
   room_number true full e = absurd cc
@@ -38,7 +38,7 @@ module _ (limits : Limits) (begun living t : ℕ) where
 both_true : (a b : Bool) → a ≡ true → b ≡ true → (a && b) ≡ true
 both_true a b p q = rw (p, q) refl
 
--- one that was started is live
+-- a transaction that was started is live
 pub started_live : (s : Setting) (past : List Entry) (p : ℕ) (args : List ℤ) (t : ℕ) → Legal s past
     → LegalReply s past (Start p args) (reply.Started t)
     → live (record { event = Start p args; reply = reply.Started t } ∷ past) t ≡ true
@@ -49,7 +49,7 @@ started_live s past p args t legal told =
     n : t ≡ start_count past
     n = taken_number s.rules.limits (start_count past) (length (live_ones past)) t (takes s.rules p) args (sym told)
 
--- a step that makes an access, or finds the procedure at its end, ends nobody
+-- a step that makes an access, or finds the procedure ended, ends no transaction
 module _ (past : List Entry) (t : ℕ) where
   pub access_live : (r : Reply) → is_access r ≡ true → live (record { event = Step t; reply = r } ∷ past) t ≡ live past t
   access_live (reply.Looked k v) a = refl
@@ -70,7 +70,7 @@ module _ (past : List Entry) (t : ℕ) where
 
 -- ---- which steps were made
 
--- the transaction made accesses alone, and is live
+-- the transaction made only accesses, and is live
 pub record Stepping (t : ℕ) (e now : EngineView) : Type 0 where
   pub steps : List Entry
   pub accesses : All (IsAccess t) steps
@@ -78,7 +78,7 @@ pub record Stepping (t : ℕ) (e now : EngineView) : Type 0 where
   pub is_live : live now.past t ≡ true
 
 module _ (t : ℕ) (e now : EngineView) where
-  -- one access more
+  -- one more access
   pub one_more : (r : Reply) (after : EngineView) → Stepping t e now → after ≡ with_entry (Step t) r now → is_access r ≡ true
       → Stepping t e after
   one_more r after s adds a = record {
@@ -88,7 +88,7 @@ module _ (t : ℕ) (e now : EngineView) where
     is_live = ap (λ (v : EngineView). live v.past t) adds ∙ access_live now.past t r a ∙ s.is_live;
   }
 
-  -- no memory for the next
+  -- out of memory for the next step
   pub stopped : (after : EngineView) → Stepping t e now → after ≡ now → StopsLive t e after
   stopped after s same = (
     s.steps,
@@ -97,7 +97,7 @@ module _ (t : ℕ) (e now : EngineView) where
     ap (λ (v : EngineView). live v.past t) same ∙ s.is_live,
   )
 
-  -- no memory for the commit
+  -- out of memory for the commit
   pub stopped_at_end : (r : Reply) (after : EngineView) → StepsOn t r e now → live now.past t ≡ true → after ≡ now → StopsLive t e after
   stopped_at_end r after s l same = (
     record { event = Step t; reply = r } ∷ s.0,
@@ -108,12 +108,12 @@ module _ (t : ℕ) (e now : EngineView) where
 
 -- ---- the run
 
--- what holds of an error holds of one
+-- an implication carries over to an error
 pub on_err : {X E A B : Type 0} (result : Result X E) → (A → B) → OnErr result A → OnErr result B
 on_err (Ok x) f a = a
 on_err (Err e) f a = f a
 
--- who was started is live
+-- a transaction that was started is live
 pub run_live : (e after : EngineView) (p : ℕ) (args : List ℤ) (t : ℕ) (r : Reply) → after ≡ with_entry (Start p args) r e
     → r ≡ reply.Started t
     → Legal (setting_of after) after.past → live after.past t ≡ true
@@ -126,7 +126,7 @@ run_live e after p args t r adds is legal =
     all : Legal (setting_of e) (record { event = Start p args; reply = reply.Started t } ∷ e.past)
     all = subst (λ (v : EngineView). Legal (setting_of v) v.past) told legal
 
--- a start, some steps and a quit
+-- a start, some steps and an abort (`quit`)
 pub gave_up : (start : Event) (t : ℕ) (r : Reply) (e begun stopped after : EngineView) → begun ≡ with_entry start r e → r ≡ reply.Started t
     → StopsLive t begun stopped → ((q : Reply) × (after ≡ with_entry (Quit t) q stopped))
     → (started : Option ℕ) × GivesUp start started e after

@@ -8,17 +8,17 @@ use Rattle.sgt_c.specs.declared.fault_struct.SgtFault.{SgtFault}
 use Rattle.sgt_c.specs.FaultStructs.{HoldsFault}
 use Rattle.sgt_c.specs.BufferTexts.{fault_text, place_text, text_by}
 
--- the words of an account's fault, behind what was there
+-- the words of an account's fault, after the text so far
 pub opening_words : (before after : List ℕ) (s : SgtFault) → s.kind ≡ 19 → after ≡ before ++ codes "bad opening " ++ decimal s.number
     → after ≡ before ++ text_by s.kind s
 opening_words before after s kind is =
     is ∙ append_assoc before (codes "bad opening ") (decimal s.number) ∙ ap (λ k. before ++ text_by k s) (sym kind)
 
--- the words of a shape, behind what was there
+-- the words of a shape error, after the text so far
 pub shape_words : (before after : List ℕ) (s : SgtFault) → s.kind ≡ 20 → after ≡ before ++ text_by 20 s → after ≡ before ++ text_by s.kind s
 shape_words before after s kind is = is ∙ ap (λ k. before ++ text_by k s) (sym kind)
 
--- the fields of a fault that is told have its text
+-- the fields of a fault that was written have its text
 pub fault_words : (s : SgtFault) (e : OpeningError) → HoldsFault s e → text_by s.kind s ≡ fault_text e
 fault_words s NotJson told = ap (λ k. text_by k s) told
 fault_words s BadLine told = ap (λ k. text_by k s) told

@@ -1,10 +1,10 @@
--- What an engine that is opened with nothing but limits starts from.
+-- The initial state of an engine that is opened with limits only.
 use Rattle.std.specs.Prelude.{ℕ, ◌≤◌, cond, nat_eq}
 use Rattle.sgt_model.specs.declared.limits.Asks.TheVariants.{AtStep, AtCommit}
 use Rattle.sgt_model.specs.declared.limits.Limits.{Limits}
 use Rattle.sgt_model.specs.Bounds.{AreInRange}
 
--- the limits of three numbers: with 1 as the third a code is told at the commit
+-- the limits that three numbers give; if the third is 1, codes are reported at commit
 abbrev pub limits_by : ℕ → ℕ → ℕ → Limits
 limits_by live begins asks = record { live = live; begins = begins; asks = cond (nat_eq asks 1) AtCommit AtStep }
 

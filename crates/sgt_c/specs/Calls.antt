@@ -1,4 +1,4 @@
--- What a call does to the engine behind a handle.
+-- What a call does to the engine in a handle.
 use Rattle.std.specs.Prelude.{◌≡◌, ℕ, true, Option, Some, None, IfSome}
 use Rattle.sgt_model.specs.declared.event.Event.{Event}
 use Rattle.sgt_model.specs.declared.event.Event.TheVariants.{Quit}
@@ -16,7 +16,7 @@ use Rattle.sgt_c.specs.declared.held.Held.{Held}
 use Rattle.sgt_c.specs.declared.reply_struct.SgtReply.{SgtReply}
 use Rattle.sgt_c.specs.ReplyStructs.{HoldsReply}
 
--- the history is legal, and each part of the headline holds of it
+-- the history is legal, and each part of the headline holds
 abbrev pub Headline : EngineView → Type 0
 Headline e = Legal (setting_of e) e.past
     × ReplayAgrees (setting_of e) e.past
@@ -24,20 +24,20 @@ Headline e = Legal (setting_of e) e.past
     × AbortsHaveCause (setting_of e) e.past
     × CommitsInOrder e.past
 
--- the event was answered by this reply, which is legal and told, and both are one entry more
+-- the reply to the event is legal and is returned; history and replies each grow by one entry
 abbrev pub AnsweredBy : Event → Held → Option Held → SgtReply → Reply → Type 0
 AnsweredBy event h new told r = (new ≡ Some (record { engine = with_entry event r h.engine; part = h.part }))
     × LegalReply (setting_of h.engine) h.engine.past event r × HoldsReply told r × Headline (with_entry event r h.engine)
 
--- the same of some reply
+-- the same for some reply
 abbrev pub Answered : Event → Option Held → Option Held → SgtReply → Type 0
 Answered event None new told = ⊥
 Answered event (Some h) new told = (r : Reply) × AnsweredBy event h new told r
 
--- an event by which a live transaction ends succeeds
+-- an event that ends a live transaction succeeds
 abbrev pub EndsSucceed : Event → Option Held → ℕ → Type 0
 EndsSucceed event held status = IfSome held (λ h. (r : Reply) → LegalReply (setting_of h.engine) h.engine.past event r → is_ending r ≡ true → status ≡ 0)
 
--- a quit of a live transaction succeeds
+-- an abort (`quit`) of a live transaction succeeds
 abbrev pub QuitsSucceed : Event → Option Held → ℕ → Type 0
 QuitsSucceed event held status = IfSome held (λ h. (t : ℕ) → event ≡ Quit t → live h.engine.past t ≡ true → status ≡ 0)

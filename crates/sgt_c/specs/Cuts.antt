@@ -1,4 +1,4 @@
--- What a cut of the history leaves behind a handle.
+-- What a cut of the history leaves in a handle.
 use Rattle.std.specs.Prelude.{◌≡◌, ℕ, ◌+◌, ◌^◌, length, Option, Some, None}
 use Rattle.sgt_model.specs.Contents.{Key}
 use Rattle.sgt_model.specs.Databases.{contents_of, IsByKey}
@@ -16,38 +16,39 @@ use Rattle.sgt_c.specs.Calls.{Headline}
 abbrev pub CommitsAreKept : EngineView → EngineView → Type 0
 CommitsAreKept before after = (k : Key) → settled (contents_of after.opening) after.past k ≡ settled (contents_of before.opening) before.past k
 
--- the engine goes on with an empty history from what the past has settled, which its replay leaves; the headline holds of the past
+-- the engine continues with an empty history, from the committed database that the replay of the past gives; the
+-- headline holds of the past
 abbrev pub IsCut : EngineView → EngineView → Type 0
 IsCut before after = GoesOn before after × CommitsAreKept before after × IsByKey after.opening
     × ((k : Key) → contents_of after.opening k ≡ (folded (setting_of before) before.past).last k)
     × Headline before
 
--- the same of what a handle holds
+-- the same for the content of a handle
 abbrev pub Cut : Option Held → Option Held → Type 0
 Cut None new = ⊥
 Cut (Some h) None = ⊥
 Cut (Some h) (Some h') = IsCut h.engine h'.engine × (h'.part ≡ h.part + 1)
 
--- there is an engine, and a transaction of it is live
+-- there is an engine, and one of its transactions is live
 abbrev pub IsSomeoneLive : Option Held → Type 0
 IsSomeoneLive None = ⊥
 IsSomeoneLive (Some h) = ¬ NobodyLive h.engine.past
 
--- so many are
+-- there is an engine, and it has this many live transactions
 abbrev pub TellsLive : Option Held → ℕ → Type 0
 TellsLive None count = ⊥
 TellsLive (Some h) count = count ≡ length (live_ones h.engine.past)
 
--- nobody is live, and no number is left for another part
+-- no transaction is live, and no number is left for another part
 abbrev pub HasNoPart : Held → Type 0
 HasNoPart h = NobodyLive h.engine.past × (h.part + 1 ≡ 2 ^ 64)
 
--- the same of what a handle holds
+-- the same for the content of a handle
 abbrev pub IsLastPart : Option Held → Type 0
 IsLastPart None = ⊥
 IsLastPart (Some h) = HasNoPart h
 
--- why nothing is cut off: somebody is live, with how many are, or else no number is left, or else memory is wanting
+-- why nothing is cut: transactions are live, and this many; or else no number is left; or else an allocation failed
 abbrev pub IsTooEarly : Held → Uncut → Type 0
 IsTooEarly h (StillLive count) = (¬ NobodyLive h.engine.past) × (count ≡ length (live_ones h.engine.past))
 IsTooEarly h LastPart = HasNoPart h

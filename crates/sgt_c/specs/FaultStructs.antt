@@ -1,4 +1,4 @@
--- What the fields of a fault say, as C reads them.
+-- What the fields of an error say to C.
 use Rattle.std.specs.Prelude.{◌≡◌, take}
 use Rattle.sgt_smallbank.specs.Accounts.{number_of}
 use Rattle.sgt_proc.specs.Flaws.{number}
@@ -6,7 +6,7 @@ use Rattle.sgt_format.specs.declared.errors.OpeningError.{OpeningError}
 use Rattle.sgt_format.specs.declared.errors.OpeningError.TheVariants.{NotJson, BadLine, BadLimits, BadOpening, ProcShape, ProcFlaw, NoMemory}
 use Rattle.sgt_c.specs.declared.fault_struct.SgtFault.{SgtFault}
 
--- the kind, which is the status, and the fields that are of it
+-- the kind, which is the status, and the fields that belong to it
 abbrev pub HoldsFault : SgtFault → OpeningError → Type 0
 HoldsFault s NotJson = s.kind ≡ 16
 HoldsFault s BadLine = s.kind ≡ 17

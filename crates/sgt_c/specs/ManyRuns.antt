@@ -1,4 +1,4 @@
--- Calls that are run one after another by one call for C.
+-- Calls that one C call runs one after another.
 use Rattle.std.specs.Prelude.{◌≡◌, ◌≤◌, ◌<◌, ◌^◌, ℕ, ℤ, List, [], ◌∷◌, take, Option, Some, None, slice_get}
 use Rattle.sgt_model.specs.declared.event.Event.TheVariants.{Start}
 use Rattle.sgt_model.specs.declared.reply.Reply.{Reply}
@@ -10,7 +10,7 @@ use Rattle.sgt_c.specs.Calls.{Headline}
 use Rattle.sgt_c.specs.ReplyStructs.{HoldsReply}
 use Rattle.sgt_c.specs.Runs.{Runs, GivesUp, IsNumberTold}
 
--- the number of the procedure fits 16 bits, and there are at most 4 arguments
+-- the procedure number fits 16 bits, and there are at most 4 arguments
 abbrev pub IsAsked : SgtCall → Type 0
 IsAsked c = (c.procedure < 2 ^ 16) × (c.args ≤ 4)
 
@@ -18,24 +18,24 @@ IsAsked c = (c.procedure < 2 ^ 16) × (c.args ≤ 4)
 abbrev pub args_in : SgtCall → List ℤ
 args_in c = take c.args c.arg
 
--- the call ran from its start to its last reply, which its outcome says
+-- the call ran from its start to its last reply, which is in its outcome
 abbrev pub RanOne : SgtCall → SgtOutcome → EngineView → EngineView → Type 0
 RanOne c o e after = (started : Option ℕ) × (last : Reply) × Runs (Start c.procedure (args_in c)) started last e after
     × IsNumberTold started o.tid × HoldsReply o.reply last
 
--- each call ran, one after another, and its outcome stands at its place
+-- each call ran, one after another, and its outcome is at its index
 abbrev pub RanAll : List SgtCall → List SgtOutcome → EngineView → EngineView → Type 0
 RanAll [] outcomes e after = after ≡ e
 RanAll (c ∷ calls) [] e after = ⊥
 RanAll (c ∷ calls) (o ∷ outcomes) e after = (between : EngineView) × RanOne c o e between × RanAll calls outcomes between after
 
--- the calls before this place ran, and the one at it gave up
+-- the calls before this index ran, and the one at it gave up
 abbrev pub StoppedAt : ℕ → List SgtCall → List SgtOutcome → EngineView → EngineView → Type 0
 StoppedAt at calls outcomes e after = (c : SgtCall) × (between : EngineView) × (started : Option ℕ)
     × (slice_get calls at ≡ Some c) × RanAll (take at calls) outcomes e between
     × GivesUp (Start c.procedure (args_in c)) started between after
 
--- the same of what a handle holds, and each part of the headline
+-- the same for the content of a handle, with each part of the headline
 abbrev pub RanMany : Option Held → List SgtCall → List SgtOutcome → Option Held → Type 0
 RanMany None calls outcomes new = ⊥
 RanMany (Some h) calls outcomes None = ⊥

@@ -12,20 +12,20 @@ use Rattle.sgt_c.specs.declared.row_struct.SgtRow.{SgtRow}
 use Rattle.sgt_c.specs.FaultStructs.{HoldsFault}
 use Rattle.sgt_c.specs.Rows.{with_rows}
 
--- the engine starts from what the bytes spell, with an empty history
+-- the engine starts from the opening that the bytes spell, with an empty history
 abbrev pub OpenedAs : List ℕ → EngineView → Type 0
 OpenedAs bytes e = (o : Opening) × Opens 1 bytes o × (setting_of e ≡ opened_setting o) × (e.past ≡ [])
 
--- the opening, but for its database, which holds what its accounts and then these rows put in
+-- the opening, but its database is that of its accounts after these rows are written
 abbrev pub WithRows : Opening → List SgtRow → Opening → Type 0
 WithRows o rows o' = (o'.limits ≡ o.limits) × (o'.procedures ≡ o.procedures)
     × ((k : Key) → contents_of o'.database k ≡ with_rows (contents_of o.database) rows k)
 
--- the engine starts from what the bytes spell and these rows, with an empty history
+-- the engine starts from the opening that the bytes spell and these rows, with an empty history
 abbrev pub OpenedWith : List ℕ → List SgtRow → EngineView → Type 0
 OpenedWith bytes rows e = (o o' : Opening) × Opens 1 bytes o × WithRows o rows o'
     × (setting_of e ≡ opened_setting o') × (e.past ≡ [])
 
--- the bytes spell no opening, for the reason that is told
+-- the bytes spell no opening, for the reason that is returned
 abbrev pub RefusedAs : List ℕ → SgtFault → Type 0
 RefusedAs bytes told = (e : OpeningError) × Refuses 1 bytes e × HoldsFault told e

@@ -1,4 +1,4 @@
--- What is added to the engine behind a handle before its first event.
+-- What is added to the engine in a handle before its first event.
 use Rattle.std.specs.Prelude.{◌≡◌, ◌≢◌, ◌≤◌, ◌<◌, ◌^◌, ℕ, List, [], length, map, take, Option, Some, None, slice_get}
 use Rattle.std.specs.List.{All}
 use Rattle.sgt_model.specs.Databases.{contents_of}
@@ -27,18 +27,19 @@ abbrev pub HasBegun : Option Held → Type 0
 HasBegun None = ⊥
 HasBegun (Some h) = h.engine.past ≢ []
 
--- the engine opens with these rows, which are new, and is else as it was
+-- the rows are new and are added to the initial database; nothing else of the engine changes
 abbrev pub Put : Option Held → List SgtRow → Option Held → Type 0
 Put None rows new = ⊥
 Put (Some h) rows None = ⊥
 Put (Some h) rows (Some h') = PutsRows h.engine (map row_of rows) h'.engine × (h'.part ≡ h.part)
 
--- the rows before this one are new, and behind them its key has a value
+-- the rows before this one are new, and after them its key has a value
 abbrev pub IsTakenIn : Option Held → List SgtRow → ℕ → Type 0
 IsTakenIn None rows index = ⊥
 IsTakenIn (Some h) rows index = IsTaken (contents_of h.engine.opening) (map row_of rows) index
 
--- the engine, which has no history, has the procedure that the text spells behind its others, by this number, and is else as it was
+-- the engine has no history, and the procedure that the text spells is added after its others, by this number; nothing
+-- else changes
 pub record IsAdded (h : Held) (text : List ℕ) (h' : Held) (n : ℕ) : Type 0 where
   pub none : h.engine.past ≡ []
   pub procedure : ProcedureText
@@ -47,24 +48,25 @@ pub record IsAdded (h : Held) (text : List ℕ) (h' : Held) (n : ℕ) : Type 0 w
   pub number : n ≡ length h.engine.procedures
   pub part : h'.part ≡ h.part
 
--- the same of what a handle holds
+-- the same for the content of a handle
 abbrev pub Added : Option Held → List ℕ → Option Held → ℕ → Type 0
 Added None text new number = ⊥
 Added (Some h) text None number = ⊥
 Added (Some h) text (Some h') number = IsAdded h text h' number
 
--- why none is added: there is a history, or else no number is left, or else the text spells none or memory is wanting
+-- why none is added: there is a history; or else no number is left; or else the text spells none or an allocation
+-- failed
 abbrev pub IsRefusal : EngineView → List ℕ → Unadded → Type 0
 IsRefusal e text Begun = e.past ≢ []
 IsRefusal e text TooMany = (e.past ≡ []) × (2 ^ 16 ≤ length e.procedures)
 IsRefusal e text (Refused error) = (e.past ≡ []) × (length e.procedures < 2 ^ 16) × RefusesProcedure (length e.procedures) text error
 
--- there is an engine without a history, which has no number left for a procedure
+-- there is an engine without a history, and it has no number left for a procedure
 abbrev pub HasNoNumber : Option Held → Type 0
 HasNoNumber None = ⊥
 HasNoNumber (Some h) = (h.engine.past ≡ []) × (2 ^ 16 ≤ length h.engine.procedures)
 
--- the text spells no procedure, for the reason that is told of the number that it was to have
+-- the text spells no procedure, for the reason that is returned with the number that it was to get
 abbrev pub IsTextRefused : Option Held → List ℕ → SgtFault → Type 0
 IsTextRefused None text told = ⊥
 IsTextRefused (Some h) text told = (e : OpeningError) × RefusesProcedure (length h.engine.procedures) text e × HoldsFault told e

@@ -1,4 +1,4 @@
--- The calls of the committed and refused transactions, as C reads them: the list that the replay runs one after another.
+-- The calls of the committed and refused transactions, as C reads them. The replay runs this list one after another.
 use Rattle.std.specs.Prelude.{◌≡◌, ℕ, ◌≤◌, ◌<◌, ◌+◌, cond, nat_eq, length, map, take, reverse, List, [], ◌∷◌, ◌++◌, Option, Some, None}
 use Rattle.sgt_model.specs.declared.entry.Entry.{Entry}
 use Rattle.sgt_model.specs.declared.event.Event.{Event}
@@ -21,42 +21,42 @@ called s = record { procedure = s.procedure; args = s.args }
 abbrev pub call_in : SgtCall → Call
 call_in s = record { procedure = s.procedure; args = take s.args s.arg }
 
--- what it was told: the answers by the kind of a commit, and else the code
+-- its result: the answers if the kind is a commit, else the code
 abbrev pub result_in : SgtCall → RunResult
 result_in s = cond (nat_eq s.kind 13) (GaveAnswers (take s.answers s.answer)) (AskedCode s.code)
 
--- the transaction, and the kind of the reply by which it ended
+-- the transaction, and the kind of the reply that ended it
 abbrev pub ends_in : SgtCall → ℕ × ℕ
 ends_in s = (s.tid, s.kind)
 
 -- ---- of a history
 
--- the transaction that an entry commits or refuses, if it does, with 13 for a commit and 15 for a refusal
+-- the transaction that an entry commits or refuses, if any, with 13 for a commit and 15 for a refusal
 abbrev pub ends_by : Event → Reply → List (ℕ × ℕ)
 ends_by event (reply.Committed answers) = (subject event, 13) ∷ []
 ends_by event (reply.Refused code fell) = (subject event, 15) ∷ []
 ends_by event _ = []
 
--- the committed and refused transactions, each with the kind of its reply, the last reply first
+-- the committed and refused transactions, each with the kind of its reply; the last reply comes first
 abbrev pub told_ends : List Entry → List (ℕ × ℕ)
 told_ends [] = []
 told_ends (e ∷ past) = ends_by e.event e.reply ++ told_ends past
 
--- of entries that stand oldest first those before a place, newest first
+-- the entries before a position, newest first; the given list is oldest first
 abbrev pub past_at : List Entry → ℕ → List Entry
 past_at entries place = reverse (take place entries)
 
--- the first so many structs add what this reads off a history on the way from one place to another, the last one first
+-- the first `count` structs add what this function reads off the history between the two positions, the last one first
 abbrev pub Adds : {X : Type 0} → (List Entry → List X) → (SgtCall → X) → List Entry → ℕ → List SgtCall → ℕ → ℕ → Type 0
 Adds read field entries from to count next = read (past_at entries next) ≡ reverse (map field (take count to)) ++ read (past_at entries from)
 
--- the first so many structs are the calls from one place of the history to another, in reply order, with what they were told
+-- the first `count` structs are the calls between the two positions of the history, in reply order, with their results
 pub record AreTold (entries : List Entry) (from : ℕ) (to : List SgtCall) (count next : ℕ) : Type 0 where
   pub calls : Adds told_calls call_in entries from to count next
   pub results : Adds told result_in entries from to count next
   pub ends : Adds told_ends ends_in entries from to count next
 
--- so it is, and there is no entry behind them unless all structs are filled
+-- the same, and no entry follows them unless all structs are filled
 pub record ArePassed (entries : List Entry) (from : ℕ) (to : List SgtCall) (count next : ℕ) : Type 0 where
   pub told : AreTold entries from to count next
   pub onward : from ≤ next
@@ -64,7 +64,7 @@ pub record ArePassed (entries : List Entry) (from : ℕ) (to : List SgtCall) (co
   pub room : count ≤ length to
   pub whole : next < length entries → count ≡ length to
 
--- the same of the engine in a handle
+-- the same for the engine in a handle
 abbrev pub ReturnsCalls : Option Held → ℕ → List SgtCall → ℕ → ℕ → Type 0
 ReturnsCalls None from to count next = ⊥
 ReturnsCalls (Some h) from to count next = ArePassed (reverse h.engine.past) from to count next
@@ -74,7 +74,7 @@ abbrev pub listed : {X : Type 0} → (SgtCall → X) → Option SgtCall → List
 listed field None = []
 listed field (Some s) = field s ∷ []
 
--- the struct is the call that the entry at a place tells of, and none where it tells of none
+-- the struct is the call that the entry at a position ends; there is none if the entry ends none
 pub record IsToldAt (entries : List Entry) (place : ℕ) (told_call : Option SgtCall) : Type 0 where
   pub calls : told_calls (past_at entries (place + 1)) ≡ listed call_in told_call ++ told_calls (past_at entries place)
   pub results : told (past_at entries (place + 1)) ≡ listed result_in told_call ++ told (past_at entries place)

@@ -1,4 +1,4 @@
--- Which reply the fields of one say, read back.
+-- Which reply the fields of a struct say.
 use Rattle.std.specs.Prelude.{◌≤◌, ℕ, ℤ, cond, ◌&&◌, nat_eq, nat_le, take, slice_get, List, [], ◌∷◌, Option, Some, None, option_map, option_and_then, ⊤}
 use Rattle.sgt_model.specs.Contents.{Key}
 use Rattle.sgt_model.specs.Numbers.{IsValue, is_value}
@@ -23,7 +23,7 @@ IsCause (cause.Cycle walk) = ⊤
 IsCause (cause.Asked code) = code ≤ 65535
 IsCause cause.Quit = ⊤
 
--- so does the code of its cause
+-- the code of its cause fits 16 bits
 abbrev pub IsFate : Fate → Type 0
 IsFate fate.Committed = ⊤
 IsFate (fate.Aborted why) = IsCause why
@@ -38,49 +38,49 @@ IsReply (reply.Aborted why fell) = IsCause why
 IsReply (reply.Refused code fell) = code ≤ 65535
 IsReply _ = ⊤
 
--- the fields say just this reply, which an engine may give
+-- the fields say exactly this reply, and an engine may return it
 abbrev pub HoldsValidReply : SgtReply → Reply → Type 0
 HoldsValidReply s r = HoldsReply s r × IsReply r
 
 -- ---- read back
 
--- what there is, if there is something
+-- the value in a nested option, if there is one
 abbrev pub joined : {A : Type 0} → Option (Option A) → Option A
 joined = option_and_then (λ o. o)
 
--- the code, where it fits 16 bits
+-- the code, if it fits 16 bits
 abbrev pub code_in : SgtReply → Option ℕ
 code_in s = cond (nat_le s.code 65535) (Some s.code) None
 
--- the key, where its numbers are in their ranges
+-- the key, if its numbers are in their ranges
 abbrev pub key_in : SgtReply → Option Key
 key_in s = cond (nat_le s.table 7 && is_value s.number) (Some (s.table, s.number)) None
 
--- none by 0, the value by 1
+-- no value for 0, the value for 1
 abbrev pub found_in : SgtReply → Option (Option ℤ)
 found_in s = slice_get (None ∷ Some s.value ∷ []) s.found
 
--- what each number of a cause says, from 0 on
+-- the meaning of each cause number, from 0 on
 abbrev pub causes_in : SgtReply → List (Option Cause)
 causes_in s = None ∷ Some (cause.Cycle (take s.walked s.walk)) ∷ option_map cause.Asked (code_in s) ∷ Some cause.Quit ∷ []
 
--- the cause by its number, where there is one
+-- the cause with this number, if there is one
 abbrev pub cause_in : SgtReply → Option Cause
 cause_in s = joined (slice_get (causes_in s) s.cause)
 
--- how a transaction is over, by this number: 0 by its commit, 4 by a fall, else for the cause
+-- how a transaction ended, by this number: 0 by its commit, 4 by a cascading abort, else by the cause
 abbrev pub fate_by : ℕ → SgtReply → Option Fate
 fate_by n s = cond (nat_eq n 0) (Some fate.Committed) (cond (nat_eq n 4) (Some (fate.Fell s.tid)) (option_map fate.Aborted (cause_in s)))
 
--- the same by the fields' own number
+-- the same by the number in the fields
 abbrev pub fate_in : SgtReply → Option Fate
 fate_in s = fate_by s.cause s
 
--- a look, where the key and what was found are in range
+-- a read, if the key and the value that was found are in range
 abbrev pub looked_in : SgtReply → Option Reply
 looked_in s = option_and_then (λ key. option_map (reply.Looked key) (found_in s)) (key_in s)
 
--- what each kind says, from 0 on
+-- the meaning of each kind, from 0 on
 abbrev pub replies_in : SgtReply → List (Option Reply)
 replies_in s = None ∷ Some (reply.Started s.tid) ∷ Some reply.NoProcedure ∷ Some reply.BadArgs ∷ Some reply.Spent ∷ Some reply.Full
     ∷ Some reply.Unknown ∷ option_map reply.Over (fate_in s) ∷ looked_in s ∷ option_map (λ key. reply.Wrote key s.value) (key_in s)
@@ -88,6 +88,6 @@ replies_in s = None ∷ Some (reply.Started s.tid) ∷ Some reply.NoProcedure �
     ∷ option_map (λ why. reply.Aborted why (take s.fallen s.fell)) (cause_in s)
     ∷ option_map (λ code. reply.Refused code (take s.fallen s.fell)) (code_in s) ∷ []
 
--- the reply by its kind, where there is one
+-- the reply with this kind, if there is one
 abbrev pub reply_in : SgtReply → Option Reply
 reply_in s = joined (slice_get (replies_in s) s.kind)

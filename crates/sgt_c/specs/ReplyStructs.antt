@@ -1,4 +1,4 @@
--- What the fields of a reply say, as C reads them.
+-- What the fields of a reply say to C.
 use Rattle.std.specs.Prelude.{◌≡◌, ℤ, take, Option, Some, None}
 use Rattle.sgt_model.specs.declared.reply.Reply.{Reply}
 use Rattle.sgt_model.specs.declared.reply.Reply.TheVariants as reply
@@ -8,24 +8,24 @@ use Rattle.sgt_model.specs.declared.reply.Fate.{Fate}
 use Rattle.sgt_model.specs.declared.reply.Fate.TheVariants as fate
 use Rattle.sgt_c.specs.declared.reply_struct.SgtReply.{SgtReply}
 
--- 1 for a cycle with its walk, 2 for a code that the procedure asked, 3 for a quit
+-- 1 for a cycle with its path, 2 for a code that the procedure raised, 3 for an abort by the caller
 abbrev pub HoldsCause : SgtReply → Cause → Type 0
 HoldsCause s (cause.Cycle walk) = (s.cause ≡ 1) × (take s.walked s.walk ≡ walk)
 HoldsCause s (cause.Asked code) = (s.cause ≡ 2) × (s.code ≡ code)
 HoldsCause s cause.Quit = s.cause ≡ 3
 
--- 0 for a commit, 4 for a fall with the transaction that began it, else the cause
+-- 0 for a commit; 4 for a cascading abort, with the transaction that began it; else the cause
 abbrev pub HoldsFate : SgtReply → Fate → Type 0
 HoldsFate s fate.Committed = s.cause ≡ 0
 HoldsFate s (fate.Aborted why) = HoldsCause s why
 HoldsFate s (fate.Fell first) = (s.cause ≡ 4) × (s.tid ≡ first)
 
--- what a look found: 1 with the value, or 0
+-- what a read found: 1 with the value, or 0
 abbrev pub HoldsFound : SgtReply → Option ℤ → Type 0
 HoldsFound s None = s.found ≡ 0
 HoldsFound s (Some value) = (s.found ≡ 1) × (s.value ≡ value)
 
--- the kind, and the fields that are of it
+-- the kind and the fields that belong to it
 abbrev pub HoldsReply : SgtReply → Reply → Type 0
 HoldsReply s (reply.Started t) = (s.kind ≡ 1) × (s.tid ≡ t)
 HoldsReply s reply.NoProcedure = s.kind ≡ 2

@@ -1,4 +1,4 @@
--- A transaction that is run from its start to its end by one call.
+-- A transaction that one call runs from its start to its end.
 use Rattle.std.specs.Prelude.{◌≡◌, ℕ, Bool, true, false, List, ◌++◌, Option, Some, None}
 use Rattle.std.specs.List.{All}
 use Rattle.sgt_model.specs.declared.entry.Entry.{Entry}
@@ -13,7 +13,7 @@ use Rattle.sgt_c.specs.declared.reply_struct.SgtReply.{SgtReply}
 use Rattle.sgt_c.specs.Calls.{Headline}
 use Rattle.sgt_c.specs.ReplyStructs.{HoldsReply}
 
--- the engine with so many entries more, newest first
+-- the engine with these entries added, newest first
 abbrev pub with_entries : List Entry → EngineView → EngineView
 with_entries entries e = record { opening = e.opening; procedures = e.procedures; limits = e.limits; past = entries ++ e.past }
 
@@ -23,7 +23,7 @@ is_access (reply.Looked k v) = true
 is_access (reply.Wrote k v) = true
 is_access _ = false
 
--- the reply to a step whose procedure is at its end
+-- the reply to a step whose procedure has ended
 abbrev pub is_end : Reply → Bool
 is_end reply.Ended = true
 is_end _ = false
@@ -32,35 +32,35 @@ is_end _ = false
 abbrev pub IsStep : ℕ → Entry → Type 0
 IsStep t e = e.event ≡ Step t
 
--- one that made its access
+-- a step that made its access
 abbrev pub IsAccess : ℕ → Entry → Type 0
 IsAccess t e = (e.event ≡ Step t) × (is_access e.reply ≡ true)
 
--- the transaction made accesses, and then a step that made none was answered by this reply
+-- the transaction made accesses, and then this reply answered a step that made none
 abbrev pub StepsOn : ℕ → Reply → EngineView → EngineView → Type 0
 StepsOn t r e after = (steps : List Entry) × All (IsAccess t) steps × (is_access r ≡ false)
     × (after ≡ with_entry (Step t) r (with_entries steps e))
 
--- where the procedure is at its end the commit is answered by the last reply; else the last step was
+-- if the procedure has ended, the last reply answers the commit; else it answers the last step
 abbrev pub CommitsIf : Bool → ℕ → Reply → Reply → EngineView → EngineView → Type 0
 CommitsIf true t r last e after = after ≡ with_entry (Commit t) last e
 CommitsIf false t r last e after = (last ≡ r) × (after ≡ e)
 
--- the transaction was stepped to its end, and committed where it came to it
+-- the transaction was stepped to its end, and committed if it reached it
 abbrev pub RunsOn : ℕ → Reply → EngineView → EngineView → Type 0
 RunsOn t last e after = (r : Reply) × (stepped : EngineView) × StepsOn t r e stepped × CommitsIf (is_end r) t r last stepped after
 
--- the start was refused by the last reply, or a transaction was started and runs on to it
+-- the last reply refused the start, or a transaction was started and ran on to that reply
 abbrev pub Runs : Event → Option ℕ → Reply → EngineView → EngineView → Type 0
 Runs start None last e after = (is_start last ≡ false) × (after ≡ with_entry start last e)
 Runs start (Some t) last e after = RunsOn t last (with_entry start (reply.Started t) e) after
 
--- the number is told, where there is one
+-- the number is returned, if there is one
 abbrev pub IsNumberTold : Option ℕ → ℕ → Type 0
 IsNumberTold None told = Unit {0}
 IsNumberTold (Some t) told = told ≡ t
 
--- the run is in the history, its last reply is told, and each part of the headline holds
+-- the run is in the history, its last reply is returned, and each part of the headline holds
 abbrev pub Ran : Event → Option Held → Option Held → ℕ → SgtReply → Type 0
 Ran start None new tid told = ⊥
 Ran start (Some h) None tid told = ⊥
@@ -71,17 +71,17 @@ Ran start (Some h) (Some h') tid told = (started : Option ℕ) × (last : Reply)
 abbrev pub StopsLive : ℕ → EngineView → EngineView → Type 0
 StopsLive t e after = (steps : List Entry) × All (IsStep t) steps × (after ≡ with_entries steps e) × (live after.past t ≡ true)
 
--- the transaction made some steps, and was quit
+-- the transaction made some steps, and was then aborted (`quit`)
 abbrev pub QuitsAfter : ℕ → EngineView → EngineView → Type 0
 QuitsAfter t e after = (steps : List Entry) × All (IsStep t) steps × (r : Reply)
     × (after ≡ with_entry (Quit t) r (with_entries steps e))
 
--- nothing has changed, or the transaction that was started was quit
+-- nothing has changed, or the transaction that was started was aborted
 abbrev pub GivesUp : Event → Option ℕ → EngineView → EngineView → Type 0
 GivesUp start None e after = after ≡ e
 GivesUp start (Some t) e after = QuitsAfter t (with_entry start (reply.Started t) e) after
 
--- the same of what a handle holds, and each part of the headline
+-- the same for the content of a handle, with each part of the headline
 abbrev pub GaveUp : Event → Option Held → Option Held → Type 0
 GaveUp start None new = ⊥
 GaveUp start (Some h) None = ⊥

@@ -1,11 +1,11 @@
-//! What C asks for, by numbers that may be out of their ranges.
+//! What C asks for, as numbers that may be out of range.
 ghost use Rattle.std.specs.Prelude.{◌≡◌, ◌≤◌, ◌↔◌, IsNone, IfSome};
 ghost use Rattle.sgt_model.specs.Numbers.{IsValue};
 ghost use Rattle.sgt_c.specs.Asked.{IsCall};
 
 use sgt_model::{Args, Key};
 
-/// The number of a procedure with its arguments, unless the number is over 65535 or there are over 4 arguments.
+/// The procedure number with its arguments, unless the number is over 65535 or there are over 4 arguments.
 pub fn call(procedure: u64, args: &[i64]) -> Option<(u16, Args)>
     ensures call { IfSome result (λ call. call ≡ (procedure, args.now)) }
     ensures none { IsNone result ↔ (¬ IsCall procedure args.now) }

@@ -1,4 +1,4 @@
-//! Replies and faults as text.
+//! Replies and faults as text, in the caller's buffer.
 ghost use Rattle.std.specs.Prelude.{◌≡◌, ◌≢◌, ◌≤◌, ◌↔◌, ◌++◌, List, ℕ, IsTrue, OnOk, IfOk, codes, take};
 ghost use Rattle.sgt_model.specs.declared.reply.Reply.{Reply};
 ghost use Rattle.std.specs.Fmt.{decimal};
@@ -17,10 +17,11 @@ use sgt_format::{append_numbered, reply_line};
 use sgt_model::NoMemory;
 use std::alloc::{AllocError, Global};
 
-/// The text of a reply, as a script's line has it, without the line's end. It is written whole where there is room for it, and
-/// else not at all; its length is told in both cases. It takes memory for it meanwhile.
+/// Writes the text of a reply, as in a line of a script, without the line's end. The text is written whole if it fits,
+/// and else not at all. Its length is returned in both cases. The call allocates memory for the text and frees it.
 ///
-/// `BAD_CALL` where the fields tell no reply; `NO_MEMORY`.
+/// - `BAD_CALL`: the fields say no reply.
+/// - `NO_MEMORY`: an allocation failed.
 pub fn write_reply_text(alloc: Global, fields: &SgtReply, text: &mut [u8], length: &mut u64) -> u32
     ensures text { (r : Reply) → HoldsValidReply fields.now r → result ≡ 0 → IsWritten (reply_text r) text.old text.new length.new }
     ensures bad_call { (result ≡ 5) ↔ ((r : Reply) → ¬ HoldsValidReply fields.now r) }
@@ -39,10 +40,11 @@ pub fn write_reply_text(alloc: Global, fields: &SgtReply, text: &mut [u8], lengt
     }
 }
 
-/// The text of a fault, as the program tells one of line 1. It is written whole where there is room for it, and else not at
-/// all; its length is told in both cases. It takes memory for it meanwhile.
+/// Writes the text of a fault, as the program reports it for line 1. The text is written whole if it fits, and else not
+/// at all. Its length is returned in both cases. The call allocates memory for the text and frees it.
 ///
-/// `BAD_CALL` where the kind is no fault's; `NO_MEMORY`.
+/// - `BAD_CALL`: the kind is not that of a fault.
+/// - `NO_MEMORY`: an allocation failed.
 #[tactic(auto, using(crate::proofs::Writings::fault_words))]
 pub fn write_fault_text(alloc: Global, fault: &SgtFault, text: &mut [u8], length: &mut u64) -> u32
     ensures text { (e : OpeningError) → HoldsFault fault.now e → result ≡ 0 → IsWritten (fault_text e) text.old text.new length.new }
@@ -62,7 +64,7 @@ pub fn write_fault_text(alloc: Global, fault: &SgtFault, text: &mut [u8], length
     }
 }
 
-/// Writes a text where there is room for it, and answers its length.
+/// Writes a text if it fits, and returns its length.
 fn write_text(to: &mut [u8], text: &[u8]) -> u64
     ensures { IsWritten text.now to.old to.new result }
 {
@@ -72,14 +74,14 @@ fn write_text(to: &mut [u8], text: &[u8]) -> u64
     text.len() as u64
 }
 
-/// A line without the byte 10 that ends it.
+/// A line without the newline that ends it.
 fn without_end(line: &[u8]) -> &[u8]
     ensures { (text : List ℕ) → line.now ≡ text ++ codes "\n" → result.now ≡ text }
 {
     &line[..line.len().saturating_sub(1)]
 }
 
-/// Whether a status is a fault's.
+/// Whether a status is that of a fault.
 fn is_fault(kind: u32) -> bool
     ensures { IsTrue result ↔ IsFaultKind kind }
 {
@@ -94,7 +96,7 @@ fn fault_line(alloc: Global, fault: &SgtFault) -> Result<Vec<u8>, AllocError>
     Ok(line)
 }
 
-/// Adds the text of a fault.
+/// Appends the text of a fault.
 fn append_fault(line: &mut Vec<u8>, fault: &SgtFault) -> Result<(), AllocError>
     ensures { OnOk result (line.new.items ≡ line.old.items ++ text_by fault.now.kind fault.now) }
 {
@@ -112,7 +114,7 @@ fn append_fault(line: &mut Vec<u8>, fault: &SgtFault) -> Result<(), AllocError>
     }
 }
 
-/// Adds the text of a shape: its procedure and its place.
+/// Appends the text of a shape error: its procedure and its position.
 fn append_shape(line: &mut Vec<u8>, fault: &SgtFault) -> Result<(), AllocError>
     ensures { OnOk result (line.new.items ≡ line.old.items ++ text_by 20 fault.now) }
 {
@@ -121,7 +123,7 @@ fn append_shape(line: &mut Vec<u8>, fault: &SgtFault) -> Result<(), AllocError>
     append_place(line, told_place(fault))
 }
 
-/// The positions that are told.
+/// The positions that the text names.
 fn told_place(fault: &SgtFault) -> &[u64]
     ensures { result.now ≡ take fault.now.depth fault.now.place }
 {
@@ -129,7 +131,7 @@ fn told_place(fault: &SgtFault) -> &[u64]
     &fault.place[..depth]
 }
 
-/// Adds each position behind a blank, or `top`.
+/// Appends each position after a space, or `top`.
 fn append_place(line: &mut Vec<u8>, place: &[u64]) -> Result<(), AllocError>
     ensures { OnOk result (line.new.items ≡ line.old.items ++ place_text place.now) }
 {
@@ -139,7 +141,7 @@ fn append_place(line: &mut Vec<u8>, place: &[u64]) -> Result<(), AllocError>
     append_positions(line, place)
 }
 
-/// Adds each position behind a blank.
+/// Appends each position after a space.
 fn append_positions(line: &mut Vec<u8>, place: &[u64]) -> Result<(), AllocError>
     ensures { OnOk result (line.new.items ≡ line.old.items ++ each_item decimal place.now) }
 {

@@ -1,4 +1,4 @@
-//! The struct of a call for C: what ran, and what it was told.
+//! The struct of a call for C: what ran, and its result.
 ghost use Rattle.std.specs.Prelude.{◌≡◌};
 ghost use Rattle.sgt_model.specs.Replay.{GaveAnswers, AskedCode};
 ghost use Rattle.sgt_c.specs.ReplayedCalls.{call_in, called, ends_in, result_in};
@@ -15,7 +15,7 @@ pub struct Started {
     pub args: Args,
 }
 
-/// A call of a committed or refused transaction, and what it was told, for C.
+/// A call of a committed or refused transaction, with its result, for C.
 #[repr(C)]
 #[derive(Clone, Copy)]
 pub struct SgtCall {
@@ -24,7 +24,7 @@ pub struct SgtCall {
     pub tid: u32,
     pub procedure: u32,
     pub code: u32,
-    /// How many there are of `arg` and of `answer`.
+    /// How many items `arg` and `answer` have.
     pub args: u32,
     pub answers: u32,
     pub arg: [i64; 4],

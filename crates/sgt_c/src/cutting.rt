@@ -1,4 +1,4 @@
-//! Cutting the history off.
+//! Cutting the history.
 ghost use Rattle.std.specs.Prelude.{◌≡◌, ◌+◌, ◌≢◌, ◌≤◌, ◌↔◌, None, IfErr, IfSome, OnOk, OnErr, length};
 ghost use Rattle.sgt_model.specs.Fates.{live_ones};
 ghost use Rattle.sgt_engine.specs.Cuts.{NobodyLive};
@@ -11,12 +11,14 @@ use crate::status;
 use sgt_assembly::SgtEngine;
 use std::alloc::Global;
 
-/// Forgets the history up to now, where nobody is live: the engine goes on from the committed database as one that was just
-/// opened on it, with no entries, and numbers from 0. Procedures and limits stay, and what the limits allow is counted anew.
-/// It goes once through all records, and takes memory for them meanwhile.
+/// Forgets the history up to now, if no transaction is live. The engine continues from the committed database, as one
+/// that was just opened on it: it has no entries, and numbers transactions from 0. Procedures and limits stay, and the
+/// limits count anew. The call scans all records, and allocates memory for them meanwhile.
 ///
-/// `BUSY`; `CLOSED`; `STILL_LIVE` where a transaction is live, tested next: how many are is written to `live`; `TOO_MANY` where no number
-/// is left for another part, behind 2^64 - 1 cuts; `NO_MEMORY`.
+/// - `BUSY`; `CLOSED`.
+/// - `STILL_LIVE`, tested next: transactions are live; their number is written to `live`.
+/// - `TOO_MANY`: no number is left for another part, after 2^64 - 1 cuts.
+/// - `NO_MEMORY`: an allocation failed.
 #[unsafe(no_mangle)]
 pub extern "C" fn sgt_cut(alloc: Global, engine: &mut Handle, live: &mut u64) -> u32
     ensures cut { result ≡ 0 → Cut engine.old.slot.held engine.new.slot.held }
@@ -50,8 +52,8 @@ pub extern "C" fn sgt_cut(alloc: Global, engine: &mut Handle, live: &mut u64) ->
     }
 }
 
-/// The number of the part that the history is: how many cuts there were since the opening. With it a transaction's number is never
-/// taken for that of another part.
+/// The number of the current part of the history: how many cuts there were since the engine was opened. Part and
+/// transaction number together name one transaction across all parts.
 ///
 /// `BUSY`; `CLOSED`.
 #[unsafe(no_mangle)]
@@ -76,18 +78,18 @@ pub extern "C" fn sgt_part(alloc: Global, engine: &mut Handle, part: &mut u64) -
     status::OK
 }
 
-/// Why nothing was cut off.
+/// Why nothing was cut.
 #[derive(Clone, Copy)]
 pub enum Uncut {
-    /// So many are live.
+    /// This many transactions are live.
     StillLive(u64),
     /// No number is left for another part.
     LastPart,
-    /// A growth was refused.
+    /// An allocation failed.
     NoMemory,
 }
 
-/// Cuts the history off where nobody is live.
+/// Cuts the history if no transaction is live.
 #[tactic(auto, using(crate::proofs::CutValues::commits_kept, crate::proofs::CutValues::none_of_none, crate::proofs::CutValues::some_of_some))]
 fn cut(alloc: Global, held: &mut Held) -> Result<(), Uncut>
     ensures cut { OnOk result (IsCut held.old.engine held.new.engine) }
@@ -104,7 +106,7 @@ fn cut(alloc: Global, held: &mut Held) -> Result<(), Uncut>
     let Some(next) = held.part.checked_add(1) else {
         return Err(Uncut::LastPart);
     };
-    // The headline holds of what it lends.
+    // The headline holds of the history that this call borrows.
     let _ = held.engine.history();
     match held.engine.cut(alloc) {
         Ok(_) => {

@@ -5,14 +5,14 @@ ghost use Rattle.sgt_c.specs.EventStructs.{HoldsEvent};
 
 use sgt_model::{Args, Event};
 
-/// What was asked of the engine, for C. `kind` says which of the other fields are of this event.
+/// An event of the engine, for C. `kind` says which of the other fields belong to it.
 #[repr(C)]
 #[derive(Drop)]
 pub struct SgtEvent {
     pub kind: u32,
-    /// The transaction, of all but a start.
+    /// The transaction, of all events but a start.
     pub tid: u32,
-    /// Of a start: the number of the procedure, and how many there are of `arg`.
+    /// Of a start: the number of the procedure, and how many items `arg` has.
     pub procedure: u32,
     pub args: u32,
     pub arg: [i64; 4],

@@ -1,4 +1,4 @@
-//! Events, and what they are answered.
+//! Events and their replies.
 ghost use Rattle.std.specs.Prelude.{◌≡◌, ◌≢◌, ◌≤◌, ◌↔◌, ℕ, true, Some, None, OnOk, OnErr};
 ghost use Rattle.std.specs.Result.{IsOk};
 ghost use Rattle.sgt_model.specs.declared.reply.Reply.{Reply};
@@ -19,9 +19,10 @@ use crate::status;
 use sgt_model::{Event, NoMemory, Tid};
 use std::alloc::Global;
 
-/// Starts a transaction that runs the procedure of this number with these arguments.
+/// Starts a transaction of the procedure with this number and these arguments.
 ///
-/// `NO_MEMORY`; `BUSY`; `CLOSED`; `BAD_CALL` where the number is over 65535, or there are over 4 arguments, tested first.
+/// - `BAD_CALL`, tested first: the number is over 65535, or there are over 4 arguments.
+/// - `BUSY`; `CLOSED`; `NO_MEMORY`.
 #[unsafe(no_mangle)]
 pub extern "C" fn sgt_start(
     alloc: Global,
@@ -46,7 +47,7 @@ pub extern "C" fn sgt_start(
     }
 }
 
-/// Lets the transaction make its next access.
+/// Runs the transaction up to and including its next access.
 ///
 /// `NO_MEMORY`; `BUSY`; `CLOSED`.
 #[unsafe(no_mangle)]
@@ -87,7 +88,7 @@ pub extern "C" fn sgt_commit(
     ask(alloc, engine, Event::Commit(Tid(t)), reply)
 }
 
-/// Quits the transaction: it is aborted. Where it is live, this succeeds.
+/// Aborts the transaction for its caller (`quit`). If it is live, this succeeds.
 ///
 /// `NO_MEMORY`; `BUSY`; `CLOSED`.
 #[unsafe(no_mangle)]
@@ -105,7 +106,7 @@ pub extern "C" fn sgt_quit(alloc: Global, engine: &mut Handle, t: u32, reply: &m
     ask(alloc, engine, Event::Quit(Tid(t)), reply)
 }
 
-/// Takes an event, answers it, and tells the reply.
+/// Runs an event on the engine in a handle, and writes the reply.
 fn ask(alloc: Global, engine: &mut Handle, event: Event, reply: &mut SgtReply) -> u32
     ensures ok { result ≡ 0 → Answered event engine.old.slot.held engine.new.slot.held reply.new }
     ensures unchanged { result ≢ 0 → engine.new.slot.held ≡ engine.old.slot.held }
@@ -134,7 +135,7 @@ fn ask(alloc: Global, engine: &mut Handle, event: Event, reply: &mut SgtReply) -
     }
 }
 
-/// Takes an event, answers it, and tells the reply.
+/// Runs an event on an engine, and writes the reply.
 fn answer(held: &mut Held, event: Event, reply: &mut SgtReply) -> Result<(), NoMemory>
     ensures ok { OnOk result (Answered event (Some held.old) (Some held.new) reply.new) }
     ensures unchanged { OnErr result ((held.new ≡ held.old) × (reply.new ≡ reply.old)) }

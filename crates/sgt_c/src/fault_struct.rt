@@ -6,7 +6,7 @@ use crate::status;
 use sgt_format::OpeningError;
 use sgt_proc_json::Place;
 
-/// Why an opening was refused. `kind` is the status, and says which of the other fields are of this fault.
+/// Why an opening was refused. `kind` is the status, and says which of the other fields belong to this fault.
 #[repr(C)]
 #[derive(Drop)]
 pub struct SgtFault {
@@ -15,14 +15,14 @@ pub struct SgtFault {
     pub number: u32,
     /// The number of the procedure, from 5 on.
     pub procedure: u64,
-    /// How many positions of `place` there are, and `spare`, which is nothing.
+    /// How many positions `place` has, and `spare`, which is unused.
     pub depth: u32,
     pub spare: u32,
-    /// The place in the procedure's text: positions from the top, counted from 0.
+    /// Where in the procedure's text: positions from the outermost list in, counted from 0.
     pub place: [u64; 128],
 }
 
-/// Writes a fault for C, and answers its status.
+/// Writes a fault for C, and returns its status.
 pub fn write_fault(into: &mut SgtFault, error: &OpeningError) -> u32
     ensures status { result ≡ into.new.kind }
     ensures fault { HoldsFault into.new error.now }
@@ -50,7 +50,7 @@ pub fn write_fault(into: &mut SgtFault, error: &OpeningError) -> u32
     into.kind
 }
 
-/// Writes the positions of a place, and answers how many there are: 128, which is as many as a place keeps, or fewer.
+/// Writes positions, and returns how many: 128, the most that a `Place` stores, or fewer.
 fn write_place(to: &mut [u64; 128], place: &Place) -> u32
     ensures { take result to.new ≡ take 128 place.now }
 {

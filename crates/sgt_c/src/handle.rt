@@ -8,16 +8,16 @@ use crate::slot::Slot;
 use std::alloc::Global;
 use std::mem::replace;
 
-/// The state of a handle that holds nothing.
+/// The state of a handle that is empty.
 const CLOSED: u8 = 0;
 
-/// The state of one that holds an engine.
+/// The state of a handle that holds an engine.
 const OPEN: u8 = 1;
 
-/// The state of one whose engine a call has taken out.
+/// The state of a handle whose engine is taken out by a running call.
 const BUSY: u8 = 2;
 
-/// What C holds of an engine: all bytes zero before `sgt_open` and behind `sgt_close`.
+/// The engine, as C holds it: all bytes are zero before `sgt_open` and after `sgt_close`.
 #[repr(C)]
 #[derive(Drop)]
 pub struct Handle {
@@ -38,7 +38,7 @@ impl Handle {
         }
     }
 
-    // One that holds nothing, as a call has taken the engine out.
+    // A busy handle: a call has taken the engine out.
     fn busy(alloc: Global) -> Handle
         ensures held { result.slot.held ≡ None }
         ensures busy { IsBusy result.state }
@@ -78,7 +78,7 @@ impl Handle {
         Some(slot.into_engine())
     }
 
-    /// Puts an engine in, where there is none. No call is in the handle behind it.
+    /// Puts an engine into a handle that has none. The handle is not busy afterwards.
     pub fn put(&mut self, engine: Box<Held>)
         requires { self.old.slot.held ≡ None }
         ensures held { self.new.slot.held ≡ Some engine.value }

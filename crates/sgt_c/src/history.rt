@@ -1,4 +1,4 @@
-//! The history: how many entries it has, what they say, and the room for more.
+//! The history: its length, its entries, and memory reserved for more.
 ghost use Rattle.std.specs.Prelude.{◌≡◌, ◌≢◌, ◌≤◌, ◌↔◌, None, IfSome, length};
 ghost use Rattle.sgt_c.specs.Entries.{ReturnsEntry, HasNoEntry};
 ghost use Rattle.sgt_c.specs.Handles.{IsBusy};
@@ -10,7 +10,7 @@ use crate::status;
 use sgt_model::NoMemory;
 use std::alloc::Global;
 
-/// How many events were answered since the opening.
+/// The number of entries in the history: one for each event.
 ///
 /// `BUSY`; `CLOSED`.
 #[unsafe(no_mangle)]
@@ -35,9 +35,10 @@ pub extern "C" fn sgt_entries(alloc: Global, engine: &mut Handle, count: &mut u6
     status::OK
 }
 
-/// The entry at a place of the history, counted from 0, oldest first: what was asked, and what was answered.
+/// The entry at a position of the history: the event and its reply. Positions are counted from 0, oldest first.
 ///
-/// `BUSY`; `CLOSED`; `NONE` where there are not so many entries.
+/// - `BUSY`; `CLOSED`.
+/// - `NONE`: the history ends before this position.
 #[unsafe(no_mangle)]
 pub extern "C" fn sgt_entry(
     alloc: Global,
@@ -75,8 +76,8 @@ pub extern "C" fn sgt_entry(
     }
 }
 
-/// Takes memory for so many more entries, but for what their lists will hold, so that those that are there need not be moved
-/// until then. Nothing else changes.
+/// Allocates memory for this many more entries, so that the present ones are not moved until then. The lists in new
+/// entries are not counted in. Nothing else changes.
 ///
 /// `NO_MEMORY`; `BUSY`; `CLOSED`.
 #[unsafe(no_mangle)]

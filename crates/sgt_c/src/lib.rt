@@ -1,12 +1,12 @@
-//! The engine of the program, to be called from C and from languages that call C: a static library.
+//! The engine of the program, for C and for languages that call C: a static library.
 //!
-//! C keeps an engine in a handle, [`Handle`], which is all zero bytes before `sgt_open` and after `sgt_close`. Each call returns a
-//! status, and writes the reply to an event into an [`SgtReply`], the `sgt_reply` of `sgt.h`. A refusal such as `full` or `waits` is a
-//! reply, and no status. The contracts say of the engine in the handle what `Engine` says of itself. There is no lock and no
-//! thread: a caller with threads puts one lock around each call.
+//! C keeps an engine in a handle, [`Handle`]. It is all zero bytes before `sgt_open` and after `sgt_close`. Each call
+//! returns a status. The reply to an event is written into an [`SgtReply`], the `sgt_reply` of `sgt.h`. A refusal such
+//! as `full` or `waits` is a reply, not a status. The contracts say of the engine in the handle what `Engine` says of
+//! itself. The library has no lock and no thread: a caller with threads puts one lock around each call.
 //!
-//! It reads no line but an opening and a procedure, and hands out no memory. The header for C, and what a caller owes, stand in
-//! `bindings/sgt.h`.
+//! The only texts that it parses are an opening and a procedure. It hands out no memory. The header for C, and the
+//! duties of a caller, are in `bindings/sgt.h`.
 //!
 //! ```
 //! let mut engine = Handle::closed(alloc);

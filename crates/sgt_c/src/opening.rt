@@ -12,9 +12,12 @@ use sgt_assembly::open_engine;
 use sgt_format::{OpeningError, read_opening};
 use std::alloc::Global;
 
-/// Opens an engine in a closed handle, of an opening's bytes as the first line of a script has them, without its end.
+/// Opens an engine in a closed handle. The bytes are an opening: the first line of a script, without its end.
 ///
-/// `NO_MEMORY`; `BUSY`, tested first; `OPEN` where the handle is open; from 16 on a fault of the opening, which is told.
+/// - `BUSY`, tested first.
+/// - `OPEN`: the handle is open.
+/// - `NO_MEMORY`: an allocation failed.
+/// - From 16 on: a fault of the opening, which is written to `fault`.
 #[unsafe(no_mangle)]
 pub extern "C" fn sgt_open(
     alloc: Global,
@@ -58,7 +61,8 @@ fn make(alloc: Global, opening: &[u8]) -> Result<Box<Held>, OpeningError>
     Ok(Held::boxed(alloc, engine)?)
 }
 
-/// Closes the handle, and frees all that the engine held. A closed one stays closed, and a busy one is left as it is.
+/// Closes the handle, and frees all memory of the engine. A closed handle stays closed, and a busy one is left as it
+/// is.
 #[unsafe(no_mangle)]
 pub extern "C" fn sgt_close(alloc: Global, engine: &mut Handle)
     ensures closed { engine.new.slot.held ≡ None }

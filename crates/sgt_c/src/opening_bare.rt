@@ -1,4 +1,4 @@
-//! Opening a handle with nothing but limits.
+//! Opening a handle with limits only.
 ghost use Rattle.std.specs.Prelude.{◌≡◌, ◌≢◌, ◌≤◌, ◌↔◌, [], None, IsNone, IsSome, IfSome, IfOk};
 ghost use Rattle.sgt_model.specs.Bounds.{AreInRange};
 ghost use Rattle.sgt_engine.specs.EngineView.{made_of};
@@ -12,10 +12,13 @@ use sgt_assembly::SgtEngine;
 use sgt_model::{Asks, Database, Limits, MOST_BEGINS, MOST_LIVE, MakeError, NoMemory};
 use std::alloc::Global;
 
-/// Opens an engine in a closed handle with these three limits, without records and without procedures: SmallBank's are not in it.
-/// Rows and procedures are added by `sgt_put` and `sgt_procedure`, and procedures are numbered from 0.
+/// Opens an engine in a closed handle with these three limits. It has no records and no procedures, not even those of
+/// SmallBank. Add rows with `sgt_put` and procedures with `sgt_procedure`, which numbers them from 0.
 ///
-/// `BUSY`, tested first; `OPEN` where the handle is open; then `BAD_LIMITS` where a limit is out of its range; `NO_MEMORY`.
+/// - `BUSY`, tested first.
+/// - `OPEN`: the handle is open.
+/// - `BAD_LIMITS`, tested next: a limit is out of its range.
+/// - `NO_MEMORY`: an allocation failed.
 #[unsafe(no_mangle)]
 pub extern "C" fn sgt_open_bare(
     alloc: Global,
@@ -80,7 +83,7 @@ fn limits(live: u64, begins: u64, asks: u64) -> Option<Limits>
     })
 }
 
-/// An engine of these limits, without records and procedures.
+/// An engine with these limits, without records and procedures.
 fn make(alloc: Global, limits: Limits) -> Result<Box<Held>, NoMemory>
     requires { AreInRange limits }
     ensures opened { IfOk result (λ h. h.value.engine ≡ made_of [] [] limits) }

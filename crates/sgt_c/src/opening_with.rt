@@ -1,4 +1,4 @@
-//! Opening a handle on rows of the caller's.
+//! Opening a handle with rows of the caller.
 ghost use Rattle.std.specs.Prelude.{◌≡◌, ◌≢◌, ◌≤◌, ◌↔◌, None, IsSome, IfSome, IfOk, IfErr, OnOk};
 ghost use Rattle.std.specs.List.{All};
 ghost use Rattle.sgt_model.specs.Contents.{Key, put_in};
@@ -18,12 +18,15 @@ use sgt_format::{OpeningError, read_opening};
 use sgt_model::{Database, NoMemory};
 use std::alloc::Global;
 
-/// Opens an engine as `sgt_open` does, where these rows are put into the database that the opening's accounts make, one after
-/// another: each in place of the value that its key has, or as a new one. So an engine goes on from a database that is kept
-/// elsewhere.
+/// Opens an engine as `sgt_open` does, and then writes these rows into the database of the opening's accounts, one
+/// after another. Each row replaces the value of its key, or is a new record. Use it to continue from a database that
+/// is stored elsewhere.
 ///
-/// `BUSY`, tested first; `OPEN` where the handle is open; then `BAD_CALL` where a row is out of its range; `NO_MEMORY`; from 16 on a
-/// fault of the opening, which is told.
+/// - `BUSY`, tested first.
+/// - `OPEN`: the handle is open.
+/// - `BAD_CALL`, tested next: a row is out of its range.
+/// - `NO_MEMORY`: an allocation failed.
+/// - From 16 on: a fault of the opening, which is written to `fault`.
 #[unsafe(no_mangle)]
 pub extern "C" fn sgt_open_with(
     alloc: Global,
@@ -61,7 +64,7 @@ pub extern "C" fn sgt_open_with(
     }
 }
 
-/// The engine of the opening that these bytes spell, with these rows put into its database.
+/// The engine of the opening that these bytes spell, with these rows written into its database.
 fn make(alloc: Global, opening: &[u8], rows: &[SgtRow]) -> Result<Box<Held>, OpeningError>
     requires { All IsRow rows.now }
     ensures opened { IfOk result (λ h. OpenedWith opening.now rows.now h.value.engine) }
@@ -74,7 +77,7 @@ fn make(alloc: Global, opening: &[u8], rows: &[SgtRow]) -> Result<Box<Held>, Ope
     Ok(Held::boxed(alloc, engine)?)
 }
 
-/// Puts rows into a database, one after another.
+/// Writes rows into a database, one after another.
 fn put_rows(database: &mut Database, rows: &[SgtRow]) -> Result<(), NoMemory>
     requires { All IsRow rows.now }
     ensures { OnOk result ((k : Key) → contents_of database.new k ≡ with_rows (contents_of database.old) rows.now k) }
@@ -85,7 +88,7 @@ fn put_rows(database: &mut Database, rows: &[SgtRow]) -> Result<(), NoMemory>
     Ok(())
 }
 
-/// Puts a row in, in place of the value that its key has, or as a new one.
+/// Writes a row: it replaces the value of its key, or is a new record.
 fn put_row(database: &mut Database, row: &SgtRow) -> Result<(), NoMemory>
     requires { IsRow row.now }
     ensures { OnOk result ((k : Key) →

@@ -1,4 +1,4 @@
-//! What a run was answered, for C.
+//! The outcome of a run, for C.
 ghost use Rattle.std.specs.Prelude.{◌≡◌};
 ghost use Rattle.sgt_c.specs.ReplyStructs.{HoldsReply};
 ghost use Rattle.sgt_c.specs.Runs.{IsNumberTold};
@@ -7,7 +7,7 @@ use crate::reply_struct::{SgtReply, write_reply};
 use crate::run::Outcome;
 use sgt_model::Tid;
 
-/// What a run was answered, for C: the number of its transaction, if one was started, and its last reply.
+/// The outcome of a run, for C: the number of its transaction, if one was started, and its last reply.
 #[repr(C)]
 #[derive(Drop)]
 pub struct SgtOutcome {
@@ -17,7 +17,7 @@ pub struct SgtOutcome {
 }
 
 impl SgtOutcome {
-    /// An outcome for C.
+    /// The struct of an outcome.
     pub fn of(outcome: &Outcome) -> SgtOutcome
         ensures tid { IsNumberTold outcome.now.started result.tid }
         ensures reply { HoldsReply result.reply outcome.now.last }

@@ -12,11 +12,14 @@ use sgt_format::{OpeningError, read_procedure_line};
 use sgt_model::NoMemory;
 use std::alloc::Global;
 
-/// Adds the procedure that a text spells, as one of an opening's list, behind the others, where the history is empty. Its number is
-/// written to `number`.
+/// Adds the procedure that a text spells, as one item of an opening's list. The history must be empty. The procedure
+/// comes after the others, and its number is written to `number`.
 ///
-/// `BUSY`; `CLOSED`; `BEGUN` where there is a history; `TOO_MANY` where no number is left, of 65536; from 16 on a fault of the text,
-/// which is told of the number that the procedure was to have; `NO_MEMORY`.
+/// - `BUSY`; `CLOSED`.
+/// - `BEGUN`: there is a history.
+/// - `TOO_MANY`: all 65536 numbers are used.
+/// - From 16 on: a fault of the text, which is written to `fault` with the number that the procedure was to get.
+/// - `NO_MEMORY`: an allocation failed.
 #[unsafe(no_mangle)]
 pub extern "C" fn sgt_procedure(
     alloc: Global,
@@ -64,11 +67,11 @@ pub enum Unadded {
     Begun,
     /// No number is left.
     TooMany,
-    /// The text spells none, or a growth was refused.
+    /// The text spells none, or an allocation failed.
     Refused(OpeningError),
 }
 
-/// Adds the procedure that a text spells to an engine, and answers its number.
+/// Adds the procedure that a text spells to an engine, and returns its number.
 fn add(alloc: Global, held: &mut Held, text: &[u8]) -> Result<u16, Unadded>
     ensures added { IfOk result (IsAdded held.old text.now held.new) }
     ensures refused { IfErr result (IsRefusal held.old.engine text.now) }

@@ -1,4 +1,4 @@
-//! Putting the caller's rows into the opening database.
+//! Adding the caller's rows to the initial database.
 ghost use Rattle.std.specs.Prelude.{◌≡◌, ◌≢◌, ◌≤◌, ◌↔◌, [], Err, None, IfErr, IfOk, OnOk, OnErr, map};
 ghost use Rattle.std.specs.List.{All};
 ghost use Rattle.sgt_model.specs.Databases.{HasValues};
@@ -15,12 +15,16 @@ use sgt_engine::PutError;
 use sgt_model::{Key, NoMemory};
 use std::alloc::Global;
 
-/// Puts rows into the opening database, where the history is empty: values at keys that have none. So an engine is opened on the
-/// caller's own store, also bit by bit. It goes once through all records, and takes memory for them and for the rows meanwhile.
+/// Adds rows to the initial database: values at keys that have none. The history must be empty. Use it to open an
+/// engine on your own store, in one call or in several. The call scans all records, and allocates memory for them and
+/// for the rows meanwhile.
 ///
-/// `BAD_CALL` where a row is out of its range, tested first: the place of the first one is written to `at`; `BUSY`; `CLOSED`; `BEGUN`
-/// where there is a history; `TAKEN` where the key of a row has a value, or that of a row before it: the place of the first such
-/// row is written to `at`; `NO_MEMORY`.
+/// - `BAD_CALL`, tested first: a row is out of its range; the index of the first such row is written to `at`.
+/// - `BUSY`; `CLOSED`.
+/// - `BEGUN`: there is a history.
+/// - `TAKEN`: the key of a row has a value, or is the key of an earlier row; the index of the first such row is written
+/// to `at`.
+/// - `NO_MEMORY`: an allocation failed.
 #[unsafe(no_mangle)]
 pub extern "C" fn sgt_put(alloc: Global, engine: &mut Handle, rows: &[SgtRow], at: &mut u64) -> u32
     ensures put { result ≡ 0 → Put engine.old.slot.held rows.now engine.new.slot.held }
@@ -59,7 +63,7 @@ pub extern "C" fn sgt_put(alloc: Global, engine: &mut Handle, rows: &[SgtRow], a
     }
 }
 
-/// Puts rows into the opening database of an engine.
+/// Adds rows to the initial database of an engine.
 fn put(alloc: Global, held: &mut Held, rows: &[SgtRow]) -> Result<(), PutError>
     requires { All IsRow rows.now }
     ensures put { OnOk result (PutsRows held.old.engine (map row_of rows.now) held.new.engine) }

@@ -1,4 +1,4 @@
-//! What is committed.
+//! Committed values.
 ghost use Rattle.std.specs.Prelude.{◌≡◌, ◌≢◌, ◌≤◌, ◌↔◌, Some, None, IsSome, IfSome};
 ghost use Rattle.sgt_model.specs.Databases.{contents_of};
 ghost use Rattle.sgt_model.specs.Numbers.{IsValue};
@@ -12,9 +12,11 @@ use crate::handle::Handle;
 use crate::status;
 use std::alloc::Global;
 
-/// The committed value of a record: the last one that a committed transaction stored, else the opening's.
+/// The committed value of a record: that of the last committed transaction that wrote it, else the initial one.
 ///
-/// `BAD_CALL` where the table is over 7 or the number is no value, tested first; `BUSY`; `CLOSED`; `NONE` where there is no such record.
+/// - `BAD_CALL`, tested first: the table is over 7, or the number is no value.
+/// - `BUSY`; `CLOSED`.
+/// - `NONE`: there is no such record.
 #[unsafe(no_mangle)]
 pub extern "C" fn sgt_get(
     alloc: Global,

@@ -15,13 +15,15 @@ use sgt_log::{EntryRef, History};
 use sgt_model::{Args, Event, Reply, Tid};
 use std::alloc::Global;
 
-/// The calls of the committed and refused transactions from a place of the history on, in the order of their replies, each with
-/// what it was told: the list that the headline runs one after another. As many are written into `calls` as it has room for.
-/// `count` says how many there are, and `next` the place from which the next call goes on.
+/// The calls of the committed and refused transactions from a position of the history on, in the order of their
+/// replies, each with its result. The headline runs this list one after another. At most as many calls are written as
+/// `calls` holds. `count` is their number, and `next` the position from which the next call continues.
 ///
-/// It reads the entries from `from` to `next`, and for each call that it finds the entries back to the transaction's start.
+/// It reads the entries from `from` to `next`, and for each call that it finds the entries back to the transaction's
+/// start.
 ///
-/// `BUSY`; `CLOSED`; `NONE` where the history has not so many entries before the place.
+/// - `BUSY`; `CLOSED`.
+/// - `NONE`: the history has fewer entries than this position.
 #[unsafe(no_mangle)]
 pub extern "C" fn sgt_calls(
     alloc: Global,
@@ -62,14 +64,14 @@ pub extern "C" fn sgt_calls(
     }
 }
 
-/// How many calls were written, and up to which place the entries were read.
+/// How many calls were written, and up to which position the entries were read.
 #[derive(Clone, Copy)]
 struct Passed {
     count: usize,
     next: usize,
 }
 
-/// Writes the calls from a place on, as many as there is room for, unless the history ends before the place.
+/// Writes the calls from a position on, at most as many as fit. None if the history has fewer entries than the position.
 fn pass(history: &History, from: u64, to: &mut [SgtCall]) -> Option<Passed>
     ensures passed { IfSome result (λ p. ArePassed history.now.entries from to.new p.count p.next) }
     ensures rest { IfSome result (λ p. drop p.count to.new ≡ drop p.count to.old) }
@@ -83,7 +85,7 @@ fn pass(history: &History, from: u64, to: &mut [SgtCall]) -> Option<Passed>
     Some(pass_from(history, from as usize, to))
 }
 
-/// The same from a place that the history reaches.
+/// The same from a position within the history.
 fn pass_from(history: &History, from: usize, to: &mut [SgtCall]) -> Passed
     requires { from ≤ length history.now.entries }
     ensures passed { ArePassed history.now.entries from to.new result.count result.next }
@@ -99,7 +101,7 @@ fn pass_from(history: &History, from: usize, to: &mut [SgtCall]) -> Passed
     Passed { count, next }
 }
 
-/// Puts a call, if there is one, behind so many others, and returns how many there are.
+/// Writes a call, if there is one, at this index, and returns how many calls there are.
 fn put(to: &mut [SgtCall], count: usize, call: Option<SgtCall>) -> usize
     requires { count < length to.old }
     ensures put { take result to.new ≡ take count to.old ++ listed (λ call. call) call }
@@ -116,7 +118,7 @@ fn put(to: &mut [SgtCall], count: usize, call: Option<SgtCall>) -> usize
     }
 }
 
-/// The call of the transaction that the entry at a place commits or refuses, if it does.
+/// The call of the transaction that the entry at a position commits or refuses, if any.
 fn told_at(history: &History, place: usize) -> Option<SgtCall>
     requires { place < length history.now.entries }
     ensures { IsToldAt history.now.entries place result }
@@ -125,7 +127,7 @@ fn told_at(history: &History, place: usize) -> Option<SgtCall>
     told_by(history, place, &entry)
 }
 
-/// The call of the transaction that an entry commits or refuses behind the entries before a place, if it does.
+/// The call of the transaction that an entry commits or refuses, if any. The entry follows those before a position.
 fn told_by(history: &History, place: usize, entry: &EntryRef<'_>) -> Option<SgtCall>
     requires { place ≤ length history.now.entries }
     ensures calls { told_call_in (past_at history.now.entries place) entry.now.event entry.now.reply ≡ listed call_in result }
@@ -156,7 +158,7 @@ fn subject(entry: &EntryRef<'_>) -> Tid
     }
 }
 
-/// What a transaction was started with in the entries before a place. It reads them from the newest on, up to its start.
+/// What a transaction was started with in the entries before a position. It reads them from the newest to the start.
 fn started(history: &History, place: usize, t: Tid) -> Started
     requires { place ≤ length history.now.entries }
     ensures { call_of (past_at history.now.entries place) t ≡ called result }

@@ -1,4 +1,4 @@
-//! Which reply the fields of one say.
+//! Which reply the fields of a struct say.
 ghost use Rattle.std.specs.Prelude.{◌≡◌, ◌≤◌, take, Some, IfSome};
 ghost use Rattle.sgt_model.specs.declared.reply.Reply.{Reply};
 ghost use Rattle.sgt_c.specs.ReplyStructs.{HoldsCause, HoldsFate, HoldsFound};
@@ -7,7 +7,7 @@ ghost use Rattle.sgt_c.specs.ReplyReadings.{HoldsValidReply, IsCause, IsFate, co
 use crate::reply_struct::SgtReply;
 use sgt_model::{Answers, Cause, Fate, Key, Reply, Tid, Tids};
 
-/// The reply that the fields hold, or none where they hold none.
+/// The reply that the fields say, if they say one.
 #[tactic(auto, using(crate::proofs::Readings::reply_reads))]
 pub fn reply_of(fields: &SgtReply) -> Option<Reply>
     ensures valid { IfSome result (HoldsValidReply fields.now) }

@@ -5,22 +5,24 @@ ghost use Rattle.sgt_c.specs.ReplyStructs.{HoldsReply, HoldsCause};
 
 use sgt_model::{Answers, Cause, Fate, Key, Reply, Tids};
 
-/// What an event was answered, for C. `kind` says which of the other fields are of this reply.
+/// The reply to an event, for C. `kind` says which of the other fields belong to it.
 #[repr(C)]
 #[derive(Drop)]
 pub struct SgtReply {
     pub kind: u32,
-    /// Of an abort, or of how a transaction is over: 1 a cycle, 2 a code, 3 a quit; 4 a fall, and 0 a commit.
+    /// Of an abort, or of how a transaction ended: 1 a cycle, 2 a code, 3 an abort by the caller; 4 a cascading abort,
+    /// and 0 a commit.
     pub cause: u32,
-    /// The transaction that was started, that is waited for, or whose abort began the fall.
+    /// The transaction that was started, that is waited for, or whose abort began the cascade.
     pub tid: u32,
     pub code: u32,
     pub table: u32,
-    /// Whether a look found a value: 1 or 0.
+    /// Whether a read found a value: 1 or 0.
     pub found: u32,
     pub number: i64,
     pub value: i64,
-    /// How many there are of `answer`, of `walk` and of `fell`; and `spare`, which is nothing.
+    /// How many items `answer`, `walk` (the cycle's path) and `fell` (aborted in cascade) have; and `spare`, which is
+    /// unused.
     pub answers: u32,
     pub walked: u32,
     pub fallen: u32,
@@ -31,7 +33,7 @@ pub struct SgtReply {
 }
 
 impl SgtReply {
-    /// One that says nothing.
+    /// A blank struct, which says no reply.
     pub fn blank() -> SgtReply
         ensures { result.kind ≡ 0 }
     {

@@ -16,7 +16,7 @@ pub struct SgtRow {
     pub value: i64,
 }
 
-/// The place of the first row that is out of its range.
+/// The index of the first row that is out of its range.
 pub fn first_bad(rows: &[SgtRow]) -> Option<usize>
     ensures all { IsNone result ↔ All IsRow rows.now }
     ensures first { IfSome result (IsFirstBad rows.now) }

@@ -11,10 +11,12 @@ use crate::status;
 use sgt_model::{Key, NoMemory};
 use std::alloc::Global;
 
-/// The committed database from a key on, by table and then by number: into `rows` go the first of its rows, as many as there is
-/// room for, and into `count` how many there are. It goes once through all records, and takes memory for them meanwhile.
+/// The committed database from a key on, by table and then by number. The first rows are written to `rows`, as many as
+/// fit. `count` is the number of all rows from there. The call scans all records, and allocates memory for them
+/// meanwhile.
 ///
-/// `BAD_CALL` where the table is over 7 or the number is no value, tested first; `BUSY`; `CLOSED`; `NO_MEMORY`.
+/// - `BAD_CALL`, tested first: the table is over 7, or the number is no value.
+/// - `BUSY`; `CLOSED`; `NO_MEMORY`.
 #[unsafe(no_mangle)]
 pub extern "C" fn sgt_rows(
     alloc: Global,
@@ -58,7 +60,7 @@ pub extern "C" fn sgt_rows(
     }
 }
 
-/// How many records the committed database has. It goes once through all of them, and takes memory for them meanwhile.
+/// How many records the committed database has. The call scans all records, and allocates memory for them meanwhile.
 ///
 /// `BUSY`; `CLOSED`; `NO_MEMORY`.
 #[unsafe(no_mangle)]
@@ -89,7 +91,7 @@ pub extern "C" fn sgt_records(alloc: Global, engine: &mut Handle, count: &mut u6
     }
 }
 
-/// The rows from the first on whose key does not come before this one.
+/// The rows from the first key that is not less than this one.
 fn rows_from(rows: &[(Key, i64)], key: Key) -> &[(Key, i64)]
     ensures { result.now ≡ rows_from key rows.now }
 {
@@ -100,7 +102,7 @@ fn rows_from(rows: &[(Key, i64)], key: Key) -> &[(Key, i64)]
     &rows[before..]
 }
 
-/// Writes rows for C, as many as there is room for, and leaves the rest.
+/// Writes rows for C, as many as fit, and leaves the rest.
 fn write_rows(to: &mut [SgtRow], rows: &[(Key, i64)])
     ensures returned { HoldRows to.new rows.now }
     ensures rest { drop (length rows.now) to.new ≡ drop (length rows.now) to.old }

@@ -1,4 +1,4 @@
-//! A transaction that is run from its start to its end by one call.
+//! A transaction that one call runs from its start to its end.
 ghost use Rattle.std.specs.Prelude.{◌≡◌, ◌≢◌, ◌≤◌, ◌↔◌, ℕ, true, None, Option, IfOk, OnErr};
 ghost use Rattle.sgt_model.specs.declared.event.Event.TheVariants.{Start, Quit};
 ghost use Rattle.sgt_model.specs.declared.reply.Reply.{Reply};
@@ -16,12 +16,13 @@ use sgt_assembly::SgtEngine;
 use sgt_model::{Args, Event, NoMemory, Reply, Tid};
 use std::alloc::Global;
 
-/// Runs a procedure from its start to its commit, for a caller whose transactions need not run side by side. The last reply is
-/// told: that to the commit, to the step at which the transaction was aborted, or to the start that was refused. Each event is
-/// an entry. The number of a transaction that was started is written to `tid`.
+/// Runs a procedure from its start to its commit, for a caller whose transactions need not run concurrently. The last
+/// reply is returned: to the commit, to the step that aborted the transaction, or to the start that was refused. Each
+/// event is an entry of the history. The number of a transaction that was started is written to `tid`.
 ///
-/// `NO_MEMORY`, where nothing has changed, or the transaction that was started is quit; `BUSY`; `CLOSED`; `BAD_CALL` where there are over
-/// 4 arguments, tested first.
+/// - `BAD_CALL`, tested first: there are over 4 arguments.
+/// - `BUSY`; `CLOSED`.
+/// - `NO_MEMORY`: nothing has changed, or the transaction that was started is aborted.
 #[unsafe(no_mangle)]
 pub extern "C" fn sgt_run(
     alloc: Global,
@@ -68,14 +69,14 @@ pub extern "C" fn sgt_run(
     }
 }
 
-/// What a run was answered: the number of its transaction, if one was started, and the last reply.
+/// The outcome of a run: the number of its transaction, if one was started, and the last reply.
 #[derive(Drop)]
 pub struct Outcome {
     pub started: Option<Tid>,
     pub last: Reply,
 }
 
-/// Runs a procedure from its start to its commit. Where a growth is refused behind the start, the transaction is quit.
+/// Runs a procedure from its start to its commit. If an allocation fails after the start, the transaction is aborted.
 pub fn run(engine: &mut SgtEngine, procedure: u16, args: Args) -> Result<Outcome, NoMemory>
     ensures ran { IfOk result (λ r. Runs (Start procedure args) r.started r.last engine.old engine.new) }
     ensures gave_up { OnErr result
@@ -99,7 +100,7 @@ pub fn run(engine: &mut SgtEngine, procedure: u16, args: Args) -> Result<Outcome
     }
 }
 
-/// Steps a live transaction to its end, and commits it where it comes to it. The last reply is answered.
+/// Steps a live transaction to its end, and commits it if it reaches it. The last reply is returned.
 fn run_on(engine: &mut SgtEngine, t: Tid) -> Result<Reply, NoMemory>
     requires { live engine.old.past t ≡ true }
     ensures ran { IfOk result (λ last. RunsOn t last engine.old engine.new) }
@@ -113,7 +114,7 @@ fn run_on(engine: &mut SgtEngine, t: Tid) -> Result<Reply, NoMemory>
     }
 }
 
-/// Steps a live transaction until a step makes no access, and answers what that one was answered.
+/// Steps a live transaction until a step makes no access, and returns the reply to that step.
 fn step_on(engine: &mut SgtEngine, t: Tid) -> Result<Reply, NoMemory>
     requires { live engine.old.past t ≡ true }
     ensures stepped { IfOk result (λ r. StepsOn t r engine.old engine.new) }
@@ -126,11 +127,11 @@ fn step_on(engine: &mut SgtEngine, t: Tid) -> Result<Reply, NoMemory>
             return Ok(reply);
         }
     }
-    // There is no memory for a history of so many entries.
+    // No memory can hold a history of so many entries.
     Err(NoMemory)
 }
 
-/// Quits a live transaction, which takes no memory.
+/// Aborts a live transaction (`quit`), which takes no memory.
 fn quit(engine: &mut SgtEngine, t: Tid)
     requires { live engine.old.past t ≡ true }
     ensures { (r : Reply) × (engine.new ≡ with_entry (Quit t) r engine.old) }

@@ -15,12 +15,14 @@ use sgt_assembly::SgtEngine;
 use sgt_model::{Args, NoMemory};
 use std::alloc::Global;
 
-/// Runs calls one after another, each from its start to its commit as `sgt_run` does. Of a call the procedure and the arguments
-/// count. The outcome of each is written to its place in `outcomes`, and how many were run to `done`.
+/// Runs calls one after another, each from its start to its commit as `sgt_run` does. Only the procedure and the
+/// arguments of a call count. Each outcome is written at its call's index in `outcomes`. The number of calls that ran
+/// is written to `done`.
 ///
-/// `BAD_CALL` where the number of a procedure is over 65535, or a call has over 4 arguments, or there are fewer outcomes than calls,
-/// tested first; `BUSY`; `CLOSED`; `NO_MEMORY`, where the calls before number `done` have run, and of that one nothing has changed, or the
-/// transaction that was started is quit.
+/// - `BAD_CALL`, tested first: a procedure number is over 65535, a call has over 4 arguments, or there are fewer
+///   outcomes than calls.
+/// - `BUSY`; `CLOSED`.
+/// - `NO_MEMORY`: the calls before number `done` ran. Of that call nothing has changed, or its transaction is aborted.
 #[unsafe(no_mangle)]
 pub extern "C" fn sgt_run_many(
     alloc: Global,
@@ -70,7 +72,7 @@ pub extern "C" fn sgt_run_many(
     }
 }
 
-/// Whether each call may be asked for.
+/// Whether each call is valid: its procedure number and its number of arguments.
 fn are_asked(calls: &[SgtCall]) -> bool
     ensures { IsTrue result ↔ All IsAsked calls.now }
 {
@@ -88,7 +90,7 @@ fn is_asked(call: &SgtCall) -> bool
     call.procedure <= 65_535 && call.args <= 4
 }
 
-/// Runs calls one after another. Where memory is refused, the place of that call is the error.
+/// Runs calls one after another. If an allocation fails, the index of that call is the error.
 fn run_each(
     engine: &mut SgtEngine,
     calls: &[SgtCall],
@@ -111,7 +113,7 @@ fn run_each(
     Ok(())
 }
 
-/// Runs a call, and gives its outcome for C.
+/// Runs a call, and returns its outcome for C.
 fn run_one(engine: &mut SgtEngine, call: &SgtCall) -> Result<SgtOutcome, NoMemory>
     requires { IsAsked call.now }
     ensures ran { IfOk result (λ outcome. RanOne call.now outcome engine.old engine.new) }

@@ -1,4 +1,4 @@
-//! Room for one engine in a struct of C.
+//! Space for one engine in a struct of C.
 ghost use Rattle.std.specs.Prelude.{◌≡◌, Option, Some, None, IsSome};
 ghost use Rattle.sgt_c.specs.declared.held.Held.{Held};
 ghost use Rattle.sgt_c.specs.SlotOwnership.{slot_owns, slot_coded};
@@ -11,7 +11,7 @@ use std::marker::{Model, Send};
 use std::ptr::null_mut;
 use unboxed::Unboxed;
 
-/// Room for a `Box<Held>`, as a pointer that names no type. It is empty or holds one.
+/// Space for a `Box<Held>`, as a pointer without a type. It is empty or holds one.
 #[repr(C)]
 #[derive(Drop)]
 pub struct Slot {
@@ -24,11 +24,11 @@ impl Model for Slot {
     ghost also_owns = { λ s. slot_owns s.alloc s.at s.held };
 }
 
-/// It may go to another thread, as the engine that it holds may.
+/// It may move to another thread, as the engine in it may.
 unsafe impl Send for Slot {}
 
 impl Slot {
-    /// A slot that holds nothing.
+    /// A slot that is empty.
     pub fn empty(alloc: Global) -> Slot
         ensures { result.held ≡ None }
     {
@@ -45,7 +45,7 @@ impl Slot {
         Slot::cast(Unboxed::of(engine))
     }
 
-    /// The engine out of a slot that holds one.
+    /// The engine of a slot that holds one.
     pub fn into_engine(self) -> Box<Held>
         requires { IsSome self.held }
         ensures { Some result.value ≡ self.held }

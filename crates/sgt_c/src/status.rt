@@ -1,15 +1,15 @@
-//! What a call answers: a status. Those from 16 on are faults of an opening.
+//! The status that a call returns. Those from 16 on are faults of an opening.
 
-/// The call was carried out.
+/// The call succeeded.
 pub const OK: u32 = 0;
 
-/// A growth was refused, and nothing has changed.
+/// An allocation failed, and nothing has changed.
 pub const NO_MEMORY: u32 = 1;
 
 /// The handle is closed.
 pub const CLOSED: u32 = 2;
 
-/// The handle is open already.
+/// The handle is already open.
 pub const OPEN: u32 = 3;
 
 /// There is no such record.
@@ -21,10 +21,10 @@ pub const BAD_CALL: u32 = 5;
 /// A transaction is live.
 pub const STILL_LIVE: u32 = 6;
 
-/// There is a history already.
+/// There is already a history.
 pub const BEGUN: u32 = 7;
 
-/// The key of a row has a value already.
+/// The key of a row already has a value.
 pub const TAKEN: u32 = 8;
 
 /// No number is left for a procedure.
@@ -33,7 +33,7 @@ pub const TOO_MANY: u32 = 9;
 /// Another call is in the engine.
 pub const BUSY: u32 = 10;
 
-/// The opening is no JSON.
+/// The opening is not JSON.
 pub const NOT_JSON: u32 = 16;
 
 /// The opening is JSON of another shape.
@@ -45,7 +45,7 @@ pub const BAD_LIMITS: u32 = 18;
 /// An account has a fault.
 pub const BAD_OPENING: u32 = 19;
 
-/// A procedure spells none.
+/// A procedure has a shape error.
 pub const PROC_SHAPE: u32 = 20;
 
 /// A procedure has a flaw.

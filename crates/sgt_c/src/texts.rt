@@ -12,10 +12,12 @@ use crate::fault_struct::SgtFault;
 use crate::reply_struct::SgtReply;
 use std::alloc::Global;
 
-/// The text of a reply, as a script's line has it, without the line's end. It is written whole where there is room for it, and
-/// else not at all; its length is told in both cases. It takes memory for it meanwhile.
+/// Writes the text of a reply, as in a line of a script, without the line's end. The text is written whole if it fits,
+/// and else not at all. Its length is written to `length` in both cases. The call allocates memory for the text and
+/// frees it.
 ///
-/// `BAD_CALL` where the fields tell no reply; `NO_MEMORY`.
+/// - `BAD_CALL`: the fields say no reply.
+/// - `NO_MEMORY`: an allocation failed.
 #[unsafe(no_mangle)]
 pub extern "C" fn sgt_reply_text(
     alloc: Global,
@@ -31,10 +33,11 @@ pub extern "C" fn sgt_reply_text(
     write_reply_text(alloc, reply, text, length)
 }
 
-/// The text of a fault, as the program tells one of line 1. It is written whole where there is room for it, and else not at
-/// all; its length is told in both cases. It takes memory for it meanwhile.
+/// Writes the text of a fault, as the program reports it for line 1. The text is written whole if it fits, and else not
+/// at all. Its length is written to `length` in both cases. The call allocates memory for the text and frees it.
 ///
-/// `BAD_CALL` where the kind is no fault's; `NO_MEMORY`.
+/// - `BAD_CALL`: the kind is not that of a fault.
+/// - `NO_MEMORY`: an allocation failed.
 #[unsafe(no_mangle)]
 pub extern "C" fn sgt_fault_text(
     alloc: Global,

@@ -1,4 +1,4 @@
--- What the tokens of a line spell, where they are plain.
+-- What the tokens of a line spell, if they are plain.
 use Rattle.std.proofs.Common.{
   ◌≡◌,
   ◌≤◌,
@@ -173,7 +173,7 @@ called {A} meaning of_call means w s n texts args is are few = by_number (number
         ap (option_and_then meaning) (tree_of_call w s m texts all.trees e all.are)
         ∙ by_tree m (sym (ap (option_and_then as_i64) e) ∙ is) all
 
--- one argument more
+-- one more argument
 pub one_more : (old before after : List Token) (texts : List (List ℕ)) (text : List ℕ) (numbers more : List ℤ) (n : ℤ)
     → old ≡ map number texts ++ before → before ≡ number text ∷ after → whole_numbers texts ≡ Some numbers
     → whole_number text ≡ Some n → more ≡ numbers ++ n ∷ []
@@ -256,7 +256,7 @@ pub job_found : (line text : List ℕ) (ts : List Token) (found : Option JobCall
     → IfSome found (λ call. job_at ts ≡ Some call) → IfSome found (λ call. job_of line ≡ Ok call)
 job_found = line_means job_in
 
--- a line that spells an event asks for it
+-- a line that spells an event spells it as a script line
 pub asked_event : (line : List ℕ) (event : Event) → event_of line ≡ Ok event → script_line_of line ≡ Ok (ScriptLine.Event event)
 asked_event line event is = by_tree (tree_of line) refl
   where

@@ -1,4 +1,4 @@
--- The whole numbers that texts of numbers are.
+-- The whole numbers that texts spell.
 use Rattle.std.proofs.Common.{◌≡◌, ◌≢◌, ◌-◌, ◌==◌, ◌<◌, ◌≤◌, ◌^◌, Bool, ℕ, suc, ℤ, pos, true, false, List, [], ◌∷◌, ◌++◌, length, take, drop, take_all, length-drop, Some, None, Option, refl, ap, sym, ◌∙◌, arith, lt-ltb, le-leb, FitsSigned, w64}
 use mir.Val.{to_z, of_z}
 use Rattle.std.proofs.lemmas.Grind.{common_steps}
@@ -8,14 +8,14 @@ use Rattle.serde_json.specs.Find.{as_i64}
 use Rattle.serde_json.specs.Read.{number_of, number_from, is_integer}
 use Rattle.sgt_format.specs.LineTokens.{whole_number, whole_numbers}
 
--- what stands in both is the same
+-- equal `Some`s hold equal values
 pub some_inj : {A : Type 0} {a b : A} → Some a ≡ Some b → a ≡ b
 some_inj {A} {a} {b} e = cc
 
 integer : (p : Parts) → IsInteger p → is_integer p ≡ true
 integer p h = rw (lt-ltb _ _ h.0, h.1, h.2) refl
 
--- a numeral behind its sign, but for `-0`
+-- a numeral after its sign, except `-0`
 by_sign : (negative : Bool) (p : Parts) → IsInteger p → FitsSigned w64 (with_sign negative (digits_of p))
     → (negative ≡ true → with_sign negative (digits_of p) ≢ pos 0)
     → option_and_then as_i64 (number_from negative p) ≡ Some (with_sign negative (digits_of p))
@@ -51,7 +51,7 @@ without_minus text other =
     let unsigned : (slice_index text 0 == 45) ≡ false = grind (arith, common_steps) in
     rw unsigned refl
 
--- one number more behind some
+-- one more number after some
 pub one_number_more : (texts : List (List ℕ)) (text : List ℕ) (numbers : List ℤ) (n : ℤ) → whole_numbers texts ≡ Some numbers
     → whole_number text ≡ Some n → whole_numbers (texts ++ text ∷ []) ≡ Some (numbers ++ n ∷ [])
 one_number_more [] text numbers n are one = rw one (ap (λ ns. Some (ns ++ n ∷ [])) (some_inj are))
@@ -80,6 +80,6 @@ as_many (s ∷ texts) numbers are = by_parts (whole_number s) (whole_numbers tex
         let read : Some (m ∷ rest) ≡ Some numbers = sym (rw (e, f) refl) ∙ are in
         ap suc (more rest f) ∙ ap length (some_inj read)
 
--- a number of 64 bits, and the bits that stand for it
+-- a number of 64 bits, and the bits that represent it
 pub from_bits : (z : ℤ) → to_z w64 (of_z w64 z) ≡ z → z ≡ to_z w64 (of_z w64 z)
 from_bits z is = sym is

@@ -4,7 +4,7 @@ use Rattle.std.proofs.lemmas.List.{append-nil, take_more}
 use Rattle.std.proofs.lemmas.Grind.{flat_map-append}
 use Rattle.std.specs.List.{flat_map}
 
--- the text of one item more
+-- the text of one more item
 pub one_more : {X : Type 0} (spelled : X → List ℕ) (start before after text : List ℕ) (items shown : List X) (i : ℕ) (d : X)
     → shown ≡ items → i < length shown → before ≡ start ++ flat_map spelled (take i items) → after ≡ before ++ text
     → text ≡ spelled (get_or shown i d) → after ≡ start ++ flat_map spelled (take (i + 1) items)

@@ -1,4 +1,4 @@
--- What a line means that is a call written plainly.
+-- What a line spells that is a call in plain form.
 use Rattle.std.proofs.Common.{◌≡◌, ◌≤◌, ◌<◌, ◌-◌, ◌^◌, true, false, Bool, ℕ, ℤ, pos, negsuc, suc, List, [], ◌∷◌, ◌++◌, length, take, drop, Some, None, Option, subst, refl, arith, sym, ◌∙◌, ap, lt-ltb}
 use Rattle.std.specs.Prelude.{slice_index, codes, map, IsUtf8, Ok, option_and_then, IfSome}
 use Rattle.std.specs.Fmt.{decimal, signed_decimal}

@@ -1,4 +1,4 @@
--- What a line means that is written plainly.
+-- What a line in plain form spells.
 use Rattle.std.proofs.Common.{◌≡◌, ◌≤◌, ◌<◌, ◌+◌, ◌-◌, ◌*◌, ◌/◌, ◌%◌, ◌^◌, Bool, false, ℕ, pos, List, [], ◌∷◌, ◌++◌, length, take, drop, Some, subst, refl, ap, sym, ◌∙◌, arith, lt-ltb}
 use Rattle.std.specs.Prelude.{IsUtf8, Ok, codes, option_and_then, slice_index, map, ⊤}
 use Rattle.std.specs.Fmt.{decimal}
@@ -43,7 +43,7 @@ one_digit (x ∷ xs) n some low high is =
     ap (λ d. d ∷ []) (omega arith) ∙ sym (decimal_digit n (omega arith))
 one_digit [] n some low high is = absurd (omega arith)
 
--- a digit more
+-- one more digit
 pub one_more_digit : (text : List ℕ) (digits n m : ℕ) → digits < length text → take digits text ≡ decimal n → 0 < n
     → n < 100_000_000_000_000_000 → 48 ≤ slice_index text digits → slice_index text digits ≤ 57
     → m ≡ 10 * n + (slice_index text digits - 48) → take (digits + 1) text ≡ decimal m

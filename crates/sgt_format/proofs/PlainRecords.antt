@@ -1,4 +1,4 @@
--- What a line means that is a record written plainly.
+-- What a line spells that is a record in plain form.
 use Rattle.std.proofs.Common.{◌≡◌, ◌<◌, false, ℕ, ℤ, List, [], ◌∷◌, ◌++◌, Some, None, Option, refl, arith, sym, ◌∙◌, ap}
 use Rattle.std.specs.Prelude.{codes, option_and_then, IsUtf8}
 use Rattle.std.specs.Fmt.{signed_decimal}
@@ -39,7 +39,7 @@ numbers w r s t a b c first second third = by_numbers (number_of r) (number_of s
         let three : as_i64 n ≡ Some c = sym (ap (option_and_then as_i64) g) ∙ third in
         rw (e, f, g) (rw (one, two, three) refl)
 
--- a line is the record that its tree is
+-- a line is the record that its tree spells
 record_read : (line : List ℕ) (said : RecordLine) → IsUtf8 line → option_and_then record_line_in (read line) ≡ Some said
     → record_line_of line ≡ Some said
 record_read line said utf8 is = by_tree (read line) refl

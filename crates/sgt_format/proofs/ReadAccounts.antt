@@ -8,7 +8,7 @@ use Rattle.sgt_smallbank.specs.declared.account.Account.{Account}
 use Rattle.sgt_format.specs.Trees.{each}
 use Rattle.sgt_format.specs.Openings.{account_in}
 
--- the accounts of the trees from place i on, behind those that are read
+-- the accounts of the trees from index i on, after those that are read
 abbrev pub rest_read : List Value → ℕ → List Account → Option (List Account)
 rest_read trees i accounts = option_map (λ rest. accounts ++ rest) (each account_in (map view (drop i trees)))
 
@@ -21,7 +21,7 @@ pub none_read : (trees : List Value) (accounts : List Account) → accounts ≡ 
     → rest_read trees 0 accounts ≡ each account_in (map view trees)
 none_read trees accounts none = ap (λ l. rest_read trees 0 l) none ∙ begin (each account_in (map view trees))
 
--- the tree at a place comes before the others
+-- the tree at an index comes before the others
 next_tree : (trees : List Value) (i : ℕ) (d : Value) → i < length trees → drop i trees ≡ get_or trees i d ∷ drop (i + 1) trees
 next_tree trees i d within =
     let next : suc i ≡ i + 1 = omega arith in
@@ -33,7 +33,7 @@ pushed : (before : List Account) (a : Account) (rest : Option (List Account))
 pushed before a None = refl
 pushed before a (Some others) = ap Some (append_assoc before (a ∷ []) others)
 
--- one account more
+-- one more account
 pub one_read : (trees : List Value) (i : ℕ) (d : Value) (before after : List Account) (a : Account) → i < length trees
     → account_in (view (get_or trees i d)) ≡ Some a → after ≡ before ++ a ∷ []
     → rest_read trees i before ≡ each account_in (map view trees) → rest_read trees (i + 1) after ≡ each account_in (map view trees)

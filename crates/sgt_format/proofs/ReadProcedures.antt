@@ -25,7 +25,7 @@ one_more trees i v programs p h e are is =
     rw (take_more trees i v h ∙ ap (λ x. take i trees ++ x ∷ []) (sym e), map-append view (take i trees) (v ∷ []))
     (are_procedures-last (map view (take i trees)) programs (view v) p are is)
 
--- the next is so
+-- the next one has the property
 next_is : (so : Data → Type 0) (trees : List Value) (i : ℕ) (v : Value) (programs : List ProcedureText) → i < length trees
     → v ≡ get_or trees i v → AreProcedures (map view (take i trees)) programs → so (view v) → NextIs so i (map view trees)
 next_is so [] i v programs h e are is = absurd (omega arith)

@@ -23,13 +23,13 @@ longer None rest found n same e = absurd (cc)
 longer (Some a) None found n same e = absurd (cc)
 longer (Some a) (Some others) found n same e = grind (arith, same others refl)
 
--- what stands for the trees is as many
+-- there are as many values as trees
 pub length-each : {A : Type 0} (meaning : Data → Option A) (trees : List Data) (found : List A) → each meaning trees ≡ Some found
     → length found ≡ length trees
 length-each meaning [] found e = grind arith
 length-each meaning (tree ∷ trees) found e = longer (meaning tree) (each meaning trees) found (length trees) (length-each meaning trees) e
 
--- four values are those that are looked up
+-- four values are those at their indexes
 pub four_values : (values : List Value) (a b c d : Value) → 4 ≤ length values → length values < 5 → a ≡ get_or values 0 a
     → b ≡ get_or values 1 b → c ≡ get_or values 2 c → d ≡ get_or values 3 d → values ≡ a ∷ b ∷ c ∷ d ∷ []
 four_values [] a b c d least most at_a at_b at_c at_d = absurd (omega arith)
@@ -39,7 +39,7 @@ four_values (x ∷ y ∷ z ∷ []) a b c d least most at_a at_b at_c at_d = absu
 four_values (x ∷ y ∷ z ∷ u ∷ []) a b c d least most at_a at_b at_c at_d = rw (at_a, at_b, at_c, at_d) refl
 four_values (x ∷ y ∷ z ∷ u ∷ v ∷ rest) a b c d least most at_a at_b at_c at_d = absurd (omega arith)
 
--- and so with three
+-- the same with three
 pub three_values : (values : List Value) (a b c : Value) → 3 ≤ length values → length values < 4 → a ≡ get_or values 0 a
     → b ≡ get_or values 1 b → c ≡ get_or values 2 c → values ≡ a ∷ b ∷ c ∷ []
 three_values [] a b c least most at_a at_b at_c = absurd (omega arith)
@@ -48,7 +48,7 @@ three_values (x ∷ y ∷ []) a b c least most at_a at_b at_c = absurd (omega ar
 three_values (x ∷ y ∷ z ∷ []) a b c least most at_a at_b at_c = rw (at_a, at_b, at_c) refl
 three_values (x ∷ y ∷ z ∷ u ∷ rest) a b c least most at_a at_b at_c = absurd (omega arith)
 
--- and with two
+-- the same with two
 pub two_values : (values : List Value) (a b : Value) → 2 ≤ length values → length values < 3 → a ≡ get_or values 0 a
     → b ≡ get_or values 1 b → values ≡ a ∷ b ∷ []
 two_values [] a b least most at_a at_b = absurd (omega arith)
@@ -163,7 +163,7 @@ refused_sheet least line sheet (ProcShape number place) shape is = (sheet, shape
 refused_sheet least line sheet (ProcFlaw number flaw) shape is = (sheet, shape, is)
 refused_sheet least line sheet NoMemory shape is = tt
 
--- what gives an opening or not does so for the line of the tree
+-- what decides an opening for the tree of a line decides it for the line
 pub opens_each : (least : ℕ) (tree : Data) (sheet : Sheet) (result : Result Opening OpeningError) → sheet_in tree ≡ Some sheet
     → IfOk result (IsOpened least sheet)
     → IfOk result (λ opening. (line : List ℕ) → tree_of line ≡ Some tree → Opens least line opening)

@@ -9,11 +9,11 @@ use Rattle.serde_json.specs.View.{view, items_view}
 use Rattle.serde_json.specs.declared.value.Value.{Value}
 use Rattle.sgt_format.specs.Trees.{tree_of, listed}
 
--- a text that reads as a tree has it
+-- a text that is read as a tree has that tree
 pub tree_of_read : (line : List ℕ) (tree : Data) → IsUtf8 line → read line ≡ Some tree → tree_of line ≡ Some tree
 tree_of_read line tree text found = ap (λ b. cond b (read line) None) (is_utf8-from_IsUtf8 line text) ∙ found
 
--- a line that is no text, or reads as nothing, has no tree
+-- a line that is no text, or is read as nothing, has no tree
 pub tree_of_refused : (line : List ℕ) → (IsUtf8 line → read line ≡ None) → tree_of line ≡ None
 tree_of_refused line none = by_test (is_utf8 line) refl
   where

@@ -16,7 +16,7 @@ use Rattle.sgt_format.proofs.PlainRecords.{plain_record}
 abbrev row_text : ℕ → ℤ → ℤ → List ℕ
 row_text t n v = codes "[\"record\"," ++ (decimal t ++ (codes "," ++ (signed_decimal n ++ (codes "," ++ (signed_decimal v ++ codes "]")))))
 
--- the numbers of a row are said by its line
+-- the line of a row says the row's numbers
 row_said : (t : ℕ) (n v : ℤ) → t ≤ 7 → mag n < 1_000_000_000_000_000_000 → mag v < 1_000_000_000_000_000_000
     → record_line_of (row_text t n v) ≡ Some (record { table = pos t; number = n; value = v })
 row_said t n v few small low =
@@ -48,7 +48,7 @@ from_right a b c d e f g =
     ∙ ap (λ l. a ++ l) (append_assoc (b ++ c ++ d ++ e) f g ∙ append_assoc (b ++ c ++ d) e (f ++ g)
     ∙ append_assoc (b ++ c) d (e ++ (f ++ g)) ∙ append_assoc b c (d ++ (e ++ (f ++ g))))
 
--- and one more behind them
+-- and one more after them
 one_behind : (a b c d e f g h : List ℕ)
     → (a ++ (b ++ (c ++ (d ++ (e ++ (f ++ g)))))) ++ h ≡ a ++ (b ++ (c ++ (d ++ (e ++ (f ++ (g ++ h))))))
 one_behind a b c d e f g h =

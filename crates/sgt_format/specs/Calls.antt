@@ -1,4 +1,4 @@
--- What a word and the things behind it stand for, where all are there.
+-- What a word and the items after it spell, if all are there.
 use Rattle.std.specs.Prelude.{ℕ, ℤ, List, Option, option_and_then}
 use Rattle.sgt_model.specs.declared.event.Event.{Event}
 use Rattle.sgt_format.specs.EventLines.{of_transaction}

@@ -1,4 +1,4 @@
--- The lines of a database, one a row.
+-- The lines of a database, one for each row.
 use Rattle.std.specs.Prelude.{ℕ, List, ◌++◌, codes}
 use Rattle.std.specs.List.{flat_map}
 use Rattle.sgt_model.specs.Databases.{Row}

@@ -23,7 +23,7 @@ procedure tree = option_and_then (natural 16) (whole tree)
 abbrev pub arguments_from : List Data → Option (List ℤ)
 arguments_from trees = cond (nat_le (length trees) 4) (each whole trees) None
 
--- the same, of a tree that is a list
+-- the same for a tree that is a list
 abbrev pub arguments : Data → Option (List ℤ)
 arguments tree = option_and_then arguments_from (list tree)
 
@@ -45,6 +45,6 @@ event_from trees = None
 abbrev pub event_in : Data → Option Event
 event_in tree = option_and_then event_from (list tree)
 
--- the event of a line, or why it has none
+-- the event of a line, or why it spells none
 abbrev pub event_of : List ℕ → Result Event LineError
 event_of line = option_map_or (λ tree. ok_or (event_in tree) BadLine) (tree_of line) (Err NotJson)

@@ -1,4 +1,4 @@
--- An opening, and the records that the lines behind line 1 put into its database.
+-- An opening, and the records that the lines after line 1 add to its database.
 use Rattle.std.specs.Prelude.{◌≡◌, ℕ, ◌+◌, cond, ⊤, List, [], ◌∷◌, length, Option, Some, None, IsSome, option_and_then, Result, Ok, Err}
 use Rattle.std.specs.Option.{is_some}
 use Rattle.sgt_model.specs.Contents.{Key, Contents, put_in}
@@ -11,7 +11,7 @@ use Rattle.sgt_format.specs.declared.record_line.Record.{Record}
 
 -- ---- lines
 
--- a record line in front of later ones; behind any other line none leads
+-- a record line before later ones; after any other line no record line counts
 abbrev pub led_by : Option RecordLine → List RecordLine → List RecordLine
 led_by None later = []
 led_by (Some said) later = said ∷ later
@@ -21,7 +21,7 @@ abbrev pub leading_records : List (List ℕ) → List RecordLine
 leading_records [] = []
 leading_records (l ∷ ls) = led_by (record_line_of l) (leading_records ls)
 
--- these lines where the first of them is no record line, else those behind
+-- these lines if the first of them is no record line, else the later ones
 abbrev pub from_other : Option RecordLine → List (List ℕ) → List (List ℕ) → List (List ℕ)
 from_other None these behind = these
 from_other (Some said) these behind = behind
@@ -31,38 +31,40 @@ abbrev pub behind_records : List (List ℕ) → List (List ℕ)
 behind_records [] = []
 behind_records (l ∷ ls) = from_other (record_line_of l) (l ∷ ls) (behind_records ls)
 
--- the number of the first line behind line 1 that is no record line
+-- the number of the first line after line 1 that is no record line
 abbrev pub number_behind : List (List ℕ) → ℕ
 number_behind later = 2 + length (leading_records later)
 
--- each of these is a record line
+-- each of these lines is a record line
 abbrev pub AreRecordLines : List (List ℕ) → Type 0
 AreRecordLines [] = ⊤
 AreRecordLines (l ∷ ls) = IsSome (record_line_of l) × AreRecordLines ls
 
 -- ---- contents
 
--- the contents with a record, unless its key has a value already
+-- the contents with a record added, unless its key has a value already
 abbrev pub put_new : Contents → Record → Option Contents
 put_new m put = cond (is_some (m put.key)) None (Some (put_in m put.key put.value))
 
--- the contents with the record that a line puts: none where a number of it is out of range, or its key has a value already
+-- the contents with the record of a line added; none if one of its numbers is out of range or its key has a value
+-- already
 abbrev pub put_record : Contents → RecordLine → Option Contents
 put_record m said = option_and_then (put_new m) (record_of said)
 
--- what the later lines make of the contents behind line n; or n, where that could not be put
+-- what the later lines make of the contents after line n; or n, if its record cannot be added
 abbrev pub and_then_put : ℕ → Option Contents → (Contents → Result Contents ℕ) → Result Contents ℕ
 and_then_put n None later = Err n
 and_then_put n (Some m) later = later m
 
--- the contents with the records of these lines, the first of which has number n; or the number of the first line that can't be put
+-- the contents with the records of these lines added, from line n on; or the number of the first line that cannot be
+-- added
 abbrev pub put_records : ℕ → Contents → List RecordLine → Result Contents ℕ
 put_records n m [] = Ok m
 put_records n m (said ∷ later) = and_then_put n (put_record m said) (λ next. put_records (n + 1) next later)
 
 -- ---- openings
 
--- line 1 opens a first opening, and these record lines behind it make of its database that of the opening
+-- line 1 spells an initial opening, and these record lines after it fill its database to that of the opening
 pub record OpensWith (least : ℕ) (line : List ℕ) (records : List RecordLine) (opening : Opening) : Type 0 where
   pub first : Opening
   pub opens : Opens least line first
@@ -72,7 +74,7 @@ pub record OpensWith (least : ℕ) (line : List ℕ) (records : List RecordLine)
   pub put : put_records 2 (contents_of first.database) records ≡ Ok values
   pub contents : (key : Key) → contents_of opening.database key ≡ values key
 
--- line 1 opens a first opening, and the first of these record lines behind it that can't be put is line n
+-- line 1 spells an initial opening, and line n is the first of these record lines after it that cannot be added
 pub record RefusesRecord (least : ℕ) (line : List ℕ) (records : List RecordLine) (n : ℕ) : Type 0 where
   pub first : Opening
   pub opens : Opens least line first

@@ -1,4 +1,4 @@
--- Which job a line asks for.
+-- Which job a line spells.
 use Rattle.std.specs.Prelude.{ℕ, ℤ, cond, List, [], ◌∷◌, Option, Some, None, option_and_then, Result, Err, codes}
 use Rattle.std.specs.Option.{ok_or, option_map_or}
 use Rattle.std.specs.Str.{bytes_eq}
@@ -19,10 +19,10 @@ abbrev pub job_from : List Data → Option JobCall
 job_from (word ∷ p ∷ args ∷ []) = option_and_then (λ w. option_and_then (λ n. option_and_then (job_call w n) (arguments args)) (procedure p)) (as_str word)
 job_from trees = None
 
--- the job that a tree asks for
+-- the job that a tree spells
 abbrev pub job_in : Data → Option JobCall
 job_in tree = option_and_then job_from (list tree)
 
--- the job of a line, or why it has none
+-- the job of a line, or why it spells none
 abbrev pub job_of : List ℕ → Result JobCall LineError
 job_of line = option_map_or (λ tree. ok_or (job_in tree) BadLine) (tree_of line) (Err NotJson)

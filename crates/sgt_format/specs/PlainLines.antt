@@ -1,4 +1,4 @@
--- The calls of lines that are written plainly.
+-- The calls of lines in plain form.
 use Rattle.std.specs.Prelude.{◌≡◌, ◌<◌, ◌≤◌, ℕ, ℤ, Bool, false, List, [], ◌∷◌, ◌++◌, length, map, ⊤}
 use Rattle.std.specs.Fmt.{decimal, signed_decimal}
 use lib.Signed.{mag}
@@ -10,14 +10,14 @@ use Rattle.sgt_format.specs.declared.call.JobCall.{JobCall}
 abbrev pub number_tokens : List ℤ → List Token
 number_tokens args = map number (map signed_decimal args) ++ end_array ∷ end_array ∷ []
 
--- the text of these tokens, with gaps before some; the flag says whether a number stands before the text
+-- the text of these tokens, with gaps before some; the flag says whether a number precedes the text
 pub record AreArguments (follows : Bool) (text : List ℕ) (args : List ℤ) : Type 0 where
   pub spaced : List (List ℕ × Token)
   pub gaps : AreGaps spaced
   pub tokens : map (λ p. p.1) spaced ≡ number_tokens args
   pub is : text ≡ print_spaced follows spaced
 
--- what stands before one number more
+-- what precedes one more number
 abbrev pub comma_behind : List ℤ → List ℕ
 comma_behind [] = []
 comma_behind (n ∷ rest) = 44 ∷ []

@@ -12,8 +12,8 @@ use Rattle.sgt_format.specs.declared.errors.OpeningError.TheVariants.{NotJson, N
 abbrev pub SpellsProcedure : List ℕ → ProcedureText → Type 0
 SpellsProcedure line p = (tree : Data) × (tree_of line ≡ Some tree) × IsProcedure tree p
 
--- why the line spells none, where it is to be the procedure of this number: it is no JSON, or its tree is refused. To read it
--- takes memory too
+-- why the line spells no procedure, under this number: it is not JSON, or its tree is refused. Reading it may also run
+-- out of memory
 abbrev pub RefusesProcedure : ℕ → List ℕ → OpeningError → Type 0
 RefusesProcedure number line NotJson = tree_of line ≡ None
 RefusesProcedure number line NoMemory = ⊤

@@ -1,4 +1,4 @@
--- Which procedures trees spell, one after another, and what is wrong with the first that spells none.
+-- Which procedures trees spell, one after another, and the error of the first that spells none.
 use Rattle.std.specs.Prelude.{◌≡◌, ℕ, zero, suc, List, [], ◌∷◌, Ok, Err, ⊤}
 use Rattle.serde_json.specs.Data.{Data}
 use Rattle.sgt_model.specs.Syntax.{ProcedureText}
@@ -17,7 +17,7 @@ AreProcedures [] (p ∷ programs) = ⊥
 AreProcedures (tree ∷ trees) [] = ⊥
 AreProcedures (tree ∷ trees) (p ∷ programs) = IsProcedure tree p × AreProcedures trees programs
 
--- a tree spells no procedure, and has its first misfit at the place
+-- a tree spells no procedure, and its first shape error (misfit) is at this position
 abbrev pub HasMisfit : List ℕ → Data → Type 0
 HasMisfit place tree = reading tree ≡ Err place
 
@@ -25,7 +25,7 @@ HasMisfit place tree = reading tree ≡ Err place
 abbrev pub HasLeastFlaw : Flaw → Data → Type 0
 HasLeastFlaw flaw tree = (p : ProcedureText) × (reading tree ≡ Ok p) × IsLeastFlaw flaw p
 
--- so many trees spell procedures without a flaw, and the next is so
+-- the first n trees spell procedures without a flaw, and the next one has this property
 abbrev pub NextIs : (Data → Type 0) → ℕ → List Data → Type 0
 NextIs so n [] = ⊥
 NextIs so zero (tree ∷ trees) = so tree

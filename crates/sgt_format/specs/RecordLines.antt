@@ -1,4 +1,4 @@
--- Which record a line of an opening puts into its database.
+-- Which record a line adds to an opening's database.
 use Rattle.std.specs.Prelude.{ℕ, ℤ, cond, nat_le, ◌&&◌, List, [], ◌∷◌, Option, Some, None, option_and_then, codes}
 use Rattle.std.specs.Str.{bytes_eq}
 use Rattle.serde_json.specs.Data.{Data}
@@ -24,11 +24,11 @@ record_line_from (word ∷ table ∷ id ∷ held ∷ []) =
     (whole table)) (as_str word)
 record_line_from trees = None
 
--- the record line that a tree is, if it is one
+-- the record line that a tree spells, if any
 abbrev pub record_line_in : Data → Option RecordLine
 record_line_in tree = option_and_then record_line_from (list tree)
 
--- the record line that a line is, if it is one
+-- the record line that a line spells, if any
 abbrev pub record_line_of : List ℕ → Option RecordLine
 record_line_of line = option_and_then record_line_in (tree_of line)
 
@@ -38,7 +38,7 @@ record_line_of line = option_and_then record_line_in (tree_of line)
 abbrev pub key_of : ℤ → ℤ → Option Key
 key_of table id = option_and_then (λ t. cond (nat_le t 7 && is_value id) (Some (t, id)) None) (natural 8 table)
 
--- the record that a line puts, where its table and number are a key, and its value is one
+-- the record that a line adds, if its table and number are a key, and its value is one
 abbrev pub record_of : RecordLine → Option Record
 record_of line = option_and_then (λ k. cond (is_value line.value) (Some (record { key = k; value = line.value })) None)
     (key_of line.table line.number)

@@ -1,4 +1,4 @@
--- The records of a database as lines of JSON, one a row.
+-- The records of a database as lines of JSON, one for each row.
 use Rattle.std.specs.Prelude.{ℕ, List, ◌++◌, codes}
 use Rattle.std.specs.Fmt.{decimal, signed_decimal}
 use Rattle.std.specs.List.{flat_map}

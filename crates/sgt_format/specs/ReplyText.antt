@@ -22,7 +22,7 @@ over_text fate.Committed = codes "over committed"
 over_text (fate.Aborted cause) = codes "over aborted " ++ cause_text cause
 over_text (fate.Fell first) = codes "over fell " ++ decimal first
 
--- what a look found
+-- what a read found
 abbrev pub looked_text : Key → Option ℤ → List ℕ
 looked_text key (Some value) = codes "read " ++ record_text key value
 looked_text key None = codes "read " ++ key_text key ++ codes " none"
@@ -31,15 +31,15 @@ looked_text key None = codes "read " ++ key_text key ++ codes " none"
 abbrev pub committed_text : List ℤ → List ℕ
 committed_text answers = codes "committed" ++ items_or_none signed_decimal answers
 
--- which fell with one that is aborted or refused
+-- the transactions aborted in cascade with one that is aborted or refused
 abbrev pub fell_text : List ℕ → List ℕ
 fell_text fell = codes " fell" ++ items_or_none decimal fell
 
--- why a transaction is aborted, and which fell with it
+-- why a transaction is aborted, and which were aborted in cascade
 abbrev pub aborted_text : Cause → List ℕ → List ℕ
 aborted_text cause fell = codes "aborted " ++ cause_text cause ++ fell_text fell
 
--- the code that a transaction is refused with at its commit, and which fell with it
+-- the code with which a transaction is refused at its commit, and which were aborted in cascade
 abbrev pub refused_text : ℕ → List ℕ → List ℕ
 refused_text code fell = codes "refused " ++ decimal code ++ fell_text fell
 
@@ -61,6 +61,6 @@ reply_text (reply.Committed answers) = committed_text answers
 reply_text (reply.Aborted cause fell) = aborted_text cause fell
 reply_text (reply.Refused code fell) = refused_text code fell
 
--- its line
+-- the line of a reply, with its end
 abbrev pub text : Reply → List ℕ
 text reply = reply_text reply ++ codes "\n"

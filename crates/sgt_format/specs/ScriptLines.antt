@@ -1,4 +1,4 @@
--- What a line of a script asks for: an event, or that the history be cut off.
+-- What a line of a script spells: an event, or a cut of the history.
 use Rattle.std.specs.Prelude.{ℕ, cond, List, [], ◌∷◌, Option, Some, None, option_map, option_and_then, Result, Err, codes}
 use Rattle.std.specs.Option.{ok_or, option_map_or}
 use Rattle.std.specs.Str.{bytes_eq}
@@ -20,10 +20,10 @@ abbrev pub script_line_from : List Data → Option ScriptLine
 script_line_from (word ∷ []) = option_and_then of_word (as_str word)
 script_line_from trees = option_map Event (event_from trees)
 
--- what a tree asks for
+-- what a tree spells
 abbrev pub script_line_in : Data → Option ScriptLine
 script_line_in tree = option_and_then script_line_from (list tree)
 
--- what a line asks for, or why it asks for nothing
+-- what a line spells, or why it spells nothing
 abbrev pub script_line_of : List ℕ → Result ScriptLine LineError
 script_line_of line = option_map_or (λ tree. ok_or (script_line_in tree) BadLine) (tree_of line) (Err NotJson)

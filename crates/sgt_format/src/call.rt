@@ -1,11 +1,11 @@
-//! The call of a procedure that a job makes.
+//! The call of a procedure by a job.
 use sgt_model::Args;
 
-/// The call of a procedure that a job's line asks for.
+/// The call of a procedure that a job's line spells.
 #[derive(Debug, Drop, PartialEq, Eq)]
 pub struct JobCall {
-    /// The procedure, by its place in the list of procedures.
+    /// The procedure, by its index in the list of procedures.
     pub procedure: u16,
-    /// What the procedure is called with.
+    /// The arguments of the call.
     pub args: Args,
 }

@@ -5,7 +5,7 @@ ghost use Rattle.sgt_format.specs.CutText.{cut_text, still_live_text};
 use crate::decimal_text::append_number_line;
 use sgt_model::NoMemory;
 
-/// Adds the line that tells how many entries were cut off, with its end. It takes no memory but the text's growth.
+/// Appends the line that says how many entries were cut, with its end. Only the growth of the text allocates memory.
 pub fn append_cut(lines: &mut Vec<u8>, entries: usize) -> Result<(), NoMemory>
     ensures ok { OnOk result (lines.new.items ≡ lines.old.items ++ cut_text entries) }
     ensures err { OnErr result (lines.new.items ≡ lines.old.items) }
@@ -14,8 +14,8 @@ pub fn append_cut(lines: &mut Vec<u8>, entries: usize) -> Result<(), NoMemory>
     Ok(())
 }
 
-/// Adds the line that tells that nothing was cut off, since a transaction is live, with its end. It takes no memory but the
-/// text's growth.
+/// Appends the line that says that nothing was cut, as a transaction is live, with its end. Only the growth of the text
+/// allocates memory.
 pub fn append_still_live(lines: &mut Vec<u8>) -> Result<(), NoMemory>
     ensures ok { OnOk result (lines.new.items ≡ lines.old.items ++ still_live_text) }
     ensures err { OnErr result (lines.new.items ≡ lines.old.items) }

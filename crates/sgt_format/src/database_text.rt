@@ -6,8 +6,8 @@ use crate::decimal_text::{LONGEST_LINE, write_byte, write_record};
 use sgt_model::{Database, Key, NoMemory};
 use std::alloc::AllocError;
 
-/// Adds the lines of a database to a text: one line a row, by table and then by number. It takes no memory but the text's
-/// growth.
+/// Appends the lines of a database to a text: one line for each row, by table and then by number. Only the growth of
+/// the text allocates memory.
 pub fn append_database(text: &mut Vec<u8>, database: &Database) -> Result<(), NoMemory>
     ensures ok { OnOk result (text.new.items ≡ text.old.items ++ database_text database.now) }
     ensures err { OnErr result (text.new.items ≡ text.old.items) }

@@ -7,10 +7,10 @@ use itoa::{Buffer, Integer, write_digits};
 use sgt_model::{Answers, Key, Tids};
 use std::alloc::AllocError;
 
-/// At least as many bytes as a line of words, a key and a value can have, with its end.
+/// An upper bound in bytes of a line of words, a key and a value, with its end.
 pub(crate) const LONGEST_LINE: usize = 64;
 
-/// Adds a number in decimal.
+/// Appends a number in decimal.
 pub fn append_number<I: Integer>(line: &mut Vec<u8>, number: I) -> Result<(), AllocError>
     ensures ok { OnOk result (line.new.items ≡ line.old.items ++ I.text number) }
     ensures err { OnErr result (line.new.items ≡ line.old.items) }
@@ -18,7 +18,7 @@ pub fn append_number<I: Integer>(line: &mut Vec<u8>, number: I) -> Result<(), Al
     line.extend_from_slice(Buffer::new().format(number).as_bytes())
 }
 
-/// Adds words and a number behind them. On an error the line still begins with what it held.
+/// Appends words and then a number. On an error the line still begins with what it held.
 pub fn append_numbered<I: Integer>(
     line: &mut Vec<u8>,
     words: &[u8],
@@ -31,7 +31,7 @@ pub fn append_numbered<I: Integer>(
     append_number(line, number)
 }
 
-/// Adds a line of words and a number behind them, with its end.
+/// Appends a line of words and then a number, with its end.
 #[inline]
 pub(crate) fn append_number_line(
     lines: &mut Vec<u8>,
@@ -50,7 +50,7 @@ pub(crate) fn append_number_line(
     lines.extend_from_slice(&line[start..])
 }
 
-/// Writes a key and a value so that they end at `end`, and tells where they start.
+/// Writes a key and a value so that they end at `end`, and returns where they start.
 pub(crate) fn write_record(key: &Key, value: i64, text: &mut [u8], end: usize) -> usize
     requires { (43 ≤ end) × (end ≤ length text.old) }
     ensures start { (result ≤ end) × (end ≤ result + 43) }
@@ -61,7 +61,7 @@ pub(crate) fn write_record(key: &Key, value: i64, text: &mut [u8], end: usize) -
     write_key(key, text, start)
 }
 
-/// Writes a key so that it ends at `end`, and tells where it starts.
+/// Writes a key so that it ends at `end`, and returns where it starts.
 pub(crate) fn write_key(key: &Key, text: &mut [u8], end: usize) -> usize
     requires { (22 ≤ end) × (end ≤ length text.old) }
     ensures start { (result ≤ end) × (end ≤ result + 22) }
@@ -72,7 +72,7 @@ pub(crate) fn write_key(key: &Key, text: &mut [u8], end: usize) -> usize
     write_digits(u64::from(key.table()), text, start)
 }
 
-/// Writes a number in decimal so that it ends at `end`, and tells where it starts.
+/// Writes a number in decimal so that it ends at `end`, and returns where it starts.
 pub(crate) fn write_signed(number: i64, text: &mut [u8], end: usize) -> usize
     requires { (20 ≤ end) × (end ≤ length text.old) }
     ensures start { (result ≤ end) × (end ≤ result + 20) }
@@ -85,7 +85,7 @@ pub(crate) fn write_signed(number: i64, text: &mut [u8], end: usize) -> usize
     start
 }
 
-/// Writes words so that they end at `end`, and tells where they start.
+/// Writes words so that they end at `end`, and returns where they start.
 #[inline]
 pub(crate) fn write_words(words: &[u8], text: &mut [u8], end: usize) -> usize
     requires { (length words.now ≤ end) × (end ≤ length text.old) }
@@ -97,7 +97,7 @@ pub(crate) fn write_words(words: &[u8], text: &mut [u8], end: usize) -> usize
     start
 }
 
-/// Writes a byte before `end`, and tells where it is.
+/// Writes a byte before `end`, and returns its index.
 pub(crate) fn write_byte(byte: u8, text: &mut [u8], end: usize) -> usize
     requires { (0 < end) × (end ≤ length text.old) }
     ensures start { result + 1 ≡ end }
@@ -107,7 +107,7 @@ pub(crate) fn write_byte(byte: u8, text: &mut [u8], end: usize) -> usize
     end - 1
 }
 
-/// Adds each number behind a blank. On an error the line still begins with what it held.
+/// Appends each number after a space. On an error the line still begins with what it held.
 pub(crate) fn append_tids(line: &mut Vec<u8>, tids: &Tids) -> Result<(), AllocError>
     ensures ok { OnOk result (line.new.items ≡ line.old.items ++ each_item decimal tids.now) }
     ensures err { OnErr result (take (vec_len line.old) line.new.items ≡ line.old.items) }
@@ -119,7 +119,7 @@ pub(crate) fn append_tids(line: &mut Vec<u8>, tids: &Tids) -> Result<(), AllocEr
     Ok(())
 }
 
-/// Adds each number behind a blank, or `none`. On an error the line still begins with what it held.
+/// Appends each number after a space, or `none`. On an error the line still begins with what it held.
 pub(crate) fn append_tids_or_none(line: &mut Vec<u8>, tids: &Tids) -> Result<(), AllocError>
     ensures ok { OnOk result (line.new.items ≡ line.old.items ++ items_or_none decimal tids.now) }
     ensures err { OnErr result (take (vec_len line.old) line.new.items ≡ line.old.items) }
@@ -130,7 +130,7 @@ pub(crate) fn append_tids_or_none(line: &mut Vec<u8>, tids: &Tids) -> Result<(),
     append_tids(line, tids)
 }
 
-/// Adds each answer behind a blank, or `none`. On an error the line still begins with what it held.
+/// Appends each answer after a space, or `none`. On an error the line still begins with what it held.
 pub fn append_answers(line: &mut Vec<u8>, answers: &Answers) -> Result<(), AllocError>
     ensures ok { OnOk result
         (line.new.items ≡ line.old.items ++ items_or_none signed_decimal answers.now) }
@@ -142,7 +142,7 @@ pub fn append_answers(line: &mut Vec<u8>, answers: &Answers) -> Result<(), Alloc
     append_each_answer(line, answers)
 }
 
-/// Adds each answer behind a blank. On an error the line still begins with what it held.
+/// Appends each answer after a space. On an error the line still begins with what it held.
 fn append_each_answer(line: &mut Vec<u8>, answers: &Answers) -> Result<(), AllocError>
     ensures ok { OnOk result
         (line.new.items ≡ line.old.items ++ each_item signed_decimal answers.now) }

@@ -1,4 +1,4 @@
-//! Why a line gives no event, no job or no opening.
+//! Why a line spells no event, no job or no opening.
 ghost use Rattle.std.specs.Prelude.{◌≡◌};
 ghost use Rattle.sgt_format.specs.declared.errors.LineError.TheVariants as line_error;
 ghost use Rattle.sgt_format.specs.declared.errors.OpeningError.TheVariants as opening_error;
@@ -9,14 +9,14 @@ use sgt_proc_json::Place;
 use sgt_smallbank::{BadOpening, OpeningFault};
 use std::alloc::AllocError;
 
-/// Why a line gives no event, or no job.
+/// Why a line spells no event, or no job.
 #[derive(Clone, Copy, Debug, PartialEq, Eq)]
 pub enum LineError {
-    /// The line is no JSON.
+    /// The line is not JSON.
     NotJson,
-    /// The line is JSON, and spells none of what it stands for.
+    /// The line is JSON of another form.
     BadLine,
-    /// A growth was refused.
+    /// An allocation failed.
     NoMemory,
 }
 
@@ -28,22 +28,22 @@ impl From<NoMemory> for LineError {
     }
 }
 
-/// Why a line gives no opening.
+/// Why a line spells no opening.
 #[derive(Debug, Drop, PartialEq, Eq)]
 pub enum OpeningError {
-    /// The line is no JSON.
+    /// The line is not JSON.
     NotJson,
-    /// The line is JSON, and has not the shape of an opening.
+    /// The line is JSON, but does not have the shape of an opening.
     BadLine,
     /// A limit is out of its range.
     BadLimits,
     /// An account has this fault.
     BadOpening(OpeningFault),
-    /// The procedure of this number spells none, and its first misfit is at this place.
+    /// The procedure of this number has its first shape error (misfit) at this position.
     ProcShape(u64, Place),
     /// The procedure of this number has this flaw, and none with a smaller number.
     ProcFlaw(u64, Flaw),
-    /// A growth was refused.
+    /// An allocation failed.
     NoMemory,
 }
 

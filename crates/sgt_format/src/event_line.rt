@@ -19,8 +19,13 @@ use std::alloc::Global;
 /// The event that a line spells, without its end: `["start", procedure, [arg, ..]]`, `["step", t]`, `["commit", t]` or
 /// `["quit", t]`.
 ///
-/// A line that is no JSON is `NotJson`, a line of any other form `BadLine`. An argument may be any whole number of 64 bits.
-/// The scratch is the reader's memory, to be kept from line to line.
+/// An argument may be any whole number of 64 bits. `scratch` is memory of the reader; pass the same one for each line.
+///
+/// # Errors
+///
+/// - `NotJson`: the line is not JSON.
+/// - `BadLine`: the line is JSON of any other form.
+/// - `NoMemory`: an allocation failed.
 pub fn read_event(alloc: Global, scratch: &mut Scratch, line: &[u8]) -> Result<Event, LineError>
     ensures event { IfOk result (λ event. event_of line.now ≡ Ok event) }
     ensures error { IfErr result (λ error. error ≢ NoMemory → event_of line.now ≡ Err error) }

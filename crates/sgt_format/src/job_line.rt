@@ -18,10 +18,15 @@ use serde_json::Value;
 use sgt_model::Args;
 use std::alloc::Global;
 
-/// The job that a line asks for, without its end: `["job", procedure, [arg, ..]]`.
+/// The job that a line spells, without its end: `["job", procedure, [arg, ..]]`.
 ///
-/// A line that is no JSON is `NotJson`, a line of any other form `BadLine`. An argument may be any whole number of 64 bits.
-/// The scratch is the reader's memory, to be kept from line to line.
+/// An argument may be any whole number of 64 bits. `scratch` is memory of the reader; pass the same one for each line.
+///
+/// # Errors
+///
+/// - `NotJson`: the line is not JSON.
+/// - `BadLine`: the line is JSON of any other form.
+/// - `NoMemory`: an allocation failed.
 pub fn read_job(alloc: Global, scratch: &mut Scratch, line: &[u8]) -> Result<JobCall, LineError>
     ensures job { IfOk result (λ job. job_of line.now ≡ Ok job) }
     ensures error { IfErr result (λ error. error ≢ NoMemory → job_of line.now ≡ Err error) }

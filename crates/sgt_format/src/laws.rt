@@ -1,7 +1,7 @@
-//! Laws of the formats. A body has nothing to do: the law is its contract.
+//! Laws of the formats. The body of a law does nothing: the law is its contract.
 ghost use Rattle.sgt_format.specs.WrittenRecords.{WrittenRecordsAreRead};
 
-/// The record lines that are written of a database are read as its records: what a run leaves can open the next.
+/// The record lines written of a database are read as its records: the output of one run can open the next.
 pub fn written_records_are_read()
     ensures { WrittenRecordsAreRead }
 {}

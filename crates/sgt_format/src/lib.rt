@@ -1,10 +1,12 @@
-//! The formats of `sgt`, both ways. A line of JSON becomes an opening, a procedure, a record line, an event or a job, and a reply or
-//! a database becomes its text. What a line means and which text a reply has stand in `specs/`: `ReplyText`, `DatabaseText`,
-//! `RecordText`, `EventLines`, `JobLines`, `RecordLines`, `Openings` and `ProcedureLines`, over `Decimals`, `Trees` and
-//! `Procedures`. The contracts give exactly these, and each error exactly where it applies. [`written_records_are_read`] says that
-//! the record lines that are written of a database are read as its records.
+//! The formats of `sgt`, both ways. A line of JSON becomes an opening, a procedure, a record line, an event or a job. A
+//! reply or a database becomes its text.
 //!
-//! It knows nothing of how lines are cut from a stream, nor of how an engine runs. Lines come in without their byte 10, and
+//! `specs/` defines what a line spells and which text a reply has: `ReplyText`, `DatabaseText`, `RecordText`,
+//! `EventLines`, `JobLines`, `RecordLines`, `Openings` and `ProcedureLines`, over `Decimals`, `Trees` and `Procedures`.
+//! The contracts promise exactly these, and each error exactly where it applies. [`written_records_are_read`] says that
+//! the record lines written of a database are read as its records.
+//!
+//! This crate does not split a stream into lines, and does not run an engine. Lines come in without their newline, and
 //! go out with it.
 //!
 //! ```

@@ -1,4 +1,4 @@
-//! The line of an event or of a job that is not written plainly, read by its tokens, without a tree.
+//! Reads an event or a job by the tokens of its line, without a tree, if the line is not in plain form.
 ghost use Rattle.std.specs.Prelude.{◌≡◌, ◌∷◌, [], ◌++◌, List, ℕ, map, Some, Ok, IfOk, IfSome, IsTrue, IsFalse, ◌≤◌, length};
 ghost use Rattle.fast_float.specs.Text.{scan};
 ghost use Rattle.json.specs.Token.{begin_array, end_array, string, number};
@@ -15,8 +15,8 @@ use fast_float::Numeral;
 use json::{Reader, Scratch, Token};
 use sgt_model::{Args, Event, NoMemory, Tid};
 
-/// The event of a line that is not written plainly, read token by token, without a tree of it. If this finds none, the line's tree
-/// decides.
+/// The event of a line that is not in plain form, read token by token, without a tree. If this finds none, the line's
+/// tree decides.
 #[tactic(auto, using(crate::proofs::LineTokens::event_found))]
 pub(crate) fn quick_event(line: &[u8], scratch: &mut Scratch) -> Result<Option<Event>, NoMemory>
     ensures { IfOk result (λ found. IfSome found (λ event. event_of line.now ≡ Ok event)) }
@@ -28,7 +28,7 @@ pub(crate) fn quick_event(line: &[u8], scratch: &mut Scratch) -> Result<Option<E
     Ok(event_at(&mut reader))
 }
 
-/// The job that a line asks for, found in the same way.
+/// The job that a line spells, found in the same way.
 #[tactic(auto, using(crate::proofs::LineTokens::job_found))]
 pub(crate) fn quick_job(line: &[u8], scratch: &mut Scratch) -> Result<Option<JobCall>, NoMemory>
     ensures { IfOk result (λ found. IfSome found (λ call. job_of line.now ≡ Ok call)) }
@@ -62,7 +62,7 @@ fn job_at(reader: &mut Reader<'_>) -> Option<JobCall>
     job_call(word, procedure_of(first)?, args)
 }
 
-/// The word and the number that a list begins with.
+/// The word and the number at the front of a list.
 fn take_head<'a>(reader: &mut Reader<'a>) -> Option<(&'a str, i64)>
     ensures { IfSome result (λ head. (text : List ℕ)
         × (reader.old ≡ begin_array ∷ string head.0.now ∷ number text ∷ reader.new)
@@ -104,7 +104,7 @@ fn procedure_of(n: i64) -> Option<u16>
     u16::try_from(n).ok()
 }
 
-/// The numbers of a list behind its beginning, at most four, and its end.
+/// The numbers of a list after its opening bracket, at most four, and its end.
 fn take_arguments(reader: &mut Reader<'_>) -> Option<Args>
     ensures { IfSome result (λ args. (texts : List (List ℕ))
         × (reader.old ≡ map number texts ++ end_array ∷ reader.new)
@@ -158,7 +158,7 @@ fn take_whole(reader: &mut Reader<'_>) -> Option<i64>
     }
 }
 
-/// The whole number that the text of a number writes. `-0` is none.
+/// The whole number that the text of a number spells. `-0` is none.
 #[tactic(auto, using(crate::proofs::Numerals::whole_found))]
 fn whole_number(text: &str) -> Option<i64>
     ensures { IfSome result (λ n. whole_number text.now ≡ Some n) }
@@ -171,7 +171,7 @@ fn whole_number(text: &str) -> Option<i64>
     Some(number)
 }
 
-/// Whether the text of a number begins with a minus, and what stands behind that.
+/// Whether the text of a number begins with a minus, and the text after it.
 fn sign_and_digits(text: &[u8]) -> (bool, &[u8])
     ensures { number_of text.now ≡ number_from result.0 (scan result.1.now) }
 {

@@ -14,25 +14,34 @@ use sgt_proc::Checked;
 use sgt_smallbank::Account;
 use std::alloc::Global;
 
-/// What the first line of an input gives.
+/// The content of the first line of an input.
 #[derive(Drop)]
 pub struct Opening {
     pub limits: Limits,
     pub database: Database,
-    /// The procedures that stand behind those of SmallBank.
+    /// The procedures that come after those of SmallBank.
     pub procedures: Vec<Checked>,
 }
 
-/// The opening that a line spells, without its end: an object with the members `limits`, `[live, begins]` or
-/// `[live, begins, asks]`, `accounts`, `[[name, customer, saving, checking], ..]`, and `procedures`, of which the first has
-/// the number 5. With `asks` 1 a code that a procedure asks is told at the commit, with 0 or none at the step.
+/// The opening that a line spells, without its end. It is an object with these members:
+///
+/// - `limits`: `[live, begins]` or `[live, begins, asks]`. If `asks` is 1, codes are reported at commit; if it is 0 or
+///   missing, at the step that raises them.
+/// - `accounts`: `[[name, customer, saving, checking], ..]`.
+/// - `procedures`: the first has the number 5.
 ///
 /// # Errors
 ///
-/// The first of these that applies: `NotJson`, `BadLine` for any other shape, `BadLimits`, also where fewer than `least`
-/// transactions may be live, `BadOpening` with the fault of the
-/// first account that has one, and `ProcShape` or `ProcFlaw` of the first procedure that has a misfit or a flaw. `NoMemory`
-/// where a growth was refused: while the shape was read, or behind limits in their ranges and accounts without a fault.
+/// The first of these that applies:
+///
+/// - `NotJson`: the line is not JSON.
+/// - `BadLine`: it has any other shape.
+/// - `BadLimits`: a limit is out of its range, or fewer than `least` transactions may be live.
+/// - `BadOpening`: the fault of the first account that has one.
+/// - `ProcShape` or `ProcFlaw`: the first procedure with a shape error or a flaw.
+///
+/// `NoMemory` if an allocation failed: while the shape was read, or after limits in their ranges and accounts without a
+/// fault.
 pub fn read_opening(alloc: Global, least: u32, line: &[u8]) -> Result<Opening, OpeningError>
     ensures opening { IfOk result (Opens least line.now) }
     ensures refused { IfErr result (Refuses least line.now) }

@@ -1,4 +1,5 @@
-//! Lines as most are written: no escape, no blank but one after a comma, and whole numbers of at most eighteen digits.
+//! Lines in plain form: no escape, no space but one after a comma, and whole numbers of at most eighteen digits. Most
+//! lines are written so.
 ghost use Rattle.std.specs.Prelude.{◌≡◌, ◌≤◌, ◌<◌, ◌∷◌, [], ◌++◌, ℕ, List, false, length, take, codes, Ok, Some, IfSome, IsTrue};
 ghost use Rattle.std.specs.Fmt.{decimal, signed_decimal};
 ghost use lib.Signed.{mag};
@@ -12,7 +13,7 @@ use crate::call::JobCall;
 use crate::record_line::RecordLine;
 use sgt_model::{Args, Event, Tid};
 
-/// The event of a line that is written so, read byte by byte. If this finds none, the tokens decide.
+/// The event of a line in plain form, read byte by byte. If this finds none, the tokens decide.
 #[inline(always)]
 pub(crate) fn plain_event(line: &[u8]) -> Option<Event>
     ensures { IfSome result (λ event. event_of line.now ≡ Ok event) }
@@ -29,14 +30,14 @@ pub(crate) fn plain_event(line: &[u8]) -> Option<Event>
     }
 }
 
-/// The job of a line that is written so.
+/// The job of a line in plain form.
 pub(crate) fn plain_job(line: &[u8]) -> Option<JobCall>
     ensures { IfSome result (λ call. job_of line.now ≡ Ok call) }
 {
     last_call(item_behind(line, b"[\"job\",")?)
 }
 
-/// The record of a line that is written so.
+/// The record of a line in plain form.
 pub(crate) fn plain_record(line: &[u8]) -> Option<RecordLine>
     ensures { IfSome result (λ said. record_line_of line.now ≡ Some said) }
 {
@@ -62,7 +63,7 @@ fn is_bracket(text: &[u8]) -> bool
     text.len() == 1 && text[0] == b']'
 }
 
-/// What stands behind these bytes, where the text begins with them.
+/// The text after these bytes, if it begins with them.
 #[tactic(auto, using(crate::proofs::PlainLines::split_behind))]
 #[inline(always)]
 fn behind<'a>(text: &'a [u8], words: &[u8]) -> Option<&'a [u8]>
@@ -81,7 +82,7 @@ fn behind<'a>(text: &'a [u8], words: &[u8]) -> Option<&'a [u8]>
     Some(&text[same..])
 }
 
-/// The items behind a comma that ends these bytes, where the text begins with them. One blank before the items is left out.
+/// The items after a comma that ends these bytes, if the text begins with them. One space before the items is skipped.
 #[inline(always)]
 fn item_behind<'a>(text: &'a [u8], words: &[u8]) -> Option<&'a [u8]>
     ensures { IfSome result (λ rest. (gap : List ℕ) × IsGap gap × (text.now ≡ words.now ++ (gap ++ rest.now))) }
@@ -117,7 +118,7 @@ fn last_call(text: &[u8]) -> Option<JobCall>
     Some(JobCall { procedure, args })
 }
 
-/// The arguments of a text that is at most four of them, with a comma between each two, and two closing brackets.
+/// The arguments of a text that is at most four of them, separated by commas, and two closing brackets.
 fn last_arguments(text: &[u8]) -> Option<Args>
     ensures text { IfSome result (λ args. AreArguments false text.now args) }
     ensures small { IfSome result (λ args. AreSmall args) }
@@ -145,7 +146,7 @@ fn is_closing(text: &[u8]) -> bool
     text.len() == 2 && text[0] == b']' && text[1] == b']'
 }
 
-/// The argument that a text begins with, behind its comma where it is not the first, and what stands behind it.
+/// The argument at the front of a text, after its comma unless it is the first, and the rest of the text.
 #[inline(always)]
 fn next_argument<'a>(text: &'a [u8], args: &Args) -> Option<(i64, &'a [u8])>
     ensures text { IfSome result (λ found. (gap : List ℕ) × IsGap gap
@@ -158,7 +159,7 @@ fn next_argument<'a>(text: &'a [u8], args: &Args) -> Option<(i64, &'a [u8])>
     leading_number(item_behind(text, b",")?)
 }
 
-/// The number that a text begins with, and what stands behind it. `-0` is none.
+/// The number at the front of a text, and the rest of the text. `-0` is none.
 #[inline(always)]
 fn leading_number(text: &[u8]) -> Option<(i64, &[u8])>
     ensures text { IfSome result (λ found. text.now ≡ signed_decimal found.0 ++ found.1.now) }
@@ -175,7 +176,7 @@ fn leading_number(text: &[u8]) -> Option<(i64, &[u8])>
     Some((number as i64, rest))
 }
 
-/// The natural number that a text begins with, and what stands behind it.
+/// The natural number at the front of a text, and the rest of the text.
 #[tactic(auto, using(crate::proofs::PlainCalls::number_first))]
 #[inline(always)]
 fn natural_and_rest(text: &[u8]) -> Option<(u64, &[u8])>
@@ -186,7 +187,7 @@ fn natural_and_rest(text: &[u8]) -> Option<(u64, &[u8])>
     Some((number, &text[digits..]))
 }
 
-/// The natural number of at most eighteen digits that a text begins with, and how many digits it has there.
+/// The natural number of at most eighteen digits at the front of a text, and how many digits it has there.
 #[tactic(auto, using(crate::proofs::PlainLines::one_digit, crate::proofs::PlainLines::one_more_digit))]
 #[inline(always)]
 fn leading_digits(text: &[u8]) -> Option<(u64, usize)>
@@ -209,7 +210,7 @@ fn leading_digits(text: &[u8]) -> Option<(u64, usize)>
     Some((number, digits))
 }
 
-/// Whether a number has room for a digit more, and this is one.
+/// Whether this byte is a digit, and the number may have one more.
 #[inline(always)]
 fn goes_on(number: u64, byte: u8) -> bool
     ensures number { IsTrue result → number < 100_000_000_000_000_000 }

@@ -8,13 +8,18 @@ use crate::tree::read_tree;
 use sgt_proc::Checked;
 use std::alloc::Global;
 
-/// The procedure that a line spells, as one of the list `procedures` of an opening: it is to have this number, which its error
-/// tells.
+/// The procedure that a line spells, as one item of the list `procedures` of an opening. Its errors name it by
+/// `number`.
 ///
 /// # Errors
 ///
-/// The first of these that applies: `NotJson`, `ProcShape` with the place of the first misfit, `ProcFlaw` with the least flaw.
-/// `NoMemory` where a growth was refused.
+/// The first of these that applies:
+///
+/// - `NotJson`: the line is not JSON.
+/// - `ProcShape`: the position of the first shape error.
+/// - `ProcFlaw`: the least flaw.
+///
+/// `NoMemory` if an allocation failed.
 pub fn read_procedure_line(alloc: Global, number: u64, line: &[u8]) -> Result<Checked, OpeningError>
     ensures procedure { IfOk result (SpellsProcedure line.now) }
     ensures refused { IfErr result (RefusesProcedure number line.now) }

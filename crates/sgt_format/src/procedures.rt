@@ -11,7 +11,7 @@ use sgt_proc_json::{ReadError, read};
 use sgt_smallbank::PROCEDURES;
 use std::alloc::Global;
 
-/// The procedures that these trees spell, which are numbered behind those of SmallBank.
+/// The procedures that these trees spell, numbered after those of SmallBank.
 pub(crate) fn read_procedures(alloc: Global, trees: &[Value]) -> Result<Vec<Checked>, OpeningError>
     ensures procedures { IfOk result (λ list. AreProcedures (map view trees.now) list.items) }
     ensures refused { IfErr result (ProcedureIsRefused (map view trees.now)) }
@@ -23,7 +23,7 @@ pub(crate) fn read_procedures(alloc: Global, trees: &[Value]) -> Result<Vec<Chec
     Ok(list)
 }
 
-/// The procedure that a tree spells, which has this number, unless it has a flaw.
+/// The procedure that a tree spells, under this number, unless it has a flaw.
 pub(crate) fn read_procedure(
     alloc: Global,
     number: u64,

@@ -10,7 +10,7 @@ use serde_json::Value;
 use sgt_model::{Key, NoMemory, is_value};
 use std::alloc::Global;
 
-/// A line that puts a record into an opening: its numbers, whichever they are.
+/// A line that adds a record to an opening: its numbers, in range or not.
 #[derive(Clone, Copy, Debug, PartialEq, Eq)]
 pub struct RecordLine {
     /// The table of the record.
@@ -24,14 +24,14 @@ pub struct RecordLine {
 /// A record: its key and its value.
 #[derive(Clone, Copy, Debug, PartialEq, Eq)]
 pub struct Record {
-    /// Which record it is.
+    /// Its key.
     pub key: Key,
-    /// Its value, from `LEAST` to `MOST` where a line puts it.
+    /// Its value, from `LEAST` to `MOST` if a line adds it.
     pub value: i64,
 }
 
 impl RecordLine {
-    /// The record that the line puts, or none where a number of it is out of range: the table is from 0 to 7, and the others are
+    /// The record that the line adds, or none if a number is out of range: the table is from 0 to 7, and the others are
     /// values.
     pub fn record(&self) -> Option<Record>
         ensures record { result ≡ record_of self.now }
@@ -48,10 +48,10 @@ impl RecordLine {
     }
 }
 
-/// The record line that a line is, without its end: `["record", table, number, value]`, of any whole numbers of 64 bits. None
-/// where it is no JSON, or JSON of any other form.
+/// The record line that a line spells, without its end: `["record", table, number, value]`, of any whole numbers of 64
+/// bits. None if it is not JSON, or JSON of any other form.
 ///
-/// `NoMemory` where a growth was refused.
+/// `NoMemory` if an allocation failed.
 pub fn read_record_line(alloc: Global, line: &[u8]) -> Result<Option<RecordLine>, NoMemory>
     ensures { IfOk result (λ found. found ≡ record_line_of line.now) }
 {
@@ -97,7 +97,7 @@ fn of_numbers(word: &str, table: i64, number: i64, value: i64) -> Option<RecordL
     }
 }
 
-/// The key of a table and a number there, where they are one.
+/// The key of a table and a number, if both are in their ranges.
 fn key_of(table: i64, number: i64) -> Option<Key>
     ensures { result ≡ key_of table number }
 {

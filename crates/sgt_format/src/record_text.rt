@@ -7,8 +7,8 @@ use itoa::write_digits;
 use sgt_model::{Database, Key, NoMemory};
 use std::alloc::AllocError;
 
-/// Adds the records of a database to a text as lines of JSON: `["record",table,number,value]` for each row, by table and then by
-/// number. It takes no memory but the text's growth.
+/// Appends the records of a database to a text as lines of JSON: `["record",table,number,value]` for each row, by table
+/// and then by number. Only the growth of the text allocates memory.
 pub fn append_records(text: &mut Vec<u8>, database: &Database) -> Result<(), NoMemory>
     ensures ok { OnOk result (text.new.items ≡ text.old.items ++ record_lines database.now) }
     ensures err { OnErr result (text.new.items ≡ text.old.items) }
@@ -43,7 +43,7 @@ fn append_record_line(text: &mut Vec<u8>, key: &Key, value: i64) -> Result<(), A
     text.extend_from_slice(&line[start..])
 }
 
-/// Writes the numbers of a row so that they end at `end`, and tells where they start.
+/// Writes the numbers of a row so that they end at `end`, and returns where they start.
 fn write_row_numbers(key: &Key, value: i64, text: &mut [u8], end: usize) -> usize
     requires { (43 ≤ end) × (end ≤ length text.old) }
     ensures start { (result ≤ end) × (end ≤ result + 43) }
@@ -54,7 +54,7 @@ fn write_row_numbers(key: &Key, value: i64, text: &mut [u8], end: usize) -> usiz
     write_key_numbers(key, text, start)
 }
 
-/// Writes the numbers of a key so that they end at `end`, and tells where they start.
+/// Writes the numbers of a key so that they end at `end`, and returns where they start.
 fn write_key_numbers(key: &Key, text: &mut [u8], end: usize) -> usize
     requires { (22 ≤ end) × (end ≤ length text.old) }
     ensures start { (result ≤ end) × (end ≤ result + 22) }

@@ -20,7 +20,7 @@ pub fn reply_line(alloc: Global, reply: &Reply) -> Result<Vec<u8>, NoMemory>
     Ok(line)
 }
 
-/// Adds the line of a reply, with its end, to a text. It takes no memory but the text's growth.
+/// Appends the line of a reply, with its end, to a text. Only the growth of the text allocates memory.
 pub fn append_reply(lines: &mut Vec<u8>, reply: &Reply) -> Result<(), NoMemory>
     ensures ok { OnOk result (lines.new.items ≡ lines.old.items ++ text reply.now) }
     ensures err { OnErr result (lines.new.items ≡ lines.old.items) }
@@ -122,7 +122,7 @@ fn append_committed(lines: &mut Vec<u8>, answers: &Answers) -> Result<(), AllocE
     }
 }
 
-/// Adds the line of a transaction that is committed with one answer.
+/// Appends the line of a transaction that is committed with one answer.
 fn append_answered(lines: &mut Vec<u8>, answer: i64) -> Result<(), AllocError>
     ensures ok { OnOk result
         (lines.new.items ≡ lines.old.items ++ codes "committed " ++ signed_decimal answer ++ codes "\n") }
@@ -157,7 +157,8 @@ fn append_refused(lines: &mut Vec<u8>, code: u16, fell: &Tids) -> Result<(), All
     append_fell(lines, fell)
 }
 
-/// Adds which fell, and the end of the line. On an error the lines still begin with what they held.
+/// Appends the transactions aborted in cascade, and the end of the line. On an error the lines still begin with what
+/// they held.
 fn append_fell(lines: &mut Vec<u8>, fell: &Tids) -> Result<(), AllocError>
     ensures ok { OnOk result (lines.new.items ≡ lines.old.items ++ fell_text fell.now ++ codes "\n") }
     ensures err { OnErr result (take (vec_len lines.old) lines.new.items ≡ lines.old.items) }
@@ -167,7 +168,7 @@ fn append_fell(lines: &mut Vec<u8>, fell: &Tids) -> Result<(), AllocError>
     lines.extend_from_slice(b"\n")
 }
 
-/// Adds why a transaction was aborted. On an error the line still begins with what it held.
+/// Appends why a transaction was aborted. On an error the line still begins with what it held.
 fn append_cause(line: &mut Vec<u8>, cause: &Cause) -> Result<(), AllocError>
     ensures ok { OnOk result (line.new.items ≡ line.old.items ++ cause_text cause.now) }
     ensures err { OnErr result (take (vec_len line.old) line.new.items ≡ line.old.items) }

@@ -14,19 +14,24 @@ use serde_json::Value;
 use sgt_model::Event;
 use std::alloc::Global;
 
-/// What a line of a script asks for, behind its opening.
+/// What a line of a script spells, after its opening.
 #[derive(Debug, Drop, PartialEq, Eq)]
 pub enum ScriptLine {
-    /// An event, which is answered by the engine and becomes an entry of its history.
+    /// An event, which the engine answers, and which becomes an entry of its history.
     Event(Event),
-    /// That the history be cut off here. This is no event.
+    /// A cut of the history here. This is not an event.
     Cut,
 }
 
-/// What a line of a script asks for, without its end: an event as [`crate::read_event`] reads it, or `["cut"]`.
+/// What a line of a script spells, without its end: an event as [`crate::read_event`] reads it, or `["cut"]`.
 ///
-/// A line that is no JSON is `NotJson`, a line of any other form `BadLine`. An argument may be any whole number of 64 bits.
-/// The scratch is the reader's memory, to be kept from line to line.
+/// An argument may be any whole number of 64 bits. `scratch` is memory of the reader; pass the same one for each line.
+///
+/// # Errors
+///
+/// - `NotJson`: the line is not JSON.
+/// - `BadLine`: the line is JSON of any other form.
+/// - `NoMemory`: an allocation failed.
 #[tactic(auto, using(crate::proofs::LineTokens::asked_event))]
 #[inline(always)]
 pub fn read_script_line(
@@ -43,7 +48,7 @@ pub fn read_script_line(
     read_other_line(alloc, scratch, line)
 }
 
-/// The same, of a line that is not written plainly.
+/// The same, of a line that is not in plain form.
 #[tactic(auto, using(crate::proofs::LineTokens::asked_event))]
 #[inline(never)]
 fn read_other_line(

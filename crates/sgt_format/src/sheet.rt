@@ -17,11 +17,11 @@ use std::alloc::Global;
 /// The numbers of an opening's limits, as a line spells them: in their ranges or not.
 #[derive(Clone, Copy)]
 pub(crate) struct LimitNumbers {
-    /// How many transactions may be live at once.
+    /// The most transactions that may be live at once.
     pub live: i64,
-    /// How many may be started in all.
+    /// The most starts.
     pub begins: i64,
-    /// When one is told that its procedure asks a code: 0 at the step, also where the line does not say, 1 at the commit.
+    /// When codes are reported: 0, also if the line has no third limit, at the step; 1 at commit.
     pub asks: i64,
 }
 
@@ -80,7 +80,7 @@ fn limits_from(numbers: &[i64]) -> Option<LimitNumbers>
     }
 }
 
-/// The accounts, or none where one of the trees is no account.
+/// The accounts, or none if one of the trees is no account.
 pub(crate) fn read_accounts(
     alloc: Global,
     trees: &[Value],
@@ -120,7 +120,7 @@ fn account_from(numbers: &[i64]) -> Option<Account>
     }
 }
 
-/// Limits of these numbers, or none where one is out of its range, or fewer may be live than are wanted at least.
+/// Limits of these numbers, or none if one is out of its range, or if they allow fewer live transactions than `least`.
 pub(crate) fn limits(least: u32, numbers: LimitNumbers) -> Option<Limits>
     ensures some { IfSome result (AreLimits least numbers) }
     ensures none { IsNone result → (limits : Limits) → ¬ AreLimits least numbers limits }

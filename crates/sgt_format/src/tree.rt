@@ -7,7 +7,7 @@ use serde_json::Value;
 use sgt_model::NoMemory;
 use std::alloc::Global;
 
-/// The tree of a line, or none where the line is no JSON.
+/// The tree of a line, or none if the line is not JSON.
 #[tactic(auto, using(crate::proofs::Views::tree_of_read, crate::proofs::Views::tree_of_refused))]
 pub fn read_tree(alloc: Global, line: &[u8]) -> Result<Option<Value>, NoMemory>
     ensures { IfOk result (λ tree. option_map view tree ≡ tree_of line.now) }

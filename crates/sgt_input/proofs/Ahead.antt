@@ -1,4 +1,4 @@
--- The line that would be given next.
+-- The line that would be returned next.
 use Rattle.std.proofs.Common.{◌≡◌, ℕ, ◌+◌, ◌-◌, ◌<◌, ◌≤◌, true, false, List, [], ◌∷◌, ◌++◌, length, take, drop, refl, ap, sym, ◌∙◌, arith, append-nil, inl, inr}
 use Rattle.std.specs.Prelude.{Bool, Option, Some, None, is_some, ◌⊎◌}
 use Rattle.std.proofs.lemmas.Grind.{common_steps}
@@ -39,7 +39,7 @@ ahead-found i n at few going =
       refl,
     )
 
--- the last one, without a byte 10
+-- the last one, without a newline
 pub ahead-last : (i : Intake) → has_break (take i.within i.held) ≡ false → length i.held ≤ i.within → length i.held ≤ 65536
     → 0 < length i.held → i.ended ≡ true → (k : Intake) × IsGiven i k × (k.line ≡ i.held)
 ahead-last i none fits few some ended =
@@ -64,13 +64,13 @@ ahead-last i none fits few some ended =
       refl,
     )
 
--- where a place is known the source goes on
+-- if a newline's position is known, the source goes on
 pub found-going : (number within : ℕ) (ended : Bool) (held : List ℕ) (found : Option ℕ) (n : ℕ) → AtRest number within ended held found
     → found ≡ Some n → ended ≡ false
 found-going number within true held found n rest is = absurd (cc (sym is ∙ (rest.last refl).0))
 found-going number within false held found n rest is = refl
 
--- where none is and the next line has come, the source has ended, and what is held is short
+-- if none is known and the next line has been read, the source has ended, and the bytes held are short
 pub none-ended : (number within : ℕ) (ended : Bool) (held : List ℕ) (found : Option ℕ) → AtRest number within ended held found
     → found ≡ None → (has_break (take within held) ≡ true) ⊎ (ended ≡ true)
     → (has_break (take within held) ≡ false) × (length held ≤ within) × (length held ≤ 65536) × (ended ≡ true)

@@ -1,4 +1,4 @@
--- An input's lines from its first, where they open.
+-- The lines of an input from the first on, if they open a run.
 use Rattle.std.proofs.Common.{◌≡◌, ℕ, ◌+◌, List, ◌∷◌, ap, sym, ◌∙◌, arith, subst}
 use Rattle.std.specs.Prelude.{Option, None, Some, ⊤}
 use Rattle.sgt_model.specs.Databases.{contents_of}
@@ -11,7 +11,7 @@ use Rattle.sgt_input.specs.Lines.{Cut, cut}
 use Rattle.sgt_input.specs.Intake.{Intake, before_input, cut_left, Gives}
 use Rattle.sgt_input.specs.Records.{IsBadRecord, Leaves}
 
--- the lines of these bytes begin with an opening, of which this is line 1; behind it, from number n on, are these
+-- the lines of these bytes begin with an opening, whose line 1 is this; after it, from number n on, come these lines
 pub record HaveBegun (least : ℕ) (bytes line : List ℕ) (o : Opening) (n : ℕ) (c : Cut) : Type 0 where
   pub later : List (List ℕ)
   pub given : (cut bytes).given ≡ line ∷ later
@@ -20,7 +20,7 @@ pub record HaveBegun (least : ℕ) (bytes line : List ℕ) (o : Opening) (n : �
   pub left : behind_records later ≡ c.given
   pub ending : (cut bytes).ending ≡ c.ending
 
--- the same of known lines
+-- the same for lines that are known
 abbrev pub Begun : ℕ → Option (List ℕ) → List ℕ → Opening → ℕ → Option Cut → Type 0
 Begun least None line o n known = ⊤
 Begun least (Some bytes) line o n None = ⊥
@@ -55,13 +55,14 @@ begun least i (Some bytes) line (Some c) (Some d) first o n m start gives opens 
       ending = gives'.1 ∙ sym leaves.ending;
     }
 
--- the lines of these bytes begin with an opening, of which this is line 1, but for a record line that can't be put, which is the fault
+-- the lines of these bytes begin with an opening, whose line 1 is this, but for a record line that cannot be added:
+-- that is the fault
 abbrev pub HasBadRecord : ℕ → Option (List ℕ) → List ℕ → Fault → Type 0
 HasBadRecord least None line f = ⊤
 HasBadRecord least (Some bytes) line f = (later : List (List ℕ)) × ((cut bytes).given ≡ line ∷ later) × (bad : ℕ)
     × RefusesRecord least line (leading_records later) bad × (f ≡ fault.BadRecord bad)
 
--- line 1 opens, and then comes a record line that can't be put
+-- line 1 opens, and then comes a record line that cannot be added
 pub bad-record : (least : ℕ) (i : Intake) (rest : Option (List ℕ)) (line : List ℕ) (mid : Option Cut) (first : Opening) (n : ℕ)
     (f : Fault) → i ≡ before_input → Gives (cut_left i rest) line mid → Opens least line first → n ≡ 1
     → IsBadRecord f n (contents_of first.database) mid → HasBadRecord least rest line f

@@ -1,4 +1,4 @@
--- Laws of bytes 10.
+-- Laws of newlines.
 use Rattle.std.proofs.Common.{◌≡◌, ◌≢◌, ℕ, zero, suc, ◌+◌, ◌<◌, ◌≤◌, true, false, List, [], ◌∷◌, ◌++◌, length, take, get_or, refl, ap, sym, ◌∙◌, arith, suc-le-suc, subst, ◌-◌, drop}
 use Rattle.std.proofs.lemmas.Grind.{common_steps}
 use Rattle.std.proofs.lemmas.Bool.Decides.{nat_tests}
@@ -10,40 +10,40 @@ use Rattle.std.specs.Option.{option_map}
 use Rattle.memchr.specs.Find.{IsFirstByte, is_byte}
 use Rattle.sgt_input.specs.Lines.{has_break, IsBreak}
 
--- no byte 10 among these and those
+-- no newline in either of two lists of bytes
 pub no_break-append : (xs ys : List ℕ) → has_break xs ≡ false → has_break ys ≡ false → has_break (xs ++ ys) ≡ false
 no_break-append [] ys first second = second
 no_break-append (x ∷ xs) ys first second = grind (arith, nat_tests, no_break-append xs ys)
 
--- a byte 10 among the first n, or at place n
+-- a newline among the first n bytes, or at index n
 pub has_break-at : (bytes : List ℕ) (n : ℕ) → n < length bytes → get_or bytes n 0 ≡ 10 → has_break bytes ≡ true
 has_break-at [] n inside ten = absurd (omega arith)
 has_break-at (x ∷ xs) zero inside ten = grind (arith, nat_tests)
 has_break-at (x ∷ xs) (suc n) inside ten = grind (arith, nat_tests, has_break-at xs n)
 
--- a place is known exactly where there is one
+-- a position is known exactly if there is a newline
 pub found-is : (bytes : List ℕ) (found : Option ℕ) → IsBreak bytes found → is_some found ≡ has_break bytes
 found-is bytes None at = sym at
 found-is bytes (Some n) at = sym (has_break-at bytes n at.0 at.1)
 
--- no place is known where there is none
+-- no position is known if there is no newline
 pub found-none : (bytes : List ℕ) (found : Option ℕ) → IsBreak bytes found → has_break bytes ≡ false → found ≡ None
 found-none bytes None at none = refl
 found-none bytes (Some n) at none = absurd (true≢false (sym (has_break-at bytes n at.0 at.1) ∙ none))
 
--- no byte 10 among fewer
+-- no newline among fewer bytes
 pub no_break-fewer : (m n : ℕ) (bytes : List ℕ) → m ≤ n → has_break (take n bytes) ≡ false → has_break (take m bytes) ≡ false
 no_break-fewer zero n bytes fewer none = refl
 no_break-fewer (suc m) zero bytes fewer none = absurd (omega arith)
 no_break-fewer (suc m) (suc n) [] fewer none = refl
 no_break-fewer (suc m) (suc n) (x ∷ xs) fewer none = grind (arith, nat_tests, no_break-fewer m n xs)
 
--- where no line of the longest kind ends, the bytes begin with a line that is too long
+-- if no line of the greatest length ends, the bytes begin with a line that is too long
 pub long-none : (within : ℕ) (held : List ℕ) → has_break (take within held) ≡ false → 65536 < length held → 65536 < within
     → has_break (take 65537 held) ≡ false
 long-none within held none long inside = no_break-fewer 65537 within held (omega arith) none
 
--- and so where the first one ends behind it
+-- the same if the first line ends after that length
 pub long-found : (within n : ℕ) (held : List ℕ) → IsBreak (take within held) (Some n) → 65536 < n
     → (has_break (take 65537 held) ≡ false) × (65536 < length held) × (65536 < within)
 long-found within n held at long =
@@ -52,12 +52,12 @@ long-found within n held at long =
     let same : take n (take within held) ≡ take n held = grind (arith, common_steps, inside) in
     (no_break-fewer 65537 n held long (ap has_break (sym same) ∙ at.2), omega arith, omega arith)
 
--- no byte 10 among bytes of which none is 10
+-- no newline among bytes none of which is 10
 no_break-each : (bytes : List ℕ) → ((k : ℕ) → k < length bytes → get_or bytes k 0 ≢ 10) → has_break bytes ≡ false
 no_break-each [] other = refl
 no_break-each (x ∷ xs) other = grind (arith, nat_tests, other 0, no_break-each xs (λ k inside. other (suc k) (suc-le-suc inside)))
 
--- the first byte 10 behind bytes of which none is 10
+-- the first newline after bytes none of which is 10
 pub break-behind : (front bytes : List ℕ) (found : Option ℕ) → has_break front ≡ false → IsFirstByte (is_byte 10) bytes found
     → IsBreak (front ++ bytes) (option_map (λ n. length front + n) found)
 break-behind front bytes None none first =

@@ -6,7 +6,7 @@ use Rattle.std.proofs.Math.Seq.{take-add, take-append_seam}
 use Rattle.std.specs.Io.KnownBytes.{Appends}
 use Rattle.std.specs.Prelude.{Option, None, Some}
 
--- behind the first n bytes of a window is the window that begins n later
+-- after the first n bytes of a window is the window that begins n later
 pub window-drop : (start end n : ℕ) (bs : List ℕ) → n ≤ end - start → drop n (take (end - start) (drop start bs)) ≡ take
     (end - (start + n)) (drop (start + n) bs)
 window-drop start end n bs fits =
@@ -14,7 +14,7 @@ window-drop start end n bs fits =
     ap (λ k. drop n (take k (drop start bs))) size ∙ drop-take n (end - (start + n)) (drop start bs)
     ∙ ap (λ xs. take (end - (start + n)) xs) (drop-drop n start bs)
 
--- a slice up to the end is what is behind its start
+-- a slice up to the end is the bytes after its start
 pub rest_of : (bs : List ℕ) (at : ℕ) → take (length bs - at) (drop at bs) ≡ drop at bs
 rest_of bs at = grind (arith, common_steps)
 
@@ -28,7 +28,7 @@ appends_more (Some xs) (Some ys) (Some zs) bs at n first next =
     next ∙ ap (λ l. ys ++ take n l) (rest_of bs at) ∙ ap (λ l. l ++ take n (drop at bs)) first ∙ append_assoc xs (take at bs)
     (take n (drop at bs)) ∙ ap (λ l. xs ++ l) (sym (take-add at n bs))
 
--- of a list kept whole, the n bytes behind the first h
+-- of a whole list, the n bytes after the first h
 pub behind_held : (h n len : ℕ) (ys zs : List ℕ) → length ys ≡ len → h + n ≤ len
     → drop h (take (h + n - 0) (take len (ys ++ drop (length ys) zs))) ≡ take n (drop h ys)
 behind_held h n len ys zs whole fits =

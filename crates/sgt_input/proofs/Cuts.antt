@@ -1,4 +1,4 @@
--- Laws of the cut of a text into lines.
+-- Laws of splitting a text into lines.
 use Rattle.std.proofs.Common.{◌≡◌, ℕ, ◌+◌, ◌-◌, ◌<◌, ◌≤◌, Bool, true, false, nat_eq, List, [], ◌∷◌, ◌++◌, length, take, refl, ap, sym, ◌∙◌, arith, append_assoc, inl, inr, add-one}
 use Rattle.std.specs.Prelude.{nat_le, if◌then◌else◌}
 use Rattle.std.proofs.Math.Seq.{take-append-add}
@@ -8,17 +8,17 @@ use Rattle.std.proofs.lemmas.Bool.Decides.{nat_tests, eqb_tells}
 use Rattle.sgt_input.proofs.Breaks.{no_break-append}
 use Rattle.sgt_input.specs.Lines.{has_break, whole_lines, unended, last_line, lines, is_short, long_line, counted, before_long, ending_of, AtLongLine, AtLimit, cut_within}
 
--- a text without a byte 10 has no whole line
+-- a text without a newline has no whole line
 pub whole_lines-none : (bytes : List ℕ) → has_break bytes ≡ false → whole_lines bytes ≡ []
 whole_lines-none [] none = refl
 whole_lines-none (x ∷ xs) none = grind (arith, nat_tests, whole_lines-none xs)
 
--- all of it is behind the last byte 10
+-- all of it comes after the last newline
 pub unended-none : (bytes : List ℕ) → has_break bytes ≡ false → unended bytes ≡ bytes
 unended-none [] none = refl
 unended-none (x ∷ xs) none = rw none refl
 
--- a byte 10 behind some bytes
+-- a newline after some bytes
 pub has_break-behind : (line rest : List ℕ) → has_break (line ++ 10 ∷ rest) ≡ true
 has_break-behind [] rest = refl
 has_break-behind (x ∷ xs) rest = grind (arith, nat_tests, has_break-behind xs rest)
@@ -28,17 +28,17 @@ pub whole_lines-first : (line rest : List ℕ) → has_break line ≡ false → 
 whole_lines-first [] rest none = refl
 whole_lines-first (x ∷ xs) rest none = grind (arith, nat_tests, whole_lines-first xs rest)
 
--- and what is behind the last
+-- and the bytes after the last
 pub unended-first : (line rest : List ℕ) → unended (line ++ 10 ∷ rest) ≡ unended rest
 unended-first [] rest = refl
 unended-first (x ∷ xs) rest = rw (has_break-behind (x ∷ xs) rest) (unended-first xs rest)
 
--- a byte in front of a text with a first line
+-- a byte before a text with a first line
 first_line-behind : (x : ℕ) (xs : List ℕ) → nat_eq x 10 ≡ false → (line : List ℕ) × (rest : List ℕ) × (has_break line ≡ false)
     × (xs ≡ line ++ 10 ∷ rest) → (line : List ℕ) × (rest : List ℕ) × (has_break line ≡ false) × (x ∷ xs ≡ line ++ 10 ∷ rest)
 first_line-behind x xs other (line, rest, none, is) = (x ∷ line, rest, rw other none, ap (λ l. x ∷ l) is)
 
--- a text with a byte 10 has a first line
+-- a text with a newline has a first line
 pub first_line : (text : List ℕ) → has_break text ≡ true → (line : List ℕ) × (rest : List ℕ) × (has_break line ≡ false)
     × (text ≡ line ++ 10 ∷ rest)
 first_line [] some = absurd (false≢true some)
@@ -48,14 +48,14 @@ first_line (x ∷ xs) some =
       | inr other ↦ first_line-behind x xs other.0 (first_line xs (grind (arith, nat_tests)))
     ]
 
--- a text that begins with a long piece without a byte 10 gives none of its lines
+-- a text that begins with a long piece without a newline gives none of its lines
 pub long_first : (within : Bool) (piece rest : List ℕ) (ls : List (List ℕ)) → has_break piece ≡ false → 65536 < length piece
     → (before_long ((piece ++ rest) ∷ ls) ≡ []) × (ending_of within ((piece ++ rest) ∷ ls) ≡ AtLongLine)
 long_first within piece rest ls none long =
     let test : is_short (piece ++ rest) ≡ false = grind (arith, common_steps, nat_tests) in
     (rw test refl, rw test refl)
 
--- where a text with such a beginning has no byte 10, it is its own last line
+-- if a text with such a beginning has no newline, it is its own last line
 long_unended : (within : Bool) (piece rest : List ℕ) (last : List ℕ → List (List ℕ)) → has_break piece ≡ false
     → has_break rest ≡ false → 65536 < length piece → last (piece ++ rest) ≡ (piece ++ rest) ∷ []
     → (before_long (whole_lines (piece ++ rest) ++ last (unended (piece ++ rest))) ≡ []) × (ending_of within
@@ -77,7 +77,7 @@ long_whole within piece line rest last none none' long =
     rw (sym (append_assoc piece line (10 ∷ rest)), whole_lines-first (piece ++ line) rest (no_break-append piece line none none'))
     (long_first within piece line (whole_lines rest ++ last (unended ((piece ++ line) ++ 10 ∷ rest))) none long)
 
--- so a text that begins with a long piece without a byte 10 gives no line
+-- so a text that begins with a long piece without a newline gives no line
 pub long_beginning : (within : Bool) (piece rest : List ℕ) (last : List ℕ → List (List ℕ)) → has_break piece ≡ false
     → 65536 < length piece → last (piece ++ rest) ≡ (piece ++ rest) ∷ []
     → (before_long (whole_lines (piece ++ rest) ++ last (unended (piece ++ rest))) ≡ []) × (ending_of within
@@ -98,7 +98,7 @@ listed_long piece rest long =
     let test : is_short (piece ++ rest) ≡ false = grind (arith, common_steps, nat_tests) in
     rw test refl
 
--- the first line takes its bytes and one of the limit
+-- the first line takes its bytes and one more of the limit
 same_within : (k : ℕ) (line rest : List ℕ) → length line + 1 ≤ k → nat_le (length (line ++ 10 ∷ rest)) k ≡ nat_le (length rest)
     (k - (length line + 1))
 same_within k line rest fits = grind (arith, common_steps, nat_tests)
@@ -110,7 +110,7 @@ take_first k line rest fits =
     ap (λ n. take n (line ++ 10 ∷ rest)) size ∙ take-append-add line (10 ∷ rest) (k - (length line + 1) + 1)
     ∙ ap (λ n. line ++ take n (10 ∷ rest)) (add-one (k - (length line + 1)))
 
--- behind the first line, the lines that count are those of what follows
+-- after the first line, the lines that count are those of the rest
 counted_first : (k : ℕ) (line rest : List ℕ) → has_break line ≡ false → length line + 1 ≤ k
     → counted k (line ++ 10 ∷ rest) ≡ line ∷ counted (k - (length line + 1)) rest
 counted_first k line rest none fits =
@@ -128,7 +128,7 @@ counted_first k line rest none fits =
       ) refl
     ])
 
--- the cut of a text with a first line
+-- the lines of a text with a first line
 pub cut-first : (k : ℕ) (line rest : List ℕ) → has_break line ≡ false → length line ≤ 65536 → length line + 1 ≤ k
     → ((cut_within k (line ++ 10 ∷ rest)).given ≡ line ∷ (cut_within (k - (length line + 1)) rest).given)
     × ((cut_within k (line ++ 10 ∷ rest)).ending ≡ (cut_within (k - (length line + 1)) rest).ending)
@@ -140,7 +140,7 @@ cut-first k line rest none short fits =
           ∙ ap (λ ls. ending_of (nat_le (length rest) after) ls) (counted_first k line rest none fits) ∙ rw test refl,
     )
 
--- the cut of a last line
+-- the lines of a last line
 pub cut-last : (k m : ℕ) (line : List ℕ) → has_break line ≡ false → 0 < length line → length line ≤ 65536 → length line ≤ k
     → ((cut_within k line).given ≡ line ∷ (cut_within m []).given) × ((cut_within k line).ending ≡ (cut_within m []).ending)
 cut-last k m [] none some short fits = absurd (omega arith)
@@ -151,7 +151,7 @@ cut-last k m (x ∷ xs) none some short fits =
       rw (le-leb 0 m (omega arith), inside, whole_lines-none (x ∷ xs) none, unended-none (x ∷ xs) none, test) refl,
     )
 
--- the cut of a text that begins with a line that is too long
+-- the lines of a text that begins with a line that is too long
 pub cut-long : (k : ℕ) (piece rest : List ℕ) → has_break piece ≡ false → 65536 < length piece → length piece ≤ k
     → cut_within k (piece ++ rest) ≡ record { given = []; ending = AtLongLine }
 cut-long k piece rest none long fits =
@@ -165,7 +165,7 @@ cut-long k piece rest none long fits =
           (listed_long piece (take (k - length piece) rest) long) in rw (outside, front, both.0, both.1) refl)
     ]
 
--- the cut of a text that is past its limit, where no whole line is within it
+-- the lines of a text past its limit, if no whole line is within it
 pub cut-limit : (k : ℕ) (text : List ℕ) → has_break (take k text) ≡ false → k ≤ 65536 → k < length text
     → cut_within k text ≡ record { given = []; ending = AtLimit }
 cut-limit k text none few past =

@@ -1,4 +1,4 @@
--- Laws of a line that was read, and of where there is none: what is at fault is what the input spells there.
+-- Laws of a line that was read, or of no line: the fault is what the input spells there.
 use Rattle.std.proofs.Common.{◌≡◌, ◌≢◌, ℕ, ◌+◌, refl, ap, sym, ◌∙◌, subst}
 use Rattle.std.specs.Prelude.{Option, Result, Ok, Err, IfOk, IfErr}
 use Rattle.sgt_format.specs.declared.errors.LineError.{LineError}
@@ -10,7 +10,7 @@ use Rattle.sgt_input.specs.Intake.{EndsAs, Explains}
 use Rattle.sgt_input.specs.Ends.{IsOfInput, end_at}
 use Rattle.sgt_input.specs.Spelled.{at_line}
 
--- what was read of a line is what it spells
+-- the result of reading a line is what it spells
 pub spells : {A : Type 0} (n : ℕ) (said read : Result A LineError) (x : A) → IfOk read (λ y. said ≡ Ok y) → at_line n read ≡ Ok x
     → at_line n said ≡ Ok x
 spells n said (Ok y) x told is = ap (at_line n) told ∙ is

@@ -1,4 +1,4 @@
--- What giving a line, or none, does to the lines that are left.
+-- What returning a line, or none, does to the lines that are left.
 use Rattle.std.proofs.Common.{◌≡◌, ℕ, ◌+◌, ◌-◌, ◌<◌, ◌≤◌, true, false, List, [], ◌∷◌, ◌++◌, length, take, drop, refl, ap, sym, ◌∙◌, arith, append_assoc, append-nil, subst, inl, inr}
 use Rattle.std.specs.Prelude.{Option, None, Some}
 use Rattle.std.proofs.lemmas.Grind.{common_steps}
@@ -10,7 +10,7 @@ use Rattle.sgt_input.specs.Lines.{has_break, whole_lines, cut_within, Cut, Endin
 use Rattle.sgt_input.specs.Intake.{Intake, cut_left, Gives, EndsAs, taken, IsGiven, IsLong}
 use Rattle.sgt_input.proofs.Cuts.{cut-first, cut-last, cut-long, cut-limit, whole_lines-none}
 
--- a line given with its byte 10
+-- a line returned with its newline
 gives-whole : (i k : Intake) (rest : Option (List ℕ)) → IsGiven i k → i.ended ≡ false → k.ended ≡ false
     → Gives (option_map (cut_within i.within) (prepend_known i.held rest)) k.line
     (option_map (cut_within k.within) (prepend_known k.held rest))
@@ -25,7 +25,7 @@ gives-whole i k (Some ys) given going going' =
     let within : i.within - (length k.line + 1) ≡ k.within = grind (arith, given.within, size) in
     rw (text, sym within) (cut-first i.within k.line (k.held ++ ys) given.unbroken given.short fits)
 
--- a last line given without it
+-- a last line returned without it
 gives-last : (i k : Intake) (rest : Option (List ℕ)) → IsGiven i k → k.ended ≡ true
     → Gives (option_map (cut_within i.within) (Some i.held)) k.line (option_map (cut_within k.within) (Some k.held))
 gives-last i k rest given ended =
@@ -36,7 +36,7 @@ gives-last i k rest given ended =
     let fits : length k.line ≤ i.within = grind (arith, given.within, size) in
     rw (text, last.0) (cut-last i.within k.within k.line given.unbroken last.1 given.short fits)
 
--- the lines left are the one given and then those that are left behind it
+-- the lines left are the one returned and then those that are left after it
 pub after-give : (i k : Intake) (rest : Option (List ℕ)) → IsGiven i k → Gives (cut_left i rest) k.line (cut_left k rest)
 after-give i k rest given =
     elim (cases_Bool k.ended) [
@@ -61,14 +61,14 @@ keeps-ends k k' (Some xs) (Some ys) ending kept same ends =
     subst (λ (l : ℕ). EndsAs ending (option_map (cut_within l) (Some xs))) same
     (subst (λ (l : List ℕ). EndsAs ending (option_map (cut_within k') (Some l))) kept ends)
 
--- as far as what follows is known
+-- as far as the rest is known
 ends-with-known : (ending : Ending) (i : Intake) (rest : Option (List ℕ))
     → ((ys : List ℕ) → cut_within i.within (i.held ++ ys) ≡ record { given = []; ending = ending })
     → EndsAs ending (option_map (cut_within i.within) (prepend_known i.held rest))
 ends-with-known ending i None each = tt
 ends-with-known ending i (Some ys) each = each ys
 
--- the text of the bytes held and what follows, if known
+-- the text of the bytes held and the rest, if known
 ends-with : (ending : Ending) (i : Intake) (rest : Option (List ℕ))
     → ((ys : List ℕ) → cut_within i.within (i.held ++ ys) ≡ record { given = []; ending = ending }) → EndsAs ending (cut_left i rest)
 ends-with ending i rest each =
@@ -78,7 +78,7 @@ ends-with ending i rest each =
       | inr going ↦ rw going (ends-with-known ending i rest each)
     ]
 
--- where the bytes held begin with a line that is too long, that is the end
+-- if the bytes held begin with a line that is too long, that is the end
 pub ends-at-long : (i : Intake) (rest : Option (List ℕ)) → IsLong i → EndsAs AtLongLine (cut_left i rest)
 ends-at-long i rest (none, long, inside) =
     ends-with AtLongLine i rest (λ ys.
@@ -88,7 +88,7 @@ ends-at-long i rest (none, long, inside) =
     ap (cut_within i.within) text ∙ cut-long i.within (take 65537 i.held) (drop 65537 i.held ++ ys) none (omega (arith, size))
     (omega (arith, size, inside)))
 
--- where a byte past the limit is held and no whole line, that is the end
+-- if a byte past the limit is held and no whole line, that is the end
 pub ends-at-limit : (i : Intake) (rest : Option (List ℕ)) → has_break (take i.within i.held) ≡ false → i.within ≤ 65536
     → i.within < length i.held → EndsAs AtLimit (cut_left i rest)
 ends-at-limit i rest none few past =
@@ -97,6 +97,6 @@ ends-at-limit i rest none few past =
     let size : i.within < length (i.held ++ ys) = grind (arith, common_steps, past) in
     cut-limit i.within (i.held ++ ys) (ap has_break front ∙ none) few size)
 
--- where all bytes held are within the limit and none is a byte 10, no whole line is held
+-- if all bytes held are within the limit and none is a newline, no whole line is held
 pub no-line : (within : ℕ) (held : List ℕ) → has_break (take within held) ≡ false → length held ≤ within → whole_lines held ≡ []
 no-line within held none fits = whole_lines-none held (sym (ap has_break (take_all within held fits)) ∙ none)

@@ -9,7 +9,7 @@ use Rattle.sgt_input.proofs.Breaks.{found-none, found-is}
 use Rattle.std.proofs.lemmas.List.{take-append-drop}
 use Rattle.std.specs.Io.KnownBytes.{Keeps, Consumes, prepend_known}
 
--- what a source gave stands behind what was held
+-- the bytes that a source gave come after those held
 pub keeps-more : (held held' : List ℕ) (rest rest' : Option (List ℕ)) → take (length held) held' ≡ held → Consumes rest rest'
     (drop (length held) held') → Keeps (prepend_known held rest) (prepend_known held' rest')
 keeps-more held held' None rest' kept came = tt
@@ -22,13 +22,13 @@ keeps-more held held' (Some xs) (Some ys) kept came =
 pub held-same : (held held' : List ℕ) → take (length held) held' ≡ held → length held' ≡ length held + 0 → held' ≡ held
 held-same held held' kept count = grind (arith, common_steps)
 
--- a read leaves the bytes of lines not given as they were
+-- a read leaves the bytes of lines not returned unchanged
 pub keeps-read : (i : Intake) (ended' : Bool) (held' : List ℕ) (rest rest' : Option (List ℕ)) → i.ended ≡ false → ended' ≡ false
     → take (length i.held) held' ≡ i.held → Consumes rest rest' (drop (length i.held) held') → Keeps (bytes_left i rest)
     (if ended' then Some held' else prepend_known held' rest')
 keeps-read i ended' held' rest rest' going going' kept came = rw (going, going') (keeps-more i.held held' rest rest' kept came)
 
--- where the source has ended, what is held is the last line
+-- if the source has ended, the bytes held are the last line
 pub at-end : (number within : ℕ) (ended : Bool) (held held' : List ℕ) (found : Option ℕ) → AtRest number within ended held found
     → has_break (take within held) ≡ false → length held ≤ 65536 → length held ≤ within → held' ≡ held
     → AtRest number within true held' found
@@ -51,19 +51,19 @@ keeps-trans (Some xs) None c first second = absurd first
 keeps-trans (Some xs) (Some ys) None first second = second
 keeps-trans (Some xs) (Some ys) (Some zs) first second = second ∙ first
 
--- where no whole line is held and the source goes on, the next line has not come
+-- if no whole line is held and the source goes on, the next line has not been read
 pub not-ready : (i : Intake) → has_whole_line i ≡ false → i.ended ≡ false → ¬ IsReady i
 not-ready i none going (inl whole) = true≢false (sym whole ∙ none)
 not-ready i none going (inr ended) = true≢false (sym ended ∙ going)
 
--- where no whole line is held and the next line has come, it is short
+-- if no whole line is held and the next line has been read, it is short
 pub ready-short : (number within : ℕ) (ended : Bool) (held : List ℕ) (found : Option ℕ) → AtRest number within ended held found
     → found ≡ None → (has_break (take within held) ≡ true) ⊎ (ended ≡ true) → length held ≤ 65536
 ready-short number within ended held found rest none (inl whole) =
     absurd (true≢false (sym whole ∙ sym (found-is (take within held) found rest.at) ∙ ap is_some none))
 ready-short number within ended held found rest none (inr last) = (rest.last last).2
 
--- what holds, holds at an error
+-- a fact also holds at an error
 pub on_err : {T E P : Type 0} → P → (r : Result T E) → OnErr r P
 on_err h (Ok x) = tt
 on_err h (Err e) = h

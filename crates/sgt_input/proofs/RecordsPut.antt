@@ -1,4 +1,4 @@
--- Record lines that are put one after another.
+-- Record lines that are added one after another.
 use Rattle.std.proofs.Common.{◌≡◌, ℕ, ◌+◌, true, false, List, [], ◌∷◌, ◌++◌, length, refl, ap, sym, ◌∙◌, arith, subst, inl, inr, ◌⊎◌, append_assoc, append-nil}
 use Rattle.std.proofs.lemmas.Bool.{le-leb}
 use Rattle.std.proofs.lemmas.List.{length-append}
@@ -15,7 +15,8 @@ use Rattle.sgt_input.specs.Records.{ArePassed, GivesRecord, LeadsNone, IsAhead, 
 use Rattle.sgt_input.proofs.Cuts.{whole_lines-first}
 use Rattle.sgt_input.proofs.Given.{after-give, ends-at-long}
 
--- what is still to be put of one cut in the contents before it is what is still to be put of the other in those after
+-- adding the leading records of the old lines to the contents before equals adding those of the new lines to the
+-- contents after
 pub record FillsCut (n : ℕ) (before : Contents) (old : Cut) (n' : ℕ) (after : Contents) (new : Cut) : Type 0 where
   pub values : Contents
   pub contents : (key : Key) → after key ≡ values key
@@ -24,7 +25,7 @@ pub record FillsCut (n : ℕ) (before : Contents) (old : Cut) (n' : ℕ) (after 
   pub ending : new.ending ≡ old.ending
   pub number : n' + length (leading_records new.given) ≡ n + length (leading_records old.given)
 
--- the same of known lines
+-- the same for lines that are known
 abbrev pub Fills : ℕ → Contents → Option Cut → ℕ → Contents → Option Cut → Type 0
 Fills n before None n' after new = ⊤
 Fills n before (Some old) n' after None = ⊥
@@ -52,7 +53,7 @@ behind-some : (line : List ℕ) (later : List (List ℕ)) (said : RecordLine) �
     → behind_records (line ∷ later) ≡ behind_records later
 behind-some line later said is = ap (λ o. from_other o (line ∷ later) (behind_records later)) is
 
--- a record that is put under a new key of contents is put under a new key of the same contents
+-- a record added under a new key of contents is added under a new key of the same contents
 put-same : (before values after : Contents) (said : RecordLine) → ((key : Key) → before key ≡ values key) → PutsNew before said after
     → (next : Contents) × (put_record values said ≡ Some next) × ((key : Key) → after key ≡ next key)
 put-same before values after said same (put, is, new, moved) = (
@@ -79,7 +80,7 @@ fills-cut n n1 n2 m m1 m2 a b c line said fills more (given, ending, is) puts =
           omega (arith, more, counts, fills.number);
     }
 
--- one more record is put
+-- one more record is added
 pub fills-more : (n n1 n2 : ℕ) (m m1 m2 : Contents) (a b c : Option Cut) (line : List ℕ) (said : RecordLine) → Fills n m a n1 m1 b
     → n2 ≡ n1 + 1
     → GivesRecord b line said c → PutsNew m1 said m2 → Fills n m a n2 m2 c
@@ -91,7 +92,7 @@ fills-more n n1 n2 m m1 m2 (Some a) (Some b) (Some c) line said fills more gives
 
 -- ---- the line ahead
 
--- of known bytes that stay
+-- of known bytes that are unchanged
 pub keeps-ahead : (k k' : ℕ) (old mid : Option (List ℕ)) (said : RecordLine) → Keeps old mid → k' ≡ k
     → IsAhead said (option_map (cut_within k') mid) → IsAhead said (option_map (cut_within k) old)
 keeps-ahead k k' None mid said kept same ahead = tt
@@ -108,7 +109,7 @@ keeps-leads k k' (Some xs) (Some ys) kept same none =
     subst (λ (l : ℕ). LeadsNone (option_map (cut_within l) (Some xs))) same
     (subst (λ (l : List ℕ). LeadsNone (option_map (cut_within k') (Some l))) kept none)
 
--- where lines end, no record leads
+-- if the lines end, no record leads
 pub ends-none : (ending : Ending) (known : Option Cut) → EndsAs ending known → LeadsNone known
 ends-none ending None ends = tt
 ends-none ending (Some c) ends = (
@@ -117,7 +118,7 @@ ends-none ending (Some c) ends = (
       ∙ sym (ap (λ (x : Cut). x.given) ends),
 )
 
--- a line given that is no record line leads none
+-- a returned line that is no record line leads none
 pub other-leads : (i k : Intake) (rest : Option (List ℕ)) → IsGiven i k → record_line_of k.line ≡ None → LeadsNone (cut_left i rest)
 other-leads i k rest given none = go (cut_left i rest) (cut_left k rest) (after-give i k rest given)
   where
@@ -129,7 +130,7 @@ other-leads i k rest given none = go (cut_left i rest) (cut_left k rest) (after-
       ap behind_records gives.0 ∙ ap (λ o. from_other o (k.line ∷ new.given) (behind_records new.given)) none ∙ sym gives.0,
     )
 
--- a line given that is a record line is ahead
+-- a returned line that is a record line is ahead
 pub record-ahead : (i k : Intake) (rest : Option (List ℕ)) (said : RecordLine) → IsGiven i k → record_line_of k.line ≡ Some said
     → IsAhead said (cut_left i rest)
 record-ahead i k rest said given is = go (cut_left i rest) (cut_left k rest) (after-give i k rest given)
@@ -139,7 +140,7 @@ record-ahead i k rest said given is = go (cut_left i rest) (cut_left k rest) (af
     go (Some old) None gives = absurd gives
     go (Some old) (Some new) gives = (k.line, new.given, gives.0, is)
 
--- what was found of the line that would be given
+-- the result of looking at the next line
 pub found-ahead : (i mid : Intake) (rest rest' : Option (List ℕ)) (line : List ℕ) (found : Option RecordLine)
     → Keeps (bytes_left i rest) (bytes_left mid rest') → mid.within ≡ i.within → ((k : Intake) × IsGiven mid k × (k.line ≡ line))
     → found ≡ record_line_of line → IfSome found (λ said. IsAhead said (cut_left i rest))
@@ -174,7 +175,7 @@ passes-none n (Some xs) = record {
   number = omega arith;
 }
 
--- one more, with its byte 10
+-- one more, with its newline
 passed-line : (n m m' : ℕ) (a b c line : List ℕ) (said : RecordLine) → ArePassed n a m b → b ≡ (line ++ 10 ∷ []) ++ c
     → has_break line ≡ false → record_line_of line ≡ Some said → m' ≡ m + 1 → ArePassed n a m' c
 passed-line n m m' a b c line said passed took unbroken is more = record {
@@ -189,7 +190,7 @@ passed-line n m m' a b c line said passed took unbroken is more = record {
   number = omega (arith, more, passed.number, length-append passed.lines (line ∷ []));
 }
 
--- of known lines, where the source has not ended with this one
+-- of known lines, if the source has not ended with this one
 pub passes-more : (n m m' : ℕ) (i j : Intake) (from rest rest' : Option (List ℕ)) (said : RecordLine)
     → Passes n from m (bytes_left i rest) → GivesRecord (cut_left i rest) j.line said (cut_left j rest')
     → Consumes (bytes_left i rest) (bytes_left j rest') (taken j) → has_break j.line ≡ false → m' ≡ m + 1 → j.ended ≡ false
@@ -210,7 +211,7 @@ passes-more n m m' i j from rest rest' said passes gives took unbroken more goin
     go (Some xs) (Some ys) (Some zs) passed given consumed =
         passed-line n m m' xs ys zs j.line said passed consumed unbroken given.2 more
 
--- where a read failed behind them, what is held was read, too
+-- if a read failed after them, the bytes held were read, too
 pub reads-records : (n m : ℕ) (i j : Intake) (from rest rest' : Option (List ℕ)) → Passes n from m (bytes_left i rest)
     → NoLineCame i rest j rest' → ReadsRecords from rest'
 reads-records n m i j from rest rest' passes (kept, none, going) =

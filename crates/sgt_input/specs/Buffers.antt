@@ -1,7 +1,7 @@
--- What a buffer holds.
+-- The content of a buffer.
 use Rattle.std.specs.Prelude.{ℕ, List}
 
--- the line taken last, and the bytes behind it
+-- the last line that was taken, and the bytes after it
 pub record Buffered : Type 0 where
   pub line : List ℕ
   pub held : List ℕ

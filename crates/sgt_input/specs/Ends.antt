@@ -13,19 +13,19 @@ use Rattle.sgt_input.specs.Lines.{Ending, AtEnd, AtLongLine, AtLimit}
 abbrev pub End : Type 0
 End = Result (Unit {0}) Fault
 
--- how it ends where the cutting into lines ends so before line n
+-- how it ends if the splitting into lines ends this way before line n
 abbrev pub end_at : ℕ → Ending → End
 end_at n AtEnd = Ok tt
 end_at n AtLongLine = Err (fault.LongLine n)
 end_at n AtLimit = Err fault.TooLong
 
--- the fault of line n where it spells nothing
+-- the fault of line n if it spells nothing
 abbrev pub fault_in : ℕ → LineError → Fault
 fault_in n line_error.NotJson = fault.NotJson n
 fault_in n line_error.BadLine = fault.BadLine n
 fault_in n line_error.NoMemory = fault.NoMemory
 
--- the fault of line 1 where it is refused as an opening
+-- the fault of line 1 if it is refused as an opening
 abbrev pub fault_of_opening : OpeningError → Fault
 fault_of_opening opening_error.NotJson = fault.NotJson 1
 fault_of_opening opening_error.BadLine = fault.BadLine 1
@@ -40,7 +40,7 @@ abbrev pub no_opening : Ending → End
 no_opening AtEnd = Err fault.NoOpening
 no_opening ending = end_at 1 ending
 
--- a fault of the input itself, and not of its reader, its writer or the memory
+-- a fault of the input itself, not of its reader, its writer or the memory
 abbrev pub IsOfInput : Fault → Type 0
 IsOfInput fault.Reading = ⊥
 IsOfInput fault.Writing = ⊥

@@ -1,4 +1,4 @@
--- Where the cutting of a source's bytes into lines stands.
+-- The state of splitting a source's bytes into lines.
 use Rattle.std.specs.Prelude.{◌≡◌, ℕ, ◌+◌, ◌-◌, ◌<◌, ◌≤◌, ◌⊎◌, Bool, true, false, ⊤, if◌then◌else◌, List, [], ◌∷◌, ◌++◌, length, take, Option, None, Some, IfSome, IsTrue}
 use Rattle.std.specs.Option.{option_map}
 use Rattle.std.specs.Io.KnownBytes.{Keeps, prepend_known}
@@ -6,8 +6,8 @@ use Rattle.sgt_input.specs.declared.fault.Fault.{Fault}
 use Rattle.sgt_input.specs.declared.fault.Fault.TheVariants.{LongLine, TooLong, Reading}
 use Rattle.sgt_input.specs.Lines.{Cut, cut_within, has_break, whole_lines, IsBreak, Ending, AtLongLine, AtLimit}
 
--- the line given last; how many were given; the bytes that have come of lines not given yet; how many of the bytes to come in
--- lines are within the input's limit; and whether the source has ended
+-- the last line returned; the number of lines returned; the bytes read of lines not returned yet; how many more bytes
+-- of lines the input's limit allows; and whether the source has ended
 pub record Intake : Type 0 where
   pub line : List ℕ
   pub number : ℕ
@@ -15,7 +15,7 @@ pub record Intake : Type 0 where
   pub within : ℕ
   pub ended : Bool
 
--- where it stands before the first byte
+-- the state before the first byte
 abbrev pub before_input : Intake
 before_input = record { line = []; number = 0; held = []; within = 16777216; ended = false }
 
@@ -23,29 +23,29 @@ before_input = record { line = []; number = 0; held = []; within = 16777216; end
 abbrev pub has_whole_line : Intake → Bool
 has_whole_line i = has_break (take i.within i.held)
 
--- how many bytes have come
+-- how many bytes were read
 abbrev pub come : Intake → ℕ
 come i = (16777216 - i.within) + length i.held
 
--- the bytes of lines not given yet, where they are known: those held, and those that the source has still to give
+-- the bytes of lines not returned yet, if they are known: those held, and those that the source has still to give
 abbrev pub bytes_left : Intake → Option (List ℕ) → Option (List ℕ)
 bytes_left i rest = if i.ended then Some i.held else prepend_known i.held rest
 
--- the cut of these bytes
+-- the lines of these bytes
 abbrev pub cut_left : Intake → Option (List ℕ) → Option Cut
 cut_left i rest = option_map (cut_within i.within) (bytes_left i rest)
 
--- known lines are this one and then these
+-- the known lines are this one and then these
 abbrev pub Gives : Option Cut → List ℕ → Option Cut → Type 0
 Gives None line new = ⊤
 Gives (Some old) line None = ⊥
 Gives (Some old) line (Some new) = (old.given ≡ line ∷ new.given) × (old.ending ≡ new.ending)
 
--- known lines are none, and end so
+-- no known line is left, and the lines end this way
 abbrev pub EndsAs : Ending → Option Cut → Type 0
 EndsAs ending known = IfSome known (λ c. c ≡ record { given = []; ending = ending })
 
--- the bytes of a line as it stands in a text: with its byte 10, but where the source has ended without one
+-- the bytes of a line in the text: with its newline, unless the source has ended without one
 abbrev pub taken : Intake → List ℕ
 taken i = if i.ended then i.line else i.line ++ 10 ∷ []
 
@@ -53,15 +53,15 @@ taken i = if i.ended then i.line else i.line ++ 10 ∷ []
 abbrev pub work : Intake → ℕ
 work i = (i.within + 1 - length i.held) + (if i.ended then 0 else 1)
 
--- what is true of it between two calls: lines and bytes are counted; at most one byte past the limit has come; where the first
--- byte 10 stands is known; and behind the end of the source there is at most one last line
+-- the invariant between two calls: lines and bytes are counted; at most one byte past the limit was read; the position
+-- of the first newline is known; and after the end of the source there is at most one last line
 pub record AtRest (number within : ℕ) (ended : Bool) (held : List ℕ) (found : Option ℕ) : Type 0 where
   pub counts : number + within ≤ 16777216
   pub few : length held ≤ within + 1
   pub at : IsBreak (take within held) found
   pub last : IsTrue ended → (found ≡ None) × (length held ≤ within) × (length held ≤ 65536)
 
--- the next line has come: a whole one, or the source has ended and so the last one
+-- the next line has been read: it is whole, or the source has ended and it is the last one
 abbrev pub IsReady : Intake → Type 0
 IsReady i = (has_whole_line i ≡ true) ⊎ (i.ended ≡ true)
 
@@ -69,7 +69,7 @@ IsReady i = (has_whole_line i ≡ true) ⊎ (i.ended ≡ true)
 abbrev pub IsLong : Intake → Type 0
 IsLong i = (has_break (take 65537 i.held) ≡ false) × (65536 < length i.held) × (65536 < i.within)
 
--- from there to here the next line was given
+-- between the two states the next line was returned
 pub record IsGiven (old new : Intake) : Type 0 where
   pub bytes : old.held ≡ taken new ++ new.held
   pub within : old.within ≡ length (taken new) + new.within
@@ -86,6 +86,6 @@ Explains TooLong given known = EndsAs AtLimit known
 Explains Reading given known = ⊤
 Explains _ given known = ⊥
 
--- no line came: the bytes left are as they were, the source has not ended, and no whole line is held
+-- no line was read: the bytes left are unchanged, the source has not ended, and no whole line is held
 abbrev pub NoLineCame : Intake → Option (List ℕ) → Intake → Option (List ℕ) → Type 0
 NoLineCame i rest i' rest' = Keeps (bytes_left i rest) (bytes_left i' rest') × (whole_lines i'.held ≡ []) × (i'.ended ≡ false)

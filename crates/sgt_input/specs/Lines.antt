@@ -1,50 +1,50 @@
--- A text as lines. A line ends before a byte 10; a last one may lack it.
+-- A text as lines. A newline ends each line; the last line may lack it.
 use Rattle.std.specs.Prelude.{◌≡◌, ℕ, Bool, false, ◌||◌, if◌then◌else◌, nat_eq, nat_le, List, [], ◌∷◌, ◌++◌, length, take, ◌<◌, slice_index, Option, None, Some}
 
--- whether a byte 10 is among these
+-- whether these bytes contain a newline
 abbrev pub has_break : List ℕ → Bool
 has_break [] = false
 has_break (x ∷ xs) = nat_eq x 10 || has_break xs
 
--- where the first byte 10 stands, if one is among these
+-- the position of the first newline, if there is one
 abbrev pub IsBreak : List ℕ → Option ℕ → Type 0
 IsBreak bytes None = has_break bytes ≡ false
 IsBreak bytes (Some n) = (n < length bytes) × (slice_index bytes n ≡ 10) × (has_break (take n bytes) ≡ false)
 
--- with this byte at the front of the first line, where there is a line
+-- with this byte at the front of the first line, if there is a line
 abbrev pub in_front : ℕ → List (List ℕ) → List (List ℕ)
 in_front x [] = []
 in_front x (l ∷ ls) = (x ∷ l) ∷ ls
 
--- the lines that have their byte 10, without it
+-- the lines that have their newline, without it
 abbrev pub whole_lines : List ℕ → List (List ℕ)
 whole_lines [] = []
 whole_lines (x ∷ xs) = if nat_eq x 10 then [] ∷ whole_lines xs else in_front x (whole_lines xs)
 
--- the bytes behind the last byte 10
+-- the bytes after the last newline
 abbrev pub unended : List ℕ → List ℕ
 unended [] = []
 unended (x ∷ xs) = if has_break (x ∷ xs) then unended xs else x ∷ xs
 
--- these bytes as a last line: none where there are none
+-- these bytes as a last line; none if they are empty
 abbrev pub last_line : List ℕ → List (List ℕ)
 last_line [] = []
 last_line (x ∷ xs) = (x ∷ xs) ∷ []
 
--- the lines of a text: the whole ones, and the bytes behind the last byte 10 where there are any
+-- the lines of a text: the whole ones, and the bytes after the last newline if there are any
 abbrev pub lines : List ℕ → List (List ℕ)
 lines text = whole_lines text ++ last_line (unended text)
 
--- whether a line is within its limit, 65,536 bytes
+-- whether a line is within its limit of 65,536 bytes
 abbrev pub is_short : List ℕ → Bool
 is_short line = nat_le (length line) 65536
 
--- these bytes as a line that is too long: none where they are not
+-- these bytes as a line that is too long; none if they are not
 abbrev pub long_line : List ℕ → List (List ℕ)
 long_line rest = if is_short rest then [] else rest ∷ []
 
--- the lines that count of a text that may have so many bytes: all of them; or, of a longer text, the whole ones within these
--- bytes, and what is left of them where it is too long already
+-- the lines that count, for a text with a limit in bytes: all lines, if the text is within it; else the whole lines
+-- within the limit, and the rest of these bytes if it is already too long for a line
 abbrev pub counted : ℕ → List ℕ → List (List ℕ)
 counted most text =
     if nat_le (length text) most then lines text
@@ -55,29 +55,29 @@ abbrev pub before_long : List (List ℕ) → List (List ℕ)
 before_long [] = []
 before_long (l ∷ ls) = if is_short l then l ∷ before_long ls else []
 
--- how the cutting of a text into lines ends: after its last line, at a line that is too long, or at the limit of the text
+-- how splitting a text into lines ends: after its last line, at a line that is too long, or at the limit of the text
 pub data Ending : Type 0 where
   AtEnd : Ending
   AtLongLine : Ending
   AtLimit : Ending
 
--- how it ends where these lines count: at the first that is too long, else by whether the text is within its limit
+-- how it ends if these lines count: at the first that is too long, else by whether the text is within its limit
 abbrev pub ending_of : Bool → List (List ℕ) → Ending
 ending_of within [] = if within then AtEnd else AtLimit
 ending_of within (l ∷ ls) = if is_short l then ending_of within ls else AtLongLine
 
--- the lines that a text is cut into, and how that ends
+-- the lines of a text, and how they end
 pub record Cut : Type 0 where
   pub given : List (List ℕ)
   pub ending : Ending
 
--- the cut of a text that may have so many bytes
+-- the lines of a text with a limit in bytes
 abbrev pub cut_within : ℕ → List ℕ → Cut
 cut_within most text = record {
   given = before_long (counted most text);
   ending = ending_of (nat_le (length text) most) (counted most text);
 }
 
--- the cut of an input, which may have 16,777,216 bytes
+-- the lines of an input, whose limit is 16,777,216 bytes
 abbrev pub cut : List ℕ → Cut
 cut = cut_within 16777216

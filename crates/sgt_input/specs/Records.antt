@@ -1,4 +1,4 @@
--- The record lines that lead the lines that are left.
+-- The record lines at the front of the lines that are left.
 use Rattle.std.specs.Prelude.{◌≡◌, ℕ, ◌+◌, ◌⊎◌, true, ⊤, List, [], ◌∷◌, ◌++◌, length, Option, None, Some, Ok, Err}
 use Rattle.std.specs.Option.{is_some}
 use Rattle.sgt_model.specs.Contents.{Key, Contents, put_in}
@@ -12,24 +12,24 @@ use Rattle.sgt_input.specs.Lines.{Cut, whole_lines}
 
 -- ---- lines
 
--- known lines are this one, a record line that says this, and then these
+-- the known lines are this one, a record line that says this, and then these
 abbrev pub GivesRecord : Option Cut → List ℕ → RecordLine → Option Cut → Type 0
 GivesRecord None line said new = ⊤
 GivesRecord (Some old) line said None = ⊥
 GivesRecord (Some old) line said (Some new) =
     (old.given ≡ line ∷ new.given) × (old.ending ≡ new.ending) × (record_line_of line ≡ Some said)
 
--- known lines begin with no record line
+-- the known lines do not begin with a record line
 abbrev pub LeadsNone : Option Cut → Type 0
 LeadsNone None = ⊤
 LeadsNone (Some c) = (leading_records c.given ≡ []) × (behind_records c.given ≡ c.given)
 
--- known lines begin with a record line that says this
+-- the known lines begin with a record line that says this
 abbrev pub IsAhead : RecordLine → Option Cut → Type 0
 IsAhead said None = ⊤
 IsAhead said (Some c) = (line : List ℕ) × (later : List (List ℕ)) × (c.given ≡ line ∷ later) × (record_line_of line ≡ Some said)
 
--- known lines are left as they are
+-- the known lines stay as they are
 abbrev pub Stays : Option Cut → Option Cut → Type 0
 Stays None new = ⊤
 Stays (Some old) None = ⊥
@@ -37,7 +37,7 @@ Stays (Some old) (Some new) = new ≡ old
 
 -- ---- bytes
 
--- the one bytes are record lines, each with its byte 10, behind line n up to line m, and then the other bytes
+-- the first bytes are the record lines n + 1 to m, each with its newline, and then the second bytes
 pub record ArePassed (n : ℕ) (old : List ℕ) (m : ℕ) (now : List ℕ) : Type 0 where
   pub read : List ℕ
   pub lines : List (List ℕ)
@@ -46,13 +46,13 @@ pub record ArePassed (n : ℕ) (old : List ℕ) (m : ℕ) (now : List ℕ) : Typ
   pub are : AreRecordLines lines
   pub number : m ≡ n + length lines
 
--- the same of known bytes
+-- the same for bytes that are known
 abbrev pub Passes : ℕ → Option (List ℕ) → ℕ → Option (List ℕ) → Type 0
 Passes n None m now = ⊤
 Passes n (Some old) m None = ⊥
 Passes n (Some old) m (Some now) = ArePassed n old m now
 
--- from there to here known bytes were read whose whole lines are record lines
+-- every whole line in the known bytes read between the two states is a record line
 abbrev pub ReadsRecords : Option (List ℕ) → Option (List ℕ) → Type 0
 ReadsRecords None now = ⊤
 ReadsRecords (Some old) None = ⊥
@@ -60,8 +60,8 @@ ReadsRecords (Some old) (Some now) = (read : List ℕ) × (old ≡ read ++ now) 
 
 -- ---- records
 
--- the leading record lines of one cut, behind line n, make these contents of those before, and the other cut is what they leave
--- behind line n'
+-- the leading record lines after line n turn the contents before into those after, and leave the other lines, after
+-- line n'
 pub record LeavesCut (n : ℕ) (before : Contents) (old : Cut) (n' : ℕ) (after : Contents) (new : Cut) : Type 0 where
   pub values : Contents
   pub put : put_records (n + 1) before (leading_records old.given) ≡ Ok values
@@ -70,19 +70,20 @@ pub record LeavesCut (n : ℕ) (before : Contents) (old : Cut) (n' : ℕ) (after
   pub ending : new.ending ≡ old.ending
   pub number : n' ≡ n + length (leading_records old.given)
 
--- the same of known lines
+-- the same for lines that are known
 abbrev pub Leaves : ℕ → Contents → Option Cut → ℕ → Contents → Option Cut → Type 0
 Leaves n before None n' after new = ⊤
 Leaves n before (Some old) n' after None = ⊥
 Leaves n before (Some old) n' after (Some new) = LeavesCut n before old n' after new
 
--- the fault of known lines behind line n whose first record that can't be put in these contents is on the line that it names
+-- the fault names the line of the first record that cannot be added to these contents; the known lines come after line
+-- n
 abbrev pub IsBadRecord : Fault → ℕ → Contents → Option Cut → Type 0
 IsBadRecord f n before None = ⊤
 IsBadRecord f n before (Some old) =
     (bad : ℕ) × (f ≡ BadRecord bad) × (put_records (n + 1) before (leading_records old.given) ≡ Err bad)
 
--- from one contents to the other the record that a line says was put under a key that had no value
+-- the record that a line says was added under a key that had no value
 abbrev pub PutsNew : Contents → RecordLine → Contents → Type 0
 PutsNew before said after = (put : Record) × (record_of said ≡ Some put) × (before put.key ≡ None)
     × ((key : Key) → after key ≡ put_in before put.key put.value key)

@@ -6,10 +6,10 @@ use crate::source::{Failed, Source};
 use std::alloc::{AllocError, Global};
 use std::marker::Model;
 
-/// How many bytes a buffer has room for: a line of the longest kind, and a large piece behind it.
+/// The capacity of a buffer in bytes: a line of the greatest length, and a large piece after it.
 const ROOM: usize = 131_072;
 
-/// Bytes that have come from a source, in a room of fixed size: the line taken last, and what has come behind it.
+/// Bytes from a source, in a buffer of fixed size: the last line that was taken, and the bytes after it.
 #[derive(Drop)]
 pub(crate) struct Buffer {
     bytes: Vec<u8>,
@@ -36,7 +36,7 @@ impl Model for Buffer {
 }
 
 impl Buffer {
-    /// Holds nothing.
+    /// An empty buffer.
     pub fn new(alloc: Global) -> Result<Self, AllocError>
         ensures line { IfOk result (λ b. b.line ≡ []) }
         ensures held { IfOk result (λ b. b.held ≡ []) }
@@ -50,14 +50,14 @@ impl Buffer {
         })
     }
 
-    /// The line taken last.
+    /// The last line that was taken.
     pub fn line(&self) -> &[u8]
         ensures { result.now ≡ self.now.line }
     {
         &self.bytes[self.line_start..self.line_end]
     }
 
-    /// The bytes behind that line.
+    /// The bytes after that line.
     pub fn held(&self) -> &[u8]
         ensures held { result.now ≡ self.now.held }
         ensures room { length result.now ≤ 131072 }
@@ -65,7 +65,7 @@ impl Buffer {
         &self.bytes[self.start..self.end]
     }
 
-    /// Takes a line of so many bytes, and drops so many behind it.
+    /// Takes a line of `len` bytes, and drops `dropped` bytes after it.
     pub fn take(&mut self, len: usize, dropped: usize)
         requires { len + dropped ≤ length self.old.held }
         ensures line { self.new.line ≡ take len self.old.held }
@@ -76,11 +76,12 @@ impl Buffer {
         self.start = self.line_end + dropped;
     }
 
-    /// Reads once, at most so many bytes, behind those held, and tells how many came. The line is forgotten.
+    /// Reads once, at most `most` bytes, and appends them to those held. Returns how many were read. The line is
+    /// dropped.
     ///
     /// # Errors
     ///
-    /// `Failed` where the read failed.
+    /// `Failed` if the read failed.
     pub fn read<S: Source>(&mut self, source: &mut S, most: usize) -> Result<usize, Failed>
         requires countable { S.failures source.old + 1 < 2 ^ 64 }
         requires room { length self.old.held ≤ 65536 }
@@ -111,7 +112,7 @@ impl Buffer {
     }
 }
 
-/// Reads once, into the bytes from one index up to another.
+/// Reads once, into the bytes between two indexes.
 fn read_between<S: Source>(
     source: &mut S,
     bytes: &mut [u8],

@@ -1,4 +1,4 @@
-//! How a run can end before its end.
+//! The faults that end a run early.
 ghost use Rattle.std.specs.Prelude.{◌≡◌};
 ghost use Rattle.sgt_input.specs.declared.fault.Fault.TheVariants as fault;
 
@@ -7,40 +7,40 @@ use sgt_proc::Flaw;
 use std::fmt;
 use thiserror::Error;
 
-/// How a run can end before its end. Lines are numbered from 1, and the opening is line 1.
+/// Why a run ended early. Lines are numbered from 1, and the opening is line 1.
 #[derive(Debug, Drop, Error)]
 pub enum Fault {
     /// The input is empty.
     NoOpening,
-    /// The line is no JSON text.
+    /// The line is not JSON text.
     NotJson(u64),
-    /// The line's JSON text is no opening, or no event.
+    /// The line is JSON text, but no opening or no event.
     BadLine(u64),
-    /// The line puts a record whose key or value is out of range, or whose key has a value already.
+    /// The line adds a record whose key or value is out of range, or whose key already has a value.
     BadRecord(u64),
     /// A limit of the opening is out of its range.
     BadLimits,
-    /// An account of the opening is refused, with the number of the kind of its fault.
+    /// An account of the opening is refused, for a fault of this kind.
     BadOpening(u8),
-    /// The procedure of this number in the opening spells none, and its first misfit is at this place.
+    /// The procedure of this number in the opening has its first shape error (misfit) at this position.
     ProcShape(u64, Misfit),
-    /// The procedure of this number in the opening has a flaw, and this is the least.
+    /// The procedure of this number in the opening has a flaw; this one has the least number.
     ProcFlaw(u64, Flaw),
-    /// The line is longer than 65,536 bytes without its byte 10.
+    /// The line has more than 65,536 bytes before its newline.
     LongLine(u64),
     /// The input is longer than 16,777,216 bytes.
     TooLong,
     /// There are more than 1,000,000 jobs.
     TooManyJobs,
-    /// A thread could not be started for each worker.
+    /// The threads of the workers could not all be started.
     Spawn,
-    /// What the workers were told is not what the history says.
+    /// The replies that the workers got are not those of the history.
     Mismatch,
     /// A read failed.
     Reading,
     /// A write failed, or took nothing.
     Writing,
-    /// A growth was refused.
+    /// An allocation failed.
     NoMemory,
 }
 
@@ -53,7 +53,7 @@ impl From<sgt_model::NoMemory> for Fault {
 }
 
 impl Fault {
-    // The line that it names.
+    // The line that the fault names.
     fn line(&self) -> Option<u64> {
         match self {
             Fault::NotJson(line) => Some(*line),
@@ -64,7 +64,7 @@ impl Fault {
         }
     }
 
-    // What it tells behind that line, and before what else it names.
+    // The words of the message after the line, before any details.
     fn words(&self) -> &'static str {
         match self {
             Fault::NoOpening => "line 1: no opening",

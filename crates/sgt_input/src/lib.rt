@@ -1,12 +1,14 @@
-//! Bytes in and bytes out of a run: where they come from, how they are cut into lines, where they go, and the faults by which
-//! a run can end.
+//! Input and output of a run: where bytes come from, how they are split into lines, where they go, and the faults that
+//! can end a run.
 //!
-//! A reader is a [`Source`] and a writer a [`Sink`], two small traits with bodies over any `Read` and `Write`, that count
-//! their failed calls; a source counts the bytes that it gives, too. [`Lines`] cuts what a source gives into lines within the
-//! limits, and keeps a piece of fixed size, however long the input is. `specs/Lines.antt` says what the lines of a text are.
-//! [`opening_of`] takes a line as the opening of a run, and [`read_records`] puts the records of the lines behind it into that. What a
-//! line spells is said in `sgt_format`; `specs/Spelled.antt` says what lines spell one after another, up to the first bad one,
-//! whatever reads a line.
+//! A reader is a [`Source`] and a writer a [`Sink`]: two small traits, with implementations over any `Read` and
+//! `Write`. They count their failed calls; a source also counts the bytes that it gives. [`Lines`] splits the bytes of
+//! a source into lines within the limits. Its buffer has a fixed size, however long the input is. `specs/Lines.antt`
+//! defines the lines of a text.
+//!
+//! [`opening_of`] reads a line as the opening of a run. [`read_records`] adds the records of the lines after it to the
+//! opening's database. `sgt_format` defines what a line spells. `specs/Spelled.antt` defines what lines spell one after
+//! another, up to the first bad one, for any reader of lines.
 //!
 //! ```
 //! let mut source = Reader::new(rt.reader());

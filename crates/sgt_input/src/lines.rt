@@ -12,13 +12,13 @@ use sgt_model::NoMemory;
 use std::alloc::Global;
 use std::marker::Model;
 
-/// The most bytes that a line may have, without its byte 10.
+/// The most bytes that a line may have, without its newline.
 const LONGEST_LINE: usize = 65_536;
 
 /// The most bytes that an input may have.
 const LONGEST_INPUT: usize = 16_777_216;
 
-/// Where the first byte 10 stands among the first `within` bytes, where none is among the first `from`.
+/// The position of the first newline among the first `within` bytes, if none is among the first `from`.
 #[inline(always)]
 fn find_break(bytes: &[u8], from: usize, within: usize) -> Option<usize>
     requires known { has_break (take from bytes.now) ≡ false }
@@ -33,15 +33,15 @@ fn find_break(bytes: &[u8], from: usize, within: usize) -> Option<usize>
     }
 }
 
-/// Cuts the bytes of a source into lines, within the limits. It keeps a piece of fixed size, however long the input is.
+/// Splits the bytes of a source into lines, within the limits. Its buffer has a fixed size, however long the input is.
 #[derive(Drop)]
 pub struct Lines {
     buffer: Buffer,
-    /// Where the first byte 10 stands among the bytes held that are within the limit.
+    /// The position of the first newline among the bytes held that are within the limit.
     found: Option<usize>,
-    /// How many of the bytes not given are within the limit.
+    /// How many of the bytes not returned are within the limit.
     within: usize,
-    /// How many lines were given.
+    /// How many lines were returned.
     number: u64,
     /// Whether the source has ended.
     ended: bool,
@@ -66,11 +66,11 @@ impl Model for Lines {
 }
 
 impl Lines {
-    /// No byte has come.
+    /// The state before the first byte.
     ///
     /// # Errors
     ///
-    /// `NoMemory` where there is none for the piece that it keeps.
+    /// `NoMemory` if the buffer cannot be allocated.
     pub fn new(alloc: Global) -> Result<Self, NoMemory>
         ensures { IfOk result (λ l. l ≡ before_input) }
     {
@@ -83,33 +83,35 @@ impl Lines {
         })
     }
 
-    /// The line given last, without its byte 10.
+    /// The last line returned, without its newline.
     pub fn line(&self) -> &[u8]
         ensures { result.now ≡ self.now.line }
     {
         self.buffer.line()
     }
 
-    /// How many lines were given: the number of the last one, from 1.
+    /// How many lines were returned: the number of the last one, from 1.
     pub fn number(&self) -> u64
         ensures { result ≡ self.now.number }
     {
         self.number
     }
 
-    /// Whether the whole of the next line has come already, so that `next_line` does not read.
+    /// Whether the whole next line has already been read, so that `next_line` does not read.
     pub fn has_line(&self) -> bool
         ensures { result ≡ has_whole_line self.now }
     {
         self.found.is_some()
     }
 
-    /// Gives the next line, which is `line` then, and tells whether there is one. It reads only where that line has not come.
+    /// Moves to the next line, which `line` then returns. Returns whether there is one. It reads only if that line has
+    /// not been read yet.
     ///
     /// # Errors
     ///
-    /// `LongLine` where the next line is too long, `TooLong` where the input is and no whole line is left within its limit,
-    /// and `Reading` where a read failed.
+    /// - `LongLine`: the next line is too long.
+    /// - `TooLong`: the input is too long, and no whole line is left within its limit.
+    /// - `Reading`: a read failed.
     #[inline(always)]
     pub fn next_line<S: Source>(&mut self, source: &mut S) -> Result<bool, Fault>
         requires { S.failures source.old + 1 < 2 ^ 64 }
@@ -147,7 +149,7 @@ impl Lines {
         self.give()
     }
 
-    /// Reads once, where the next line has not come.
+    /// Reads once, if the next line has not been read.
     fn read<S: Source>(&mut self, source: &mut S) -> Result<(), Failed>
         requires countable { S.failures source.old + 1 < 2 ^ 64 }
         requires no_line { has_whole_line self.old ≡ false }
@@ -176,11 +178,11 @@ impl Lines {
         Ok(())
     }
 
-    /// Reads until the whole of the next line has come, or the source has ended. It gives no line.
+    /// Reads until the whole next line has been read, or the source has ended. It does not move to that line.
     ///
     /// # Errors
     ///
-    /// `LongLine`, `TooLong` and `Reading`, as `next_line` does.
+    /// `LongLine`, `TooLong` and `Reading`, as of `next_line`.
     #[inline(never)]
     pub fn fill<S: Source>(&mut self, source: &mut S) -> Result<(), Fault>
         requires { S.failures source.old + 1 < 2 ^ 64 }
@@ -217,7 +219,8 @@ impl Lines {
         Ok(())
     }
 
-    /// The next line, which has come, without its byte 10: `next_line` gives it. None where it is too long, or there is none.
+    /// The next line, if it has been read, without its newline: the line that `next_line` moves to. `None` if it is too
+    /// long, or if there is none.
     pub fn ahead(&self) -> Option<&[u8]>
         requires { IsReady self.now }
         ensures line { IfSome result (λ line.
@@ -242,7 +245,7 @@ impl Lines {
         }
     }
 
-    /// Gives the next line, which has come, or none.
+    /// Moves to the next line, which has been read, if there is one.
     #[inline(always)]
     fn give(&mut self) -> Result<bool, Fault>
         requires { IsReady self.old }

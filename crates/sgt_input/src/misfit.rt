@@ -1,4 +1,4 @@
-//! The position of a procedure's first shape error, kept on the heap.
+//! The position of a procedure's first shape error, stored on the heap.
 ghost use Rattle.std.specs.Prelude.{◌≡◌, IfOk};
 
 use sgt_proc_json::Place;
@@ -6,8 +6,8 @@ use std::alloc::{AllocError, Global};
 use std::fmt;
 use std::marker::Model;
 
-/// The place of a procedure's first misfit, kept on the heap: a place may have 128 positions, and what tells how a line ended
-/// is to be small. It shows as the place does.
+/// The position of a procedure's first shape error, stored on the heap. A position may have 128 numbers, and the type
+/// that reports how a line ended should be small. It displays as the position does.
 #[derive(Debug, Drop)]
 pub struct Misfit {
     place: Box<Place>,
@@ -22,11 +22,11 @@ impl Model for Misfit {
 }
 
 impl Misfit {
-    /// A misfit at this place.
+    /// A shape error at this position.
     ///
     /// # Errors
     ///
-    /// `AllocError` where there is no memory for it.
+    /// `AllocError` if the allocation failed.
     pub(crate) fn at(alloc: Global, place: Place) -> Result<Self, AllocError>
         ensures { IfOk result (λ m. m ≡ place) }
     {
@@ -35,7 +35,7 @@ impl Misfit {
         })
     }
 
-    /// The place.
+    /// The position.
     pub fn place(&self) -> &Place
         ensures { result.now ≡ self.now }
     {

@@ -10,7 +10,8 @@ use crate::misfit::Misfit;
 use sgt_format::{Opening, OpeningError, read_opening};
 use std::alloc::Global;
 
-/// The opening that the line given last spells, as line 1. At least so many transactions have to be allowed to be live.
+/// The opening that the last line returned spells, as line 1. Its limits must allow at least this many live
+/// transactions.
 pub fn opening_of(alloc: Global, least: u32, lines: &Lines) -> Result<Opening, Fault>
     ensures opening { IfOk result (Opens least lines.now.line) }
     ensures fault { IfErr result (λ f. IsOfInput f → (e : OpeningError)

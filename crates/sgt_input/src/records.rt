@@ -1,4 +1,4 @@
-//! The records of the lines after an opening, put into its database.
+//! The records of the lines after an opening, added to its database.
 ghost use Rattle.std.specs.Prelude.{◌≡◌, ◌≢◌, IfOk, IfErr, OnOk, OnErr, IfSome, IsSome, IsNone, Err, None, false, ◌+◌, ◌^◌, ◌<◌, ◌≤◌};
 ghost use Rattle.std.specs.Io.KnownBytes.{Consumes, Keeps};
 ghost use Rattle.sgt_model.specs.Databases.{contents_of};
@@ -14,7 +14,7 @@ use sgt_format::{Opening, RecordLine, read_record_line};
 use sgt_model::Database;
 use std::alloc::Global;
 
-/// The record line that comes next, if one does. It gives no line.
+/// The next line, if it is a record line. It does not move to that line.
 fn record_ahead<S: Source>(
     alloc: Global,
     lines: &mut Lines,
@@ -51,7 +51,7 @@ fn record_ahead<S: Source>(
     }
 }
 
-/// Gives the next line where it is a record line, and tells what it says. Any other line is left.
+/// Moves to the next line if it is a record line, and returns what it says. Any other line is left.
 fn next_record<S: Source>(
     alloc: Global,
     lines: &mut Lines,
@@ -92,7 +92,7 @@ fn next_record<S: Source>(
     Ok(Some(said))
 }
 
-/// Puts the record that the line of this number says.
+/// Adds the record that the line of this number says.
 fn put_record(database: &mut Database, said: &RecordLine, number: u64) -> Result<(), Fault>
     ensures put { OnOk result (PutsNew (contents_of database.old) said.now (contents_of database.new)) }
     ensures bad { IfErr result (λ f. (f ≢ Fault.NoMemory) →
@@ -108,14 +108,17 @@ fn put_record(database: &mut Database, said: &RecordLine, number: u64) -> Result
     Ok(())
 }
 
-/// Puts the records of the record lines that come next into the opening's database. The first other line is left, and
-/// `next_line` gives it. A record takes the steps of a search where it comes in the order of keys, and moves those behind it
-/// where it does not.
+/// Adds the records of the record lines that come next to the opening's database. The first other line is left for
+/// `next_line`. A record in key order costs one search. One out of order also moves the records after it.
 ///
 /// # Errors
 ///
-/// `BadRecord` of the first line that puts a record whose key or value is out of range, or whose key has a value already.
-/// `Reading` where a read failed, and `NoMemory` where a growth was refused. Any other fault of the input is left to `next_line`.
+/// - `BadRecord`: the first line that adds a record whose key or value is out of range, or whose key already has a
+///   value.
+/// - `Reading`: a read failed.
+/// - `NoMemory`: an allocation failed.
+///
+/// Any other fault of the input is left to `next_line`.
 pub fn read_records<S: Source>(
     alloc: Global,
     lines: &mut Lines,

@@ -5,19 +5,19 @@ ghost use Rattle.std.specs.Io.KnownBytes.{WriteAppends, Appends};
 use crate::source::Failed;
 use std::io::Write;
 
-/// What takes bytes, and counts its failed calls.
+/// Takes bytes, and counts its failed calls.
 pub trait Sink: Drop {
-    /// The bytes that it holds, where they are known. Of other sinks nothing is claimed.
+    /// The bytes that it holds, if they are known. Nothing is claimed of other sinks.
     ghost held: { Self → Option (List ℕ) };
 
     /// How many calls have failed.
     ghost failures: { Self → ℕ };
 
-    /// Takes bytes from the front of `bytes`, and gives how many: at least one where there is one.
+    /// Takes bytes from the front of `bytes`, and returns how many: at least one if there is one.
     ///
     /// # Errors
     ///
-    /// `Failed` where the call failed. It took no bytes.
+    /// `Failed` if the call failed. It took no bytes.
     fn write(&mut self, bytes: &[u8]) -> Result<usize, Failed>
         requires countable { failures self.old + 1 < 2 ^ 64 }
         ensures within { IfOk result (λ n. n ≤ length bytes.now) }
@@ -27,7 +27,7 @@ pub trait Sink: Drop {
         ensures failed { OnErr result (failures self.new ≡ failures self.old + 1) };
 }
 
-/// A sink over any `Write`. A write that takes nothing of a piece that is not empty counts as a failed one.
+/// A sink over any `Write`. A write that takes nothing of a non-empty slice counts as failed.
 #[derive(Drop)]
 pub struct Writer<W: Write + Drop> {
     pub inner: W,
@@ -65,7 +65,7 @@ impl<W: Write + Drop> Sink for Writer<W> {
 ///
 /// # Errors
 ///
-/// `Failed` where one of the calls failed. A part from the front was written by then.
+/// `Failed` if one of the calls failed. A part from the front was written by then.
 pub fn write_all<S: Sink>(sink: &mut S, bytes: &[u8]) -> Result<(), Failed>
     requires countable { S.failures sink.old + 1 < 2 ^ 64 }
     ensures bytes { OnOk result (Appends (S.held sink.old) (S.held sink.new) bytes.now) }

@@ -8,9 +8,9 @@ use std::io::Read;
 #[derive(Clone, Copy, Debug, PartialEq, Eq)]
 pub struct Failed;
 
-/// What gives bytes, and counts them and its failed calls.
+/// Gives bytes, and counts them and its failed calls.
 pub trait Source: Drop {
-    /// The bytes that are left, where they are known. Of other sources nothing is claimed.
+    /// The bytes that are left, if they are known. Nothing is claimed of other sources.
     ghost rest: { Self → Option (List ℕ) };
 
     /// How many bytes it has given. The count stops at 2^64 - 1.
@@ -19,11 +19,12 @@ pub trait Source: Drop {
     /// How many calls have failed.
     ghost failures: { Self → ℕ };
 
-    /// Gives the next bytes into the front of `room`, and how many they are: none only at the end, or where there is no room.
+    /// Reads the next bytes into the front of `room`, and returns how many: none only at the end, or if `room` is
+    /// empty.
     ///
     /// # Errors
     ///
-    /// `Failed` where the call failed. It gave no bytes.
+    /// `Failed` if the call failed. It gave no bytes.
     fn read(&mut self, room: &mut [u8]) -> Result<usize, Failed>
         requires countable { failures self.old + 1 < 2 ^ 64 }
         ensures within { IfOk result (λ n. n ≤ length room.new) }
@@ -38,7 +39,7 @@ pub trait Source: Drop {
 #[derive(Drop)]
 pub struct Reader<R: Read + Drop> {
     pub inner: R,
-    /// How many bytes were given. The count stops at the greatest of its type.
+    /// How many bytes were given. The count stops at the greatest value of its type.
     pub given: u64,
     /// How many reads have failed.
     pub failures: u64,

@@ -24,7 +24,7 @@ more (a ∷ b ∷ c ∷ []) many = absurd (omega arith)
 more (a ∷ b ∷ c ∷ d ∷ []) many = absurd (omega arith)
 more (a ∷ b ∷ c ∷ d ∷ e ∷ rest) many = refl
 
--- the line of a word and three numbers, where all four are there
+-- the line of a word and three numbers, if all four are there
 abbrev line_of : Option (List ℕ) → Option ℤ → Option ℤ → Option ℤ → Option RecordLine
 line_of word table number value =
     option_and_then (λ w. option_and_then (λ t. option_and_then (λ n. option_and_then (of_numbers w t n) value) number) table) word

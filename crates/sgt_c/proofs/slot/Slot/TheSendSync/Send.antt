@@ -1,4 +1,4 @@
--- A slot may go to another thread: what it owns is the engine in memory, which may, and the right to free its block, which is
+-- A slot may move to another thread: it owns the engine in memory, which may, and the right to free its block, which is
 -- bound to no thread.
 use mir.Raw.{raw}
 use base.Fraction.{full_share}

@@ -1,4 +1,4 @@
--- `into_box` hands the pointer, with what its owner had, to `from_raw`.
+-- `into_box` passes the pointer, with what its owner had, to `from_raw`.
 use mathlib.Core.Path.{◌≡◌, refl, sym, subst, ap}
 use mathlib.Core.List.{List, [], ◌∷◌, ◌++◌}
 use lib.Dec.{T}

@@ -1,4 +1,4 @@
--- `of` calls `into_raw_with_allocator`, and what comes of it is owned by the fields.
+-- `of` calls `into_raw_with_allocator`, and the fields own its result.
 use mathlib.Core.Path.{◌≡◌, refl, ap}
 use mathlib.Core.List.{[], ◌∷◌, ◌++◌}
 use mir.Syntax.{a_type, dcons, dnil}
