@@ -20,9 +20,9 @@
  *   - Pointers are not null, are aligned, and point to as much as the call says. No two pointers of one call overlap. If a
  *     count is 0, the pointer may not be null either: pass the address of any object.
  *   - One call at a time to one engine. If threads share an engine, put a lock around each call, or join one thread before
- *     another calls: sgt_shared.h is an engine with such a lock. Different engines share nothing, and need no common lock. A call that finds another one in the engine
- *     returns SGT_BUSY and changes nothing. SGT_BUSY helps to find a mistake, and is no lock: two calls that enter at the
- *     same moment do not see each other.
+ *     another calls: sgt_shared.h is an engine with such a lock. Different engines share nothing, and need no common lock. A
+ *     call that finds another one in the engine returns SGT_BUSY and changes nothing. SGT_BUSY helps to find a mistake, and is
+ *     no lock: two calls that enter at the same moment do not see each other.
  *   - No call from a signal handler, nor in a forked child of a process with threads.
  *   - malloc, realloc and free are of one allocator, which aligns to 16 bytes.
  *
