@@ -26,9 +26,9 @@ pub enum Output {
     Records,
 }
 
-/// The text of a run, as it is asked for.
+/// The text of a run, in this output mode.
 ///
-/// `NoMemory` where an allocation failed.
+/// `NoMemory` if an allocation failed.
 pub(crate) fn output_text(
     alloc: Global,
     output: Output,
