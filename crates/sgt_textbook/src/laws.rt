@@ -1,4 +1,4 @@
-//! Laws of the textbook's history of every legal one. A body calls the laws that it rests on, and does nothing else: the law is
+//! Laws of the textbook's history of every legal history. Each body only calls the laws that it rests on: the law is
 //! its contract.
 ghost use Rattle.sgt_textbook.specs.Laws.{AreCommitOrdered, AreRecoverable, AreSerializable, AreWellFormed, CommitOrdersAreSerial, CommitOrdersReadAlike, EdgesArePairs, KeysCanBeNumbered, ReadsAgree, SomeCascade};
 
@@ -15,7 +15,7 @@ pub fn legal_are_well_formed()
     aborts_have_cause();
 }
 
-/// The textbook's history of a legal one is commit ordered: where operations of two committed transactions conflict, the
+/// The textbook's history of a legal one is commit ordered: if operations of two committed transactions conflict, the
 /// transaction of the earlier one commits first (Durner and Neumann, ICDE 2019).
 pub fn legal_are_commit_ordered()
     ensures { AreCommitOrdered }
@@ -42,21 +42,22 @@ pub fn legal_are_recoverable()
     commits_in_order();
 }
 
-/// The serialization graph of the textbook's history of a legal one is that of the conflict pairs: an edge leads from one
-/// transaction to another exactly where both are committed and are such a pair.
+/// The serialization graph of the textbook's history of a legal one has exactly the conflicts as edges. An edge leads
+/// from one transaction to another exactly if both are committed and conflict in this order.
 pub fn edges_are_pairs()
     ensures { EdgesArePairs }
 {}
 
-/// One transaction reads from another in the textbook's history of a legal one exactly where it has read from it: the newest
-/// store, past those of aborted transactions, that a look of it found.
+/// One transaction reads from another in the textbook's history of a legal one exactly if it has read from it: a read
+/// of it returned the other's write. That write was the newest one, not counting those of aborted transactions.
 pub fn reads_agree()
     ensures { ReadsAgree }
 {}
 
-/// The committed transactions of a legal history, in the order of their commits, are a serial order of the textbook's history
-/// of it: each of them once, and each edge of the serialization graph leads on. One after another in this order, they are a serial
-/// history that is conflict equivalent to its committed projection (Bernstein, Hadzilacos and Goodman (1987), chapter 2).
+/// The committed transactions of a legal history, in commit order, are a serial order of its textbook's history. Each
+/// occurs once, and each edge of the serialization graph leads forward. One after another in this order, they are a
+/// serial history that is conflict equivalent to its committed projection (Bernstein, Hadzilacos and Goodman (1987),
+/// chapter 2).
 pub fn commit_orders_are_serial()
     ensures { CommitOrdersAreSerial }
 {
@@ -80,8 +81,8 @@ pub fn keys_can_be_numbered()
     ensures { KeysCanBeNumbered }
 {}
 
-/// A legal history need not avoid cascading aborts, and so need not be strict: a transaction may read what another has written
-/// that has not ended (Bernstein, Hadzilacos and Goodman (1987), chapter 2).
+/// A legal history need not avoid cascading aborts, and so need not be strict: a transaction may read a value whose
+/// writer has not ended (Bernstein, Hadzilacos and Goodman (1987), chapter 2).
 pub fn some_histories_cascade()
     ensures { SomeCascade }
 {}
