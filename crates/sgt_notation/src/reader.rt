@@ -64,7 +64,7 @@ pub(crate) struct HistoryReader {
 }
 
 impl HistoryReader {
-    /// Nothing has been read. Transactions with numbers below the bound are found in constant time.
+    /// Nothing has been read. Transactions with numbers below the bound are found by index.
     pub fn new(alloc: Global, bound: usize) -> Self
         ensures known { KnowsHistory result }
         ensures no_operations { result.operations.items ≡ [] }
