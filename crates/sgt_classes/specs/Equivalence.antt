@@ -67,7 +67,7 @@ IsSerializable h = (s : List Operation) × IsSerialRun h s
 abbrev pub serial_history : List Operation → List ℕ → List Operation
 serial_history h order = flat_map (operations_of h) order
 
--- The serializability theorem: a well formed history is serializable exactly where its serialization graph has no cycle.
+-- The serializability theorem: a well formed history is serializable exactly if its serialization graph has no cycle.
 abbrev pub SerializabilityTheorem : Type 0
 SerializabilityTheorem = (h : List Operation) → IsWellFormed h → IsSerializable h ↔ IsAcyclic h
 

@@ -1,4 +1,4 @@
-//! Laws of the classes, of every history. A body has nothing to do: the law is its contract.
+//! Laws of the classes, for every history. A body does nothing: the law is its contract.
 ghost use Rattle.sgt_classes.specs.Classes.{AvoidingAreRecoverable, RigorousAreStrict, StrictAvoidCascadingAborts};
 ghost use Rattle.sgt_classes.specs.Equivalence.{CommitOrderedAreSerializable, CyclesAreEnough, EquivalenceLaws, SerialOrdersAreEnough, SerialRunsAreComplete, SerializabilityTheorem};
 ghost use Rattle.sgt_classes.specs.ViewEquivalence.{EquivalentAreViewEquivalent, SerialRunsReadAlike};
@@ -21,9 +21,9 @@ pub fn avoiding_are_recoverable()
     ensures { AvoidingAreRecoverable }
 {}
 
-/// The serializability theorem: a well formed history is serializable exactly where its serialization graph has no cycle.
-/// Serializable: its committed projection is conflict equivalent to a serial history (Bernstein, Hadzilacos and Goodman (1987),
-/// chapter 2).
+/// The serializability theorem: a well formed history is serializable exactly if its serialization graph has no
+/// cycle. Serializable: its committed projection is conflict equivalent to a serial history (Bernstein, Hadzilacos
+/// and Goodman (1987), chapter 2).
 pub fn serializability_theorem()
     ensures { SerializabilityTheorem }
 {}
@@ -41,8 +41,8 @@ pub fn serial_orders_are_enough()
     ensures { SerialOrdersAreEnough }
 {}
 
-/// If edges form a cycle, each by two operations that conflict, the serialization graph has a cycle. If the history is well formed, it
-/// is not serializable (Bernstein, Hadzilacos and Goodman (1987), chapter 2).
+/// If edges form a cycle, each made by two operations that conflict, the serialization graph has a cycle. If the
+/// history is well formed, it is not serializable (Bernstein, Hadzilacos and Goodman (1987), chapter 2).
 pub fn cycles_are_enough()
     ensures { CyclesAreEnough }
 {}
