@@ -22,7 +22,6 @@ use std::alloc::Global;
 ///
 /// Each write of an aborted transaction is visited once in total. Apart from that, an operation costs at most four
 /// lookups in a table, of the items and the transactions seen.
-/// most, of the items and the transactions seen.
 pub fn avoidance_violation(
     alloc: Global,
     history: &[Operation],

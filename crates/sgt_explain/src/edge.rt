@@ -46,7 +46,6 @@ pub struct Edge {
 ///
 /// None if the entry aborts no transaction by a cycle, the cycle has no such edge, or no such accesses exist. In a
 /// legal history, with the access that the procedure was at, every edge of the cycle is returned.
-/// history, and by the access that the procedure was at, each edge of the walk is told.
 pub fn cycle_edge(
     history: &History,
     place: usize,
