@@ -16,7 +16,7 @@
 //! to make; [`call_before`] and [`progress_before`] return what a procedure needs for that.
 //!
 //! ```
-//! The next access of the transaction that is aborted at a position.
+//! // The next access of the transaction that is aborted at a position.
 //! let call = call_before(history, place, t)?;
 //! let progress = progress_before(alloc, history, place, t)?;
 //! let next = procedures[call.procedure as usize].next(&call.args, progress.read.as_slice(), progress.made);

@@ -8,7 +8,7 @@
 //! `sgt_proc` does. For example it reads any register from 0 to 255, though only 0 to 15 exist.
 //!
 //! ```
-//! Answers the value of the record that argument 0 names, and aborts with code 5 if there is none.
+//! // Answers the value of the record that argument 0 names, and aborts with code 5 if there is none.
 //! let text = "[1,[[\"look\",0,2,[\"arg\",0],5],[\"answer\",[\"reg\",0]]]]";
 //! let tree = Value::from_str(alloc, text)?;
 //! let procedure = sgt_proc_json::read(alloc, &tree)?;

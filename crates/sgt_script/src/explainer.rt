@@ -12,7 +12,7 @@ use sgt_model::NoMemory;
 use std::alloc::Global;
 use std::marker::Model;
 
-/// The last line if memory ran out for an explanation.
+/// The line at the end if memory ran out for an explanation.
 const LEFT_OUT: &[u8] = b"explanations are left out: no memory\n";
 
 /// Writes to a sink why transactions are aborted, and which are live at the end. Explanations are gathered, and

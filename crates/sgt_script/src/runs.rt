@@ -62,13 +62,13 @@ pub fn run_script<S: Source, T: Sink>(
 ///
 /// - An abort by a cycle gets a line for each edge of the cycle, with its accesses.
 /// - Each cascading abort gets a line that says which transaction it had read from, and what.
-/// - A last line names the live transactions.
+/// - A line at the end names the live transactions.
 ///
 /// The explanations of a line follow its answer, and name lines by their numbers.
 ///
 /// Explanations do not affect the run. After a failed write no more are written. If memory runs out, some are left
-/// out, and the last line says so. Neither is a fault. An explanation costs passes over the history since the last
-/// cut.
+/// out, and a line at the end says so. Neither is a fault. An explanation costs passes over the history since the
+/// last cut.
 ///
 /// # Errors
 ///

@@ -21,7 +21,7 @@
 //! the same in other words.
 //!
 //! ```
-//! With a legal history of any engine, call the law to know that the textbook's history of it is serializable.
+//! // With a legal history of any engine, call the law to know that the textbook's history of it is serializable.
 //! legal_are_serializable();
 //! ```
 #![tactic(auto)]
