@@ -9,7 +9,8 @@ use sgt_model::NoMemory;
 use sgt_workers::Bank;
 use std::alloc::Global;
 
-/// The bank of an opening: its database and its limits, and SmallBank's procedures with those of the opening after them.
+/// The bank of an opening: its database and its limits, and SmallBank's procedures with those of the opening after
+/// them.
 ///
 /// `NoMemory` if an allocation failed.
 pub fn bank_of(alloc: Global, opening: Opening) -> Result<Bank, NoMemory>

@@ -18,8 +18,8 @@ enum End {
 }
 
 /// Appends a line for each job, by number: how many attempts were made, and the transaction of each, with those that
-/// aborted it. An example is `job 2: 3 tries: 5 (cycle with 3, 4), 9 (fell with 7), 12`. The failed attempts are
-/// sorted by job.
+/// aborted it. An example is `job 2: 3 tries: 5 (cycle with 3, 4), 9 (fell with 7), 12`; `fell` means aborted in
+/// cascade. The failed attempts are sorted by job.
 ///
 /// `NoMemory` if an allocation failed.
 pub(crate) fn append_tries<N>(

@@ -61,7 +61,7 @@ fn ends(alloc: Global, edges: &[Edge]) -> Result<BTreeSet<(u32, u32)>, NoMemory>
     Ok(red)
 }
 
-/// Adds the ends of an edge.
+/// Records the ends of an edge.
 fn note_ends(red: &mut BTreeSet<(u32, u32)>, edge: &Edge) -> Result<(), NoMemory>
     ensures { OnOk result ((t u : ℕ) →
         contains pair_cmp red.new (t, u) ≡ (contains pair_cmp red.old (t, u) || (edge.now.from == t && edge.now.to == u))) }

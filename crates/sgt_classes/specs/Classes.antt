@@ -72,7 +72,8 @@ pub record OverwritesReader (h : List Operation) (i j : ℕ) : Type 0 where
   pub written : Does h j writer (Write item)
   pub active : ¬ EndedBefore h reader j
 
--- Rigorousness (Breitbart and others (1991)): strict, and no transaction overwrites what another has read that has not ended.
+-- Rigorousness (Breitbart and others (1991)): strict, and no transaction overwrites what another has read that has not
+-- ended.
 abbrev pub BreaksRigorousness : List Operation → ℕ → ℕ → Type 0
 BreaksRigorousness h i j = BreaksStrictness h i j ⊎ OverwritesReader h i j
 

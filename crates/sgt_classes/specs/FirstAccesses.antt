@@ -83,7 +83,7 @@ AreTold q edges j = (i t k u : ℕ) → k < j → i < k → t ≢ u → Conflict
 abbrev pub AreTellable : List Edge → ℕ → ℕ → Type 0
 AreTellable edges j n = (k : ℕ) (e : Edge) → slice_get edges k ≡ Some e → (e.later < j) ⊎ ((e.later ≡ j) × (n ≤ e.earlier))
 
--- the pairs that have an edge
+-- two transactions have an entry exactly if an edge leads from the first to the second
 abbrev pub ArePairs : List Edge → (ℕ × ℕ → Option ℕ) → Type 0
 ArePairs edges pairs = (t u : ℕ) → IsSome (pairs (t, u)) ↔ HasEdge edges t u
 

@@ -1,5 +1,5 @@
--- The serialization graph and commit ordered histories (Bernstein, Hadzilacos and Goodman (1987), chapter 2), of the committed
--- projection: the operations of those that commit.
+-- The serialization graph and commit ordered histories (Bernstein, Hadzilacos and Goodman (1987), chapter 2), of the
+-- committed projection: the operations of those that commit.
 use Rattle.std.specs.Prelude.{◌≡◌, ◌≢◌, ◌<◌, ◌⊎◌, ◌↔◌, ℕ, List, [], ◌∷◌, Some, slice_get, length, ◌-◌, ◌+◌}
 use Rattle.sgt_classes.specs.declared.operation.Operation.{Operation}
 use Rattle.sgt_classes.specs.declared.graph.Edge.{Edge}

@@ -94,7 +94,7 @@ impl Graph {
         Ok(())
     }
 
-    /// Adds the edge from the last writer of the item that the operation at the place reads or writes.
+    /// Adds the edge from the last writer of the item that the operation at the position reads or writes.
     fn connect_write(
         &mut self,
         operations: &[Operation],

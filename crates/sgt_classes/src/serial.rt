@@ -37,9 +37,10 @@ pub enum Serializability {
 
 /// Whether the history is serializable.
 ///
-/// - If so: a serial order of its committed transactions. One after another in this order, they are a serial history that is
-///   conflict equivalent to the committed projection.
-/// - If not: a cycle of the serialization graph. Then no serial history is conflict equivalent to the committed projection.
+/// - If so: a serial order of its committed transactions. One after another in this order, they are a serial history
+///   that is conflict equivalent to the committed projection.
+/// - If not: a cycle of the serialization graph. Then no serial history is conflict equivalent to the committed
+///   projection.
 ///
 /// An answer about the graph holds for every list of operations. A cycle excludes every serial history if no
 /// transaction does anything after its end.

@@ -17,8 +17,8 @@ shown_byte b = if is_within 32 126 b then b else 63
 abbrev pub texts : History → List (List ℕ)
 texts h = map (λ text. text.items) h.items.items
 
--- The words spell these operations on items of these texts, one each. No transaction has an operation after its end, and no two
--- items have one text.
+-- The words spell these operations on items of these texts, one each. No transaction has an operation after its end,
+-- and no two items have one text.
 pub record AreRead (ws : List Word) (items : List (List ℕ)) (operations : List Operation) : Type 0 where
   pub spelled : AllZip (λ (w : Word) (op : Operation). IsSpelled w.text items op) ws operations
   pub ends_are_last : IsWellFormed operations

@@ -57,8 +57,8 @@ IsStopped mode input left old new end = IfSome input (λ bytes. WritesAnswers mo
 abbrev pub IsCutOff : Output → (input old new : Option (List ℕ)) → Type 0
 IsCutOff mode input old new = IfSome input (λ bytes. WritesPart mode bytes old new)
 
--- the source's count of failures rises by one if the run ends with Reading. It stays the same if the run ends well or at a fault of
--- the script.
+-- the source's count of failures rises by one if the run ends with Reading. It stays the same if the run ends well or
+-- at a fault of the script.
 abbrev pub CountsReads : End → (old new : ℕ) → Type 0
 CountsReads end old new = (IsExact end → new ≡ old) × (end ≡ Err fault.Reading → new ≡ old + 1)
 

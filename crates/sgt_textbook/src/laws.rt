@@ -7,8 +7,8 @@ use sgt_classes::{
 };
 use sgt_model::{aborts_have_cause, commit_order_is_total, commits_in_order};
 
-/// The textbook's history of a legal one is well formed: no transaction does anything after its commit or abort (Bernstein,
-/// Hadzilacos and Goodman (1987), chapter 2).
+/// The textbook's history of a legal one is well formed: no transaction does anything after its commit or abort
+/// (Bernstein, Hadzilacos and Goodman (1987), chapter 2).
 pub fn legal_are_well_formed()
     ensures { AreWellFormed }
 {
@@ -24,8 +24,8 @@ pub fn legal_are_commit_ordered()
     commits_in_order();
 }
 
-/// The textbook's history of a legal one is serializable: its committed projection is conflict equivalent to a serial history
-/// (Bernstein, Hadzilacos and Goodman (1987), chapter 2).
+/// The textbook's history of a legal one is serializable: its committed projection is conflict equivalent to a serial
+/// history (Bernstein, Hadzilacos and Goodman (1987), chapter 2).
 pub fn legal_are_serializable()
     ensures { AreSerializable }
 {
@@ -33,8 +33,8 @@ pub fn legal_are_serializable()
     commit_ordered_are_serializable();
 }
 
-/// The textbook's history of a legal one is recoverable: no transaction commits before one that it has read from (Bernstein,
-/// Hadzilacos and Goodman (1987), chapter 2).
+/// The textbook's history of a legal one is recoverable: no transaction commits before one that it has read from
+/// (Bernstein, Hadzilacos and Goodman (1987), chapter 2).
 pub fn legal_are_recoverable()
     ensures { AreRecoverable }
 {
@@ -66,8 +66,8 @@ pub fn commit_orders_are_serial()
     commits_in_order();
 }
 
-/// This serial history is view equivalent to the committed projection: each read reads from the same write, and the final writes are
-/// the same (Bernstein, Hadzilacos and Goodman (1987), chapter 2).
+/// This serial history is view equivalent to the committed projection: each read reads from the same write, and the
+/// final writes are the same (Bernstein, Hadzilacos and Goodman (1987), chapter 2).
 pub fn commit_orders_read_alike()
     ensures { CommitOrdersReadAlike }
 {
