@@ -1,6 +1,6 @@
 //! The help texts.
 
-/// What `sgt --help` tells behind the options.
+/// What `sgt --help` prints after the options.
 pub(crate) const HELP: &str =
     r#"Script and bank read lines of JSON from standard input, of which the first opens, and check reads a history. All write to
 standard output:
@@ -24,7 +24,7 @@ Limits:
 
 All is kept in memory, and nothing on disk: what was committed is gone when the program ends."#;
 
-/// What `sgt script --help` tells behind the options.
+/// What `sgt script --help` prints after the options.
 pub(crate) const SCRIPT_HELP: &str =
     r#"Line 1 opens, with record lines behind it; each later line is an event and is answered by a line, and at the end comes the
 committed database:
@@ -80,7 +80,7 @@ The first bad line ends the script: the replies to the lines before it are writt
 at most 65536 bytes, the input 16777216, and a value or a key is a whole number of at most fifteen digits.
 docs/FORMATS.md of the repository has every line and reply, docs/LANGUAGE.md the procedures, examples/ whole scripts."#;
 
-/// What `sgt bank --help` tells behind the options.
+/// What `sgt bank --help` prints after the options.
 pub(crate) const BANK_HELP: &str =
     r#"Line 1 opens as in a script, with record lines behind it, and each later line is a job: one call of a procedure. The workers take
 the jobs in turn and run them at the same time, each as a transaction of its own. One that is aborted by a conflict is tried again.
@@ -127,7 +127,7 @@ another one what is wrong, as a script's does. Standard output and the status ar
 --history or --records.
 docs/FORMATS.md of the repository has every line, examples/ whole banks."#;
 
-/// What `sgt check --help` tells behind the options.
+/// What `sgt check --help` prints after the options.
 pub(crate) const CHECK_HELP: &str =
     r#"The history is operations, parted by blanks or ends of lines, in the order in which they were done:
 

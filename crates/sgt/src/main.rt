@@ -1,11 +1,17 @@
-//! The program: `sgt script` runs a script of JSON lines from standard input on an engine, writes a line for each reply to
-//! standard output and then the committed database, and can tell on standard error why transactions are aborted. `sgt bank` runs
-//! jobs on worker threads, writes a line for what became of each and then the committed database, and can tell on standard error how
-//! often each was tried. `sgt check` reads a history, and writes of which classes it is, its serialization graph, or a picture of it.
-//! All tell a fault on standard error, with status 2, and the first two can tell there what is wrong with the line.
+//! The program `sgt`, with three subcommands:
 //!
-//! It has the command line and nothing else: what a script's run writes is said and proved in `sgt_script`, what a bank's run
-//! writes in `sgt_bank`, and what a check writes in `sgt_check`; what is told of a fault beside its line stands in `sgt_line_errors`.
+//! - `sgt script` runs a script of JSON lines from standard input on an engine. It writes a line for each reply, and
+//!   then the committed database. On request it explains on standard error why transactions are aborted.
+//! - `sgt bank` runs jobs on worker threads. It writes a line for each job's outcome, and then the committed
+//!   database. On request it reports on standard error how often each job was tried.
+//! - `sgt check` reads a history. It writes the classes that the history belongs to, its serialization graph, or a
+//!   picture of it.
+//!
+//! Each reports an error on standard error and exits with status 2. The first two can also explain what is wrong with
+//! the line.
+//!
+//! The crate holds the command line only. `sgt_script` says and proves what a script's run writes, `sgt_bank` what a
+//! bank's run writes, and `sgt_check` what a check writes. `sgt_line_errors` explains a faulty line.
 #![tactic(auto)]
 
 mod help;
@@ -32,20 +38,20 @@ use std::time::Clock;
 
 const VERSION: &str = "0.1.0";
 
-/// How many workers there are where the words name no number, as `clap` takes it.
+/// The default number of workers, as `clap` takes it.
 const WORKERS: &str = "4";
 
-/// How many tries a job has where the words name no number, as `clap` takes it.
+/// The default number of tries of a job, as `clap` takes it.
 const TRIES: &str = "100";
 
-/// What is told of words that are no text, as `clap` would.
+/// The message for arguments that are not UTF-8, as `clap` would write it.
 const NO_TEXT: &str = "error: invalid UTF-8 was detected in one or more arguments
 
 Usage: sgt <COMMAND>
 
 For more information, try '--help'.";
 
-/// An option that is given or not.
+/// An option without a value.
 fn flag<'a>(alloc: Global, name: &'a str, help: &'a str) -> Arg<'a> {
     Arg::new(alloc, name)
         .long(name)
@@ -53,7 +59,7 @@ fn flag<'a>(alloc: Global, name: &'a str, help: &'a str) -> Arg<'a> {
         .action(ArgAction::SetTrue)
 }
 
-/// An option that takes a number from 1 to the most.
+/// An option that takes a number from 1 to `most`.
 fn number_option<'a>(
     alloc: Global,
     name: &'a str,
@@ -68,11 +74,11 @@ fn number_option<'a>(
         .default_value(default)
 }
 
-/// The options of a run: to have it written as a history, to have the database written alone, as records, and to have more told of
-/// it than it writes. None may stand beside one before it.
+/// The options of a run: write it as a history, write only the database as records, or add explanations. They exclude
+/// each other.
 const RUN_OPTIONS: [&str; 3] = ["history", "records", "explain"];
 
-/// An option of a run, which stands beside none of those others.
+/// An option of a run. It excludes the other options of a run.
 fn run_option<'a>(
     alloc: Global,
     name: &'a str,
@@ -86,7 +92,7 @@ fn run_option<'a>(
     Ok(option)
 }
 
-/// Adds the options of a run, with their helps.
+/// Adds the options of a run, with their help texts.
 fn add_run_options<'a>(
     alloc: Global,
     options: &mut Vec<Arg<'a>>,
@@ -160,7 +166,7 @@ fn check_options<'a>(alloc: Global) -> Result<Vec<Arg<'a>>, AllocError> {
     Ok(options)
 }
 
-/// A word behind `sgt`, with its options.
+/// A subcommand of `sgt`, with its options.
 fn subcommand<'a>(
     alloc: Global,
     name: &'a str,
@@ -174,7 +180,7 @@ fn subcommand<'a>(
         .args(options)
 }
 
-/// The words behind `sgt`.
+/// The subcommands of `sgt`.
 #[derive(Clone, Copy)]
 enum Word {
     Script,
@@ -183,7 +189,7 @@ enum Word {
 }
 
 impl Word {
-    /// The word with its options.
+    /// The subcommand with its options.
     fn command<'a>(self, alloc: Global) -> Result<Command<'a>, AllocError> {
         match self {
             Word::Script => subcommand(
@@ -211,7 +217,7 @@ impl Word {
     }
 }
 
-/// All words behind `sgt`.
+/// All subcommands of `sgt`.
 fn subcommands<'a>(alloc: Global) -> Result<Vec<Command<'a>>, AllocError> {
     let mut commands = Vec::new(alloc);
     for word in [Word::Script, Word::Bank, Word::Check] {
@@ -220,7 +226,7 @@ fn subcommands<'a>(alloc: Global) -> Result<Vec<Command<'a>>, AllocError> {
     Ok(commands)
 }
 
-/// The command line. Without a word, and with an unknown one, it tells how to call it.
+/// The command line. Without a subcommand, or with an unknown one, it prints the usage.
 fn command<'a>(alloc: Global) -> Result<Command<'a>, AllocError> {
     let subcommands = subcommands(alloc)?;
     Command::new(alloc, "sgt")
@@ -232,7 +238,8 @@ fn command<'a>(alloc: Global) -> Result<Command<'a>, AllocError> {
         .subcommands(subcommands)
 }
 
-/// A number of the options. `clap` gives it its default, so that it is there, and keeps it from 1 to the most.
+/// The value of a numeric option. `clap` supplies the default, so it is always present, and keeps it from 1 to
+/// `most`.
 fn number(options: &ArgMatches<'_>, name: &str, most: u32) -> u32
     requires { 1 ≤ most }
     ensures { (1 ≤ result) × (result ≤ most) }
@@ -240,14 +247,14 @@ fn number(options: &ArgMatches<'_>, name: &str, most: u32) -> u32
     options.get_one::<u32>(name).unwrap_or(1).clamp(1, most)
 }
 
-/// How a run ended that has a fault, and what tells more of that, where it was asked for and there is something.
+/// How a run failed, with the explanation if one was requested and there is one.
 #[derive(Drop)]
 struct Failure {
     fault: Fault,
     explanation: Option<String>,
 }
 
-/// A fault alone.
+/// A fault without explanation.
 fn unexplained(ran: Result<(), Fault>) -> Result<(), Failure> {
     match ran {
         Ok(()) => Ok(()),
@@ -258,7 +265,7 @@ fn unexplained(ran: Result<(), Fault>) -> Result<(), Failure> {
     }
 }
 
-/// A fault with what tells more of it, of a run that read from this source.
+/// A fault with its explanation, of a run that read from this source.
 fn explained<S: Source>(
     alloc: Global,
     command: sgt_line_errors::Command,
@@ -305,7 +312,7 @@ fn plain_script<R: Print + Input>(rt: &R, alloc: Global, output: Output) -> Resu
     sgt_script::run(alloc, &mut reader, &mut writer, output, explanations)
 }
 
-/// The same, and tells on standard error why transactions are aborted.
+/// The same, and explains on standard error why transactions are aborted.
 fn explained_script<R: Print + Input>(
     rt: &R,
     alloc: Global,
@@ -324,7 +331,7 @@ fn explained_script<R: Print + Input>(
     explained(alloc, sgt_line_errors::Command::Script, &source, ran)
 }
 
-/// What `sgt bank` is asked for. How many jobs have ended is told where standard error is a terminal.
+/// The options of `sgt bank`. Progress is reported if standard error is a terminal.
 fn read_bank_options(stderr: &Stderr, options: &ArgMatches<'_>) -> sgt_bank::Options
     ensures workers { (1 ≤ result.workers) × (result.workers ≤ 16) }
     ensures tries { (1 ≤ result.tries) × (result.tries ≤ 1000) }
@@ -373,7 +380,7 @@ fn bank<R: Print + Eprint + Input + Clock + Threads + Wait + Sync>(
     unexplained(run_bank(rt, alloc, &mut reader, &mut writer, &mut errors, chosen))
 }
 
-/// Checks a history from standard input to standard output, and tells whether it is serializable and recoverable.
+/// Checks a history from standard input to standard output, and returns whether it is serializable and recoverable.
 fn check<R: Print + Input>(
     rt: &R,
     alloc: Global,
@@ -391,7 +398,7 @@ fn check<R: Print + Input>(
     run_check(alloc, &mut reader, &mut writer, output)
 }
 
-/// Runs what the words ask for, and gives the status.
+/// Runs the subcommand, and returns the exit status.
 fn run<R: Print + Eprint + Input + Clock + Threads + Wait + Sync>(
     rt: &R,
     alloc: Global,
@@ -406,7 +413,7 @@ fn run<R: Print + Eprint + Input + Clock + Threads + Wait + Sync>(
     }
 }
 
-/// The status of a check.
+/// The exit status of a check.
 fn checked<R: Eprint>(rt: &R, ran: Result<bool, CheckFault>) -> ExitCode {
     match ran {
         Ok(true) => ExitCode::SUCCESS,
@@ -415,7 +422,7 @@ fn checked<R: Eprint>(rt: &R, ran: Result<bool, CheckFault>) -> ExitCode {
     }
 }
 
-/// The status of a run.
+/// The exit status of a run.
 fn ended<R: Eprint>(rt: &R, ran: Result<(), Failure>) -> ExitCode {
     match ran {
         Ok(()) => ExitCode::SUCCESS,
@@ -423,7 +430,7 @@ fn ended<R: Eprint>(rt: &R, ran: Result<(), Failure>) -> ExitCode {
     }
 }
 
-/// Tells a fault on standard error, and behind its line what tells more of it.
+/// Reports a fault on standard error, followed by its explanation.
 fn tell_failure<R: Eprint>(rt: &R, failure: Failure) -> ExitCode {
     let Failure { fault, explanation } = failure;
     let status = tell(rt, fault);
@@ -433,13 +440,14 @@ fn tell_failure<R: Eprint>(rt: &R, failure: Failure) -> ExitCode {
     }
 }
 
-/// Tells a text on standard error, and gives the status of a failure. Where that fails too, the status is all that is left.
+/// Writes a text to standard error, and returns the status of a failure. If the write fails too, only the status is
+/// left.
 fn tell<R: Eprint>(rt: &R, text: impl Display + Drop) -> ExitCode {
     let _ = eprintln!(rt; "{text}");
     ExitCode::from(2)
 }
 
-/// What `clap` has to tell in place of a run: help and the version on standard output, all else on standard error.
+/// Writes what `clap` reports in place of a run: help and version to standard output, all else to standard error.
 fn refuse<R: Print + Eprint>(rt: &R, error: &clap::Error) -> ExitCode {
     if error.kind() == ErrorKind::OutOfMemory {
         return tell(rt, Fault::NoMemory);
@@ -450,7 +458,7 @@ fn refuse<R: Print + Eprint>(rt: &R, error: &clap::Error) -> ExitCode {
     ExitCode::from(error.exit_code() as u8)
 }
 
-/// Runs what these words ask for, and gives the status.
+/// Runs these arguments, and returns the exit status.
 fn run_words<R: Print + Eprint + Input + Clock + Threads + Wait + Sync>(
     rt: &R,
     alloc: Global,

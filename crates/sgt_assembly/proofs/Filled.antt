@@ -1,4 +1,4 @@
--- Contents that hold values hold them when records are put into them.
+-- Contents that hold values still hold values after records are added.
 use Rattle.std.proofs.Common.{◌≡◌, ℕ, ◌+◌, true, false, List, [], ◌∷◌, refl, ap, sym, ◌∙◌, subst}
 use Rattle.std.specs.Prelude.{ℤ, Bool, cond, nat_le, ◌&&◌, Option, Some, None, IfSome, Result, Ok, Err, option_and_then}
 use Rattle.std.specs.Option.{is_some}
@@ -11,7 +11,7 @@ use Rattle.sgt_format.specs.FilledOpenings.{and_then_put, put_new, put_record, p
 use Rattle.sgt_format.specs.declared.record_line.RecordLine.{RecordLine}
 use Rattle.sgt_format.specs.declared.record_line.Record.{Record}
 
--- what a line puts is a value
+-- what a line adds is a value
 record-value : (said : RecordLine) (put : Record) → record_of said ≡ Some put → IsValue put.value
 record-value said put is = of-key (key_of said.table said.number) is
   where
@@ -55,7 +55,7 @@ put-line m next said hold is = of-record (record_of said) refl is
     of-record None says found = absurd (cc found)
     of-record (Some put) says found = of-new put (is_some (m put.key)) says found
 
--- what later lines make of the contents behind a line, they make of some
+-- what later lines make of the contents after a line, they make of some
 after-put : (n : ℕ) (next : Option Contents) (later : Contents → Result Contents ℕ) (values : Contents)
     → and_then_put n next later ≡ Ok values → (m : Contents) × (next ≡ Some m) × (later m ≡ Ok values)
 after-put n None later values is = absurd (cc is)

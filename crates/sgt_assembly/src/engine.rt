@@ -1,4 +1,4 @@
-//! The engine that the program runs: which layers it has, and how an opening makes one.
+//! The engine that the program runs: its layers, and how an `Opening` (the first line) makes one.
 ghost use Rattle.std.specs.Prelude.{◌≡◌, ◌++◌, [], IfOk};
 ghost use Rattle.sgt_model.specs.Bounds.{AreInRange};
 ghost use Rattle.sgt_engine.specs.EngineView.{setting_of};
@@ -14,23 +14,23 @@ use sgt_proc::Checked;
 use sgt_records::SlabRecords;
 use std::alloc::Global;
 
-/// What keeps the records of the program's engine.
+/// The storage of the records of the program's engine.
 pub type SgtRecords = SlabRecords;
 
-/// What keeps its accesses.
+/// The storage of its accesses.
 pub type SgtAccesses = PerKey;
 
-/// What keeps its serialization graph.
+/// The storage of its serialization graph.
 pub type SgtGraph = BitGraph;
 
 /// The engine of the program.
 pub type SgtEngine = Engine<SlabRecords, PerKey, BitGraph>;
 
-/// The engine of an opening, with an empty history.
+/// Makes the engine of an opening, with an empty history.
 ///
 /// # Errors
 ///
-/// `NoMemory` where a growth was refused.
+/// `NoMemory` if an allocation failed.
 pub fn open_engine(alloc: Global, opening: Opening) -> Result<SgtEngine, NoMemory>
     requires { AreInRange opening.limits }
     ensures setting { IfOk result (λ e. setting_of e ≡ opened_setting opening) }
@@ -49,11 +49,11 @@ pub fn open_engine(alloc: Global, opening: Opening) -> Result<SgtEngine, NoMemor
     }
 }
 
-/// The procedures of an engine: SmallBank's five, and behind them those of an opening.
+/// The procedures of an engine: SmallBank's five, and after them those of an opening.
 ///
 /// # Errors
 ///
-/// `NoMemory` where a growth was refused.
+/// `NoMemory` if an allocation failed.
 pub fn all_procedures(alloc: Global, mut own: Vec<Checked>) -> Result<Vec<Checked>, NoMemory>
     ensures { IfOk result (λ all. all.items ≡ procedures ++ own.items) }
 {

@@ -1,10 +1,11 @@
 //! The engine of the program: which layers it has, and which procedures stand in it. Scripts and banks both run on it.
 //!
-//! [`SgtEngine`] is the engine with the bodies of its layers named. [`open_engine`] makes one of an opening: SmallBank's
-//! procedures have the numbers from 0, and those of the opening stand behind them. `specs/Openings.antt` says what it starts
-//! from, and [`opened_is_bank`] that in each of its histories SmallBank's procedures did the bank's arithmetic.
+//! [`SgtEngine`] is the engine with the implementations of its layers named. [`open_engine`] makes one of an
+//! `Opening`, the first line of an input. SmallBank's procedures have the numbers from 0, and those of the opening
+//! follow. `specs/Openings.antt` defines the initial configuration. [`opened_is_bank`] says that SmallBank's
+//! procedures did the bank's arithmetic in each history of it.
 //!
-//! It reads no line and writes none, and it starts no thread.
+//! The crate reads and writes no line, and starts no thread.
 //!
 //! ```
 //! let opening = read_opening(alloc, 1, b"{\"limits\":[1,10],\"accounts\":[[1,101,500,1000]],\"procedures\":[]}")?;

@@ -50,7 +50,7 @@ fails-refused workers i (Some bytes) line (Some c) e f start gives refuses known
     subst (λ (ls : List (List ℕ)). LinesFail workers ls (cut bytes).ending f) (sym gives'.0)
     (inl (record { error = e; refuses = refuses; known = known; fault_is = is }))
 
--- a record line behind line 1 can't be put
+-- a record line after line 1 is refused
 pub fails-record : (workers : ℕ) (rest : Option (List ℕ)) (line : List ℕ) (f : Fault) → HasBadRecord workers rest line f
     → Fails workers rest f
 fails-record workers None line f refused = tt
@@ -71,7 +71,7 @@ fails-behind workers (Some bytes) line n (Some c) o f begun ends =
       ends = same-end _ n _ c.given _ c.ending begun.number begun.left begun.ending ∙ ends;
     })))
 
--- they open, and the later lines ask for jobs
+-- they are an opening, and the later lines request jobs
 pub asks-all : (workers : ℕ) (rest : Option (List ℕ)) (line : List ℕ) (n : ℕ) (new : Option Cut) (o : Opening)
     (jobs : List Job) → Begun workers rest line o n new
     → IfSome new (λ c. (jobs ≡ numbered 0 (spelled (job_at n) n c.given)) × (end_of (job_at n) n c.given c.ending ≡ Ok tt))

@@ -28,7 +28,7 @@ pub length-numbered : (n : ℕ) (cs : List JobCall) → length (numbered n cs) �
 length-numbered n [] = refl
 length-numbered n (x ∷ xs) = grind (arith, length-numbered (n + 1) xs)
 
--- each has its place's number
+-- each has the number of its position
 pub numbered-at : (n : ℕ) (cs : List JobCall) (i : ℕ) (job : Job) → slice_get (numbered n cs) i ≡ Some job → job.number ≡ n + i
 numbered-at n [] i job at = absurd (none-some job at)
 numbered-at n (c ∷ cs) zero job at = ap (λ (j : Job). j.number) (sym (same_Some _ job at)) ∙ omega arith
@@ -41,7 +41,7 @@ asked-none first (Some c) =
     let here : first ≡ first + 0 = omega arith in
     (ap (λ n. spelled (job_at first) n c.given) here, ap (λ n. end_of (job_at first) n c.given c.ending) here)
 
--- one more line that asks for a call
+-- one more line that requests a call
 pub asked-next : (first : ℕ) (a b d : Option Cut) (cs : List JobCall) (c : JobCall) → length cs < 1000000
     → TakesCalls first a cs b → TakesCall b c d → TakesCalls first a (cs ++ c ∷ []) d
 asked-next first None b d cs c few before next = tt
@@ -68,7 +68,7 @@ asked-next first (Some a) (Some b) (Some d) cs c few before (line, given, asks, 
       before.1 ∙ more,
     )
 
--- one more than may be asked for
+-- one more than may be requested
 pub asked-many : (first : ℕ) (a b d : Option Cut) (cs : List JobCall) (c : JobCall) → length cs ≡ 1000000 → TakesCalls first a cs b
     → TakesCall b c d → EndsWith first first (Err fault.TooManyJobs) a
 asked-many first None b d cs c many before next = tt

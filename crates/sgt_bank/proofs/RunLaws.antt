@@ -47,7 +47,7 @@ all-cons : (o : Outcome Infallible) (os : List (Outcome Infallible)) → HasRun 
 all-cons o os first later zero d within = first
 all-cons o os first later (suc k) d within = later k d (omega (arith, within))
 
--- where none is untaken, each was run
+-- if none is untaken, each was run
 all-run : (os : List (Outcome Infallible)) → count_by is_untaken os ≡ 0 → All HasRun os
 all-run [] taken = λ k d within. absurd (omega (arith, within))
 all-run (outcome.Done n ∷ os) taken = all-cons (outcome.Done n) os tt (all-run os taken)
@@ -59,7 +59,7 @@ all-run (outcome.Untaken ∷ os) taken = let one_more : 1 + count_by is_untaken 
     (sum_by-cons (λ (o : Outcome Infallible). cond (is_untaken o) 1 0) outcome.Untaken os) ∙ taken in absurd (omega (arith, one_more))
 all-run (outcome.NoMemory ∷ os) taken = all-cons outcome.NoMemory os tt (all-run os taken)
 
--- all is taken where no worker has left
+-- all are taken if no worker has left
 all-taken : (workers left untaken : ℕ) → 1 ≤ workers → left ≡ 0 → (0 < untaken → left ≡ workers) → untaken ≡ 0
 all-taken workers left zero some none full = refl
 all-taken workers left (suc untaken) some none full = absurd (omega (arith, some, none, full (omega arith)))
@@ -114,7 +114,7 @@ is-records workers tries bytes history outcomes rows out run text = record {
   text = text;
 }
 
--- and so it is where they are told by their operations
+-- the same if their operations are the output
 is-history : AreCommitOrdered → AreSerializable → AreRecoverable → TranscriptsSpellTextbooks → (workers tries : ℕ) (bytes : List ℕ)
     (history : List Entry) (outcomes : List (Outcome Infallible)) (rows : List Row) (out : List ℕ)
     → IsRun workers tries bytes history outcomes rows → out ≡ transcript (reverse history) → IsHistory workers tries bytes out
@@ -135,7 +135,7 @@ is-history ordered serializable recoverable spelled workers tries bytes history 
 -- what the text of jobs that were run is, and what becomes of it
 module _ (ordered : AreCommitOrdered) (serializable : AreSerializable) (recoverable : AreRecoverable)
     (spelled : TranscriptsSpellTextbooks) where
-  -- it is the output that was asked for
+  -- it is the requested output
   is-output : (o : Output) (workers tries : ℕ) (bytes : List ℕ) (history : List Entry) (outcomes : List (Outcome Infallible))
       (rows : List Row) (out : List ℕ) → IsRun workers tries bytes history outcomes rows
       → out ≡ output_text o history outcomes rows → IsOutput o workers tries bytes out

@@ -23,7 +23,7 @@ use Rattle.sgt_bank.specs.OutcomeText.{commit_words, ask_words, words_at, outcom
 use Rattle.sgt_bank.specs.Reports.{outcome_lines, report_text}
 use Rattle.sgt_bank.specs.SerialText.{told_before, result_words, result_at, is_refused, serial_ask, serial_words, serial_lines, serial_text}
 
--- what a history told, the oldest entry first
+-- the results that a history reports, oldest entry first
 abbrev in_order : List Entry → List RunResult
 in_order [] = []
 in_order (e ∷ later) = told_in e.reply ++ in_order later
@@ -33,13 +33,13 @@ told-append [] before = refl
 told-append (e ∷ past) before = ap (λ l. told_in e.reply ++ l) (told-append past before)
     ∙ sym (append_assoc (told_in e.reply) (told past) (told before))
 
--- an entry tells one result at most
+-- an entry reports at most one result
 told-one : (r : Reply) → reverse (told_in r ++ []) ≡ told_in r
 told-one (reply.Committed answers) = refl
 told-one (reply.Refused code fell) = refl
 told-one r = refl
 
--- the other way round
+-- in the opposite order
 told-in-order : (history : List Entry) → reverse (told (reverse history)) ≡ in_order history
 told-in-order [] = refl
 told-in-order (e ∷ later) =
@@ -49,14 +49,14 @@ told-in-order (e ∷ later) =
     ∙ ap (λ l. l ++ reverse (told (reverse later))) (told-one e.reply)
     ∙ ap (λ l. told_in e.reply ++ l) (told-in-order later)
 
--- a commit is a call, and is told, and so is a refusal
+-- a commit is a call and reports a result, and so does a refusal
 count-step : (past : List Entry) (event : Event) (r : Reply) → length (told_calls past) ≡ length (told past)
     → length (told_call_in past event r ++ told_calls past) ≡ length (told_in r ++ told past)
 count-step past event (reply.Committed answers) same = ap suc same
 count-step past event (reply.Refused code fell) same = ap suc same
 count-step past event r same = same
 
--- as many calls are told of as results are told
+-- as many calls are reported as results
 calls-told : (past : List Entry) → length (told_calls past) ≡ length (told past)
 calls-told [] = refl
 calls-told (e ∷ past) = count-step past e.event e.reply (calls-told past)
@@ -73,7 +73,7 @@ skip (reply.Committed answers) all before = refl
 skip (reply.Refused code fell) all before = refl
 skip r all before = refl
 
--- what an entry told stands behind what was told before
+-- the result of an entry comes after those reported before
 told-at : (history : List Entry) (n : ℕ) (e : Entry) (result : RunResult) → slice_get history n ≡ Some e
     → told_in e.reply ≡ result ∷ [] → slice_get (in_order history) (length (in_order (take n history))) ≡ Some result
 told-at [] n e result at is = absurd (none-some e at)
@@ -84,7 +84,7 @@ told-at (x ∷ later) (suc n) e result at is =
 
 module _ (s : Setting) (history : List Entry) (n : ℕ) (e : Entry) (replay : ReplayAgrees s (reverse history))
     (at : slice_get history n ≡ Some e) where
-  -- the result that the serial run gives there is the one that was told
+  -- the result of the serial run there is the one that was reported
   result-is : (result : RunResult) → told_in e.reply ≡ result ∷ [] → result_at s history n ≡ result_words (Some result)
   result-is result is =
       ap result_words (
@@ -94,7 +94,7 @@ module _ (s : Setting) (history : List Entry) (n : ℕ) (e : Entry) (replay : Re
       ∙ told-at history n e result at is
       )
 
-  -- so the words of a commit tell it
+  -- so the words of a commit report it
   commit-words : (r : Reply) → e.reply ≡ r → is_commit r ≡ true → result_at s history n ≡ commit_words r
   commit-words (reply.Committed answers) is commits = result-is (GaveAnswers answers) (ap told_in is)
   commit-words r is commits = absurd (false≢true commits)
@@ -125,7 +125,7 @@ lines-same s history tries number (job ∷ jobs) (o ∷ os) replay stand =
     ap (λ words. numbered_line number words ++ serial_lines (number + 1) s history os) (words-same s history tries job o replay stand.0)
     ∙ ap (λ lines. numbered_line number (outcome_words history o) ++ lines) (lines-same s history tries (number + 1) jobs os replay stand.1)
 
--- the text of a report whose outcomes stand in its history is what the serial run tells
+-- the text of a report whose outcomes stand in its history is that of the serial run
 pub text-same : {N : Type 0} → (s : Setting) (history : List Entry) (tries : ℕ) (jobs : List Job) (os : List (Outcome N))
     (rows : List Row) → ReplayAgrees s (reverse history) → AllZip (OutcomeStands history tries) jobs os
     → report_text history os rows ≡ serial_text s history os rows

@@ -25,8 +25,8 @@ use Rattle.sgt_bank.specs.Inputs.{InputAsks}
 use Rattle.sgt_bank.specs.Reports.{report_text}
 use Rattle.sgt_bank.specs.SerialText.{serial_text}
 
--- the job was taken, and its worker did not leave: it committed, its procedure asked, its tries were spent, its start was
--- refused, or a call for it was refused memory
+-- the job was started, and its worker did not leave: it committed, its procedure raised a code, it had no tries left,
+-- its start was refused, or an allocation failed in a call for it
 abbrev pub HasRun : {N : Type 0} → Outcome N → Type 0
 HasRun (outcome.Done n) = ⊤
 HasRun (outcome.Asked n) = ⊤
@@ -36,8 +36,8 @@ HasRun (outcome.Left note) = ⊥
 HasRun outcome.Untaken = ⊥
 HasRun outcome.NoMemory = ⊤
 
--- jobs were run behind an opening: of the history, which is legal, each outcome says what is so; the parts of the headline;
--- and the database is the one that the committed transactions leave, run one after another in commit order
+-- jobs were run after an opening. The history is legal, each outcome agrees with it, and the parts of the headline
+-- hold. The database is the one that the committed transactions leave, run one after another in commit order
 pub record AreRun (opening : Opening) (jobs : List Job) (workers tries : ℕ) (history : List Entry) (outcomes : List (Outcome Infallible)) (rows : List Row) : Type 0 where
   pub legal : Legal (opened_setting opening) (reverse history)
   pub stand : OutcomesStand history jobs outcomes workers tries
@@ -49,7 +49,7 @@ pub record AreRun (opening : Opening) (jobs : List Job) (workers tries : ℕ) (h
   pub database : (k : Key) → contents_of rows k ≡ (folded (opened_setting opening) (reverse history)).last k
   pub by_key : IsByKey rows
 
--- an input of these bytes was run: the jobs that it asks for, behind its opening. Each committed or refused transaction of one of
+-- an input of these bytes was run: its jobs, after its opening. Each committed or refused transaction of one of
 -- SmallBank's five procedures did the bank's arithmetic, on what those before it left
 pub record IsRun (workers tries : ℕ) (bytes : List ℕ) (history : List Entry) (outcomes : List (Outcome Infallible)) (rows : List Row) : Type 0 where
   pub opening : Opening
@@ -58,8 +58,8 @@ pub record IsRun (workers tries : ℕ) (bytes : List ℕ) (history : List Entry)
   pub are_run : AreRun opening jobs workers tries history outcomes rows
   pub bank : CommitsAreBank (opened_setting opening) (reverse history)
 
--- what is written for an input of these bytes that is told by its operations: the transcript of the history of the jobs, which
--- spells the operations of the textbook's history
+-- the output for an input of these bytes in the mode History: the transcript of the history of the jobs, which spells
+-- the operations of the textbook's history
 pub record IsHistory (workers tries : ℕ) (bytes out : List ℕ) : Type 0 where
   pub history : List Entry
   pub outcomes : List (Outcome Infallible)
@@ -69,7 +69,7 @@ pub record IsHistory (workers tries : ℕ) (bytes out : List ℕ) : Type 0 where
   pub text : out ≡ transcript (reverse history)
   pub spelled : TranscriptsSpellTextbooks
 
--- what is written for an input of these bytes that is told by its records: the record lines of the database that the serial run of
+-- the output for an input of these bytes in the mode Records: the record lines of the database that the serial run of
 -- the jobs leaves
 pub record IsRecords (workers tries : ℕ) (bytes out : List ℕ) : Type 0 where
   pub history : List Entry
@@ -78,9 +78,9 @@ pub record IsRecords (workers tries : ℕ) (bytes out : List ℕ) : Type 0 where
   pub run : IsRun workers tries bytes history outcomes rows
   pub text : out ≡ record_lines rows
 
--- what is written for an input of these bytes: the text of a report on the jobs that it asks for. Each `committed` line of it has
--- the answers that the serial run gives the job's transaction, and each `asked` line of one that was refused at its commit the
--- code
+-- the output for an input of these bytes in the mode Report: the text of a report on its jobs. Each `committed` line
+-- has the answers that the serial run gives the job's transaction. Each `asked` line of a transaction refused at its
+-- commit has the code
 pub record IsReport (workers tries : ℕ) (bytes out : List ℕ) : Type 0 where
   pub history : List Entry
   pub outcomes : List (Outcome Infallible)

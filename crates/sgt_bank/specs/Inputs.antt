@@ -1,4 +1,4 @@
--- What an input of a bank asks for, and what its first fault is.
+-- What an input of a bank requests, and its first fault.
 use Rattle.std.specs.Prelude.{◌≡◌, ◌≢◌, ◌⊎◌, ℕ, List, [], ◌∷◌, Ok, Err}
 use Rattle.sgt_format.specs.Openings.{Refuses}
 use Rattle.sgt_format.specs.FilledOpenings.{OpensWith, RefusesRecord, behind_records, leading_records, number_behind}
@@ -13,18 +13,19 @@ use Rattle.sgt_input.specs.Ends.{IsOfInput, fault_of_opening, no_opening}
 use Rattle.sgt_input.specs.Spelled.{spelled, end_of}
 use Rattle.sgt_bank.specs.Jobs.{job_at, numbered}
 
--- line 1 and the record lines behind it open, with room for each worker, and each line behind those asks for a job
+-- line 1 and the record lines after it are an opening with capacity for each worker, and each later line requests a
+-- job
 pub record IsInput (workers : ℕ) (line : List ℕ) (later : List (List ℕ)) (ending : Ending) (opening : Opening) (jobs : List Job) : Type 0 where
   pub opens : OpensWith workers line (leading_records later) opening
   pub jobs_are : jobs ≡ numbered 0 (spelled (job_at (number_behind later)) (number_behind later) (behind_records later))
   pub no_fault : end_of (job_at (number_behind later)) (number_behind later) (behind_records later) ending ≡ Ok tt
 
--- so it is with these lines: the first of them is line 1
+-- the same of these lines: the first of them is line 1
 abbrev pub LinesAsk : ℕ → List (List ℕ) → Ending → Opening → List Job → Type 0
 LinesAsk workers [] ending opening jobs = ⊥
 LinesAsk workers (line ∷ later) ending opening jobs = IsInput workers line later ending opening jobs
 
--- these bytes ask for these jobs behind this opening
+-- these bytes request these jobs after this opening
 abbrev pub InputAsks : ℕ → List ℕ → Opening → List Job → Type 0
 InputAsks workers bytes opening jobs = LinesAsk workers (cut bytes).given (cut bytes).ending opening jobs
 
@@ -35,13 +36,13 @@ pub record OpeningIsRefused (workers : ℕ) (line : List ℕ) (f : Fault) : Type
   pub known : error ≢ opening_error.NoMemory
   pub fault_is : f ≡ fault_of_opening error
 
--- line 1 opens, and a record line behind it can't be put, with this fault
+-- line 1 is an opening, and a record line after it is refused, with this fault
 pub record RecordIsRefused (workers : ℕ) (line : List ℕ) (later : List (List ℕ)) (f : Fault) : Type 0 where
   pub bad : ℕ
   pub refuses : RefusesRecord workers line (leading_records later) bad
   pub fault_is : f ≡ fault.BadRecord bad
 
--- line 1 and the record lines behind it open, and the first fault behind them is this one
+-- line 1 and the record lines after it are an opening, and this is the first fault after them
 pub record IsBehind (workers : ℕ) (line : List ℕ) (later : List (List ℕ)) (ending : Ending) (f : Fault) : Type 0 where
   pub opening : Opening
   pub opens : OpensWith workers line (leading_records later) opening

@@ -1,4 +1,4 @@
--- The jobs that the lines of an input ask for.
+-- The jobs that the lines of an input request.
 use Rattle.std.specs.Prelude.{ℕ, ◌+◌, nat_lt, if◌then◌else◌, List, [], ◌∷◌, Result, Ok, Err}
 use Rattle.sgt_format.specs.JobLines.{job_of}
 use Rattle.sgt_format.specs.declared.call.JobCall.{JobCall}
@@ -7,12 +7,12 @@ use Rattle.sgt_input.specs.declared.fault.Fault.{Fault}
 use Rattle.sgt_input.specs.declared.fault.Fault.TheVariants as fault
 use Rattle.sgt_input.specs.Spelled.{at_line}
 
--- what line n asks for, where it is not one more than 1,000,000, the first of which a line asks for by its number
+-- what line n requests, unless it is the job after the 1,000,000th; line `first` requests the first job
 abbrev pub unless_too_many : ℕ → ℕ → Result JobCall Fault → Result JobCall Fault
 unless_too_many first n (Ok call) = if nat_lt n (first + 1000000) then Ok call else Err fault.TooManyJobs
 unless_too_many first n (Err f) = Err f
 
--- the call that line n asks for, or its fault
+-- the call that line n requests, or its fault
 abbrev pub job_at : ℕ → ℕ → List ℕ → Result JobCall Fault
 job_at first n line = unless_too_many first n (at_line n (job_of line))
 

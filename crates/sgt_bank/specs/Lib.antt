@@ -1,4 +1,4 @@
--- what an input asks for
+-- what an input requests
 pub mod Jobs
 pub mod Inputs
 -- how far its lines are read
@@ -7,6 +7,6 @@ pub mod Taking
 pub mod OutcomeText
 pub mod Reports
 pub mod SerialText
--- what a run is, and what it owes
+-- what a run is, and what it guarantees
 pub mod Banks
 pub mod Outputs

@@ -15,7 +15,7 @@ abbrev pub commit_words : Reply → List ℕ
 commit_words (reply.Committed answers) = committed_text answers
 commit_words _ = []
 
--- a code that was asked
+-- a code that was raised
 abbrev pub asked_text : ℕ → List ℕ
 asked_text code = codes "asked " ++ decimal code
 
@@ -25,7 +25,7 @@ code_words (cause.Asked code) = asked_text code
 code_words (cause.Cycle walk) = []
 code_words cause.Quit = []
 
--- an abort because a code was asked, at the step or at the commit
+-- an abort because a code was raised, at the step or at the commit
 abbrev pub ask_words : Reply → List ℕ
 ask_words (reply.Aborted why fell) = code_words why
 ask_words (reply.Refused code fell) = asked_text code
@@ -39,7 +39,7 @@ refusal_words reply.Spent = codes "refused 3"
 refusal_words reply.Full = codes "refused 4"
 refusal_words _ = []
 
--- the words that an entry's reply has, where the entry is there
+-- the words of an entry's reply, if the entry exists
 abbrev pub words_at : (Reply → List ℕ) → Option Entry → List ℕ
 words_at words None = []
 words_at words (Some e) = words e.reply

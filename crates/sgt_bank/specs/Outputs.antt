@@ -1,4 +1,4 @@
--- What a run owes, whichever output it is asked for.
+-- What a run guarantees for each output mode.
 use Rattle.std.specs.Prelude.{◌≡◌, ◌≢◌, ℕ, ◌+◌, ◌≤◌, List, reverse, take, Option, IfSome, Result, Err}
 use Rattle.std.specs.Io.KnownBytes.{Appends}
 use Rattle.sgt_model.specs.declared.entry.Entry.{Entry}
@@ -26,12 +26,12 @@ IsOutput output.Report workers tries bytes out = IsReport workers tries bytes ou
 IsOutput output.History workers tries bytes out = IsHistory workers tries bytes out
 IsOutput output.Records workers tries bytes out = IsRecords workers tries bytes out
 
--- the whole output is added to what a sink held, where the bytes of the input are known
+-- the whole output is appended to what a sink held, if the bytes of the input are known
 abbrev pub WritesAll : Output → ℕ → ℕ → Option (List ℕ) → Option (List ℕ) → Option (List ℕ) → Type 0
 WritesAll o workers tries rest held held' = IfSome rest (λ bytes.
     (out : List ℕ) × IsOutput o workers tries bytes out × Appends held held' out)
 
--- a part from the front of the output is added
+-- a prefix of the output is appended
 abbrev pub WritesPart : Output → ℕ → ℕ → Option (List ℕ) → Option (List ℕ) → Option (List ℕ) → Type 0
 WritesPart o workers tries rest held held' = IfSome rest (λ bytes.
     (out : List ℕ) × (k : ℕ) × IsOutput o workers tries bytes out × Appends held held' (take k out))
@@ -40,14 +40,14 @@ WritesPart o workers tries rest held held' = IfSome rest (λ bytes.
 abbrev pub IsFirstFault : ℕ → Option (List ℕ) → Fault → Type 0
 IsFirstFault workers rest f = IsOfText f → IfSome rest (λ bytes. InputFails workers bytes f)
 
--- at most 16,777,217 bytes are read, and a read fails exactly where the run ends with `Reading`
+-- at most 16,777,217 bytes are read, and a read fails exactly if the run ends with `Reading`
 abbrev pub CountsReads : {A : Type 0} → Result A Fault → ℕ → ℕ → ℕ → ℕ → Type 0
 CountsReads result given given' failures failures' =
     (given' ≤ given + 16777217)
     × (result ≢ Err fault.Reading → failures' ≡ failures)
     × (result ≡ Err fault.Reading → failures' ≡ failures + 1)
 
--- a write fails exactly where the run ends with `Writing`
+-- a write fails exactly if the run ends with `Writing`
 abbrev pub CountsWrites : {A : Type 0} → Result A Fault → ℕ → ℕ → Type 0
 CountsWrites result failures failures' =
     (result ≢ Err fault.Writing → failures' ≡ failures)

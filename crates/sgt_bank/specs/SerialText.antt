@@ -1,4 +1,4 @@
--- The text of a bank's report, with what the serial run tells in place of what the history says.
+-- The text of a bank's report, with the results of the serial run in place of those of the history.
 use Rattle.std.specs.Prelude.{ℕ, ◌+◌, Bool, true, false, cond, List, [], ◌∷◌, ◌++◌, length, reverse, take, Option, Some, None, slice_get}
 use Rattle.sgt_model.specs.declared.entry.Entry.{Entry}
 use Rattle.sgt_model.specs.Databases.{Row}
@@ -12,15 +12,15 @@ use Rattle.sgt_audit.specs.declared.outcome.Outcome.{Outcome}
 use Rattle.sgt_audit.specs.declared.outcome.Outcome.TheVariants as outcome
 use Rattle.sgt_bank.specs.OutcomeText.{asked_text, ask_words, outcome_words, numbered_line}
 
--- what the serial run gives each committed and each refused transaction, the first reply first
+-- the results of the serial run for each committed and each refused transaction, the first reply first
 abbrev pub serial_results : Setting → List Entry → List RunResult
 serial_results s history = reverse (folded s (reverse history)).results
 
--- how many transactions committed or were refused before entry n, so that they stand before its own in the serial run
+-- how many transactions committed or were refused before entry n, and so come before its own in the serial run
 abbrev pub told_before : List Entry → ℕ → ℕ
 told_before history n = length (told_calls (reverse (take n history)))
 
--- the words that tell a result
+-- the words that report a result
 abbrev pub result_words : Option RunResult → List ℕ
 result_words (Some (GaveAnswers answers)) = committed_text answers
 result_words (Some (AskedCode code)) = asked_text code
@@ -35,13 +35,14 @@ abbrev pub is_refused : Reply → Bool
 is_refused (reply.Refused code fell) = true
 is_refused _ = false
 
--- the words of an ask: of one that entry n refused at its commit, what the serial run gives it; of one that was aborted at its
--- step, which no serial run has, what it was told
+-- the words of a raised code. If entry n refused the transaction at its commit, they are those of the serial run. If
+-- it was aborted at its step, no serial run has it, and they are those of its reply
 abbrev pub serial_ask : Setting → List Entry → ℕ → Option Entry → List ℕ
 serial_ask s history n None = []
 serial_ask s history n (Some e) = cond (is_refused e.reply) (result_at s history n) (ask_words e.reply)
 
--- the words of an outcome; of a job that entry n committed or refused, what the serial run gives its transaction
+-- the words of an outcome; for a job that entry n committed or refused, the result of its transaction in the serial
+-- run
 abbrev pub serial_words : {N : Type 0} → Setting → List Entry → Outcome N → List ℕ
 serial_words s history (outcome.Done n) = result_at s history n
 serial_words s history (outcome.Asked n) = serial_ask s history n (slice_get history n)

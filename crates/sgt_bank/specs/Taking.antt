@@ -1,4 +1,4 @@
--- How far the jobs of an input are read.
+-- How many jobs of an input have been read.
 use Rattle.std.specs.Prelude.{◌≡◌, ℕ, ◌+◌, ⊤, List, ◌∷◌, ◌++◌, length, Option, None, Some, IfSome, Ok}
 use Rattle.sgt_format.specs.JobLines.{job_of}
 use Rattle.sgt_format.specs.declared.call.JobCall.{JobCall}
@@ -7,13 +7,13 @@ use Rattle.sgt_input.specs.Ends.{End}
 use Rattle.sgt_input.specs.Spelled.{spelled, end_of}
 use Rattle.sgt_bank.specs.Jobs.{job_at}
 
--- known lines begin with one that asks for this call, and then come these
+-- known lines start with one that requests this call, and these follow
 abbrev pub TakesCall : Option Cut → JobCall → Option Cut → Type 0
 TakesCall None call new = ⊤
 TakesCall (Some old) call None = ⊥
 TakesCall (Some old) call (Some new) = (line : List ℕ) × (old.given ≡ line ∷ new.given) × (job_of line ≡ Ok call) × (old.ending ≡ new.ending)
 
--- known lines, the first job's and then others, begin with those that ask for these calls, and then come these
+-- known lines, the first job's and then others, start with those that request these calls, and these follow
 abbrev pub TakesCalls : ℕ → Option Cut → List JobCall → Option Cut → Type 0
 TakesCalls first None asked new = ⊤
 TakesCalls first (Some old) asked None = ⊥
@@ -21,6 +21,6 @@ TakesCalls first (Some old) asked (Some new) =
     (spelled (job_at first) first old.given ≡ asked ++ spelled (job_at first) (first + length asked) new.given)
     × (end_of (job_at first) first old.given old.ending ≡ end_of (job_at first) (first + length asked) new.given new.ending)
 
--- known lines from number n on, behind a first job's, end so at the next line, or where there is none
+-- known lines from number n on, after a first job's, end so at the next line, or if there is none
 abbrev pub EndsWith : ℕ → ℕ → End → Option Cut → Type 0
 EndsWith first n end known = IfSome known (λ c. end_of (job_at first) n c.given c.ending ≡ end)

@@ -1,4 +1,4 @@
-//! What the jobs of an input are run on.
+//! The bank that the jobs of an input run on.
 ghost use Rattle.std.specs.Prelude.{◌≡◌, IfOk};
 ghost use Rattle.sgt_assembly.specs.Openings.{opened_setting};
 ghost use Rattle.sgt_workers.specs.Banks.{engine_setting};
@@ -9,9 +9,10 @@ use sgt_model::NoMemory;
 use sgt_workers::Bank;
 use std::alloc::Global;
 
-/// The bank of an opening: its database and its limits, and SmallBank's procedures with those of the opening after them.
+/// The bank of an opening: its database and its limits, and SmallBank's procedures with those of the opening after
+/// them.
 ///
-/// `NoMemory` where an allocation failed.
+/// `NoMemory` if an allocation failed.
 pub fn bank_of(alloc: Global, opening: Opening) -> Result<Bank, NoMemory>
     ensures setting { IfOk result (λ b. engine_setting b ≡ opened_setting opening) }
     ensures limits { IfOk result (λ b. b.limits ≡ opening.limits) }

@@ -18,7 +18,7 @@ use std::sync::Wait;
 use std::thread::Threads;
 use std::time::Clock;
 
-/// What is written where there was no memory for the explanations.
+/// What is written if memory ran out for the explanations.
 const LEFT_OUT: &[u8] = b"explanations are left out: no memory\n";
 
 /// What is explained of a run, beside its output.
@@ -37,7 +37,7 @@ pub enum Explanations {
 pub struct Options {
     /// How many jobs run at the same time, from 1 to `MOST_WORKERS`.
     pub workers: u32,
-    /// How often a job is tried before it is given up, from 1 to `MOST_TRIES`.
+    /// How often a job is tried before it is abandoned, from 1 to `MOST_TRIES`.
     pub tries: u32,
     /// What is written.
     pub output: Output,
@@ -45,15 +45,16 @@ pub struct Options {
     pub explanations: Explanations,
 }
 
-/// Runs the jobs of an input as `run_jobs` does, and writes the output that the options ask for.
+/// Runs the jobs of an input as `run_jobs` does, and writes the output that the options name.
 ///
-/// Where explanations are asked for, the second sink gets a line for each job, by number, after the output. The line has the
-/// transaction of each try at the job, and which transactions aborted the tries that failed. The explanations change nothing of the
-/// run. Where there is no memory for them, one line says so. Where a write of them fails, they end there. Neither is a fault.
+/// With explanations, the second sink gets a line for each job, by number, after the output. The line has the
+/// transaction of each try at the job, and which transactions aborted the tries that failed. Explanations do not
+/// affect the run. If memory runs out for them, one line says so. If a write of them fails, they end there. Neither
+/// is a fault.
 ///
 /// # Errors
 ///
-/// As of `run_jobs`; there are no explanations then.
+/// As of `run_jobs`. Then there are no explanations.
 pub fn run_bank<S: Source, T: Sink, E: Sink, W: Threads + Wait + Clock + Eprint + Sync>(
     rt: &W,
     alloc: Global,

@@ -1,8 +1,8 @@
-//! The gate of a run that is not watched.
+//! The gate of a run without an observer.
 use sgt_workers::{Gate, Outcome, Pass};
 use std::convert::Infallible;
 
-/// A gate that lets every worker go on. Its notes are of a type without values, so no job can be left.
+/// A gate that lets every worker continue. Its notes have a type without values, so no outcome is `Left`.
 #[derive(Drop)]
 pub(crate) struct OpenGate;
 

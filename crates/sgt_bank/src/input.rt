@@ -1,4 +1,4 @@
-//! The input of a bank: its opening with the records, and its jobs.
+//! The input of a bank: its opening (the first line) with the records, and its jobs.
 ghost use Rattle.std.specs.Prelude.{◌≡◌, ◌≢◌, IfOk, IfErr, IfSome, Err, ◌+◌, ◌^◌, ◌<◌, ◌≤◌};
 ghost use Rattle.sgt_workers.specs.Banks.{AreLimitsFor, AreJobs};
 ghost use Rattle.sgt_bank.specs.Inputs.{InputAsks, InputFails};
@@ -10,11 +10,12 @@ use sgt_format::Opening;
 use sgt_input::{Fault, Lines, Source, opening_of, read_records};
 use std::alloc::Global;
 
-/// What an input asks for: its opening, which lets as many be live as there are workers, with the records behind it, and its jobs.
+/// Reads an input: its opening, the records after it, and its jobs. The opening must allow as many live transactions
+/// as there are workers.
 ///
 /// # Errors
 ///
-/// The first fault of the input; and `Reading` and `NoMemory`.
+/// The first fault of the input, `Reading` and `NoMemory`.
 pub fn read_input<S: Source>(
     alloc: Global,
     source: &mut S,

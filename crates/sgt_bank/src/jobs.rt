@@ -1,4 +1,4 @@
-//! The jobs that the lines after the opening ask for.
+//! The jobs of the lines after the opening.
 ghost use Rattle.std.specs.Prelude.{◌≡◌, ◌≢◌, ℕ, List, IfOk, IfErr, IfSome, IsNone, Err, Ok, [], ◌+◌, ◌^◌, ◌<◌, ◌≤◌};
 ghost use Rattle.sgt_input.specs.Lines.{AtEnd};
 ghost use Rattle.sgt_input.specs.Intake.{EndsAs, come, cut_left};
@@ -15,7 +15,7 @@ use sgt_input::{Fault, Lines, Source, at_line};
 use sgt_workers::MOST_JOBS;
 use std::alloc::Global;
 
-/// The call that the next line asks for, if there is a line.
+/// The call that the next line requests, if there is a line.
 fn next_call<S: Source>(
     alloc: Global,
     scratch: &mut Scratch,
@@ -46,12 +46,13 @@ fn next_call<S: Source>(
     Ok(Some(call))
 }
 
-/// The jobs that the lines behind the opening ask for, numbered from 0. It reads to the end of the input.
+/// The jobs of the lines after the opening, numbered from 0. It reads to the end of the input.
 ///
 /// # Errors
 ///
-/// The fault of the first line that asks for no job or is too long, or of the input; `TooManyJobs` at the job behind the
-/// 1,000,000th; and `Reading` and `NoMemory`.
+/// - The fault of the first line that is no job or is too long, or the fault of the input.
+/// - `TooManyJobs` at the job after the 1,000,000th.
+/// - `Reading` and `NoMemory`.
 pub(crate) fn read_jobs<S: Source>(
     alloc: Global,
     lines: &mut Lines,

@@ -1,13 +1,13 @@
-//! The whole of `sgt bank` over a source and a sink: bytes in, jobs, worker threads, outcomes, text out.
+//! The whole of `sgt bank` from a source to a sink: bytes in, jobs, worker threads, outcomes, text out.
 //!
-//! - [`read_input`] reads what an input asks for: an opening with its records, and a job for each line after them, numbered from 0.
-//!   `specs/Inputs.antt` says what that is, and what the first fault of an input is.
-//! - [`bank_of`] makes of an opening what the jobs run on: the `Bank` of `sgt_workers`.
-//! - [`outcome_line`] is the line of a job's outcome, and [`report_text`] all of them and then the database.
-//! - [`run_jobs`] joins these by `run` of `sgt_workers`, which makes the threads, and writes the report. `specs/Banks.antt` says
-//!   what a run is, and `specs/Outputs.antt` what it owes.
-//! - [`run_bank`] is the command. Its [`Options`] say whether the report, the history or the records are written ([`Output`]), and
-//!   whether it is explained how often each job was tried ([`Explanations`]).
+//! - [`read_input`] reads an input: an opening (the first line) with its records, and a job for each later line,
+//!   numbered from 0. `specs/Inputs.antt` defines this, and the first fault of an input.
+//! - [`bank_of`] turns an opening into the `Bank` of `sgt_workers`, which the jobs run on.
+//! - [`outcome_line`] is the line of a job's outcome. [`report_text`] is all these lines, and then the database.
+//! - [`run_jobs`] runs the jobs with `run` of `sgt_workers`, which makes the threads, and writes the report.
+//!   `specs/Banks.antt` says what a run is, and `specs/Outputs.antt` what it guarantees.
+//! - [`run_bank`] is the command. Its [`Options`] select the report, the history or the records ([`Output`]), and
+//!   whether it explains how often each job was tried ([`Explanations`]).
 //!
 //! ```
 //! let mut reader = Reader::new(rt.reader());

@@ -8,10 +8,10 @@ use sgt_model::{Cause, NoMemory, Reply};
 use sgt_workers::Outcome;
 use std::alloc::{AllocError, Global};
 
-/// The line of a job's outcome, with its end: the job's number, and what became of it. The history is the one whose entries
-/// the outcome names; of an entry that is not there, or that has not such a reply, nothing is told.
+/// The line of a job's outcome, with its newline: the job's number and its outcome. The outcome names entries of the
+/// history. For an entry that is absent, or whose reply does not match, nothing is reported.
 ///
-/// `NoMemory` where a growth was refused.
+/// `NoMemory` if an allocation failed.
 pub fn outcome_line<N>(
     alloc: Global,
     number: u32,
@@ -25,7 +25,7 @@ pub fn outcome_line<N>(
     Ok(line)
 }
 
-/// Adds the line of a job's outcome. On an error the lines still begin with what they held.
+/// Appends the line of a job's outcome. On an error the lines still begin with what they held.
 pub(crate) fn append_outcome<N>(
     lines: &mut Vec<u8>,
     number: u32,
@@ -42,7 +42,7 @@ pub(crate) fn append_outcome<N>(
     lines.extend_from_slice(b"\n")
 }
 
-/// Adds the words of an outcome. On an error the line still begins with what it held.
+/// Appends the words of an outcome. On an error the line still begins with what it held.
 fn append_words<N>(
     line: &mut Vec<u8>,
     outcome: &Outcome<N>,

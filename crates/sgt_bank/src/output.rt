@@ -18,17 +18,17 @@ use std::convert::Infallible;
 pub enum Output {
     /// A line for each job's outcome, by number, and then the committed database.
     Report,
-    /// The history in the notation of Bernstein, Hadzilacos and Goodman (1987), chapter 2. It has a line for each read, write,
-    /// commit and abort of all tries, as `r1[2/101]`, in the order of the history. Where an abort cascades, its own line comes
-    /// first, and then one for each transaction that is aborted in cascade.
+    /// The history in the notation of Bernstein, Hadzilacos and Goodman (1987), chapter 2. It has a line for each
+    /// read, write, commit and abort of all tries, as `r1[2/101]`, in the order of the history. Where an abort
+    /// cascades, its own line comes first, and then one for each transaction that is aborted in cascade.
     History,
     /// The committed database: a line `["record",table,number,value]` for each record, by table and then by number.
     Records,
 }
 
-/// The text of a run, as it is asked for.
+/// The text of a run, in this output mode.
 ///
-/// `NoMemory` where an allocation failed.
+/// `NoMemory` if an allocation failed.
 pub(crate) fn output_text(
     alloc: Global,
     output: Output,

@@ -11,7 +11,7 @@ use std::alloc::{AllocError, Global};
 
 /// The text of a report: a line for each job's outcome, by number, and then the database.
 ///
-/// `NoMemory` where a growth was refused.
+/// `NoMemory` if an allocation failed.
 pub fn report_text<N>(
     alloc: Global,
     history: &History,
@@ -27,7 +27,7 @@ pub fn report_text<N>(
     Ok(text)
 }
 
-/// Adds the lines of all outcomes.
+/// Appends the lines of all outcomes.
 fn append_outcomes<N>(
     text: &mut Vec<u8>,
     history: &History,

@@ -22,7 +22,8 @@ use std::convert::Infallible;
 use std::sync::Wait;
 use std::thread::Threads;
 
-/// Runs the jobs behind an opening, each worker in a thread of its own. The gate is asked and told as by `run` of `sgt_workers`.
+/// Runs the jobs after an opening, each worker in a thread of its own. The gate is called as by `run` of
+/// `sgt_workers`.
 ///
 /// # Errors
 ///
@@ -57,11 +58,11 @@ fn run_behind_opening<G: Gate<Note = Infallible> + Sync, W: Threads + Wait + Syn
     }
 }
 
-/// Runs the jobs of an input. The gate is asked and told as by `run` of `sgt_workers`.
+/// Runs the jobs of an input. The gate is called as by `run` of `sgt_workers`.
 ///
 /// # Errors
 ///
-/// The first fault of the input; and `Reading`, `Spawn`, `Mismatch` and `NoMemory`.
+/// The first fault of the input, `Reading`, `Spawn`, `Mismatch` and `NoMemory`.
 fn run_input<S: Source, G: Gate<Note = Infallible> + Sync, W: Threads + Wait + Sync>(
     rt: &W,
     alloc: Global,
@@ -80,7 +81,7 @@ fn run_input<S: Source, G: Gate<Note = Infallible> + Sync, W: Threads + Wait + S
     ensures reads { CountsReads result (S.given source.old) (S.given source.new) (S.failures source.old) (S.failures source.new) }
     ensures writing { result ≢ Err Fault.Writing }
 {
-    // In every legal history behind the opening SmallBank's procedures did the bank's arithmetic.
+    // In every legal history after the opening SmallBank's procedures did the bank's arithmetic.
     opened_is_bank();
     let (opening, jobs) = read_input(alloc, source, workers)?;
     let report = run_behind_opening(rt, alloc, opening, jobs.as_slice(), workers, tries, gate)?;
@@ -102,7 +103,7 @@ fn write_text<T: Sink>(sink: &mut T, text: &[u8]) -> Result<(), Fault>
     Ok(())
 }
 
-/// Runs the jobs of an input and writes the output. The gate is asked and told as by `run` of `sgt_workers`.
+/// Runs the jobs of an input and writes the output. The gate is called as by `run` of `sgt_workers`.
 ///
 /// # Errors
 ///
@@ -135,7 +136,7 @@ pub(crate) fn write_run<
     ensures writes { CountsWrites result (T.failures sink.old) (T.failures sink.new) }
 {
     let report = run_input(rt, alloc, source, workers, tries, gate)?;
-    // What the textbook's own classes say of every legal history, and that its transcript spells it.
+    // The laws of every legal history in the textbook's own classes; and that its transcript spells it.
     legal_are_commit_ordered();
     legal_are_serializable();
     legal_are_recoverable();
@@ -145,19 +146,25 @@ pub(crate) fn write_run<
     Ok(report)
 }
 
-/// Runs the jobs of an input on worker threads and writes the report: a line for each job's outcome, by number, and then the
-/// committed database. Line 1 of the input is the opening, as in a script, with at least as many live transactions as there are
-/// workers. Record lines may follow it, and each later line asks for a job. All input is read before the first thread is made, and
-/// nothing is written before all jobs have ended.
+/// Runs the jobs of an input on worker threads and writes the report: a line for each job's outcome, by number, and
+/// then the committed database.
 ///
-/// What is written is the text of a report: the history behind it is legal, each outcome stands in it, and run one after
-/// another in commit order the committed jobs' procedures give the answers that were told, and end in that database.
+/// Line 1 of the input is the opening, as in a script. It must allow at least as many live transactions as there are
+/// workers. Record lines may follow it, and each later line is a job. All input is read before the first thread is
+/// made, and nothing is written before all jobs have ended.
+///
+/// The text written is a report on a legal history that has each outcome. Run one after another in commit order, the
+/// committed jobs' procedures return the answers that were reported, and leave that database.
 ///
 /// # Errors
 ///
-/// The first fault of the input; `Reading`; `NoMemory`; `Spawn` where a thread could not be made; `Mismatch` where what the workers
-/// were told is not what the history says; and `Writing`. Nothing is written then, except the part that was written before a write
-/// failed.
+/// - The first fault of the input.
+/// - `Reading` if a read failed, and `NoMemory`.
+/// - `Spawn` if a thread could not be made.
+/// - `Mismatch` if what the workers were told differs from the history.
+/// - `Writing` if a write failed.
+///
+/// Nothing is written then, except the part before a failed write.
 pub fn run_jobs<S: Source, T: Sink, W: Threads + Wait + Sync>(
     rt: &W,
     alloc: Global,

@@ -1,4 +1,4 @@
-//! What is told of the attempts at each job.
+//! The report of the attempts at each job.
 use crate::watch::FailedTry;
 use sgt_format::append_numbered;
 use sgt_log::{EntryRef, History};
@@ -6,21 +6,22 @@ use sgt_model::{Cause, NoMemory, Reply, Tid};
 use sgt_workers::Outcome;
 use std::alloc::{AllocError, Global};
 
-/// How a transaction came to its end.
+/// How a transaction ended.
 #[derive(Clone, Copy)]
 enum End {
     /// Neither by a cycle nor with another one.
     Own,
     /// The entry of this number aborted it, by a cycle.
     ByCycle(usize),
-    /// It fell with the abort of this one.
+    /// It was aborted in cascade with this one.
     With(Tid),
 }
 
-/// Adds a line for each job, by number: how many attempts were made at it, and the transaction of each, with those that aborted it,
-/// as `job 2: 3 tries: 5 (cycle with 3, 4), 9 (fell with 7), 12`. The attempts that failed are sorted by their jobs.
+/// Appends a line for each job, by number: how many attempts were made, and the transaction of each, with those that
+/// aborted it. An example is `job 2: 3 tries: 5 (cycle with 3, 4), 9 (fell with 7), 12`; `fell` means aborted in
+/// cascade. The failed attempts are sorted by job.
 ///
-/// `NoMemory` where a growth was refused.
+/// `NoMemory` if an allocation failed.
 pub(crate) fn append_tries<N>(
     alloc: Global,
     text: &mut Vec<u8>,
@@ -40,7 +41,7 @@ pub(crate) fn append_tries<N>(
     Ok(())
 }
 
-// How each transaction came to its end, by their numbers.
+// How each transaction ended, by transaction number.
 fn ends_of(alloc: Global, history: &History) -> Result<Vec<End>, NoMemory> {
     let mut ends = Vec::new(alloc);
     for place in 0..history.len() {
@@ -53,7 +54,7 @@ fn ends_of(alloc: Global, history: &History) -> Result<Vec<End>, NoMemory> {
     Ok(ends)
 }
 
-// Notes whom the entry at a place aborts.
+// Records which transactions the entry at a position aborts.
 fn note_ends(ends: &mut [End], place: usize, entry: &EntryRef<'_>) {
     let Some(t) = entry.named() else {
         return;
@@ -72,7 +73,7 @@ fn put_end(ends: &mut [End], t: Tid, end: End) {
     }
 }
 
-// The attempts at the job, which stand in front, and the others.
+// The attempts at the job, which come first, and the others.
 fn split_job(failed: &[FailedTry], job: usize) -> (&[FailedTry], &[FailedTry]) {
     for place in 0..failed.len() {
         if failed[place].job as usize != job {
@@ -82,7 +83,7 @@ fn split_job(failed: &[FailedTry], job: usize) -> (&[FailedTry], &[FailedTry]) {
     (failed, &[])
 }
 
-// The transaction of the attempt that did not fail, where the outcome names one.
+// The transaction of the attempt that did not fail, if the outcome names one.
 fn last_transaction<N>(history: &History, outcome: &Outcome<N>) -> Option<Tid> {
     match outcome {
         Outcome::Done(number) | Outcome::Asked(number) => {
@@ -92,7 +93,7 @@ fn last_transaction<N>(history: &History, outcome: &Outcome<N>) -> Option<Tid> {
     }
 }
 
-// Adds the line of a job.
+// Appends the line of a job.
 fn append_job(
     text: &mut Vec<u8>,
     job: usize,
@@ -118,7 +119,7 @@ fn append_job(
     text.extend_from_slice(b"\n")
 }
 
-// Adds by whom the transaction was aborted.
+// Appends which transactions aborted it.
 fn append_end(
     text: &mut Vec<u8>,
     t: Tid,
@@ -133,7 +134,7 @@ fn append_end(
     text.extend_from_slice(b")")
 }
 
-// Adds the others of the cycle by which the entry at a place aborts the transaction.
+// Appends the others of the cycle by which the entry at a position aborts the transaction.
 fn append_cycle(
     text: &mut Vec<u8>,
     t: Tid,

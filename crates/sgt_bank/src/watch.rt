@@ -7,7 +7,7 @@ use std::io::Eprint;
 use std::sync::{Mutex, Wait};
 use std::time::{Clock, Duration, Instant};
 
-/// How many seconds it is from one line of the progress to the next, at least.
+/// The least time from one progress line to the next, in seconds.
 const BETWEEN_LINES: u64 = 1;
 
 /// An attempt at a job that failed.
@@ -15,25 +15,26 @@ const BETWEEN_LINES: u64 = 1;
 pub(crate) struct FailedTry {
     /// The job's number.
     pub job: u32,
-    /// The transaction of the attempt, which was aborted by a cycle, or fell.
+    /// The transaction of the attempt. It was aborted by a cycle or in cascade.
     pub tid: Tid,
 }
 
-/// What a watch has seen.
+/// What the observer has seen.
 #[derive(Drop)]
 pub(crate) struct Seen {
-    /// The attempts that failed, of each job in their order.
+    /// The failed attempts, those of each job in their order.
     pub failed: Vec<FailedTry>,
-    /// Whether there was no memory for one of these.
+    /// Whether memory ran out for one of these.
     pub has_lost: bool,
     // How many jobs have ended.
     ended: u32,
-    // When the progress was told last, where it is to be told.
+    // When progress was last reported, if it is to be reported.
     told: Option<Instant>,
 }
 
-/// A gate that lets every worker go on and notes the attempts that fail. Where it is asked to, it tells on standard error how many
-/// jobs have ended, a line at most each second. Its notes are of a type without values, so no job can be left.
+/// A gate that lets every worker continue and records the failed attempts. On request it reports on standard error
+/// how many jobs have ended, at most one line each second. Its notes have a type without values, so no outcome is
+/// `Left`.
 #[derive(Drop)]
 pub(crate) struct Watch<'a, W> {
     rt: &'a W,
@@ -41,7 +42,7 @@ pub(crate) struct Watch<'a, W> {
 }
 
 impl<'a, W: Clock> Watch<'a, W> {
-    /// A watch of a run that begins now. Where there is no clock the progress is not told.
+    /// Starts observing a run. Without a clock no progress is reported.
     pub(crate) fn new(rt: &'a W, alloc: Global, tells_progress: bool) -> Self {
         let told = if tells_progress {
             Instant::now(rt).ok()

@@ -32,12 +32,12 @@ firsts_more before (o ∷ ops) op =
     let same = ap {B = ℕ} (λ l. if acts l op.transaction then 0 else 1) (append_assoc before (o ∷ []) ops) in
     ap (λ n. (if acts before o.transaction then 0 else 1) + n) later ∙ omega (arith, same)
 
--- one place more
+-- one position more
 pub seen_one : (h : List Operation) (p : ℕ) (d : Operation) (t : ℕ) → p < length h
     → acts (take (p + 1) h) t ≡ (acts (take p h) t || (get_or h p d).transaction == t)
 seen_one h p d t within = ap (λ l. acts l t) (take_more h p d within) ∙ acts_more (take p h) (get_or h p d) t
 
--- its transaction is counted where it was not seen
+-- its transaction is counted if it was not seen
 pub first_one : (h : List Operation) (p : ℕ) (d : Operation) (before after : ℕ) (seen first : Bool) → p < length h
     → before ≡ count_firsts [] (take p h) → seen ≡ acts (take p h) (get_or h p d).transaction → first ≡ not seen
     → after ≡ before + (if first then 1 else 0) → after ≡ count_firsts [] (take (p + 1) h)
@@ -51,7 +51,7 @@ first_one h p d before after seen first within so_far is_seen is_first more =
     turned f true is = ap {B = ℕ} (λ b. if b then 1 else 0) is
     turned f false is = ap {B = ℕ} (λ b. if b then 1 else 0) is
 
--- one place more of those that are so
+-- one position more of those that count
 pub count_one : (p : Operation → Bool) (h : List Operation) (i : ℕ) (d : Operation) (before after : ℕ) → i < length h
     → before ≡ count_by p (take i h) → after ≡ before + (if p (get_or h i d) then 1 else 0) → after ≡ count_by p (take (i + 1) h)
 count_one p h i d before after within so_far more = by (p (get_or h i d)) refl

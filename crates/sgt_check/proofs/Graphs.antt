@@ -46,12 +46,12 @@ leads_more (o ∷ es) e t u =
     by true b c = refl
     by false b c = refl
 
--- one place more
+-- one position more
 pub leads_one : (es : List Edge) (p : ℕ) (d : Edge) (t u : ℕ) → p < length es
     → leads (take (p + 1) es) t u ≡ (leads (take p es) t u || ((get_or es p d).from == t && (get_or es p d).to == u))
 leads_one es p d t u within = ap (λ l. leads l t u) (take_more es p d within) ∙ leads_more (take p es) (get_or es p d) t u
 
--- a pair compares as the same with itself alone
+-- two numbers compare as equal only to the same two numbers
 pub ends_same : (a b t u : ℕ) (s : Bool) → cond (is_eq (pair_cmp (a, b) (t, u))) true s ≡ (s || (a == t && b == u))
 ends_same a b t u s = elim (cases_eq a t) [
   | inl same ↦ elim (cases_eq b u) [

@@ -13,12 +13,12 @@ use Rattle.sgt_check.specs.declared.piece.Piece.{Piece}
 use Rattle.sgt_check.specs.Pieces.{piece_text, with_pieces, pieces_text}
 use Rattle.sgt_check.specs.ReportText.{placed, class_text}
 
--- a piece behind what came
+-- a piece after the text so far
 pub grow : (start before after : List ℕ) (came piece : List ℕ) → before ≡ start ++ came → after ≡ before ++ piece
     → after ≡ start ++ (came ++ piece)
 grow start before after came piece first second = second ∙ ap (λ l. l ++ piece) first ∙ append_assoc start came piece
 
--- words and a number behind what came
+-- words and a number after the text so far
 pub grow_number : (start before after : List ℕ) (came words number : List ℕ) → before ≡ start ++ came
     → after ≡ (before ++ words) ++ number → after ≡ start ++ ((came ++ words) ++ number)
 grow_number start before after came words number first second =
@@ -40,13 +40,13 @@ pub placed_there : (h : History) (i : ℕ) (op : Operation) → slice_get h.oper
     → placed h i ≡ spelling (texts h) op ++ codes " (" ++ decimal (i + 1) ++ codes ")"
 placed_there h i op is = ap (λ o. option_map_or (λ op. spelling (texts h) op ++ codes " (" ++ decimal (i + 1) ++ codes ")") o []) is
 
--- pieces behind what came
+-- pieces after the text so far
 with_pieces_all : (h : History) (came : List ℕ) (pieces : List Piece) → with_pieces h came pieces ≡ came ++ flat_map (piece_text h) pieces
 with_pieces_all h came [] = sym (append-nil came)
 with_pieces_all h came (p ∷ ps) =
     with_pieces_all h (came ++ piece_text h p) ps ∙ append_assoc came (piece_text h p) (flat_map (piece_text h) ps)
 
--- pieces one behind another
+-- pieces in order
 pub pieces_all : (h : History) (pieces : List Piece) → flat_map (piece_text h) pieces ≡ pieces_text h pieces
 pieces_all h [] = refl
 pieces_all h (p ∷ ps) = sym (with_pieces_all h (piece_text h p) ps)

@@ -10,7 +10,7 @@ use Rattle.sgt_classes.specs.Equivalence.{IsSerializable}
 use Rattle.sgt_classes.specs.SerialOrders.{IsSerial}
 use Rattle.sgt_check.specs.Checks.{IsVerdict}
 
--- no violation is told where there is none, and there only
+-- no violation is reported exactly if there is none
 pub none_told : (Breaks : ℕ → ℕ → Type 0) (v : Option Violation) (none : Bool) → IsFirstViolation Breaks v → is_some v ≡ not none
     → (none ≡ true) ↔ ((i j : ℕ) → ¬ Breaks i j)
 none_told Breaks None true told is = (λ _. told, λ _. refl)
@@ -18,7 +18,8 @@ none_told Breaks None false told is = absurd (true≢false (sym is))
 none_told Breaks (Some v) true told is = absurd (true≢false is)
 none_told Breaks (Some v) false told is = (λ yes. absurd (true≢false (sym yes)), λ all. absurd (all v.earlier v.later told.0))
 
--- where a serial order is shown, no violation of recoverability is told just where the history is serializable and recoverable
+-- if a serial order is shown, no violation of recoverability is reported exactly if the history is serializable and
+-- recoverable
 pub sound : (h : List Operation) (s : Serializability) (v : Option Violation) (none : Bool) → IsSerial s → is_some v ≡ not none
     → (IsSerial s ↔ IsSerializable h) → IsFirstViolation (BreaksRecoverability h) v → IsVerdict h none
 sound h s v none serial is exact first =

@@ -7,7 +7,7 @@ use Rattle.sgt_check.specs.Checks.{IsFaultOf}
 use Rattle.sgt_check.specs.declared.fault.CheckFault.{CheckFault}
 use Rattle.sgt_check.specs.declared.fault.CheckFault.TheVariants.{Notation, TooLong, Reading, Writing, NoMemory}
 
--- the lines that tell of what was read are written
+-- the lines of what was read are written
 pub is_told : (Tells : List ℕ → List ℕ → Bool → Type 0) (rest held held' : Option (List ℕ)) (text lines : List ℕ) (sound : Bool)
     → IfSome rest (λ bytes. bytes ≡ text) → Tells text lines sound → Appends held held' lines
     → IfSome rest (λ input. (output : List ℕ) × Appends held held' output × Tells input output sound)
@@ -24,13 +24,13 @@ is_begun Tells None held held' text lines sound same told part = tt
 is_begun Tells (Some bytes) held held' text lines sound same told part =
     (lines, sound, part.0, subst (λ t. Tells t lines sound) (sym same) told, part.1)
 
--- what keeps the text from being told of is told of the input
+-- an error of the text is an error of the input
 pub text_fault : (rest : Option (List ℕ)) (text : List ℕ) (f : CheckFault) → IfSome rest (λ bytes. bytes ≡ text) → IsFaultOf text f
     → IfSome rest (λ input. IsFaultOf input f)
 text_fault None text f same is = tt
 text_fault (Some bytes) text f same is = subst (λ t. IsFaultOf t f) (sym same) is
 
--- what kept the input from being read is told of it
+-- an error of reading is an error of the input
 pub input_fault : (rest : Option (List ℕ)) (f : CheckFault) → (f ≡ TooLong → IfSome rest (λ bytes. 268435456 < length bytes))
     → ((n : NotationFault) → f ≢ Notation n) → IfSome rest (λ input. IsFaultOf input f)
 input_fault None f long other = tt

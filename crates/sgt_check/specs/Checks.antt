@@ -22,7 +22,7 @@ pub record IsReported (h : History) (text : List ℕ) : Type 0 where
   pub found : IsReport h.operations.items report
   pub written : text ≡ report_text h report
 
--- the text that each output asks for
+-- the text of each output
 abbrev pub IsOutput : Output → History → List ℕ → Type 0
 IsOutput output.Report h text = IsReported h text
 IsOutput output.Graph h text = IsDrawn h text
@@ -32,7 +32,7 @@ IsOutput output.Timeline h text = IsPictured h text
 abbrev pub IsVerdict : List Operation → Bool → Type 0
 IsVerdict h sound = (sound ≡ true) ↔ (IsSerializable h × IsRecoverable h)
 
--- What a check owes, whichever its output: it writes the text that the output asks for, of the history that the input spells, and
+-- What a check guarantees for each output. It writes the text of that output for the history in the input, and
 -- returns the verdict on that history.
 pub record IsChecked (output : Output) (input written : List ℕ) (sound : Bool) : Type 0 where
   pub history : History
@@ -40,7 +40,7 @@ pub record IsChecked (output : Output) (input written : List ℕ) (sound : Bool)
   pub lines : IsOutput output history written
   pub verdict : IsVerdict history.operations.items sound
 
--- a fault of the input: it is too long, or spells no history
+-- an error of the input: it is too long, or its text is not a history
 abbrev pub IsFaultOf : List ℕ → CheckFault → Type 0
 IsFaultOf input (Notation f) = IsFirstFault (words_of input) f
 IsFaultOf input TooLong = 268435456 < length input

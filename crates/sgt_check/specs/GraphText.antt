@@ -19,22 +19,23 @@ abbrev pub leads : List Edge → ℕ → ℕ → Bool
 leads [] t u = false
 leads (e ∷ es) t u = (e.from == t && e.to == u) || leads es t u
 
--- the edges of the cycle, where one is shown
+-- the edges of the cycle, if one is shown
 abbrev pub cycle_of : Serializability → List Edge
 cycle_of (Serial order) = []
 cycle_of (Cycle edges) = edges.items
 
--- the end of an edge's line, which colours it or not
+-- the end of an edge's line, with or without its colour
 abbrev pub colour_text : Bool → List ℕ
 colour_text true = codes "\", color=red];\n"
 colour_text false = codes "\"];\n"
 
--- a line for an edge: its two transactions, and its two operations with their places; red where the cycle has one between the two
+-- the line of an edge: its two transactions, and its two operations with their positions; red if the cycle has an
+-- edge between the two
 abbrev pub arrow_text : History → List Edge → Edge → List ℕ
 arrow_text h cycle e = codes "  " ++ decimal e.from ++ codes " -> " ++ decimal e.to ++ codes " [label=\"" ++ placed h e.earlier
     ++ codes " " ++ placed h e.later ++ colour_text (leads cycle e.from e.to)
 
--- the committed transactions in the order of their commits, and then the edges
+-- the committed transactions in commit order, and then the edges
 abbrev pub graph_text : History → List Edge → Serializability → List ℕ
 graph_text h conflicts shown = codes "digraph serialization {\n" ++ flat_map node_text h.operations.items
     ++ flat_map (arrow_text h (cycle_of shown)) conflicts ++ codes "}\n"

@@ -10,7 +10,7 @@ use Rattle.sgt_check.specs.declared.report.Report.{Report}
 use Rattle.sgt_check.specs.Reports.{IsReport}
 use Rattle.sgt_check.specs.GraphText.{graph_text}
 
--- the report with this serial order or cycle in place of its own
+-- the report with its serial order or cycle replaced by this one
 abbrev pub with_shown : Serializability → Report → Report
 with_shown shown r = record {
   counts = r.counts;
@@ -23,12 +23,13 @@ with_shown shown r = record {
   commit_ordered = r.commit_ordered;
 }
 
--- A report on the history can name this serial order or cycle: put in place of its own, it leaves a report on the history.
+-- A report on the history can name this serial order or cycle: with it in place of its own, it is still a report on
+-- the history.
 abbrev pub CanBeNamed : List Operation → Serializability → Type 0
 CanBeNamed h shown = (r : Report) → IsReport h r → IsReport h (with_shown shown r)
 
--- The text of the serialization graph of the history. Each edge stands there by its first two operations. Red are those that the
--- cycle has which a report on the history can name.
+-- The text of the serialization graph of the history. Each edge is named by its first two operations. Red are the
+-- edges of a cycle that a report on the history can name.
 pub record IsDrawn (h : History) (text : List ℕ) : Type 0 where
   pub shown : Serializability
   pub conflicts : List Edge

@@ -13,12 +13,12 @@ piece_text h (Number n) = decimal n
 piece_text h (Placed i) = placed h i
 piece_text h (TransactionOf i) = transaction_of h i
 
--- the texts of pieces behind what came
+-- the texts of pieces after the text so far
 abbrev pub with_pieces : History → List ℕ → List Piece → List ℕ
 with_pieces h came [] = came
 with_pieces h came (piece ∷ pieces) = with_pieces h (came ++ piece_text h piece) pieces
 
--- the texts of pieces, one behind another
+-- the texts of pieces in order
 abbrev pub pieces_text : History → List Piece → List ℕ
 pieces_text h [] = []
 pieces_text h (piece ∷ pieces) = with_pieces h (piece_text h piece) pieces

@@ -13,19 +13,19 @@ use Rattle.sgt_notation.specs.Readings.{texts}
 use Rattle.sgt_check.specs.declared.report.Counts.{Counts}
 use Rattle.sgt_check.specs.declared.report.Report.{Report}
 
--- the operation at a place, with the place counted from 1
+-- the operation at a position, with the position counted from 1
 abbrev pub placed : History → ℕ → List ℕ
 placed h i = option_map_or (λ op. spelling (texts h) op ++ codes " (" ++ decimal (i + 1) ++ codes ")") (slice_get h.operations.items i) []
 
--- the transaction of the operation at a place
+-- the transaction of the operation at a position
 abbrev pub transaction_at : History → ℕ → List ℕ
 transaction_at h i = option_map_or (λ op. decimal op.transaction) (slice_get h.operations.items i) []
 
--- the same of a place that may be none
+-- the same of a position that may be none
 abbrev pub transaction_of : History → Option ℕ → List ℕ
 transaction_of h place = option_map_or (transaction_at h) place []
 
--- how many transactions there are, and what became of them
+-- the number of transactions, and how many committed, aborted or are active
 abbrev pub counts_text : Counts → List ℕ
 counts_text c = codes "transactions " ++ decimal c.transactions ++ codes ": " ++ decimal c.committed ++ codes " committed, "
     ++ decimal c.aborted ++ codes " aborted, " ++ decimal (c.transactions - c.committed - c.aborted) ++ codes " active\n"
@@ -34,20 +34,20 @@ counts_text c = codes "transactions " ++ decimal c.transactions ++ codes ": " ++
 abbrev pub next_text : ℕ → List ℕ
 next_text t = codes " " ++ decimal t
 
--- an edge by its two operations
+-- an edge with its two operations
 abbrev pub edge_text : History → Edge → List ℕ
 edge_text h e = codes " " ++ decimal e.from ++ codes " " ++ decimal e.to ++ codes " by " ++ placed h e.earlier ++ codes " " ++ placed h e.later
 
--- each edge of a cycle but the first behind a comma
+-- an edge of a cycle after the first, with a comma before it
 abbrev pub later_edge_text : History → Edge → List ℕ
 later_edge_text h e = codes "," ++ edge_text h e
 
--- the edges of a cycle, parted by commas
+-- the edges of a cycle, separated by commas
 abbrev pub cycle_text : History → List Edge → List ℕ
 cycle_text h [] = []
 cycle_text h (e ∷ es) = edge_text h e ++ flat_map (later_edge_text h) es
 
--- a serial order, `none` where no transaction committed
+-- a serial order, `none` if no transaction committed
 abbrev pub order_text : List ℕ → List ℕ
 order_text [] = codes " none"
 order_text (t ∷ ts) = flat_map next_text (t ∷ ts)
@@ -71,15 +71,15 @@ abbrev pub recoverable_why : History → Option ℕ → Violation → List ℕ
 recoverable_why h write v = placed h v.later ++ codes ", which reads from " ++ transaction_of h write ++ codes " by " ++ placed h v.earlier
     ++ codes ", and " ++ transaction_of h write ++ codes " has not committed\n"
 
--- a read of what is not committed
+-- a read of an uncommitted value
 abbrev pub avoiding_why : History → Violation → List ℕ
 avoiding_why h v = placed h v.later ++ codes " reads from " ++ transaction_at h v.earlier ++ codes ", which has not committed\n"
 
--- an operation that came before the end of the earlier one's transaction
+-- an operation before the end of the earlier one's transaction
 abbrev pub follows_why : History → Violation → List ℕ
 follows_why h v = placed h v.later ++ codes " follows " ++ placed h v.earlier ++ codes ", and " ++ transaction_at h v.earlier ++ codes " has not ended\n"
 
--- two operations whose transactions committed the other way round
+-- two operations whose transactions committed in the opposite order
 abbrev pub order_why : History → Violation → List ℕ
 order_why h v = transaction_at h v.earlier ++ codes " before " ++ transaction_at h v.later ++ codes " by " ++ placed h v.earlier ++ codes " "
     ++ placed h v.later ++ codes ", and " ++ transaction_at h v.later ++ codes " committed first\n"

@@ -17,7 +17,7 @@ abbrev pub acts : List Operation → ℕ → Bool
 acts [] t = false
 acts (op ∷ ops) t = op.transaction == t || acts ops t
 
--- how many of these operations are the first of their transactions, behind those before
+-- how many of these operations are the first of their transactions, after those before
 abbrev pub count_firsts : List Operation → List Operation → ℕ
 count_firsts before [] = 0
 count_firsts before (op ∷ ops) = (if acts before op.transaction then 0 else 1) + count_firsts (before ++ op ∷ []) ops
@@ -42,14 +42,14 @@ pub record AreCounts (h : List Operation) (c : Counts) : Type 0 where
   pub committed : c.committed ≡ count_by (λ op. commits op.action) h
   pub aborted : c.aborted ≡ count_by (λ op. aborts op.action) h
 
--- the place of the write that the read of a violation reads from; none where there is no violation
+-- the position of the write that the read of a violation reads from; none if there is no violation
 abbrev pub IsWriteOf : List Operation → Option Violation → Option ℕ → Type 0
 IsWriteOf h None write = write ≡ None
 IsWriteOf h (Some v) None = ⊥
 IsWriteOf h (Some v) (Some write) =
     (item : ℕ) × (writer : ℕ) × (reader : ℕ) × ReadsFrom h write v.earlier item writer reader × Does h v.later reader Commit
 
--- what is told of a history: of each class the first violation, or none where the history is of the class
+-- what is reported of a history: the first violation of each class, or none if the history belongs to the class
 pub record IsReport (h : List Operation) (r : Report) : Type 0 where
   pub counts : AreCounts h r.counts
   pub acyclic : IsSerial r.serializability ↔ IsAcyclic h

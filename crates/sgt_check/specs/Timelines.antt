@@ -5,7 +5,7 @@ use Rattle.sgt_timeline.specs.declared.picture.Picture.{Picture}
 use Rattle.sgt_timeline.specs.Drawn.{IsDrawnFrom}
 use Rattle.sgt_timeline.specs.PictureText.{picture_text}
 
--- The text of a picture of the history. It has just one mark of each operation that is drawn.
+-- The text of a picture of the history. It has exactly one mark for each operation that is drawn.
 pub record IsPictured (h : History) (text : List ℕ) : Type 0 where
   pub picture : Picture
   pub drawn : IsDrawnFrom h.operations.items picture

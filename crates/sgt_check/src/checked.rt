@@ -1,4 +1,4 @@
-//! The check of a history that was read: the lines of its output, and its verdict.
+//! The check of a history that was read: the text of its output, and its verdict.
 ghost use Rattle.std.specs.Prelude.{◌↔◌, List, IfOk};
 ghost use Rattle.sgt_classes.specs.declared.operation.Operation.{Operation};
 ghost use Rattle.sgt_classes.specs.Classes.{BreaksRecoverability, IsFirstViolation};
@@ -28,7 +28,8 @@ pub enum Output {
     Report,
     /// The serialization graph in DOT, with the cycle of the report.
     Graph,
-    /// The picture of the history in SVG, with the cycle or the first violation of the report, and the report below it.
+    /// The picture of the history in SVG, with the report below it. The cycle of the report, or else its first
+    /// violation, stands out.
     Timeline,
 }
 
@@ -71,7 +72,8 @@ fn check_for_report(alloc: Global, history: &History) -> Result<Checked, NoMemor
     })
 }
 
-/// Checks the history for the verdict alone, with the graph as its output. It makes no report, but finds its cycle as a report does.
+/// Checks the history for the verdict alone, with the graph as its output. It makes no report, but finds the cycle
+/// that a report would.
 fn check_for_graph(alloc: Global, history: &History) -> Result<Checked, NoMemory>
     ensures written { IfOk result (λ c. IsDrawn history.now c.lines.items) }
     ensures verdict { IfOk result (λ c. IsWellFormed history.now.operations.items → IsVerdict history.now.operations.items c.sound) }
@@ -102,7 +104,8 @@ fn check_for_timeline(alloc: Global, history: &History) -> Result<Checked, NoMem
     Ok(Checked { lines, sound })
 }
 
-/// Whether a history is serializable and recoverable, by its serial order or cycle and its first violation of recoverability.
+/// Whether a history is serializable and recoverable. It needs the serial order or cycle, and the first violation of
+/// recoverability.
 fn is_sound(shown: &Serializability, recoverable: &Option<Violation>) -> bool
     ensures { (h : List Operation) → (IsSerial shown.now ↔ IsSerializable h)
         → IsFirstViolation (BreaksRecoverability h) recoverable.now → IsVerdict h result }

@@ -1,14 +1,14 @@
-//! How a check can end with an error.
+//! The errors that can end a check.
 ghost use Rattle.std.specs.Prelude.{◌≡◌};
 ghost use Rattle.sgt_check.specs.declared.fault.CheckFault.TheVariants as fault;
 
 use sgt_notation::NotationFault;
 use thiserror::Error;
 
-/// How a check can end without a report.
+/// Why a check ended without a report.
 #[derive(Debug, Drop, PartialEq, Eq, Error)]
 pub enum CheckFault {
-    /// The text spells no history.
+    /// The text is not a history.
     #[error("{0}")]
     Notation(NotationFault),
     /// The input is longer than 268,435,456 bytes.
@@ -17,10 +17,10 @@ pub enum CheckFault {
     /// A read failed.
     #[error("reading failed")]
     Reading,
-    /// A write failed, or took nothing.
+    /// A write failed, or wrote nothing.
     #[error("writing failed")]
     Writing,
-    /// A growth was refused.
+    /// An allocation failed.
     #[error("no memory")]
     NoMemory,
 }

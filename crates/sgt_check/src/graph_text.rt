@@ -14,14 +14,15 @@ use sgt_notation::History;
 use std::alloc::Global;
 use std::collections::BTreeSet;
 
-/// Adds a serialization graph: the committed transactions in the order of their commits, a line each, and then the edges, a line
-/// each with the two operations. An edge is red where the cycle that is shown has one between the same two transactions.
+/// Appends a serialization graph: a line for each committed transaction, in commit order, and then a line for each
+/// edge with its two operations. An edge is red if the cycle that is shown has an edge between the same two
+/// transactions.
 ///
-/// An edge costs a look-up among those of the cycle.
+/// Each edge costs one lookup among those of the cycle.
 ///
 /// # Errors
 ///
-/// `NoMemory` where a growth was refused. A part of the lines may have been added then.
+/// `NoMemory` if an allocation failed. A part of the lines may have been appended then.
 pub fn append_graph(
     alloc: Global,
     text: &mut Vec<u8>,
@@ -60,7 +61,7 @@ fn ends(alloc: Global, edges: &[Edge]) -> Result<BTreeSet<(u32, u32)>, NoMemory>
     Ok(red)
 }
 
-/// Notes the ends of an edge.
+/// Records the ends of an edge.
 fn note_ends(red: &mut BTreeSet<(u32, u32)>, edge: &Edge) -> Result<(), NoMemory>
     ensures { OnOk result ((t u : ℕ) →
         contains pair_cmp red.new (t, u) ≡ (contains pair_cmp red.old (t, u) || (edge.now.from == t && edge.now.to == u))) }
@@ -69,7 +70,7 @@ fn note_ends(red: &mut BTreeSet<(u32, u32)>, edge: &Edge) -> Result<(), NoMemory
     Ok(())
 }
 
-/// Adds the transactions that commit.
+/// Appends the transactions that commit.
 fn append_nodes(text: &mut Vec<u8>, operations: &[Operation]) -> Result<(), NoMemory>
     ensures { OnOk result (text.new.items ≡ text.old.items ++ flat_map node_text operations.now) }
 {
@@ -79,7 +80,7 @@ fn append_nodes(text: &mut Vec<u8>, operations: &[Operation]) -> Result<(), NoMe
     Ok(())
 }
 
-/// Adds the transaction of the operation, if that is a commit.
+/// Appends the transaction of the operation, if that is a commit.
 fn append_node(text: &mut Vec<u8>, operation: &Operation) -> Result<(), NoMemory>
     ensures { OnOk result (text.new.items ≡ text.old.items ++ node_text operation.now) }
 {
@@ -93,7 +94,7 @@ fn append_node(text: &mut Vec<u8>, operation: &Operation) -> Result<(), NoMemory
     }
 }
 
-/// Adds edges, of which those with these ends are red.
+/// Appends edges. Those with these ends are red.
 fn append_arrows(
     text: &mut Vec<u8>,
     history: &History,
@@ -109,7 +110,7 @@ fn append_arrows(
     Ok(())
 }
 
-/// Adds an edge, red or not.
+/// Appends an edge, red or not.
 fn append_arrow(
     text: &mut Vec<u8>,
     history: &History,

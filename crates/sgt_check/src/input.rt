@@ -1,4 +1,4 @@
-//! The whole of an input.
+//! Reading a whole input.
 ghost use Rattle.std.specs.Prelude.{◌≡◌, ◌≢◌, ◌^◌, ◌+◌, ◌++◌, ◌<◌, ◌≤◌, length, IfOk, OnOk, IfSome, Err};
 ghost use Rattle.std.specs.Io.KnownBytes.{Consumes, IsAtEnd};
 ghost use Rattle.sgt_check.specs.declared.fault.CheckFault.TheVariants as fault;
@@ -9,17 +9,17 @@ use sgt_input::Source;
 use sgt_model::NoMemory;
 use std::alloc::{AllocError, Global};
 
-/// The most bytes that an input may have.
+/// The maximum length of an input, in bytes.
 pub(crate) const LONGEST_INPUT: usize = 268_435_456;
 
-/// How many bytes are asked for at once.
+/// How many bytes one read requests.
 const ROOM: usize = 65_536;
 
-/// All the bytes that the source gives.
+/// Reads all bytes of the source.
 ///
 /// # Errors
 ///
-/// `TooLong` where they are more than an input may have, `Reading` where a read failed, and `NoMemory`.
+/// `TooLong` if there are more bytes than an input may have, `Reading` if a read failed, and `NoMemory`.
 pub(crate) fn read_input<S: Source>(alloc: Global, source: &mut S) -> Result<Vec<u8>, CheckFault>
     requires { S.failures source.old + 1 < 2 ^ 64 }
     ensures bytes { IfOk result (λ text. IfSome (S.rest source.old) (λ bytes. bytes ≡ text.items)) }
@@ -48,14 +48,14 @@ pub(crate) fn read_input<S: Source>(alloc: Global, source: &mut S) -> Result<Vec
     }
 }
 
-/// Room for what comes at once.
+/// A buffer for one read.
 fn new_room(alloc: Global) -> Result<Vec<u8>, NoMemory>
     ensures { IfOk result (λ room. length room.items ≡ 65536) }
 {
     Ok(vec![in alloc; 0; ROOM]?)
 }
 
-/// Adds bytes to a text.
+/// Appends bytes to a text.
 fn append(text: &mut Vec<u8>, bytes: &[u8]) -> Result<(), NoMemory>
     ensures { OnOk result (text.new.items ≡ text.old.items ++ bytes.now) }
 {

@@ -1,11 +1,14 @@
 //! The check of a history that is given as text: is it serializable, recoverable, and of which other classes?
 //!
-//! - [`run_check`] checks what a source gives, and writes a report, the serialization graph or a picture: its [`Output`].
-//! - [`check_history`] puts the checkers of `sgt_classes` together into a [`Report`], and [`append_report`] writes it as seven lines.
-//! - [`append_graph`] writes the serialization graph in DOT. The picture is drawn by `sgt_timeline`.
+//! - [`run_check`] checks what a source holds. It writes a report, the serialization graph or a picture: its
+//!   [`Output`].
+//! - [`check_history`] runs the checkers of `sgt_classes` and collects a [`Report`]. [`append_report`] writes it as
+//!   seven lines.
+//! - [`append_graph`] writes the serialization graph in DOT. `sgt_timeline` draws the picture.
 //!
-//! The classes are defined in `sgt_classes`, the notation in `sgt_notation`, the lines of a report in `specs/ReportText.antt`, and
-//! those of a graph in `specs/GraphText.antt`. `specs/Checks.antt` says what a check owes for each output.
+//! The classes are defined in `sgt_classes`, and the notation in `sgt_notation`. `specs/ReportText.antt` defines the
+//! lines of a report, and `specs/GraphText.antt` those of a graph. `specs/Checks.antt` says what a check guarantees
+//! for each output.
 //!
 //! ```
 //! let history = read_history(alloc, b"w1[x] r2[x] c2 c1")?;

@@ -14,13 +14,13 @@ pub(crate) enum Piece<'a> {
     Words(&'a [u8]),
     /// The number.
     Number(usize),
-    /// The operation at the place, and the place counted from 1.
+    /// The operation at the position, and the position counted from 1.
     Placed(usize),
-    /// The transaction of the operation at the place, if there is a place.
+    /// The transaction of the operation at the position, if there is a position.
     TransactionOf(Option<usize>),
 }
 
-/// Adds the pieces, one behind another.
+/// Appends the pieces in order.
 pub(crate) fn append_pieces(
     text: &mut Vec<u8>,
     history: &History,
@@ -34,7 +34,7 @@ pub(crate) fn append_pieces(
     Ok(())
 }
 
-/// Adds the piece.
+/// Appends the piece.
 fn append_piece(text: &mut Vec<u8>, history: &History, piece: &Piece<'_>) -> Result<(), NoMemory>
     ensures { OnOk result (text.new.items ≡ text.old.items ++ piece_text history.now piece.now) }
 {

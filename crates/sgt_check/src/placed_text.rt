@@ -6,7 +6,7 @@ use sgt_format::{append_number, append_numbered};
 use sgt_model::NoMemory;
 use sgt_notation::{History, append_operation};
 
-/// Adds the operation at a place, and the place counted from 1.
+/// Appends the operation at a position, and the position counted from 1.
 pub(crate) fn append_placed(
     text: &mut Vec<u8>,
     history: &History,
@@ -23,7 +23,7 @@ pub(crate) fn append_placed(
     Ok(())
 }
 
-/// Adds the transaction of the operation at a place.
+/// Appends the transaction of the operation at a position.
 pub(crate) fn append_transaction_at(
     text: &mut Vec<u8>,
     history: &History,
@@ -37,7 +37,7 @@ pub(crate) fn append_transaction_at(
     Ok(())
 }
 
-/// Adds the transaction of the operation at a place, if there is a place.
+/// Appends the transaction of the operation at a position, if there is a position.
 pub(crate) fn append_transaction_of(
     text: &mut Vec<u8>,
     history: &History,

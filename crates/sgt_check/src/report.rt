@@ -1,4 +1,4 @@
-//! What a check finds.
+//! The report of a check.
 ghost use Rattle.std.specs.Prelude.{◌↔◌, ◌≡◌, ◌<◌, ◌+◌, ◌-◌, ◌^◌, ◌==◌, ◌||◌, not, if◌then◌else◌, ℕ, is_some, IfOk, OnOk};
 ghost use Rattle.sgt_classes.specs.Tables.{entry_of};
 ghost use Rattle.sgt_classes.specs.Histories.{IsWellFormed};
@@ -20,16 +20,16 @@ use std::alloc::Global;
 /// How many transactions a history has, and how many of them have ended.
 #[derive(Clone, Copy, Debug, Default, PartialEq, Eq)]
 pub struct Counts {
-    /// The transactions: the operations that are the first of theirs.
+    /// The number of transactions: operations that are the first of their transaction.
     pub transactions: usize,
-    /// The commits.
+    /// The number of commits.
     pub committed: usize,
-    /// The aborts.
+    /// The number of aborts.
     pub aborted: usize,
 }
 
 impl Counts {
-    /// The transactions that have not ended.
+    /// The number of transactions that have not ended.
     pub fn active(&self) -> usize
         ensures { result ≡ self.now.transactions - self.now.committed - self.now.aborted }
     {
@@ -39,15 +39,16 @@ impl Counts {
     }
 }
 
-/// What a check finds of a history. Of each class the first operation that breaks it stands here, with one that it breaks it by.
+/// What a check finds. For each class that does not hold, it has the first operation that breaks it, and the
+/// operation that this one breaks it with.
 #[derive(Debug, Drop, PartialEq, Eq)]
 pub struct Report {
     pub counts: Counts,
     /// A serial order or a cycle.
     pub serializability: Serializability,
-    /// The commit of a transaction that has read from one that has not committed, and that read.
+    /// The commit of a transaction that has read from one that has not committed; and that read.
     pub recoverable: Option<Violation>,
-    /// The place of the write that this read reads from.
+    /// The position of the write that this read reads from.
     pub dirty_write: Option<usize>,
     pub avoiding: Option<Violation>,
     pub strict: Option<Violation>,
@@ -57,13 +58,13 @@ pub struct Report {
 
 /// Checks a history for all classes.
 ///
-/// It costs what the checkers of `sgt_classes` cost, one after another. Of rigorousness, strictness, the avoidance of cascading
-/// aborts and recoverability each is implied by the one before it: where a history is of one of these classes, those behind it
-/// cost nothing. Where it is commit ordered, the commit order is the serial order, and no graph is made.
+/// It runs the checkers of `sgt_classes` one after another. Rigorousness, strictness, avoidance of cascading aborts
+/// and recoverability each imply the next. If a history belongs to one of these classes, the later ones cost nothing.
+/// If it is commit ordered, the commit order is the serial order, and no graph is made.
 ///
 /// # Errors
 ///
-/// `NoMemory` where a growth was refused.
+/// `NoMemory` if an allocation failed.
 pub fn check_history(alloc: Global, history: &[Operation]) -> Result<Report, NoMemory>
     ensures { IfOk result (IsReport history.now) }
 {
@@ -87,7 +88,7 @@ pub fn check_history(alloc: Global, history: &[Operation]) -> Result<Report, NoM
     })
 }
 
-/// A serial order or a cycle. Where the history is commit ordered it is the commit order, and no graph is made.
+/// A serial order or a cycle. For a commit ordered history it is the commit order, and no graph is made.
 pub(crate) fn serial_unless_commit_ordered(
     alloc: Global,
     history: &[Operation],
@@ -105,7 +106,7 @@ pub(crate) fn serial_unless_commit_ordered(
     }
 }
 
-/// The first violation of strictness, of which there is none where there is none of rigorousness.
+/// The first violation of strictness. A rigorous history has none.
 fn strict_unless_rigorous(
     alloc: Global,
     history: &[Operation],
@@ -121,7 +122,7 @@ fn strict_unless_rigorous(
     }
 }
 
-/// The first violation of the avoidance of cascading aborts, of which there is none where there is none of strictness.
+/// The first violation of the avoidance of cascading aborts. A strict history has none.
 fn avoiding_unless_strict(
     alloc: Global,
     history: &[Operation],
@@ -137,7 +138,7 @@ fn avoiding_unless_strict(
     }
 }
 
-/// The first violation of recoverability, of which there is none where there is none of the avoidance of cascading aborts.
+/// The first violation of recoverability. A history that avoids cascading aborts has none.
 fn recoverable_unless_avoiding(
     alloc: Global,
     history: &[Operation],
@@ -153,7 +154,7 @@ fn recoverable_unless_avoiding(
     }
 }
 
-/// The place of the write that the read of a violation of recoverability reads from.
+/// The position of the write that the read of a violation of recoverability reads from.
 fn dirty_write(
     alloc: Global,
     history: &[Operation],
@@ -182,7 +183,7 @@ fn count(alloc: Global, history: &[Operation]) -> Result<Counts, NoMemory>
     Ok(counts)
 }
 
-/// Notes that the transaction acts, and tells whether it has not before.
+/// Records that the transaction acts, and returns whether this is its first operation.
 fn note(seen: &mut Table, transaction: u32, place: usize) -> Result<bool, NoMemory>
     ensures first { IfOk result (λ first. first ≡ not (is_some (entry_of seen.old transaction))) }
     ensures seen { OnOk result ((t : ℕ) →

@@ -10,11 +10,11 @@ use sgt_format::append_numbered;
 use sgt_model::NoMemory;
 use sgt_notation::History;
 
-/// Adds the seven lines of a report.
+/// Appends the seven lines of a report.
 ///
 /// # Errors
 ///
-/// `NoMemory` where a growth was refused. A part of the lines may have been added then.
+/// `NoMemory` if an allocation failed. A part of the lines may have been appended then.
 pub fn append_report(text: &mut Vec<u8>, history: &History, report: &Report) -> Result<(), NoMemory>
     ensures { OnOk result (text.new.items ≡ text.old.items ++ report_text history.now report.now) }
 {
@@ -28,7 +28,7 @@ pub fn append_report(text: &mut Vec<u8>, history: &History, report: &Report) -> 
     Ok(())
 }
 
-/// Adds the line of the counts.
+/// Appends the line of the counts.
 fn append_counts(text: &mut Vec<u8>, counts: &Counts) -> Result<(), NoMemory>
     ensures { OnOk result (text.new.items ≡ text.old.items ++ counts_text counts.now) }
 {
@@ -40,7 +40,7 @@ fn append_counts(text: &mut Vec<u8>, counts: &Counts) -> Result<(), NoMemory>
     Ok(())
 }
 
-/// Adds the line of serializability.
+/// Appends the line of serializability.
 fn append_serial(
     text: &mut Vec<u8>,
     history: &History,
@@ -53,7 +53,7 @@ fn append_serial(
     Ok(())
 }
 
-/// Adds a serial order or a cycle.
+/// Appends a serial order or a cycle.
 fn append_shown(
     text: &mut Vec<u8>,
     history: &History,
@@ -73,7 +73,7 @@ fn append_shown(
     }
 }
 
-/// Adds a serial order.
+/// Appends a serial order.
 fn append_order(text: &mut Vec<u8>, order: &[u32]) -> Result<(), NoMemory>
     ensures { OnOk result (text.new.items ≡ text.old.items ++ order_text order.now) }
 {
@@ -84,7 +84,7 @@ fn append_order(text: &mut Vec<u8>, order: &[u32]) -> Result<(), NoMemory>
     append_each(text, order)
 }
 
-/// Adds each transaction behind a blank.
+/// Appends each transaction after a space.
 fn append_each(text: &mut Vec<u8>, order: &[u32]) -> Result<(), NoMemory>
     ensures { OnOk result (text.new.items ≡ text.old.items ++ flat_map next_text order.now) }
 {
@@ -94,7 +94,7 @@ fn append_each(text: &mut Vec<u8>, order: &[u32]) -> Result<(), NoMemory>
     Ok(())
 }
 
-/// Adds the edges of a cycle.
+/// Appends the edges of a cycle.
 fn append_cycle(text: &mut Vec<u8>, history: &History, edges: &[Edge]) -> Result<(), NoMemory>
     ensures { OnOk result (text.new.items ≡ text.old.items ++ cycle_text history.now edges.now) }
 {
@@ -105,7 +105,7 @@ fn append_cycle(text: &mut Vec<u8>, history: &History, edges: &[Edge]) -> Result
     append_later_edges(text, history, &edges[1..])
 }
 
-/// Adds each edge behind a comma.
+/// Appends each edge after a comma.
 fn append_later_edges(text: &mut Vec<u8>, history: &History, edges: &[Edge]) -> Result<(), NoMemory>
     ensures { OnOk result (text.new.items ≡ text.old.items ++ flat_map (later_edge_text history.now) edges.now) }
 {
@@ -115,7 +115,7 @@ fn append_later_edges(text: &mut Vec<u8>, history: &History, edges: &[Edge]) -> 
     Ok(())
 }
 
-/// Adds an edge behind a comma.
+/// Appends an edge after a comma.
 fn append_later_edge(text: &mut Vec<u8>, history: &History, edge: &Edge) -> Result<(), NoMemory>
     ensures { OnOk result (text.new.items ≡ text.old.items ++ later_edge_text history.now edge.now) }
 {
@@ -123,7 +123,7 @@ fn append_later_edge(text: &mut Vec<u8>, history: &History, edge: &Edge) -> Resu
     append_edge(text, history, edge)
 }
 
-/// Adds an edge and its two operations.
+/// Appends an edge and its two operations.
 fn append_edge(text: &mut Vec<u8>, history: &History, edge: &Edge) -> Result<(), NoMemory>
     ensures { OnOk result (text.new.items ≡ text.old.items ++ edge_text history.now edge.now) }
 {
@@ -143,7 +143,7 @@ fn append_edge(text: &mut Vec<u8>, history: &History, edge: &Edge) -> Result<(),
     )
 }
 
-/// Adds the line of recoverability.
+/// Appends the line of recoverability.
 fn append_recoverable(
     text: &mut Vec<u8>,
     history: &History,
@@ -171,7 +171,7 @@ fn append_recoverable(
     )
 }
 
-/// Adds the line of the avoidance of cascading aborts.
+/// Appends the line of the avoidance of cascading aborts.
 fn append_avoiding(
     text: &mut Vec<u8>,
     history: &History,
@@ -195,7 +195,7 @@ fn append_avoiding(
     )
 }
 
-/// Adds the line of a class that an operation breaks which comes before the end of an earlier one's transaction.
+/// Appends the line of a class that is broken by an operation before the end of an earlier one's transaction.
 fn append_follows(
     text: &mut Vec<u8>,
     name: &[u8],
@@ -222,7 +222,7 @@ fn append_follows(
     )
 }
 
-/// Adds the line of the commit order.
+/// Appends the line of the commit order.
 fn append_order_kept(
     text: &mut Vec<u8>,
     history: &History,
@@ -252,7 +252,7 @@ fn append_order_kept(
     )
 }
 
-/// Adds the line of a class that the history is of.
+/// Appends the line of a class that the history belongs to.
 fn append_kept(text: &mut Vec<u8>, name: &[u8]) -> Result<(), NoMemory>
     ensures { OnOk result (text.new.items ≡ text.old.items ++ (name.now ++ codes " yes\n")) }
 {
@@ -261,7 +261,7 @@ fn append_kept(text: &mut Vec<u8>, name: &[u8]) -> Result<(), NoMemory>
     Ok(())
 }
 
-/// Adds the line of a class that the history is not of, and why it is not.
+/// Appends the line of a class that the history does not belong to, and why.
 fn append_broken(
     text: &mut Vec<u8>,
     history: &History,

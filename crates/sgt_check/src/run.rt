@@ -10,16 +10,16 @@ use sgt_input::{Sink, Source, write_all};
 use sgt_notation::read_history;
 use std::alloc::Global;
 
-/// Checks the history that the source's bytes spell, writes the report or the graph, and returns whether the history is serializable
-/// and recoverable. All input is read before the first line is written.
+/// Checks the history in the source's bytes, writes the output, and returns whether the history is serializable and
+/// recoverable. All input is read before the first line is written.
 ///
-/// It reads at most 268,500,992 bytes, 65,536 more than an input may have, even if its source goes on.
+/// At most 268,500,992 bytes are read, even from an endless source: 65,536 more than an input may have.
 ///
 /// # Errors
 ///
-/// - `TooLong` if the input has more than 268,435,456 bytes, `Notation` with the first fault of what it spells, `Reading` if a read
-///   failed, and `NoMemory`: then nothing is written.
-/// - `Writing` if a write failed: then the beginning of the output is written.
+/// - `TooLong` if the input has more than 268,435,456 bytes, `Notation` with the first error of its text, `Reading`
+///   if a read failed, and `NoMemory`. Nothing is written then.
+/// - `Writing` if a write failed. A prefix of the output is written then.
 pub fn run_check<S: Source, T: Sink>(
     alloc: Global,
     source: &mut S,
@@ -48,7 +48,7 @@ pub fn run_check<S: Source, T: Sink>(
     Ok(checked.sound)
 }
 
-/// Checks the history that the text spells, for this output.
+/// Checks the history in the text, for this output.
 fn check_text(alloc: Global, text: &[u8], output: Output) -> Result<Checked, CheckFault>
     requires { length text.now < 2 ^ 32 }
     ensures checked { IfOk result (λ c. IsChecked output text.now c.lines.items c.sound) }

@@ -1,4 +1,4 @@
-//! The picture of a history with what its report says of it.
+//! The picture of a history with its report.
 ghost use Rattle.std.specs.Prelude.{IfOk};
 ghost use Rattle.sgt_timeline.specs.Drawn.{IsDrawnFrom};
 
@@ -10,7 +10,7 @@ use sgt_notation::History;
 use sgt_timeline::{Highlight, Picture, draw};
 use std::alloc::Global;
 
-/// Draws the history with the report below it. The cycle of the report stands out, and where there is none, the first violation.
+/// Draws the history with the report below it. The cycle of the report stands out, or else the first violation.
 pub(crate) fn draw_report(
     alloc: Global,
     history: &History,
@@ -30,7 +30,7 @@ pub(crate) fn draw_report(
     draw(alloc, history, highlight, caption.as_slice())
 }
 
-/// The violation of the first class of the report that the history is not of.
+/// The violation of the first class in the report that the history does not belong to.
 fn first_violation(report: &Report) -> Option<Violation> {
     report
         .recoverable

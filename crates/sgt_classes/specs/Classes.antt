@@ -5,8 +5,8 @@ use Rattle.sgt_classes.specs.declared.operation.Action.TheVariants.{Read, Write,
 use Rattle.sgt_classes.specs.declared.operation.Violation.{Violation}
 use Rattle.sgt_classes.specs.Histories.{Does, Uses, CommittedBefore, AbortedBefore, EndedBefore}
 
--- Strictness: no transaction reads or writes an item that another has written that has not ended. Here at place j a
--- transaction does, of what another has written at place i.
+-- Strictness: no transaction reads or writes an item that another has written that has not ended. Here the operation
+-- at position j does so, after another transaction's write at position i.
 pub record BreaksStrictness (h : List Operation) (i j : ℕ) : Type 0 where
   pub item : ℕ
   pub writer : ℕ
@@ -21,8 +21,8 @@ pub record BreaksStrictness (h : List Operation) (i j : ℕ) : Type 0 where
 abbrev pub IsStrict : List Operation → Type 0
 IsStrict h = (i j : ℕ) → ¬ BreaksStrictness h i j
 
--- At place j a transaction reads an item from another, whose write at place i is before it: the writer has not aborted by
--- then, and whoever has written the item between has.
+-- At position j a transaction reads an item from another, whose write at position i comes before. The writer has not
+-- aborted by then, and every transaction that has written the item in between has.
 pub record ReadsFrom (h : List Operation) (i j item writer reader : ℕ) : Type 0 where
   pub earlier : i < j
   pub written : Does h i writer (Write item)
@@ -30,8 +30,8 @@ pub record ReadsFrom (h : List Operation) (i j item writer reader : ℕ) : Type 
   pub standing : ¬ AbortedBefore h writer j
   pub last : (k t : ℕ) → i < k → k < j → Does h k t (Write item) → AbortedBefore h t j
 
--- Avoiding cascading aborts: a transaction reads from others only once they have committed. Here at place j one reads what
--- another has written at place i and not committed yet.
+-- Avoiding cascading aborts: a transaction reads from others only after they have committed. Here the one at position
+-- j reads what another has written at position i and not committed yet.
 pub record BreaksAvoidance (h : List Operation) (i j : ℕ) : Type 0 where
   pub item : ℕ
   pub writer : ℕ
@@ -44,8 +44,8 @@ pub record BreaksAvoidance (h : List Operation) (i j : ℕ) : Type 0 where
 abbrev pub AvoidsCascadingAborts : List Operation → Type 0
 AvoidsCascadingAborts h = (i j : ℕ) → ¬ BreaksAvoidance h i j
 
--- Recoverability: a transaction commits only after those that it has read from. Here at place j one commits that at place k
--- has read from another which has not committed yet.
+-- Recoverability: a transaction commits only after those that it has read from. Here a transaction commits at
+-- position j, and at position k it has read from another that has not committed yet.
 pub record BreaksRecoverability (h : List Operation) (k j : ℕ) : Type 0 where
   pub item : ℕ
   pub write : ℕ
@@ -61,7 +61,7 @@ pub record BreaksRecoverability (h : List Operation) (k j : ℕ) : Type 0 where
 abbrev pub IsRecoverable : List Operation → Type 0
 IsRecoverable h = (k j : ℕ) → ¬ BreaksRecoverability h k j
 
--- at place j a transaction writes an item that another has read at place i that has not ended
+-- at position j a transaction writes an item that another has read at position i that has not ended
 pub record OverwritesReader (h : List Operation) (i j : ℕ) : Type 0 where
   pub item : ℕ
   pub reader : ℕ
@@ -72,7 +72,8 @@ pub record OverwritesReader (h : List Operation) (i j : ℕ) : Type 0 where
   pub written : Does h j writer (Write item)
   pub active : ¬ EndedBefore h reader j
 
--- Rigorousness (Breitbart and others (1991)): strict, and no transaction overwrites what another has read that has not ended.
+-- Rigorousness (Breitbart and others (1991)): strict, and no transaction overwrites what another has read that has not
+-- ended.
 abbrev pub BreaksRigorousness : List Operation → ℕ → ℕ → Type 0
 BreaksRigorousness h i j = BreaksStrictness h i j ⊎ OverwritesReader h i j
 
@@ -92,7 +93,7 @@ StrictAvoidCascadingAborts = (h : List Operation) → IsStrict h → AvoidsCasca
 abbrev pub AvoidingAreRecoverable : Type 0
 AvoidingAreRecoverable = (h : List Operation) → AvoidsCascadingAborts h → IsRecoverable h
 
--- None where no two operations violate it, or else two that do, the later of them the first that any does
+-- None if no two operations violate it, else two that do; the later of them is the first operation that violates it
 abbrev pub IsFirstViolation : (ℕ → ℕ → Type 0) → Option Violation → Type 0
 IsFirstViolation Breaks None = (i j : ℕ) → ¬ Breaks i j
 IsFirstViolation Breaks (Some v) = Breaks v.earlier v.later × ((i j : ℕ) → j < v.later → ¬ Breaks i j)

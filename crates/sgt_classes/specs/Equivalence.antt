@@ -1,5 +1,5 @@
--- Serializable histories (Bernstein, Hadzilacos and Goodman (1987), chapter 2): the committed projection is conflict equivalent to
--- a serial history.
+-- Serializable histories (Bernstein, Hadzilacos and Goodman (1987), chapter 2): the committed projection is conflict
+-- equivalent to a serial history.
 use Rattle.std.specs.Prelude.{◌≡◌, ◌≢◌, ◌<◌, ◌⊎◌, ◌↔◌, ◌&&◌, ℕ, List, Bool, true, false, filter, flat_map, length, take, nat_eq}
 use Rattle.std.specs.List.{list_any}
 use Rattle.sgt_classes.specs.declared.operation.Operation.{Operation}
@@ -32,15 +32,16 @@ committed_projection h = filter (λ (o : Operation). has_committed h o.transacti
 abbrev pub operations_of : List Operation → ℕ → List Operation
 operations_of h t = filter (λ (o : Operation). nat_eq o.transaction t) h
 
--- One operation of t in two histories, at i in g and at k in h: the same action, after the same number of operations of t.
+-- One operation of t in two histories, at i in g and at k in h: the same action, after the same number of operations
+-- of t.
 pub record IsSameOperation (t : ℕ) (g : List Operation) (i : ℕ) (h : List Operation) (k : ℕ) : Type 0 where
   pub action : Action
   pub here : Does g i t action
   pub there : Does h k t action
   pub after_as_many : length (operations_of (take i g) t) ≡ length (operations_of (take k h) t)
 
--- Conflict equivalence. The two histories have the same operations, and those of each transaction are in the same order. Conflicting
--- operations of two transactions that do not abort are in the same order in both.
+-- Conflict equivalence. The two histories have the same operations, and those of each transaction are in the same
+-- order. Conflicting operations of two transactions that do not abort are in the same order in both.
 pub record AreEquivalent (g h : List Operation) : Type 0 where
   pub same_operations : (t : ℕ) → operations_of g t ≡ operations_of h t
   pub same_order : (t u i j k l : ℕ) → t ≢ u → ¬ Aborts g t → ¬ Aborts g u → Conflict g i t j u
@@ -67,12 +68,12 @@ IsSerializable h = (s : List Operation) × IsSerialRun h s
 abbrev pub serial_history : List Operation → List ℕ → List Operation
 serial_history h order = flat_map (operations_of h) order
 
--- The serializability theorem: a well formed history is serializable exactly where its serialization graph has no cycle.
+-- The serializability theorem: a well formed history is serializable exactly if its serialization graph has no cycle.
 abbrev pub SerializabilityTheorem : Type 0
 SerializabilityTheorem = (h : List Operation) → IsWellFormed h → IsSerializable h ↔ IsAcyclic h
 
--- If there is a serial order, the graph has no cycle. The transactions one after another in this order are an equivalent serial
--- history.
+-- If there is a serial order, the graph has no cycle. The transactions one after another in this order are an
+-- equivalent serial history.
 abbrev pub SerialOrdersAreEnough : Type 0
 SerialOrdersAreEnough =
     (h : List Operation) (order : List ℕ) → IsSerialOrder h order → IsAcyclic h × IsSerialRun h (serial_history h order)

@@ -1,4 +1,4 @@
--- What is kept of first accesses, and of the conflicts that are told, while the first conflicts are looked for.
+-- The state of the search for the first conflicts: first accesses, and the conflicts already reported.
 use Rattle.std.specs.Prelude.{◌≡◌, ◌≢◌, ◌<◌, ◌≤◌, ◌↔◌, ◌⊎◌, ℕ, List, Option, Some, None, IsSome, slice_get}
 use Rattle.std.specs.BTreeMap.{get}
 use Rattle.std.specs.declared.cmp.Ordering.{Ordering}
@@ -18,7 +18,7 @@ use Rattle.sgt_classes.specs.Links.{link_of}
 use Rattle.sgt_classes.specs.Tables.{entry_of}
 use Rattle.sgt_classes.specs.FirstConflicts.{IsNoLater, IsToldBefore}
 
--- two numbers, in the order of the first, and of the second where the first are the same
+-- two numbers, ordered by the first, and by the second if the first are equal
 abbrev pub pair_cmp : ℕ × ℕ → ℕ × ℕ → Ordering
 pair_cmp a b = ordering_then (nat_cmp a.0 b.0) (nat_cmp a.1 b.1)
 
@@ -30,7 +30,7 @@ accessed Writes (Write x) = Some x
 accessed Writes Commit = None
 accessed Writes Abort = None
 
--- at place i of the history is an access of the kind by t to x
+-- at position i of the history is an access of the kind by t to x
 abbrev pub IsAccess : Kind → List Operation → ℕ → ℕ → ℕ → Type 0
 IsAccess Any h i t x = Uses h i t x
 IsAccess Writes h i t x = Does h i t (Write x)
@@ -39,18 +39,18 @@ IsAccess Writes h i t x = Does h i t (Write x)
 abbrev pub IsFirstAccess : Kind → List Operation → ℕ → ℕ → ℕ → Type 0
 IsFirstAccess kind h i t x = IsAccess kind h i t x × ((k : ℕ) → k < i → ¬ IsAccess kind h k t x)
 
--- of the first accesses to x the last before place j, or none
+-- the last of the first accesses to x before position j, or none
 abbrev pub IsLastFirst : Kind → List Operation → ℕ → ℕ → Option ℕ → Type 0
 IsLastFirst kind h j x None = (k t : ℕ) → k < j → ¬ IsFirstAccess kind h k t x
 IsLastFirst kind h j x (Some i) = (i < j) × ((t : ℕ) × IsFirstAccess kind h i t x)
     × ((k t : ℕ) → i < k → k < j → ¬ IsFirstAccess kind h k t x)
 
--- an access by t to x before place j, or none where there is none
+-- an access by t to x before position j, or none if there is none
 abbrev pub IsSomeAccess : Kind → List Operation → ℕ → ℕ → ℕ → Option ℕ → Type 0
 IsSomeAccess kind h j t x None = (k : ℕ) → k < j → ¬ IsAccess kind h k t x
 IsSomeAccess kind h j t x (Some i) = (i < j) × IsAccess kind h i t x
 
--- what is kept to tell the first accesses before place j
+-- the stored first accesses before position j
 pub record AreFirsts (kind : Kind) (h : List Operation) (j : ℕ) (tops below : ℕ → Option ℕ) (latest : ℕ × ℕ → Option ℕ) : Type 0 where
   pub tops_are : (x : ℕ) → IsLastFirst kind h j x (tops x)
   pub below_are : (k t x : ℕ) → k < j → IsFirstAccess kind h k t x → IsLastFirst kind h k x (below k)
@@ -61,11 +61,12 @@ pub record AreFirsts (kind : Kind) (h : List Operation) (j : ℕ) (tops below : 
 abbrev pub KnowsFirsts : List Operation → ℕ → FirstAccesses → Type 0
 KnowsFirsts h j s = AreFirsts s.kind h j (entry_of s.tops) (link_of s.below) (get pair_cmp s.latest)
 
--- the operation at place j conflicts with just those that access x, by this kind
+-- the operation at position j conflicts exactly with those that access x, by this kind
 abbrev pub AreRivals : List Operation → ℕ → ℕ → Kind → Type 0
 AreRivals q j x kind = (i t u : ℕ) (b : Action) → Does q j u b → Conflict q i t j u ↔ IsAccess kind q i t x
 
--- with what is before place s the operation at place j conflicts only where one of its transaction at place s does
+-- every conflict of the operation at position j with one before position s is also one of its transaction's operation
+-- at position s
 abbrev pub IsRepeated : List Operation → ℕ → ℕ → Kind → ℕ → Type 0
 IsRepeated q j x kind s = (i t u : ℕ) (b : Action) → i < s → Does q j u b → IsAccess kind q i t x → (s < j) × Conflict q i t s u
 
@@ -74,19 +75,19 @@ pub record IsFirstBy (q : List Operation) (e : Edge) : Type 0 where
   pub conflict : IsConflictBy q e
   pub first : (f : Edge) → IsConflictBy q f → f.from ≡ e.from → f.to ≡ e.to → IsNoLater e f
 
--- the conflicts whose later operation is before place j have edges
+-- the conflicts whose later operation is before position j have edges
 abbrev pub AreTold : List Operation → List Edge → ℕ → Type 0
 AreTold q edges j = (i t k u : ℕ) → k < j → i < k → t ≢ u → Conflict q i t k u → HasEdge edges t u
 
--- the edges have their later operation before place j, or there, and the earlier one from place n on
+-- the edges have their later operation before position j, or at it and the earlier one from position n on
 abbrev pub AreTellable : List Edge → ℕ → ℕ → Type 0
 AreTellable edges j n = (k : ℕ) (e : Edge) → slice_get edges k ≡ Some e → (e.later < j) ⊎ ((e.later ≡ j) × (n ≤ e.earlier))
 
--- the pairs that have an edge
+-- two transactions have an entry exactly if an edge leads from the first to the second
 abbrev pub ArePairs : List Edge → (ℕ × ℕ → Option ℕ) → Type 0
 ArePairs edges pairs = (t u : ℕ) → IsSome (pairs (t, u)) ↔ HasEdge edges t u
 
--- what is kept of the conflicts before place j, and of those that the operation there makes with the ones from place n on
+-- the stored conflicts before position j, and those of the operation at j with operations from position n on
 pub record AreConflicts (q : List Operation) (j n : ℕ) (edges : List Edge) (pairs : ℕ × ℕ → Option ℕ) : Type 0 where
   pub are_first : (k : ℕ) (e : Edge) → slice_get edges k ≡ Some e → IsFirstBy q e
   pub are_told : AreTold q edges j
@@ -98,12 +99,14 @@ pub record AreConflicts (q : List Operation) (j n : ℕ) (edges : List Edge) (pa
 abbrev pub KnowsConflicts : List Operation → ℕ → ℕ → Conflicts → Type 0
 KnowsConflicts q j n s = AreConflicts q j n s.edges.items (get pair_cmp s.told)
 
--- the operations at places i and j conflict, and none before place i by the same transaction conflicts with the one at place j
+-- the operations at positions i and j conflict, and none before position i by the same transaction conflicts with the
+-- one at position j
 abbrev pub IsFirstRival : List Operation → ℕ → ℕ → Type 0
 IsFirstRival q i j = (t u : ℕ) (a b : Action) → Does q i t a → Does q j u b
     → Conflict q i t j u × ((k : ℕ) → k < i → ¬ Conflict q k t j u)
 
--- of the first accesses to x before place j, each after the given place has its edge; at the given place is one
+-- of the first accesses to x before position j, each after the given position has its edge; at the given position is
+-- one
 abbrev pub AreToldAbove : Kind → List Operation → List Edge → ℕ → ℕ → ℕ → Option ℕ → Type 0
 AreToldAbove kind q edges j x u None = (k t : ℕ) → k < j → t ≢ u → IsFirstAccess kind q k t x → HasEdge edges t u
 AreToldAbove kind q edges j x u (Some i) = (i < j) × ((t : ℕ) × IsFirstAccess kind q i t x)

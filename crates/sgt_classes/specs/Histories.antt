@@ -1,30 +1,30 @@
--- Histories (Bernstein, Hadzilacos and Goodman (1987), chapter 2): who does what at which place.
+-- Histories (Bernstein, Hadzilacos and Goodman (1987), chapter 2): which transaction does what at which position.
 use Rattle.std.specs.Prelude.{◌≡◌, ◌<◌, ◌⊎◌, ℕ, List, Option, Some, None, slice_get}
 use Rattle.sgt_classes.specs.declared.operation.Operation.{Operation}
 use Rattle.sgt_classes.specs.declared.operation.Action.{Action}
 use Rattle.sgt_classes.specs.declared.operation.Action.TheVariants.{Read, Write, Commit, Abort}
 
--- at place i of the history, transaction t does the action
+-- at position i of the history, transaction t does the action
 abbrev pub Does : List Operation → ℕ → ℕ → Action → Type 0
 Does h i t action = slice_get h i ≡ Some (record { transaction = t; action = action })
 
--- at place i, t reads or writes x
+-- at position i, t reads or writes x
 abbrev pub Uses : List Operation → ℕ → ℕ → ℕ → Type 0
 Uses h i t x = Does h i t (Read x) ⊎ Does h i t (Write x)
 
--- at place i, t commits or aborts
+-- at position i, t commits or aborts
 abbrev pub Ends : List Operation → ℕ → ℕ → Type 0
 Ends h i t = Does h i t Commit ⊎ Does h i t Abort
 
--- before place j, t has committed
+-- before position j, t has committed
 abbrev pub CommittedBefore : List Operation → ℕ → ℕ → Type 0
 CommittedBefore h t j = (i : ℕ) × (i < j) × Does h i t Commit
 
--- before place j, t has aborted
+-- before position j, t has aborted
 abbrev pub AbortedBefore : List Operation → ℕ → ℕ → Type 0
 AbortedBefore h t j = (i : ℕ) × (i < j) × Does h i t Abort
 
--- before place j, t has ended
+-- before position j, t has ended
 abbrev pub EndedBefore : List Operation → ℕ → ℕ → Type 0
 EndedBefore h t j = (i : ℕ) × (i < j) × Ends h i t
 

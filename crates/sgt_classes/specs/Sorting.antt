@@ -1,4 +1,4 @@
--- What is kept of edges and of transactions while these are put in a serial order, and while a cycle is looked for.
+-- The state of edges and transactions in the search for a serial order or a cycle.
 use Rattle.std.specs.Prelude.{◌≡◌, ◌≢◌, ◌<◌, ◌≤◌, ◌⊎◌, ◌+◌, ℕ, List, Option, Some, None, IsSome, length, slice_get}
 use Rattle.std.specs.BTreeMap.{get}
 use Rattle.std.specs.Ordering.{nat_cmp}
@@ -17,19 +17,19 @@ abbrev pub end_of : End → Edge → ℕ
 end_of From e = e.from
 end_of To e = e.to
 
--- of the edges before place j the last with the transaction at the end, or none
+-- of the edges before position j, the last with the transaction at the end, or none
 abbrev pub IsLastEdge : End → List Edge → ℕ → ℕ → Option ℕ → Type 0
 IsLastEdge end es j t None = (k : ℕ) (e : Edge) → k < j → slice_get es k ≡ Some e → end_of end e ≢ t
 IsLastEdge end es j t (Some i) = (i < j) × ((e : Edge) × (slice_get es i ≡ Some e) × (end_of end e ≡ t))
     × ((k : ℕ) (e : Edge) → i < k → k < j → slice_get es k ≡ Some e → end_of end e ≢ t)
 
--- the edges before place j by one of their ends
+-- the edges before position j by one of their ends
 pub record AreChains (end : End) (es : List Edge) (j : ℕ) (tops below : ℕ → Option ℕ) : Type 0 where
   pub tops_are : (t : ℕ) → IsLastEdge end es j t (tops t)
   pub below_are : (k : ℕ) (e : Edge) → k < j → slice_get es k ≡ Some e → IsLastEdge end es k (end_of end e) (below k)
   pub fresh : (k : ℕ) → j ≤ k → below k ≡ None
 
--- The edges to u above the given one lead from transactions that are not left; the given one leads to it.
+-- The edges to u after the given one lead from transactions that are not left; the given one leads to u.
 abbrev pub IsTopEdge : List Edge → (ℕ → Option ℕ) → ℕ → Option ℕ → Type 0
 IsTopEdge es left u None = (k : ℕ) (e : Edge) → slice_get es k ≡ Some e → e.to ≡ u → left e.from ≡ None
 IsTopEdge es left u (Some i) = ((e : Edge) × (slice_get es i ≡ Some e) × (e.to ≡ u))
@@ -39,7 +39,7 @@ IsTopEdge es left u (Some i) = ((e : Edge) × (slice_get es i ≡ Some e) × (e.
 abbrev pub KnowsWatched : Watched → Type 0
 KnowsWatched v = AreChains From v.edges.items (length v.edges.items) (entry_of v.outgoing.tops) (link_of v.outgoing.below)
 
--- what is kept of the transactions that are left
+-- the state of the transactions that are left
 pub record AreWaits (es : List Edge) (left tops below ready : ℕ → Option ℕ) (watched : Watched) : Type 0 where
   pub apart : (t u c : ℕ) → left t ≡ Some c → left u ≡ Some c → t ≡ u
   pub tops_are : (u : ℕ) → IsTopEdge es left u (tops u)
@@ -48,42 +48,42 @@ pub record AreWaits (es : List Edge) (left tops below ready : ℕ → Option ℕ
   pub ready_are : (c u : ℕ) → ready c ≡ Some u → (left u ≡ Some c) × (tops u ≡ None)
   pub watched_are : KnowsWatched watched
 
--- what is kept, of its maps
+-- the state, by its maps
 abbrev pub KnowsWaits : Waits → Type 0
 KnowsWaits w =
     AreWaits w.edges.items (entry_of w.left) (entry_of w.incoming.tops) (link_of w.incoming.below) (get nat_cmp w.ready) w.watched
 
--- the edge is one of those before place m
+-- the edge is one of those before position m
 abbrev pub HasBefore : List Edge → ℕ → Edge → Type 0
 HasBefore es m e = (j : ℕ) × (j < m) × (slice_get es j ≡ Some e)
 
--- if the transaction waits, the edge by which it does is among the watched ones
+-- if the transaction waits, its edge is among the watched ones
 abbrev pub IsWatched : Waits → ℕ → Type 0
 IsWatched w u = (k : ℕ) (e : Edge) → entry_of w.incoming.tops u ≡ Some k → slice_get w.edges.items k ≡ Some e
     → HasBefore w.watched.edges.items (length w.watched.edges.items) e
 
--- each edge by which one waits is among the watched ones
+-- the edge of each waiting transaction is among the watched ones
 abbrev pub AllWatched : Waits → Type 0
 AllWatched w = (u : ℕ) → IsWatched w u
 
--- if the transaction is left and waits for none, it is among those
+-- if the transaction is left and waits for none, it is among the ready ones
 abbrev pub IsReady : Waits → ℕ → Type 0
 IsReady w u = (c : ℕ) → entry_of w.left u ≡ Some c → entry_of w.incoming.tops u ≡ None → get nat_cmp w.ready c ≡ Some u
 
--- each that is left and waits for none is among those
+-- each that is left and waits for none is among the ready ones
 abbrev pub AllReady : Waits → Type 0
 AllReady w = (u : ℕ) → IsReady w u
 
--- the edge leads from one that is left
+-- the edge leads from a transaction that is left
 abbrev pub LeadsFromLeft : Waits → ℕ → Type 0
 LeadsFromLeft w k = (e : Edge) → slice_get w.edges.items k ≡ Some e → IsSome (entry_of w.left e.from)
 
--- the transaction waits, if at all, for one that is left
+-- the transaction waits only for one that is left
 abbrev pub WaitsForLeft : Waits → ℕ → Type 0
 WaitsForLeft w u = (k : ℕ) (e : Edge) → entry_of w.incoming.tops u ≡ Some k → slice_get w.edges.items k ≡ Some e
     → IsSome (entry_of w.left e.from)
 
--- each waits, if at all, for one that is left
+-- each waits only for one that is left
 abbrev pub AllWait : Waits → Type 0
 AllWait w = (u : ℕ) → WaitsForLeft w u
 
@@ -91,7 +91,7 @@ AllWait w = (u : ℕ) → WaitsForLeft w u
 abbrev pub AllLeftWait : Waits → Type 0
 AllLeftWait w = (u : ℕ) → IsSome (entry_of w.left u) → IsSome (entry_of w.incoming.tops u)
 
--- each waits, if at all, for one that is left, or for t by one of the watched edges before place m
+-- each waits only for one that is left, or for t by one of the watched edges before position m
 abbrev pub AllWaitBut : Waits → ℕ → ℕ → Type 0
 AllWaitBut w t m = (u k : ℕ) (e : Edge) → entry_of w.incoming.tops u ≡ Some k → slice_get w.edges.items k ≡ Some e
     → IsSome (entry_of w.left e.from) ⊎ ((e.from ≡ t) × HasBefore w.watched.edges.items m e)
@@ -100,11 +100,11 @@ AllWaitBut w t m = (u k : ℕ) (e : Edge) → entry_of w.incoming.tops u ≡ Som
 abbrev pub AreSameBut : ℕ → (ℕ → Option ℕ) → (ℕ → Option ℕ) → Type 0
 AreSameBut t old new = (u : ℕ) → u ≢ t → new u ≡ old u
 
--- no edge leads to u from one that is left
+-- no edge leads to u from a transaction that is left
 abbrev pub IsFree : List Edge → (ℕ → Option ℕ) → ℕ → Type 0
 IsFree es left u = (k : ℕ) (e : Edge) → slice_get es k ≡ Some e → e.to ≡ u → left e.from ≡ None
 
--- of those that are left, and to which no edge leads from such, the one that commits first
+-- of those that are left, and to which no edge leads from one that is left, the one that commits first
 pub record IsFirstFree (es : List Edge) (left : ℕ → Option ℕ) (t : ℕ) : Type 0 where
   pub commit : ℕ
   pub commits : left t ≡ Some commit
@@ -115,7 +115,7 @@ pub record IsFirstFree (es : List Edge) (left : ℕ → Option ℕ) (t : ℕ) : 
 abbrev pub LeadBack : List Edge → (ℕ → Option ℕ) → Type 0
 LeadBack es tops = (u k : ℕ) → tops u ≡ Some k → (e : Edge) × (slice_get es k ≡ Some e) × (e.to ≡ u) × IsSome (tops e.from)
 
--- the edges of a walk are among the others
+-- the edges of a path are among the others
 abbrev pub AreAmong : List Edge → List Edge → Type 0
 AreAmong walk es = (i : ℕ) (e : Edge) → slice_get walk i ≡ Some e → (k : ℕ) × (slice_get es k ≡ Some e)
 
@@ -123,12 +123,13 @@ AreAmong walk es = (i : ℕ) (e : Edge) → slice_get walk i ≡ Some e → (k :
 abbrev pub Passes : List Edge → ℕ → Type 0
 Passes walk t = (i : ℕ) × (e : Edge) × (slice_get walk i ≡ Some e) × (e.to ≡ t)
 
--- each edge leads to where the one before it leads from, the last leads from t, and no two lead to one transaction
+-- each edge leads to the transaction that the one before it leads from, the last leads from t, and no two lead to one
+-- transaction
 pub record IsWalkBack (walk : List Edge) (t : ℕ) : Type 0 where
   pub follow : (i : ℕ) (e f : Edge) → slice_get walk i ≡ Some e → slice_get walk (i + 1) ≡ Some f → e.from ≡ f.to
   pub ends : (i : ℕ) (e : Edge) → slice_get walk i ≡ Some e → length walk ≡ i + 1 → e.from ≡ t
   pub once : (i j : ℕ) (e f : Edge) → slice_get walk i ≡ Some e → slice_get walk j ≡ Some f → e.to ≡ f.to → i ≡ j
 
--- a cycle of each history of whose serialization graph the edges are
+-- a cycle of each history whose serialization graph has these edges
 abbrev pub IsCycleOf : List Edge → List Edge → Type 0
 IsCycleOf es cycle = (h : List Operation) → ((k : ℕ) (e : Edge) → slice_get es k ≡ Some e → IsEdgeBy h e) → IsCycle h cycle

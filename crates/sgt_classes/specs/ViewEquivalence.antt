@@ -1,4 +1,5 @@
--- View equivalence (Bernstein, Hadzilacos and Goodman (1987), chapter 2): what two histories read, and what they leave behind.
+-- View equivalence (Bernstein, Hadzilacos and Goodman (1987), chapter 2): what two histories read, and what they leave
+-- behind.
 use Rattle.std.specs.Prelude.{◌≡◌, ◌<◌, ◌↔◌, ℕ, List}
 use Rattle.sgt_classes.specs.declared.operation.Operation.{Operation}
 use Rattle.sgt_classes.specs.declared.operation.Action.TheVariants.{Read, Write}
@@ -18,8 +19,8 @@ ReadsInitial h j t x = Does h j t (Read x) × ((k u : ℕ) → k < j → Does h 
 abbrev pub IsFinalWrite : List Operation → ℕ → ℕ → ℕ → Type 0
 IsFinalWrite h i t x = Does h i t (Write x) × (¬ Aborts h t) × ((k u : ℕ) → i < k → Does h k u (Write x) → Aborts h u)
 
--- View equivalence. The two histories have the same operations. Of transactions that do not abort, each read reads from the same
--- write in both, or the initial value in both. The final writes are the same.
+-- View equivalence. The two histories have the same operations. Of transactions that do not abort, each read reads
+-- from the same write in both, or the initial value in both. The final writes are the same.
 pub record AreViewEquivalent (g h : List Operation) : Type 0 where
   pub same_operations : (t : ℕ) → operations_of g t ≡ operations_of h t
   pub same_reads : (i j k l x w r : ℕ) → ¬ Aborts g w → ¬ Aborts g r → IsSameOperation w g i h k → IsSameOperation r g j h l

@@ -1,4 +1,4 @@
-//! The avoidance of cascading aborts, and from which write an operation reads.
+//! The avoidance of cascading aborts, and the write that an operation reads from.
 ghost use Rattle.std.specs.Prelude.{◌≡◌, ◌≢◌, ◌<◌, ◌+◌, ℕ, List, Some, None, length, is_some, IfSome, IfOk, OnOk, IsNone};
 ghost use Rattle.sgt_classes.specs.declared.operation.Operation.{Operation};
 ghost use Rattle.sgt_classes.specs.declared.operation.Action.TheVariants.{Write};
@@ -14,14 +14,14 @@ use crate::table::Table;
 use sgt_model::NoMemory;
 use std::alloc::Global;
 
-/// The first operation that reads from another transaction that has not committed, with the write that it reads. `None` where
-/// the history avoids cascading aborts.
+/// The first operation that reads from another transaction that has not committed, with the write that it reads.
+/// `None` if the history avoids cascading aborts.
 ///
-/// Bernstein, Hadzilacos and Goodman (1987), chapter 2: avoids cascading aborts. An operation reads from the last write of its
-/// item before it whose transaction has not aborted by then.
+/// Bernstein, Hadzilacos and Goodman (1987), chapter 2: avoids cascading aborts. An operation reads from the last
+/// write of its item before it whose transaction has not aborted by then.
 ///
-/// Each write of an aborted transaction is passed once in the whole; but for that an operation costs four look-ups in a table at
-/// most, of the items and the transactions seen.
+/// Each write of an aborted transaction is visited once in total. Apart from that, an operation costs at most four
+/// lookups in a table, of the items and the transactions seen.
 pub fn avoidance_violation(
     alloc: Global,
     history: &[Operation],
@@ -32,10 +32,10 @@ pub fn avoidance_violation(
     seen.violation(history)
 }
 
-/// The write that the read at the place reads from: the last one of its item before it whose transaction has not aborted by
-/// then. `None` where there is none, and where nothing is read at the place.
+/// The write that the read at the position reads from: the last one of its item before it whose transaction has not
+/// aborted by then. `None` if there is none, or if the operation at the position is no read.
 ///
-/// An operation before the place costs a look-up in a table at most.
+/// Each operation before the position costs at most one lookup in a table.
 pub fn read_source(
     alloc: Global,
     history: &[Operation],
@@ -53,21 +53,22 @@ pub fn read_source(
     Ok(seen.standing(history, place, item))
 }
 
-/// What is kept of the operations before a place, to tell from which write the next one reads.
+/// The state of the operations before a position, to find the write that the next operation reads from.
 #[derive(Drop)]
 pub struct Sources {
-    /// The place of an item's last write whose transaction is not known to have aborted.
+    /// The position of an item's last write whose transaction is not known to have aborted.
     tops: Table,
-    /// For the place of a write that of one of its item below, which is the top once the writer has aborted.
+    /// For the position of a write, that of an earlier write of its item. It is the newest one once the later writer
+    /// has aborted.
     below: Links,
-    /// Where a transaction has committed.
+    /// The position at which a transaction has committed.
     commits: Table,
-    /// Where a transaction has aborted.
+    /// The position at which a transaction has aborted.
     aborts: Table,
 }
 
 impl Sources {
-    /// What is kept before the first operation. The numbers of items and transactions below the bound are found at once.
+    /// The state before the first operation. Numbers of items and transactions below the bound are found by index.
     pub fn new(alloc: Global, bound: usize) -> Self
         ensures { (h : List Operation) → KnowsSources h 0 result }
     {
@@ -79,7 +80,8 @@ impl Sources {
         }
     }
 
-    /// The first operation of the history that breaks the avoidance of cascading aborts, where none is noted yet.
+    /// The first operation of the history that breaks the avoidance of cascading aborts. No operation may be recorded
+    /// yet.
     fn violation(&mut self, history: &[Operation]) -> Result<Option<Violation>, NoMemory>
         requires { KnowsSources history.now 0 self.old }
         ensures { IfOk result (IsFirstViolation (BreaksAvoidance history.now)) }
@@ -96,7 +98,7 @@ impl Sources {
         Ok(None)
     }
 
-    /// Notes the operations before the place, where none is noted yet.
+    /// Records the operations before the position. No operation may be recorded yet.
     fn note_until(&mut self, history: &[Operation], place: usize) -> Result<(), NoMemory>
         requires within { place < length history.now }
         requires sources { KnowsSources history.now 0 self.old }
@@ -115,7 +117,7 @@ impl Sources {
         self.commits.contains_key(transaction)
     }
 
-    /// The write that the operation reads, where another transaction wrote it that has not committed.
+    /// The write that the operation reads, if another transaction wrote it that has not committed.
     pub fn uncommitted(
         &mut self,
         history: &[Operation],
@@ -143,7 +145,7 @@ impl Sources {
         Ok(Some(earlier))
     }
 
-    /// The item's last write before the place whose transaction has not aborted by then.
+    /// The item's last write before the position whose transaction has not aborted by then.
     fn standing(&self, history: &[Operation], place: usize, item: u32) -> Option<usize>
         requires within { place < length history.now }
         requires sources { KnowsSources history.now place self.now }
@@ -160,7 +162,7 @@ impl Sources {
         None
     }
 
-    /// Notes the operation: its write, or how its transaction has ended.
+    /// Records the operation: its write, or the end of its transaction.
     pub fn note(&mut self, history: &[Operation], place: usize) -> Result<(), NoMemory>
         requires within { place < length history.now }
         requires sources { KnowsSources history.now place self.old }
@@ -177,7 +179,7 @@ impl Sources {
     }
 }
 
-/// Sets the top of an item.
+/// Sets the newest position of an item.
 pub fn set_top(tops: &mut Table, item: u32, top: Option<usize>) -> Result<(), NoMemory>
     ensures at { OnOk result (entry_of tops.new item ≡ top) }
     ensures others { OnOk result ((x : ℕ) → x ≢ item → entry_of tops.new x ≡ entry_of tops.old x) }
@@ -191,7 +193,7 @@ pub fn set_top(tops: &mut Table, item: u32, top: Option<usize>) -> Result<(), No
     Ok(())
 }
 
-/// Puts a place on top of a number's: of the writes of an item, say.
+/// Makes a position the newest of a number, for example of the writes of an item.
 pub fn put_on_top(
     tops: &mut Table,
     below: &mut Links,

@@ -33,17 +33,18 @@ impl End {
     }
 }
 
-/// Edges by the transaction at one of their ends, of each from the last to the first. An edge is its place in a list.
+/// Edges by the transaction at one of their ends, for each transaction from last to first. An edge is its position in
+/// a list.
 #[derive(Drop)]
 pub struct Chains {
-    /// The edge that a transaction's begin with.
+    /// The last edge of a transaction.
     tops: Table,
-    /// For an edge the next earlier one at the same transaction.
+    /// For an edge, the next earlier one of the same transaction.
     below: Links,
 }
 
 impl Chains {
-    /// There is no edge. Those of the transactions below the bound are found at once.
+    /// No edges. Those of transactions below the bound are found by index.
     pub fn new(alloc: Global, bound: usize) -> Self
         ensures { (end : End) (edges : List Edge) → AreChains end edges 0 (entry_of result.tops) (link_of result.below) }
     {
@@ -53,7 +54,7 @@ impl Chains {
         }
     }
 
-    /// All edges, by one of their ends. Those of the transactions below the bound are found at once.
+    /// All edges, by one of their ends. Those of transactions below the bound are found by index.
     pub fn by_end(alloc: Global, edges: &[Edge], end: End, bound: usize) -> Result<Self, NoMemory>
         ensures { IfOk result (λ c. AreChains end edges.now (length edges.now) (entry_of c.tops) (link_of c.below)) }
     {
@@ -64,7 +65,7 @@ impl Chains {
         Ok(chains)
     }
 
-    /// Adds the edge at the place behind those before it.
+    /// Adds the edge at the position after those before it.
     pub fn add(&mut self, edges: &[Edge], place: usize, end: End) -> Result<(), NoMemory>
         requires within { place < length edges.now }
         requires before { AreChains end edges.now place (entry_of self.old.tops) (link_of self.old.below) }
@@ -75,21 +76,21 @@ impl Chains {
         Ok(())
     }
 
-    /// The edge that the transaction's begin with.
+    /// The last edge of the transaction.
     pub fn last_edge(&self, transaction: u32) -> Option<usize>
         ensures { result ≡ entry_of self.now.tops transaction }
     {
         self.tops.find(transaction)
     }
 
-    /// The next earlier edge at the same transaction.
+    /// The next earlier edge of the same transaction.
     pub fn edge_before(&self, edge: usize) -> Option<usize>
         ensures { result ≡ link_of self.now.below edge }
     {
         self.below.get(edge)
     }
 
-    /// Lets the transaction's begin with the edge.
+    /// Sets the last edge of the transaction.
     pub fn begin_with(&mut self, transaction: u32, edge: Option<usize>) -> Result<(), NoMemory>
         ensures at { OnOk result (entry_of self.new.tops transaction ≡ edge) }
         ensures others { OnOk result ((u : ℕ) → u ≢ transaction → entry_of self.new.tops u ≡ entry_of self.old.tops u) }
@@ -98,7 +99,7 @@ impl Chains {
         set_top(&mut self.tops, transaction, edge)
     }
 
-    /// Takes out the transaction's edges, and tells with which they began.
+    /// Removes the transaction's edges, and returns the last one.
     pub fn take(&mut self, transaction: u32) -> Option<usize>
         ensures edge { result ≡ entry_of self.old.tops transaction }
         ensures at { entry_of self.new.tops transaction ≡ None }

@@ -12,12 +12,12 @@ use crate::table::Table;
 use sgt_model::NoMemory;
 use std::alloc::Global;
 
-/// The first operation of a committed transaction that conflicts with an earlier one of another that commits later, with that
-/// one. `None` where the history is commit ordered.
+/// The first operation of a committed transaction that conflicts with an earlier one of another that commits later,
+/// with that earlier one. `None` if the history is commit ordered.
 ///
-/// Bernstein, Hadzilacos and Goodman (1987), chapter 2: conflict. A transaction commits where it does so first.
+/// Bernstein, Hadzilacos and Goodman (1987), chapter 2: conflict. The first commit of a transaction counts.
 ///
-/// An operation costs six look-ups in a table at most, of the items and of the committed transactions.
+/// An operation costs at most six lookups in a table, of the items and of the committed transactions.
 pub fn commit_order_violation(
     alloc: Global,
     history: &[Operation],
@@ -32,13 +32,13 @@ pub fn commit_order_violation(
     seen.violation(history)
 }
 
-/// The committed transactions in the order of their first commits. Where the history is commit ordered this is a serial order, of
-/// those that may come next always the one that committed first. One after another in this order, they are a serial history that is
-/// conflict equivalent to the committed projection.
+/// The committed transactions in the order of their first commits. For a commit ordered history this is a serial
+/// order, in which the transaction that committed first always comes first of those that may come next. One after
+/// another in this order, they are a serial history that is conflict equivalent to the committed projection.
 ///
 /// Bernstein, Hadzilacos and Goodman (1987), chapter 2: serializability theorem.
 ///
-/// A commit costs five look-ups in a table at most, another operation none.
+/// A commit costs at most five lookups in a table, any other operation none.
 pub fn serial_commit_order(alloc: Global, history: &[Operation]) -> Result<Vec<u32>, NoMemory>
     requires { IsCommitOrdered history.now }
     ensures serial { IfOk result (λ order. IsSerialOrder history.now order.items) }
@@ -57,7 +57,7 @@ pub fn serial_commit_order(alloc: Global, history: &[Operation]) -> Result<Vec<u
     Ok(order)
 }
 
-/// Where each committed transaction commits first.
+/// The position of the first commit of each committed transaction.
 pub fn first_commits(alloc: Global, history: &[Operation]) -> Result<Table, NoMemory>
     ensures { IfOk result (λ commits. AreFirstCommits history.now (length history.now) (entry_of commits)) }
 {
@@ -74,23 +74,23 @@ pub fn first_commits(alloc: Global, history: &[Operation]) -> Result<Table, NoMe
 /// A read or a write of an item by a committed transaction.
 #[derive(Clone, Copy)]
 pub struct LatestUse {
-    /// Where its transaction commits.
+    /// The position of its transaction's commit.
     pub commit: usize,
-    /// Its place.
+    /// Its position.
     pub place: usize,
 }
 
-/// For some items a use each.
+/// One use for each of some items.
 #[derive(Drop)]
 pub struct ItemUses {
-    /// Where the use's transaction commits.
+    /// The position of the commit of the use's transaction.
     commits: Table,
-    /// Its place.
+    /// Its position.
     places: Table,
 }
 
 impl ItemUses {
-    /// No item has one. Those whose numbers are below the bound are found at once.
+    /// No item has a use. Items with numbers below the bound are found by index.
     fn new(alloc: Global, bound: usize) -> Self
         ensures { (x : ℕ) → use_of result x ≡ None }
     {
@@ -120,19 +120,19 @@ impl ItemUses {
     }
 }
 
-/// Of each item the uses before a place by those that commit last.
+/// For each item, the uses before a position by the transactions that commit last.
 #[derive(Drop)]
 struct LatestUses {
-    /// Where a transaction commits.
+    /// The position of a transaction's commit.
     commits: Table,
-    /// Of the reads of an item the one whose transaction commits last.
+    /// Of the reads of an item, the one whose transaction commits last.
     reads: ItemUses,
-    /// Of the writes of an item the one whose transaction commits last.
+    /// Of the writes of an item, the one whose transaction commits last.
     writes: ItemUses,
 }
 
 impl LatestUses {
-    /// The first operation of the history that breaks the commit order, where none is noted yet.
+    /// The first operation of the history that breaks the commit order. No operation may be recorded yet.
     fn violation(&mut self, history: &[Operation]) -> Result<Option<Violation>, NoMemory>
         requires { KnowsLatestUses history.now 0 self.old }
         ensures { IfOk result (IsFirstViolation (BreaksCommitOrder history.now)) }
@@ -149,7 +149,7 @@ impl LatestUses {
         Ok(None)
     }
 
-    /// The use by one that commits later that the operation conflicts with.
+    /// The conflicting use by a transaction that commits later.
     fn inverted(&self, history: &[Operation], place: usize) -> Option<usize>
         requires within { place < length history.now }
         requires uses { KnowsLatestUses history.now place self.now }
@@ -169,7 +169,7 @@ impl LatestUses {
         committing_after(&self.reads, item, commit)
     }
 
-    /// Notes the operation: its read or its write, if its transaction commits.
+    /// Records the operation: its read or its write, if its transaction commits.
     fn note(&mut self, history: &[Operation], place: usize) -> Result<(), NoMemory>
         requires within { place < length history.now }
         requires uses { KnowsLatestUses history.now place self.old }
@@ -189,7 +189,7 @@ impl LatestUses {
     }
 }
 
-/// Keeps the use of the item if its transaction commits after that of the one that is kept.
+/// Stores the use of the item if its transaction commits after that of the stored one.
 fn keep_later(uses: &mut ItemUses, item: u32, latest: LatestUse) -> Result<(), NoMemory>
     ensures at { OnOk result (use_of uses.new item ≡ Some (later_use (use_of uses.old item) latest)) }
     ensures others { OnOk result ((x : ℕ) → x ≢ item → use_of uses.new x ≡ use_of uses.old x) }
@@ -202,7 +202,7 @@ fn keep_later(uses: &mut ItemUses, item: u32, latest: LatestUse) -> Result<(), N
     uses.set_use(item, latest)
 }
 
-/// The place of the use of the item that is kept, if its transaction commits after the given place.
+/// The position of the stored use of the item, if its transaction commits after the given position.
 fn committing_after(uses: &ItemUses, item: u32, commit: usize) -> Option<usize>
     ensures { result ≡ use_after (use_of uses.now item) commit }
 {

@@ -1,4 +1,4 @@
-//! The serialization graph, each edge by the first two operations that make it.
+//! The serialization graph, each edge with the first two operations that make it.
 ghost use Rattle.std.specs.Prelude.{◌≡◌, ◌≢◌, ◌<◌, ◌+◌, ℕ, List, length, IfOk, OnOk};
 ghost use Rattle.sgt_classes.specs.declared.operation.Operation.{Operation};
 ghost use Rattle.sgt_classes.specs.declared.operation.Action.{Action};
@@ -16,14 +16,14 @@ use sgt_model::NoMemory;
 use std::alloc::Global;
 use std::collections::BTreeMap;
 
-/// All edges of the serialization graph, each by the first two operations that make it: those whose later one comes first, and
-/// of these those whose earlier one does. They stand in the order of their later operations, and those of one later operation
-/// from the last earlier one back.
+/// All edges of the serialization graph, each with the first two operations that make it: the first possible later
+/// operation, and for it the first possible earlier one. They are ordered by their later operations, and those of one
+/// later operation from the last earlier one back.
 ///
 /// Bernstein, Hadzilacos and Goodman (1987), chapter 2: serialization graph, of the committed projection.
 ///
-/// An operation costs sixteen look-ups in a map at most, and each edge five more for each item on which its two transactions
-/// conflict. How often they conflict on it does not count.
+/// An operation costs at most sixteen lookups in a map. Each edge costs five more for each item on which its two
+/// transactions conflict, however often they conflict on it.
 ///
 /// # Errors
 ///
@@ -37,12 +37,12 @@ pub fn first_conflicts(alloc: Global, history: &[Operation]) -> Result<Vec<Edge>
     Ok(conflicts.edges)
 }
 
-/// The first conflicts of a committed projection before a place.
+/// The first conflicts of a committed projection before a position.
 #[derive(Drop)]
 pub struct Conflicts {
-    /// They, as edges of the serialization graph, in the order in which they were found.
+    /// The conflicts, as edges of the serialization graph, in the order in which they were found.
     edges: Vec<Edge>,
-    /// For two transactions that have an edge the place of its later operation.
+    /// For two transactions with an edge, the position of its later operation.
     told: BTreeMap<(u32, u32), usize>,
 }
 
@@ -61,7 +61,7 @@ impl Conflicts {
         Ok(conflicts)
     }
 
-    /// Adds the first conflicts of the committed projection, where there is none and no operation is noted yet.
+    /// Adds the first conflicts of the committed projection. No conflict and no operation may be recorded yet.
     fn tell_all(
         &mut self,
         operations: &[Operation],
@@ -83,7 +83,7 @@ impl Conflicts {
         Ok(())
     }
 
-    /// Adds the first conflicts of which the operation at the place is the later one.
+    /// Adds the first conflicts whose later operation is the one at the position.
     fn tell_at(
         &mut self,
         operations: &[Operation],
@@ -113,8 +113,8 @@ impl Conflicts {
         }
     }
 
-    /// Adds the conflicts of the operation at the place with the first accesses to the item, from the last one back. Those
-    /// before `told` were added with an earlier operation of its transaction.
+    /// Adds the conflicts of the operation at the position with the first accesses to the item, from the last one
+    /// back. Those before `told` were added with an earlier operation of its transaction.
     fn tell_back(
         &mut self,
         operations: &[Operation],
@@ -141,7 +141,7 @@ impl Conflicts {
         Ok(())
     }
 
-    /// Adds the conflict of two operations, if they are not of one transaction and theirs have no edge.
+    /// Adds the conflict of two operations, if they belong to different transactions without an edge.
     fn tell(
         &mut self,
         operations: &[Operation],

@@ -11,10 +11,10 @@ use crate::graph::Edge;
 use sgt_model::NoMemory;
 use std::alloc::Global;
 
-/// A cycle of edges, where each transaction that one of the chosen edges leads from has a chosen edge that leads to it. It is
-/// looked for back from the given one.
+/// A cycle of edges, searched backward from the given edge. Each transaction that a chosen edge leads from must have
+/// a chosen edge that leads to it.
 ///
-/// Each edge is passed twice at most.
+/// Each edge is visited at most twice.
 pub fn cycle_back(
     alloc: Global,
     edges: &[Edge],
@@ -29,7 +29,7 @@ pub fn cycle_back(
     closed_walk(alloc, walk.as_slice(), met)
 }
 
-/// The edges that are passed back from the transaction until one is met again, and that one.
+/// The edges on the backward path from the transaction until one is met again, and that one.
 fn walk_back(
     alloc: Global,
     edges: &[Edge],
@@ -52,7 +52,7 @@ fn walk_back(
     Ok((walk, transaction))
 }
 
-/// The edges of the walk from its end until the transaction that it has met again.
+/// The edges of the path from its end until the transaction that it has met again.
 fn closed_walk(alloc: Global, walk: &[Edge], met: u32) -> Result<Vec<Edge>, NoMemory>
     requires walk { IsWalkBack walk.now met }
     requires met { Passes walk.now met }

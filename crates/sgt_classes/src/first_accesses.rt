@@ -19,7 +19,7 @@ use std::collections::BTreeMap;
 pub enum Kind {
     /// Reads and writes.
     Any,
-    /// Writes alone.
+    /// Only writes.
     Writes,
 }
 
@@ -36,21 +36,21 @@ impl Kind {
     }
 }
 
-/// Of the accesses before a place, the first of each transaction to each item.
+/// Of the accesses before a position, the first of each transaction to each item.
 #[derive(Drop)]
 pub struct FirstAccesses {
     /// Which accesses count.
     kind: Kind,
-    /// The last first access to an item.
+    /// The last of the first accesses to an item.
     tops: Table,
-    /// For a first access the next earlier one to its item.
+    /// For a first access, the next earlier one to its item.
     below: Links,
     /// The latest access of a transaction to an item.
     latest: BTreeMap<(u32, u32), usize>,
 }
 
 impl FirstAccesses {
-    /// What there is before the first operation. The numbers of items below the bound are found at once.
+    /// The state before the first operation. Numbers of items below the bound are found by index.
     pub fn new(alloc: Global, kind: Kind, bound: usize) -> Self
         ensures kind { result.kind ≡ kind }
         ensures knows { (q : List Operation) → KnowsFirsts q 0 result }
@@ -63,14 +63,14 @@ impl FirstAccesses {
         }
     }
 
-    /// The last first access to the item.
+    /// The last of the first accesses to the item.
     pub fn last(&self, item: u32) -> Option<usize>
         ensures { result ≡ entry_of self.now.tops item }
     {
         self.tops.find(item)
     }
 
-    /// The first access to the same item next before the one at the place.
+    /// The next earlier first access to the same item, before the one at the position.
     pub fn before(&self, place: usize) -> Option<usize>
         ensures { result ≡ link_of self.now.below place }
     {
@@ -84,7 +84,7 @@ impl FirstAccesses {
         self.latest.get(&(transaction, item)).copied()
     }
 
-    /// Notes the operation, if it is an access that counts.
+    /// Records the operation, if it is an access that counts.
     pub fn note(&mut self, operations: &[Operation], place: usize) -> Result<(), NoMemory>
         requires within { place < length operations.now }
         requires knows { KnowsFirsts operations.now place self.old }
@@ -104,7 +104,7 @@ impl FirstAccesses {
     }
 }
 
-/// Sets the place of a pair of numbers.
+/// Sets the position of a pair of numbers.
 pub fn set_pair(
     places: &mut BTreeMap<(u32, u32), usize>,
     pair: (u32, u32),

@@ -1,4 +1,4 @@
-//! The serialization graph, by few of its edges.
+//! The serialization graph, with few of its edges.
 ghost use Rattle.std.specs.Prelude.{◌≡◌, ◌≢◌, ◌<◌, ◌+◌, ℕ, List, [], length, IfOk, OnOk};
 ghost use Rattle.sgt_classes.specs.declared.operation.Operation.{Operation};
 ghost use Rattle.sgt_classes.specs.declared.operation.Action.{Action};
@@ -15,27 +15,28 @@ use crate::table::Table;
 use sgt_model::NoMemory;
 use std::alloc::Global;
 
-/// An edge of the serialization graph, by two operations that conflict.
+/// An edge of the serialization graph, with two operations that conflict.
 ///
 /// Bernstein, Hadzilacos and Goodman (1987), chapter 2: serialization graph.
 #[derive(Clone, Copy, Debug, PartialEq, Eq)]
 pub struct Edge {
-    /// The transaction of the operation that came first.
+    /// The transaction of the earlier operation.
     pub from: u32,
-    /// The transaction of the other one.
+    /// The transaction of the later operation.
     pub to: u32,
-    /// The place of the operation that came first.
+    /// The position of the earlier operation.
     pub earlier: usize,
-    /// The place of the other one.
+    /// The position of the later operation.
     pub later: usize,
 }
 
-/// Edges of the serialization graph that reach what all do: from the last writer of an item to each that reads or writes it,
-/// and from those that have read it since to the next that writes it. They stand in the order of their later operations.
+/// Edges of the serialization graph that reach what all its edges reach. They lead from the last writer of an item to
+/// each reader or writer of it, and from the readers since to the next writer. They are ordered by their later
+/// operations.
 ///
 /// Bernstein, Hadzilacos and Goodman (1987), chapter 2: serialization graph, of the committed projection.
 ///
-/// At most two edges for each operation. An operation costs six look-ups in a table at most.
+/// There are at most two edges for each operation. An operation costs at most six lookups in a table.
 pub fn serialization_edges(alloc: Global, history: &[Operation]) -> Result<Vec<Edge>, NoMemory>
     ensures { IfOk result (λ edges. ReachAll history.now edges.items) }
 {
@@ -43,7 +44,7 @@ pub fn serialization_edges(alloc: Global, history: &[Operation]) -> Result<Vec<E
     edges_of_committed(alloc, history, &commits)
 }
 
-/// The edges that `serialization_edges` returns, for a caller that knows who commits.
+/// The edges that `serialization_edges` returns, for a caller that knows the commits.
 pub fn edges_of_committed(
     alloc: Global,
     history: &[Operation],
@@ -65,7 +66,7 @@ pub struct Graph {
 }
 
 impl Graph {
-    /// The edges of a committed projection from the last writer of an item, and from its readers since.
+    /// The edges of a committed projection that start at the last writer of an item, and at its readers since.
     pub fn of_projection(alloc: Global, operations: &[Operation]) -> Result<Self, NoMemory>
         ensures graph { IfOk result (λ g. IsGraph operations.now g) }
         ensures conflicts { IfOk result (λ g. HasConflicts operations.now g.edges.items (length operations.now)) }
@@ -78,7 +79,7 @@ impl Graph {
         Ok(graph)
     }
 
-    /// Adds the edges of the committed projection, where there is none and no operation is noted yet.
+    /// Adds the edges of the committed projection. No edge and no operation may be recorded yet.
     fn connect_all(&mut self, operations: &[Operation], seen: &mut Accesses) -> Result<(), NoMemory>
         requires none { self.old.edges.items ≡ [] }
         requires uses { KnowsAccesses operations.now 0 seen.old }
@@ -93,7 +94,7 @@ impl Graph {
         Ok(())
     }
 
-    /// Adds the edge from the last writer of the item that the operation at the place reads or writes.
+    /// Adds the edge from the last writer of the item that the operation at the position reads or writes.
     fn connect_write(
         &mut self,
         operations: &[Operation],
@@ -117,7 +118,8 @@ impl Graph {
         Ok(())
     }
 
-    /// Adds the edges from those that have read the item since its last write that the operation at the place overwrites.
+    /// Adds the edges from the readers of the item since its last write, which the operation at the position
+    /// overwrites.
     fn connect_reads(
         &mut self,
         operations: &[Operation],
@@ -142,7 +144,7 @@ impl Graph {
         Ok(())
     }
 
-    /// Adds the edge by two operations, if they are not of one transaction.
+    /// Adds the edge of two operations, if they belong to different transactions.
     fn connect(
         &mut self,
         operations: &[Operation],
@@ -172,7 +174,8 @@ impl Graph {
     }
 }
 
-/// The committed projection in place: the history with an abort in place of each operation of a transaction that does not commit.
+/// The committed projection in place: the history in which an abort replaces each operation of a transaction that
+/// does not commit.
 ///
 /// Bernstein, Hadzilacos and Goodman (1987), chapter 2: committed projection; here each operation keeps its position.
 pub fn projection_in_place(

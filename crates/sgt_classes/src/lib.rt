@@ -1,10 +1,11 @@
 //! The classes of histories of Bernstein, Hadzilacos and Goodman (1987), chapter 2, by their own definitions.
 //!
-//! A history is any list of operations, whoever recorded it. The definitions stand in `specs/` and speak of places in the
-//! list. The crate knows no engine and no scheduler, and reads no text: items and transactions are numbers.
+//! A history is any list of operations, from any source. The definitions are in `specs/`, and refer to positions in
+//! the list. The crate knows no engine and no scheduler, and reads no text: items and transactions are numbers.
 //!
-//! The laws of the classes are functions, and their contracts say them. `serializability_theorem` is the theorem of that chapter, by
-//! the book's own definition of serializable: the committed projection is conflict equivalent to a serial history.
+//! The laws of the classes are functions, stated by their contracts. `serializability_theorem` is the theorem of that
+//! chapter, by the book's own definition of serializable: the committed projection is conflict equivalent to a serial
+//! history.
 //!
 //! ```
 //! // w1[x] r2[x] c1: 2 reads what 1 has written, and 1 has not ended

@@ -1,21 +1,21 @@
-//! For places of a list earlier ones.
+//! Links from positions of a list to earlier ones.
 ghost use Rattle.std.specs.Prelude.{◌≡◌, ◌≢◌, ◌<◌, ◌+◌, ◌^◌, ℕ, Some, None, length, IfSome, OnOk};
 ghost use Rattle.sgt_classes.specs.Links.{link_of, links_len};
 
 use sgt_model::NoMemory;
 use std::alloc::Global;
 
-/// For some places of a list an earlier one each.
+/// An earlier position for each of some positions of a list.
 ///
-/// It takes sixteen bytes for each place up to the last that has one.
+/// It takes sixteen bytes for each position up to the last that has one.
 #[derive(Drop)]
 pub struct Links {
-    /// By place, the earlier one. The places behind have none.
+    /// The earlier position, by position. Later positions have none.
     earlier: Vec<Option<usize>>,
 }
 
 impl Links {
-    /// No place has one.
+    /// No position has one.
     #[tactic(auto, unfolding(crate::specs::Links::link_of))]
     pub fn new(alloc: Global) -> Self
         ensures { (i : ℕ) → link_of result i ≡ None }
@@ -25,7 +25,7 @@ impl Links {
         }
     }
 
-    /// The earlier place.
+    /// The earlier position.
     #[tactic(auto, unfolding(crate::specs::Links::link_of))]
     pub fn get(&self, place: usize) -> Option<usize>
         ensures { result ≡ link_of self.now place }
@@ -36,7 +36,7 @@ impl Links {
         }
     }
 
-    /// Sets the earlier place.
+    /// Sets the earlier position.
     #[tactic(auto, unfolding(crate::specs::Links::link_of))]
     pub fn set(&mut self, place: usize, earlier: usize) -> Result<(), NoMemory>
         ensures at { OnOk result (link_of self.new place ≡ Some earlier) }
@@ -47,7 +47,7 @@ impl Links {
         Ok(())
     }
 
-    /// Takes out the earlier place.
+    /// Removes the earlier position.
     #[tactic(auto, unfolding(crate::specs::Links::link_of, crate::specs::Links::links_len))]
     pub fn remove(&mut self, place: usize) -> Option<usize>
         ensures earlier { result ≡ link_of self.old place }
@@ -63,7 +63,7 @@ impl Links {
         earlier
     }
 
-    /// Makes room for that of the place.
+    /// Makes the list long enough for the position.
     #[tactic(auto, unfolding(crate::specs::Links::link_of))]
     fn make_room(&mut self, place: usize) -> Result<(), NoMemory>
         ensures room { OnOk result (place < length self.new.earlier.items) }

@@ -1,10 +1,10 @@
-//! The operations of a history, and the two operations by which a history is not of a class.
+//! The operations of a history, and the two operations that exclude a history from a class.
 ghost use Rattle.std.specs.Prelude.{◌≡◌};
 ghost use Rattle.sgt_classes.specs.Histories.{item_of};
 
 /// What an operation does. Items and transactions are numbers here.
 ///
-/// Two operations of different transactions conflict where both are on one item and one of them writes it (Bernstein,
+/// Two operations of different transactions conflict if both are on one item and one of them writes it (Bernstein,
 /// Hadzilacos and Goodman (1987), chapter 2).
 #[derive(Clone, Copy, Debug, PartialEq, Eq)]
 pub enum Action {
@@ -30,21 +30,21 @@ impl Action {
     }
 }
 
-/// An operation of a history. A history is a slice of them, the first at place 0 (Bernstein, Hadzilacos and Goodman (1987),
-/// chapter 2, with all operations in one order).
+/// An operation of a history. A history is a slice of them, from position 0 (Bernstein, Hadzilacos and Goodman
+/// (1987), chapter 2, with all operations in one order).
 #[derive(Clone, Copy, Debug, PartialEq, Eq)]
 pub struct Operation {
-    /// The transaction whose operation it is.
+    /// The transaction that the operation belongs to.
     pub transaction: u32,
     /// What it does.
     pub action: Action,
 }
 
-/// Two operations by which a history is not of a class.
+/// Two operations that exclude a history from a class.
 #[derive(Clone, Copy, Debug, PartialEq, Eq)]
 pub struct Violation {
-    /// The place of the one that came first.
+    /// The position of the earlier one.
     pub earlier: usize,
-    /// The place of the one that should not have come yet.
+    /// The position of the later one, which came too early.
     pub later: usize,
 }

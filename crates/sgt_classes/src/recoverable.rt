@@ -11,13 +11,13 @@ use sgt_model::NoMemory;
 use std::alloc::Global;
 use std::collections::BTreeMap;
 
-/// The first commit of a transaction that has read from another that has not committed by then, with that read. `None` where
-/// the history is recoverable.
+/// The first commit of a transaction that has read from another that has not committed by then, with that read.
+/// `None` if the history is recoverable.
 ///
 /// Bernstein, Hadzilacos and Goodman (1987), chapter 2: recoverable.
 ///
-/// It costs what `avoidance_violation` costs, a look-up in a table for each commit, and for each read from one that has not
-/// committed two at the read and two at the commit of its reader.
+/// It costs what `avoidance_violation` costs, and one lookup in a table for each commit. Each read from a transaction
+/// that has not committed costs two lookups at the read and two at the commit of its reader.
 pub fn recoverable_violation(
     alloc: Global,
     history: &[Operation],
@@ -33,21 +33,21 @@ pub fn recoverable_violation(
     seen.violation(history)
 }
 
-/// The dirty reads before a place: of what another transaction has written that had not committed.
+/// The dirty reads before a position: reads from another transaction that had not committed.
 #[derive(Drop)]
 struct DirtyReads {
-    /// From which write the next operation reads.
+    /// The write that the next operation reads from.
     sources: Sources,
-    /// The place of a transaction's last dirty read.
+    /// The position of a transaction's last dirty read.
     lasts: Table,
-    /// For the place of a dirty read that of its transaction's next earlier one.
+    /// For the position of a dirty read, that of its transaction's next earlier one.
     earlier: Links,
-    /// For the place of a dirty read the transaction that it reads from.
+    /// For the position of a dirty read, the transaction that it reads from.
     writers: BTreeMap<usize, u32>,
 }
 
 impl DirtyReads {
-    /// The first operation of the history that breaks recoverability, where none is noted yet.
+    /// The first operation of the history that breaks recoverability. No operation may be recorded yet.
     fn violation(&mut self, history: &[Operation]) -> Result<Option<Violation>, NoMemory>
         requires { KnowsDirtyReads history.now 0 self.old }
         ensures { IfOk result (IsFirstViolation (BreaksRecoverability history.now)) }
@@ -64,7 +64,7 @@ impl DirtyReads {
         Ok(None)
     }
 
-    /// The read by which the operation breaks recoverability.
+    /// The read that makes the operation break recoverability.
     fn unrecoverable(&self, history: &[Operation], place: usize) -> Option<usize>
         requires within { place < length history.now }
         requires reads { KnowsDirtyReads history.now place self.now }
@@ -88,7 +88,7 @@ impl DirtyReads {
         None
     }
 
-    /// Notes the operation: its dirty read, its write, or how its transaction has ended.
+    /// Records the operation: its dirty read, its write, or the end of its transaction.
     fn note(&mut self, history: &[Operation], place: usize) -> Result<(), NoMemory>
         requires within { place < length history.now }
         requires reads { KnowsDirtyReads history.now place self.old }
@@ -98,7 +98,7 @@ impl DirtyReads {
         self.sources.note(history, place)
     }
 
-    /// Notes the operation if it is a dirty read.
+    /// Records the operation if it is a dirty read.
     fn note_read(&mut self, history: &[Operation], place: usize) -> Result<(), NoMemory>
         requires within { place < length history.now }
         requires reads { KnowsDirtyReads history.now place self.old }

@@ -14,13 +14,13 @@ use crate::table::Table;
 use sgt_model::NoMemory;
 use std::alloc::Global;
 
-/// The first operation that breaks strictness, or overwrites what another transaction has read that has not ended, with the
-/// write or the read that it breaks it by. `None` where the history is rigorous.
+/// The first operation that breaks strictness, or overwrites an item that another transaction has read that has not
+/// ended. It comes with the write or read that it breaks rigorousness with. `None` if the history is rigorous.
 ///
 /// Breitbart and others (1991): rigorous.
 ///
-/// Each read is passed once more in the whole, at the next write of its item; but for that an operation costs four look-ups in
-/// a table at most.
+/// Each read is visited once more in total, at the next write of its item. Apart from that, an operation costs at
+/// most four lookups in a table.
 pub fn rigorous_violation(
     alloc: Global,
     history: &[Operation],
@@ -31,19 +31,19 @@ pub fn rigorous_violation(
     seen.violation(history)
 }
 
-/// Who has used each item and who has ended, before a place.
+/// Which transactions have used each item and which have ended, before a position.
 #[derive(Drop)]
 pub struct Accesses {
-    /// The last writes, and who has ended.
+    /// The last writes, and which transactions have ended.
     writes: Writes,
-    /// The place of an item's last read since its last write.
+    /// The position of an item's last read since its last write.
     lasts: Table,
-    /// For the place of a read that of the item's next earlier one since the write before.
+    /// For the position of a read, that of the item's next earlier one since the write before.
     earlier: Links,
 }
 
 impl Accesses {
-    /// What is kept before the first operation. The numbers of items and transactions below the bound are found at once.
+    /// The state before the first operation. Numbers of items and transactions below the bound are found by index.
     pub fn new(alloc: Global, bound: usize) -> Self
         ensures { (h : List Operation) → KnowsAccesses h 0 result }
     {
@@ -54,7 +54,7 @@ impl Accesses {
         }
     }
 
-    /// The first operation of the history that breaks rigorousness, where none is noted yet.
+    /// The first operation of the history that breaks rigorousness. No operation may be recorded yet.
     fn violation(&mut self, history: &[Operation]) -> Result<Option<Violation>, NoMemory>
         requires { KnowsAccesses history.now 0 self.old }
         ensures { IfOk result (IsFirstViolation (BreaksRigorousness history.now)) }
@@ -92,7 +92,7 @@ impl Accesses {
         self.earlier.get(read)
     }
 
-    /// The use by another transaction, which has not ended, that the operation conflicts with.
+    /// The conflicting use by another transaction that has not ended.
     fn unended(&self, history: &[Operation], place: usize) -> Option<usize>
         requires within { place < length history.now }
         requires uses { KnowsAccesses history.now place self.now }
@@ -107,7 +107,7 @@ impl Accesses {
         self.unended_reader(history, place)
     }
 
-    /// The read by another transaction, which has not ended, that the operation overwrites.
+    /// The read that the operation overwrites, by another transaction that has not ended.
     fn unended_reader(&self, history: &[Operation], place: usize) -> Option<usize>
         requires within { place < length history.now }
         requires uses { KnowsAccesses history.now place self.now }
@@ -131,7 +131,7 @@ impl Accesses {
         None
     }
 
-    /// Notes the operation: its read, its write, or that its transaction has ended.
+    /// Records the operation: its read, its write, or the end of its transaction.
     pub fn note(&mut self, history: &[Operation], place: usize) -> Result<(), NoMemory>
         requires within { place < length history.now }
         requires uses { KnowsAccesses history.now place self.old }
@@ -142,7 +142,7 @@ impl Accesses {
         Ok(())
     }
 
-    /// Notes the operation if it is a read, and takes the reads of its item out if it is a write.
+    /// Records the operation if it is a read, and removes the reads of its item if it is a write.
     fn note_read(&mut self, history: &[Operation], place: usize) -> Result<(), NoMemory>
         requires within { place < length history.now }
         requires reads { AreReads history.now place (entry_of self.old.lasts) (link_of self.old.earlier) }

@@ -28,25 +28,27 @@ use std::collections::BTreeMap;
 /// Bernstein, Hadzilacos and Goodman (1987), chapter 2: serializability theorem.
 #[derive(Debug, Drop, PartialEq, Eq)]
 pub enum Serializability {
-    /// It is: a serial order of the committed transactions. Of those that may come next it is always the one that committed
-    /// first, so it is the commit order where that serves.
+    /// It is serializable: a serial order of the committed transactions. Of those that may come next, the one that
+    /// committed first always does. So it is the commit order if that is a serial order.
     Serial(Vec<u32>),
-    /// It is not: a cycle of the serialization graph that names no transaction twice.
+    /// It is not serializable: a cycle of the serialization graph that names no transaction twice.
     Cycle(Vec<Edge>),
 }
 
 /// Whether the history is serializable.
 ///
-/// - If so: a serial order of its committed transactions. One after another in this order, they are a serial history that is
-///   conflict equivalent to the committed projection.
-/// - If not: a cycle of the serialization graph. Then no serial history is conflict equivalent to the committed projection.
+/// - If so: a serial order of its committed transactions. One after another in this order, they are a serial history
+///   that is conflict equivalent to the committed projection.
+/// - If not: a cycle of the serialization graph. Then no serial history is conflict equivalent to the committed
+///   projection.
 ///
-/// An answer about the graph holds of every list of operations. That a cycle excludes every serial history holds if no
+/// An answer about the graph holds for every list of operations. A cycle excludes every serial history if no
 /// transaction does anything after its end.
 ///
 /// Bernstein, Hadzilacos and Goodman (1987), chapter 2: serializability theorem.
 ///
-/// It costs what `serialization_edges` costs, and for each of those edges and each commit fifteen look-ups in a table at most.
+/// It costs what `serialization_edges` costs, and at most fifteen lookups in a table for each of those edges and each
+/// commit.
 pub fn serial_order_or_cycle(
     alloc: Global,
     history: &[Operation],
@@ -59,24 +61,24 @@ pub fn serial_order_or_cycle(
     waits.sort(alloc, history)
 }
 
-/// The committed transactions that have no place in the order yet, and what they wait for.
+/// The committed transactions that are not in the order yet, and what they wait for.
 #[derive(Drop)]
 pub struct Waits {
     /// Edges of the serialization graph.
     edges: Vec<Edge>,
-    /// Where those commit that have no place yet.
+    /// The positions of the commits of transactions that are not in the order yet.
     left: Table,
-    /// The edges by the transaction that they lead to. Of one that has no place yet it begins with the last that leads from
-    /// another such, for which it waits.
+    /// The edges by the transaction that they lead to. For a transaction not in the order yet, the last edge is the
+    /// last one from another such transaction, which it waits for.
     incoming: Chains,
-    /// The edges by which they wait or have waited.
+    /// The edges because of which they wait or have waited.
     watched: Watched,
-    /// Those that wait for none, by where they commit.
+    /// The transactions that wait for none, by the positions of their commits.
     ready: BTreeMap<usize, u32>,
 }
 
 impl Waits {
-    /// What the committed transactions of the history wait for before any has a place.
+    /// What the committed transactions of the history wait for before any is in the order.
     fn of_history(alloc: Global, history: &[Operation]) -> Result<Self, NoMemory>
         ensures waits { IfOk result KnowsWaits }
         ensures ready { IfOk result AllReady }
@@ -90,7 +92,7 @@ impl Waits {
         Waits::new(alloc, history, edges, commits)
     }
 
-    /// What they wait for before any has a place.
+    /// What they wait for before any is in the order.
     fn new(
         alloc: Global,
         history: &[Operation],
@@ -123,7 +125,7 @@ impl Waits {
         Ok(waits)
     }
 
-    /// A serial order of those of the history, or a cycle where some of them wait for ever.
+    /// A serial order of the transactions of the history, or a cycle if some of them wait for ever.
     fn sort(&mut self, alloc: Global, history: &[Operation]) -> Result<Serializability, NoMemory>
         requires waits { KnowsWaits self.old }
         requires ready { AllReady self.old }
@@ -144,7 +146,7 @@ impl Waits {
         }
     }
 
-    /// Takes out the one that committed first of those that wait for none.
+    /// Removes the transaction that committed first of those that wait for none.
     fn take_first(&mut self) -> Result<Option<u32>, NoMemory>
         requires waits { KnowsWaits self.old }
         requires ready { AllReady self.old }
@@ -170,7 +172,7 @@ impl Waits {
         Ok(Some(transaction))
     }
 
-    /// Lets those wait for another that have waited for the transaction.
+    /// Makes those that have waited for the transaction wait for another.
     fn release(&mut self, transaction: u32) -> Result<(), NoMemory>
         requires waits { KnowsWaits self.old }
         requires ready { AllReady self.old }
@@ -192,7 +194,7 @@ impl Waits {
         Ok(())
     }
 
-    /// Finds for what the transaction waits now, if it has no place.
+    /// Finds what the transaction waits for now, if it is not in the order.
     fn update(&mut self, transaction: u32) -> Result<(), NoMemory>
         requires { KnowsWaits self.old }
         ensures waits { OnOk result (KnowsWaits self.new) }
@@ -220,7 +222,7 @@ impl Waits {
         Ok(())
     }
 
-    /// The last edge to the transaction from one that has no place yet.
+    /// The last edge to the transaction from one that is not in the order yet.
     fn awaited(&self, transaction: u32) -> Option<usize>
         requires { KnowsWaits self.now }
         ensures top { IsTopEdge self.now.edges.items (entry_of self.now.left) transaction result }
@@ -237,7 +239,7 @@ impl Waits {
         None
     }
 
-    /// One that has no place yet.
+    /// A transaction that is not in the order yet.
     fn first_left(&self, history: &[Operation]) -> Option<u32>
         requires { (t c : ℕ) → entry_of self.now.left t ≡ Some c → Does history.now c t Commit }
         ensures some { IfSome result (λ t. IsSome (entry_of self.now.left t)) }
@@ -252,7 +254,7 @@ impl Waits {
         None
     }
 
-    /// A cycle, where all that have no place wait for another. It is looked for from the given one on.
+    /// A cycle, if all transactions that are not in the order wait for another. It is searched from the given one.
     fn cycle(&mut self, alloc: Global, start: u32) -> Result<Vec<Edge>, NoMemory>
         requires waits { KnowsWaits self.old }
         requires wait { AllWait self.old }

@@ -10,12 +10,12 @@ use crate::table::Table;
 use sgt_model::NoMemory;
 use std::alloc::Global;
 
-/// The first operation that breaks strictness, with a write that it breaks it by: it reads or writes an item that another
-/// transaction has written that has not ended. `None` where the history is strict.
+/// The first operation that reads or writes an item that another transaction has written that has not ended, with
+/// such a write. `None` if the history is strict.
 ///
 /// Bernstein, Hadzilacos and Goodman (1987), chapter 2: strict.
 ///
-/// An operation costs two look-ups in a table, of the items and of the transactions seen.
+/// An operation costs two lookups in a table, of the items and of the transactions seen.
 pub fn strict_violation(alloc: Global, history: &[Operation]) -> Result<Option<Violation>, NoMemory>
     ensures { IfOk result (IsFirstViolation (BreaksStrictness history.now)) }
 {
@@ -32,17 +32,17 @@ pub fn strict_violation(alloc: Global, history: &[Operation]) -> Result<Option<V
     Ok(None)
 }
 
-/// The last write of each item and who has ended, before a place.
+/// The last write of each item and which transactions have ended, before a position.
 #[derive(Drop)]
 pub struct Writes {
-    /// The place of an item's last write.
+    /// The position of an item's last write.
     writers: Table,
-    /// Where a transaction has ended.
+    /// The position at which a transaction has ended.
     ended: Table,
 }
 
 impl Writes {
-    /// What is kept before the first operation. The numbers of items and transactions below the bound are found at once.
+    /// The state before the first operation. Numbers of items and transactions below the bound are found by index.
     pub fn new(alloc: Global, bound: usize) -> Self
         ensures last { (h : List Operation) → AreLastWrites h 0 (entry_of result.writers) }
         ensures ends { (h : List Operation) → AreEnded h 0 (entry_of result.ended) }
@@ -67,7 +67,7 @@ impl Writes {
         self.writers.find(item)
     }
 
-    /// The last write of the item that the operation reads or writes, where another transaction wrote it that has not ended.
+    /// The last write of the operation's item, if another transaction wrote it that has not ended.
     pub fn unended(&self, history: &[Operation], place: usize) -> Option<usize>
         requires within { place < length history.now }
         requires last { AreLastWrites history.now place (entry_of self.now.writers) }
@@ -86,7 +86,7 @@ impl Writes {
         Some(earlier)
     }
 
-    /// Notes the operation: its write, or that its transaction has ended.
+    /// Records the operation: its write, or the end of its transaction.
     pub fn note(&mut self, history: &[Operation], place: usize) -> Result<(), NoMemory>
         requires within { place < length history.now }
         requires last { AreLastWrites history.now place (entry_of self.old.writers) }

@@ -1,4 +1,4 @@
-//! Places by numbers.
+//! Positions by numbers.
 ghost use Rattle.std.specs.Prelude.{◌≡◌, ◌≢◌, ◌<◌, ℕ, Some, None, is_some, IfSome, OnOk};
 ghost use Rattle.sgt_classes.specs.Tables.{entry_of, table_len};
 
@@ -7,23 +7,23 @@ use sgt_model::NoMemory;
 use std::alloc::Global;
 use std::collections::BTreeMap;
 
-/// For some numbers a place each.
+/// A position for each of some numbers.
 ///
-/// The places of the numbers below a bound stand by number, so that each is found at once; those of the others stand in a map
-/// (Cormen, Leiserson, Rivest and Stein (2009), chapter 11: direct-address table). It takes sixteen bytes for each number below the
-/// bound, up to the last that has a place.
+/// Positions of numbers below a bound are stored by index; those of the others are stored in a map (Cormen,
+/// Leiserson, Rivest and Stein (2009), chapter 11: direct-address table). It takes sixteen bytes for each number
+/// below the bound, up to the last that has a position.
 #[derive(Drop)]
 pub struct Table {
-    /// From which number on places stand in the map.
+    /// The first number whose position is in the map.
     bound: usize,
-    /// The places of the numbers below the bound.
+    /// The positions of the numbers below the bound.
     low: Links,
-    /// The places of the others.
+    /// The positions of the others.
     high: BTreeMap<u32, usize>,
 }
 
 impl Table {
-    /// No number has one. Those below the bound are found at once.
+    /// No number has a position. Numbers below the bound are found by index.
     #[tactic(auto, unfolding(crate::specs::Tables::entry_of))]
     pub fn new(alloc: Global, bound: usize) -> Self
         ensures { (n : ℕ) → entry_of result n ≡ None }
@@ -35,7 +35,7 @@ impl Table {
         }
     }
 
-    /// The place of the number.
+    /// The position of the number.
     #[tactic(auto, unfolding(crate::specs::Tables::entry_of))]
     pub fn find(&self, number: u32) -> Option<usize>
         ensures { result ≡ entry_of self.now number }
@@ -47,14 +47,14 @@ impl Table {
         self.high.get(&number).copied()
     }
 
-    /// Whether the number has a place.
+    /// Whether the number has a position.
     pub fn contains_key(&self, number: u32) -> bool
         ensures { result ≡ is_some (entry_of self.now number) }
     {
         self.find(number).is_some()
     }
 
-    /// Sets the place of the number.
+    /// Sets the position of the number.
     #[tactic(auto, unfolding(crate::specs::Tables::entry_of))]
     pub fn set_place(&mut self, number: u32, place: usize) -> Result<(), NoMemory>
         ensures at { OnOk result (entry_of self.new number ≡ Some place) }
@@ -68,7 +68,7 @@ impl Table {
         Ok(())
     }
 
-    /// Takes out the place of the number.
+    /// Removes the position of the number.
     #[tactic(auto, unfolding(crate::specs::Tables::entry_of, crate::specs::Tables::table_len))]
     pub fn remove(&mut self, number: u32) -> Option<usize>
         ensures place { result ≡ entry_of self.old number }

@@ -1,4 +1,4 @@
-//! The edges by which transactions wait.
+//! The edges because of which transactions wait.
 ghost use Rattle.std.specs.Prelude.{◌≡◌, ◌++◌, ◌∷◌, [], OnOk};
 ghost use Rattle.sgt_classes.specs.Links.{link_of};
 ghost use Rattle.sgt_classes.specs.Tables.{entry_of};
@@ -9,17 +9,18 @@ use crate::graph::Edge;
 use sgt_model::NoMemory;
 use std::alloc::Global;
 
-/// The edges by which a transaction waits or has waited, as they were found, and they by the transaction that they lead from.
+/// The edges because of which a transaction waits or has waited, in the order found, and by the transaction that they
+/// lead from.
 #[derive(Drop)]
 pub struct Watched {
-    /// They.
+    /// The edges.
     pub edges: Vec<Edge>,
-    /// They by the transaction that they lead from.
+    /// The edges by the transaction that they lead from.
     outgoing: Chains,
 }
 
 impl Watched {
-    /// There is none. Those from the transactions below the bound are found at once.
+    /// No edges. Those from transactions below the bound are found by index.
     pub fn new(alloc: Global, bound: usize) -> Self
         ensures knows { KnowsWatched result }
         ensures none { result.edges.items ≡ [] }
@@ -30,21 +31,21 @@ impl Watched {
         }
     }
 
-    /// The last one from the transaction.
+    /// The last edge from the transaction.
     pub fn last_edge(&self, transaction: u32) -> Option<usize>
         ensures { result ≡ entry_of self.now.outgoing.tops transaction }
     {
         self.outgoing.last_edge(transaction)
     }
 
-    /// The next earlier one from the same transaction.
+    /// The next earlier edge from the same transaction.
     pub fn edge_before(&self, edge: usize) -> Option<usize>
         ensures { result ≡ link_of self.now.outgoing.below edge }
     {
         self.outgoing.edge_before(edge)
     }
 
-    /// Adds one.
+    /// Adds an edge.
     pub fn add(&mut self, edge: Edge) -> Result<(), NoMemory>
         requires { KnowsWatched self.old }
         ensures knows { OnOk result (KnowsWatched self.new) }

@@ -1,4 +1,4 @@
--- An earlier access that conflicts is there exactly where a first look or a first store is told.
+-- An earlier conflicting access exists exactly if a first read or a first write is returned.
 use Rattle.std.proofs.Common.{◌≡◌, ℕ, ◌<◌, ◌≤◌, true, false, List, Option, Some, None, is_none, length, refl, sym, inl, inr, ◌∙◌, subst}
 use Rattle.std.proofs.lemmas.Bool.{and_parts, and_from, or_cases, or_left, or_right, eq-eqb, eqb-true}
 use Rattle.sgt_model.specs.declared.entry.Entry.{Entry}
@@ -52,7 +52,7 @@ none_earlier entries end t k kind within looks stores h =
     by_kind Look n below is one = looks n below (is, one)
     by_kind Store n below is one = stores n below (is, one)
 
--- one that is told is there
+-- one that is returned exists
 pub first_there : (entries : List Entry) (end t : ℕ) (k : Key) (earlier kind : Kind) → end ≤ length entries → (o : Option ℕ)
     → FirstOrNone (ConflictsAt entries t k earlier kind) end o → is_none o ≡ false
     → has_conflicting (entries_before entries end) t k kind ≡ true
@@ -65,7 +65,7 @@ first_none : (P : ℕ → Type 0) (end : ℕ) (o : Option ℕ) → FirstOrNone P
 first_none P end None first none = first
 first_none P end (Some n) first none = absurd (cc)
 
--- and where none is told, none is there
+-- and if none is returned, none exists
 pub none_there : (entries : List Entry) (end t : ℕ) (k : Key) (kind : Kind) → end ≤ length entries → (looked stored : Option ℕ)
     → FirstOrNone (ConflictsAt entries t k Look kind) end looked → FirstOrNone (ConflictsAt entries t k Store kind) end stored
     → is_none looked ≡ true → is_none stored ≡ true → has_conflicting (entries_before entries end) t k kind ≡ true → ⊥

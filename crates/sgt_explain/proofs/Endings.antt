@@ -30,7 +30,7 @@ undone_true event why fell t m = by_tests (concerns event t) (list_any (λ u. na
     by_tests false true h = refl
     by_tests false false h = absurd (cc)
 
--- one of those that fall ends by an abort
+-- a transaction aborted in cascade ends by an abort
 pub ends_fallen : (event : Event) (r : Reply) (t : ℕ) → Member t (fell_in r) → Some true ≡ by_abort (ending_in event r t)
 ends_fallen event (reply.Aborted why fell) t m = undone_true event why fell t m
 ends_fallen event (reply.Refused code fell) t m = undone_true event (cause.Asked code) fell t m
@@ -49,7 +49,7 @@ undone_none : (event : Event) (why : Cause) (fell : List ℕ) (t : ℕ) → (nam
     → None ≡ by_abort (undone_in event why fell t)
 undone_none event why fell t other out = rw (not_named event t other, not_among t fell out) refl
 
--- an entry ends nobody but the one that it names, and those that fall
+-- an entry ends only the transaction that it names, and those aborted in cascade
 pub ends_no_other : (event : Event) (r : Reply) (t : ℕ) → (named_by event ≡ Some t → ⊥) → (Member t (fell_in r) → ⊥)
     → None ≡ by_abort (ending_in event r t)
 ends_no_other event (reply.Committed answers) t other out = rw (not_named event t other) refl

@@ -1,4 +1,4 @@
--- The first look that read from one that is undone, place by place.
+-- The first read from a transaction that is aborted there, position by position.
 use Rattle.std.proofs.Common.{◌≡◌, ℕ, ◌+◌, ◌<◌, List, reverse, Option, Some, None, IfNone, IsSome, length, refl, sym, ap, subst, inl, inr, ◌∙◌, arith, slice_get}
 use Rattle.std.proofs.lemmas.Bool.{cases_eq}
 use Rattle.sgt_model.specs.declared.entry.Entry.{Entry}
@@ -35,7 +35,7 @@ source_first entries end t place told below none look undone = record {
   undone = undone;
 }
 
--- who is read off the list of those that fall
+-- the transaction at a position of the list of cascading aborts
 pub falls_item : (entries : List Entry) (place number t : ℕ) (e : Entry) (fell : List ℕ) → slice_get entries place ≡ Some e
     → fell ≡ fell_in e.reply → slice_get fell number ≡ Some t → slice_get (placed_falls entries place) number ≡ Some t
 falls_item entries place number t e fell is same at =

@@ -1,4 +1,5 @@
--- In a legal history each that falls has read from the one that is aborted, or from another one that falls.
+-- In a legal history each transaction aborted in cascade has read from the aborted one, or from another one aborted
+-- in cascade.
 use Rattle.std.proofs.Common.{◌≡◌, ◌≢◌, ℕ, zero, suc, ◌<◌, true, false, ◌⊎◌, List, [], ◌∷◌, Some, length, reverse, refl, sym, ap, subst, inl, inr, ◌∙◌, arith, slice_get}
 use Rattle.std.specs.Option.{option_and_then}
 use Rattle.std.proofs.lemmas.Bool.{cases_eq, both_ways}
@@ -32,13 +33,13 @@ stands_back : (s : Setting) (past : List Entry) → Legal s past → (x : ℕ) (
 stands_back s past legal x [] p h = h
 stands_back s past legal x (y ∷ path) p h = source_of_standing_stands s past legal y x (stands_back s past legal y path p.1 h) p.0
 
--- x is t, or falls with it
+-- x is t, or is aborted in cascade with it
 abbrev Undone : (t : ℕ) (fell : List ℕ) (x : ℕ) → Type 0
 Undone t fell x = (t ≡ x) ⊎ Member x fell
 
--- whom u, at the end of a path of reads from t, has read from last
+-- the transaction that u, at the end of a path of reads from t, has read from last
 module _ (s : Setting) (past : List Entry) (legal : Legal s past) (t : ℕ) (fell : List ℕ) (falls : Falls past t fell) where
-  -- the one behind a live one that is undone is live and undone too, where a path leads on from it to one that stands
+  -- the one after a live one that is aborted is live and aborted too, if a path leads on from it to one that is not
   next_undone : (x y : ℕ) (path : List ℕ) → live past x ≡ true → Reaches (Feeds past) t x → Feeds past x y → PathOf (Feeds past) y path
       → aborted past (last_of y path) ≡ false → (live past y ≡ true) × Undone t fell y
   next_undone x y path alive reaches feeds p stands =
@@ -67,7 +68,7 @@ module _ (s : Setting) (past : List Entry) (legal : Legal s past) (t : ℕ) (fel
         last_source y path u next.0 next.1 (reaches-step (Feeds past) t x y reaches p.0) p.1 ends other stands
   ]
 
--- at a place
+-- at a position
 
 falls_by : (s : Setting) (past : List Entry) (event : Event) (r : Reply) → ReplyIsJustified s past event r → (n t : ℕ)
     → slice_get (fell_in r) n ≡ Some t → Falls past (subject event) (fell_in r) × (is_ending r ≡ true)
@@ -89,7 +90,7 @@ member_at (x ∷ l) (suc n) t h = inr (member_at l n t h)
 reads_back : (t u : ℕ) → LooksBack (λ past. ReadFrom past t u) (λ past o. (t ≢ u) × LooksFrom past o t u)
 reads_back t u = record { nowhere = λ h. h; here_or_before = λ e past h. h; here = λ e past h. inl h; more = λ e past h. inr h }
 
--- each that falls has read from one that is undone
+-- each transaction aborted in cascade has read from one that is aborted there
 pub source_there : (s : Setting) (entries : List Entry) (place n u : ℕ) → place < length entries → Legal s (reverse entries)
     → slice_get (placed_falls entries place) n ≡ Some u → NoneBelow (ReadsUndoneAt entries place u) place → ⊥
 source_there s entries place n u within legal at none =

@@ -1,4 +1,4 @@
--- In a legal history each edge of the walk of an abort by a cycle is there, and is a conflict pair.
+-- In a legal history each edge of the cycle of an abort exists, and is a conflict.
 use Rattle.std.proofs.Common.{◌≡◌, ◌≢◌, ℕ, zero, suc, ◌+◌, ◌<◌, true, false, List, [], ◌∷◌, reverse, Option, Some, None, IfSome, IsSome, length, refl, sym, ap, subst, ◌∙◌, arith, slice_get}
 use Rattle.std.specs.Option.{option_and_then}
 use Rattle.std.proofs.lemmas.Option.{slice_get_within}
@@ -29,7 +29,7 @@ use Rattle.sgt_explain.specs.Places.{entries_before, cycle_in, listed_by, placed
 use Rattle.sgt_explain.specs.WalkEdges.{TellsFrom, TellsEdge, HasEdgeFrom, HasEdge, WasAbout, IsPairAt}
 use Rattle.sgt_explain.proofs.Prefixes.{entry_there, legal_there}
 
--- along a walk
+-- along a path
 
 -- one and the next are so; and the last, which has no next, is so
 abbrev Along : (ℕ → ℕ → Type 0) → (ℕ → Type 0) → (one next : Option ℕ) → Type 0
@@ -44,13 +44,13 @@ along_walk pair last t (u ∷ rest) p l zero below = p.0
 along_walk pair last t [] p l (suc n) below = absurd (omega (arith, below))
 along_walk pair last t (u ∷ rest) p l (suc n) below = along_walk pair last u rest p.1 l n (omega (arith, below))
 
--- the last of a walk stands
+-- the last of a path is not aborted
 last_stands : (past : List Entry) (t u : ℕ) (rest : List ℕ) → PathOf (Pair past) t (u ∷ rest)
     → aborted past (last_of t (u ∷ rest)) ≡ false
 last_stands past t u [] p = p.0.second_stands
 last_stands past t u (v ∷ rest) p = last_stands past u v rest p.1
 
--- what a walk that an access would close says of its first and its last
+-- for a path that an access would close to a cycle: its first and its last transaction
 record Closing (past : List Entry) (t : ℕ) (k : Key) (kind : Kind) (a : ℕ) : Type 0 where
   apart : a ≢ t
   last_stands : aborted past a ≡ false
@@ -96,9 +96,9 @@ pair_from entries end t k kind edge (Some a) None (Some u) is along told =
     rw (told.place_is, told.from, told.to, told.key_is, told.kind_is, first) (λ e by.
     pair_made e (entries_before entries end) t k kind by a along.apart along.last_stands along.first_stands along.conflict)
 
--- the walk of a legal abort
+-- the cycle of a legal abort
 
--- the entry aborts t by this walk, which an access that it was about to make would close
+-- the entry aborts t because of this cycle, which an access that it was about to make would close
 record ByCycle (s : Setting) (past : List Entry) (event : Event) (walk : List ℕ) : Type 0 where
   t : ℕ
   named : named_by event ≡ Some t
@@ -121,7 +121,7 @@ wanted (Puts i v) k j kind other (key, is) (same, so) = (key ∙ sym same, is �
 wanted (Ends answers) k j kind other h g = absurd h
 wanted (Raises code) k j kind other h g = absurd h
 
--- the walk at a place of a legal history, by the access that its transaction was about to make
+-- the cycle at a position of a legal history, by the access that its transaction was about to make
 record WalkAt (entries : List Entry) (place : ℕ) (k : Key) (kind : Kind) : Type 0 where
   t : ℕ
   rest : List ℕ
@@ -152,7 +152,7 @@ edges_are_there s entries place n k kind within legal about below =
     subst (λ l. HasEdge entries place k kind l n) (sym w.walk)
     (edge_from entries place w.t k kind _ _ (along_closed (entries_before entries place) w.t k kind w.rest w.closes n short))
 
--- and what is told of it is a pair
+-- and the edge returned is a conflict
 told_is_pair : (s : Setting) (entries : List Entry) (place n : ℕ) (k : Key) (kind : Kind) (edge : Edge) → place < length entries
     → Legal s (reverse entries) → WasAbout s entries place k kind → n < length (placed_cycle entries place)
     → TellsEdge entries place k kind (placed_cycle entries place) n edge → IsPairAt entries place edge

@@ -1,4 +1,4 @@
--- The newest store of a key by one who counts, one entry back at a time.
+-- The newest write of a key by a transaction that counts, one entry back at a time.
 use Rattle.std.proofs.Common.{◌≡◌, ℕ, ◌+◌, ◌-◌, ◌<◌, ◌≤◌, Bool, true, false, ◌&&◌, not, cond, List, ◌∷◌, Option, Some, None, length, refl, sym, ap, subst, ◌∙◌, arith, slice_get}
 use Rattle.std.specs.Option.{option_or, option_map}
 use Rattle.sgt_model.specs.declared.entry.Entry.{Entry}
@@ -35,7 +35,7 @@ one_back entries place some within =
       access = access_there entries (place - 1) e at;
     }
 
--- a store by one who counts
+-- a write by a transaction that counts
 stores_counted : (o : Option Access) (k : Key) (counts : ℕ → Bool) (w : ℕ) → Some w ≡ by_of (stores (λ v. true) k o) → counts w ≡ true
     → Some w ≡ by_of (stores counts k o)
 stores_counted None k counts w h c = h
@@ -101,7 +101,7 @@ pub no_writer : (entries : List Entry) (place : ℕ) (k : Key) (counts : ℕ →
 no_writer entries place k counts some within h =
     skipped entries place k counts some within (stores_none (placed_access entries (place - 1)) k counts h)
 
--- a look at what it found
+-- a read of the value that it found
 
 by_is : (o : Option Access) (v : ℕ) → Some v ≡ by_of o → IsBy o v
 by_is None v h = absurd (cc)

@@ -1,5 +1,5 @@
--- A history that stands oldest first, entry by entry: what holds of some entry of it, by a recursion that looks back from its
--- newest entry, holds at a place.
+-- A history, oldest entry first, entry by entry. What holds for some entry of it, by recursion from its newest entry,
+-- holds at a position.
 use Rattle.std.proofs.Common.{◌≡◌, ℕ, zero, suc, ◌+◌, ◌<◌, ◌≤◌, ◌⊎◌, List, [], ◌∷◌, Option, Some, length, take, drop, reverse, refl, sym, ap, subst, inl, inr, ◌∙◌, arith, slice_get}
 use Rattle.std.specs.Option.{option_and_then}
 use Rattle.std.proofs.lemmas.Bool.{cases_eq}
@@ -12,7 +12,7 @@ use Rattle.sgt_model.specs.Legality.{Legal}
 use Rattle.sgt_model.proofs.Facts.{legal_older}
 use Rattle.sgt_explain.specs.Places.{entries_before, placed_access}
 
--- an entry stands at each place within
+-- there is an entry at each position within
 pub entry_there : (entries : List Entry) (place : ℕ) → place < length entries → (e : Entry) × (slice_get entries place ≡ Some e)
 entry_there [] place within = absurd (omega (arith, within))
 entry_there (x ∷ entries) zero within = (x, refl)
@@ -27,14 +27,14 @@ pub access_there : (entries : List Entry) (place : ℕ) (e : Entry) → slice_ge
     → placed_access entries place ≡ access_of e
 access_there entries place e is = ap (option_and_then access_of) is
 
--- F looks back for an entry whose access is so, by G, behind what stood before it
+-- F searches backward for an entry whose access satisfies G, after the entries before it
 pub record LooksBack (F : List Entry → Type 0) (G : List Entry → Option Access → Type 0) : Type 0 where
   pub nowhere : F [] → ⊥
   pub here_or_before : (e : Entry) (past : List Entry) → F (e ∷ past) → G past (access_of e) ⊎ F past
   pub here : (e : Entry) (past : List Entry) → G past (access_of e) → F (e ∷ past)
   pub more : (e : Entry) (past : List Entry) → F past → F (e ∷ past)
 
--- where it finds one, one is at a place
+-- if it finds one, one is at a position
 pub found_at : (F : List Entry → Type 0) (G : List Entry → Option Access → Type 0) → LooksBack F G → (entries : List Entry)
     → (end : ℕ) → end ≤ length entries → F (entries_before entries end)
     → (n : ℕ) × (n < end) × G (entries_before entries n) (placed_access entries n)
@@ -51,7 +51,7 @@ found_at F G back entries (suc end) within h =
           (n, omega (arith, below), at)
     ]
 
--- and where one is at a place, it finds one
+-- and if one is at a position, it finds one
 pub finds_at : (F : List Entry → Type 0) (G : List Entry → Option Access → Type 0) → LooksBack F G → (entries : List Entry)
     → (end n : ℕ) → end ≤ length entries → n < end → G (entries_before entries n) (placed_access entries n) → F (entries_before entries end)
 finds_at F G back entries zero n within below at = absurd (omega (arith, below))
@@ -68,7 +68,7 @@ finds_at F G back entries (suc end) n within below at =
           (finds_at F G back entries end n (omega (arith, within)) (omega (arith, below, other)) at)
     ])
 
--- the entries before a place of a legal history are legal, and so is the reply there
+-- the entries before a position of a legal history are legal, and so is the reply there
 pub legal_before : (s : Setting) (entries : List Entry) (place : ℕ) → Legal s (reverse entries) → Legal s (entries_before entries place)
 legal_before s entries place legal = legal_older s (reverse (drop place entries)) (entries_before entries place)
     (subst (λ l. Legal s l) (ap reverse (sym (take-append-drop place entries))

@@ -1,5 +1,5 @@
--- What an explained edge says: the accesses by which one transaction comes before another. Of those that would do it names the
--- first in the history, so that there is one answer.
+-- What an explained edge says: the accesses because of which one transaction comes before another. If several would
+-- do, it names the first in the history, so the answer is unique.
 use Rattle.std.specs.Prelude.{◌≡◌, ◌⊎◌, ℕ, true, List, Some, None, IsSome}
 use Rattle.sgt_model.specs.declared.entry.Entry.{Entry}
 use Rattle.sgt_model.specs.declared.kind.Kind.{Kind}
@@ -12,7 +12,7 @@ use Rattle.sgt_explain.specs.declared.edge.Edge.{Edge}
 use Rattle.sgt_explain.specs.Firsts.{IsFirst, FirstOrNone}
 use Rattle.sgt_explain.specs.Places.{entries_before, placed_access}
 
--- at this place t has an access of the key, of the kind `earlier`, which conflicts with one of the kind `later`
+-- at this position t has an access of the key, of the kind `earlier`, which conflicts with one of the kind `later`
 abbrev pub ConflictsAt : List Entry → ℕ → Key → (earlier later : Kind) → ℕ → Type 0
 ConflictsAt entries t key earlier later place = IsAccessBy (placed_access entries place) t key earlier × (one_stores earlier later ≡ true)
 
@@ -22,11 +22,11 @@ pub record TellsEarlier (entries : List Entry) (end t : ℕ) (key : Key) (kind :
   pub stored : FirstOrNone (ConflictsAt entries t key Store kind) end told.stored
   pub one : IsSome told.looked ⊎ IsSome told.stored
 
--- at this place u has an access that an earlier one of t's conflicts with
+-- at this position u has an access that an earlier one of t's conflicts with
 abbrev pub FollowsAt : List Entry → (t u place : ℕ) → Type 0
 FollowsAt entries t u place = FollowsIn (entries_before entries place) (placed_access entries place) t u
 
--- u's access at this place, and those of t that come before it and conflict with it
+-- u's access at this position, and those of t that come before it and conflict with it
 pub record TellsAccess (entries : List Entry) (t u place : ℕ) (edge : Edge) : Type 0 where
   pub from : edge.from ≡ t
   pub to : edge.to ≡ u
@@ -40,7 +40,8 @@ pub record TellsPair (entries : List Entry) (end t u : ℕ) (edge : Edge) : Type
   pub first : IsFirst (FollowsAt entries t u) end at
   pub access : TellsAccess entries t u at edge
 
--- why t would come before u after the entries before the end: by an access of that kind of the key, which u was about to make
+-- why t would come before u after the entries before the end: because of an access of that kind of the key, which u
+-- was about to make
 pub record TellsPending (entries : List Entry) (end t u : ℕ) (key : Key) (kind : Kind) (edge : Edge) : Type 0 where
   pub from : edge.from ≡ t
   pub to : edge.to ≡ u

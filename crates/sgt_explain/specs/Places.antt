@@ -1,4 +1,4 @@
--- Places of entries in a history whose entries stand oldest first: how many entries stand before them.
+-- Positions of entries in a history, oldest entry first: the number of entries before them.
 use Rattle.std.specs.Prelude.{ℕ, List, [], Option, Some, None, take, reverse, slice_get}
 use Rattle.std.specs.Option.{option_and_then}
 use Rattle.sgt_model.specs.declared.entry.Entry.{Entry}
@@ -8,32 +8,32 @@ use Rattle.sgt_model.specs.Accesses.{Access, access_of}
 use Rattle.sgt_model.specs.Questions.{named_by}
 use Rattle.sgt_log.specs.EntryParts.{walk_of, fell_in}
 
--- the history that an entry at this place comes after, newest entry first
+-- the history before the entry at this position, newest entry first
 abbrev pub entries_before : List Entry → ℕ → List Entry
 entries_before entries place = reverse (take place entries)
 
--- the access at this place, if an entry is there that is one
+-- the access at this position, if an entry is there that is one
 abbrev pub placed_access : List Entry → ℕ → Option Access
 placed_access entries place = option_and_then access_of (slice_get entries place)
 
--- the walk of an abort by a cycle; of another reply, none
+-- the cycle of an abort by a cycle; empty for any other reply
 abbrev pub cycle_in : Reply → List ℕ
 cycle_in (reply.Aborted why fell) = walk_of why
 cycle_in _ = []
 
--- what an entry has, and nothing where there is none
+-- the list of an entry, empty if there is none
 abbrev pub listed_by : (Entry → List ℕ) → Option Entry → List ℕ
 listed_by f None = []
 listed_by f (Some e) = f e
 
--- the walk of the abort by a cycle at this place, if there is one
+-- the cycle of the abort at this position, if there is one
 abbrev pub placed_cycle : List Entry → ℕ → List ℕ
 placed_cycle entries place = listed_by (λ (e : Entry). cycle_in e.reply) (slice_get entries place)
 
--- those that fall at this place
+-- the transactions aborted in cascade at this position
 abbrev pub placed_falls : List Entry → ℕ → List ℕ
 placed_falls entries place = listed_by (λ (e : Entry). fell_in e.reply) (slice_get entries place)
 
--- the transaction that the event at this place names
+-- the transaction that the event at this position names
 abbrev pub placed_named : List Entry → ℕ → Option ℕ
 placed_named entries place = option_and_then (λ (e : Entry). named_by e.event) (slice_get entries place)

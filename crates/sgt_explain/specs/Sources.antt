@@ -1,4 +1,5 @@
--- Why a transaction is aborted in cascade: its first read of a value of one that is aborted there, in cascade or not.
+-- Why a transaction is aborted in cascade: its first read of a value written by one that is aborted there, in cascade
+-- or not.
 use Rattle.std.specs.Prelude.{◌≡◌, ◌≢◌, ◌⊎◌, ℕ, List, Some}
 use Rattle.sgt_model.specs.declared.entry.Entry.{Entry}
 use Rattle.sgt_model.specs.declared.kind.Kind.TheVariants.{Look}
@@ -9,26 +10,26 @@ use Rattle.sgt_explain.specs.declared.source.Source.{Source}
 use Rattle.sgt_explain.specs.Firsts.{IsFirst}
 use Rattle.sgt_explain.specs.Places.{entries_before, placed_access, placed_named, placed_falls}
 
--- the entry at this place aborts v, in cascade or not
+-- the entry at this position aborts v, in cascade or not
 abbrev pub IsUndoneAt : List Entry → (end v : ℕ) → Type 0
 IsUndoneAt entries end v = (placed_named entries end ≡ Some v) ⊎ Member v (placed_falls entries end)
 
--- at this place t reads from another transaction v
+-- at this position t reads from another transaction v
 abbrev pub ReadsAt : List Entry → (t v place : ℕ) → Type 0
 ReadsAt entries t v place = (t ≢ v) × LooksFrom (entries_before entries place) (placed_access entries place) t v
 
--- at this place t reads from one that is undone at the end
+-- at this position t reads from one that is aborted at the end
 abbrev pub ReadsUndoneAt : List Entry → (end t place : ℕ) → Type 0
 ReadsUndoneAt entries end t place = (v : ℕ) × IsUndoneAt entries end v × ReadsAt entries t v place
 
--- t's read at this place, which is from another
+-- t's read at this position, which is from another
 pub record TellsLook (entries : List Entry) (t place : ℕ) (told : Source) : Type 0 where
   pub reader : told.reader ≡ t
   pub place_is : told.place ≡ place
   pub look : IsAccessBy (placed_access entries place) t told.key Look
   pub reads : ReadsAt entries t told.source place
 
--- t's first read, before the end, from one that is undone there
+-- t's first read, before the end, from one that is aborted there
 pub record TellsSource (entries : List Entry) (end t : ℕ) (told : Source) : Type 0 where
   pub first : IsFirst (ReadsUndoneAt entries end t) end told.place
   pub look : TellsLook entries t told.place told

@@ -1,4 +1,4 @@
--- The edges of the walk by which an entry aborts a transaction, and that they are conflict pairs.
+-- The edges of the cycle by which an entry aborts a transaction, and that they are conflicts.
 use Rattle.std.specs.Prelude.{◌≡◌, ◌+◌, ℕ, true, List, ◌∷◌, Option, Some, None, slice_get}
 use Rattle.sgt_model.specs.declared.entry.Entry.{Entry}
 use Rattle.sgt_model.specs.declared.kind.Kind.{Kind}
@@ -12,15 +12,15 @@ use Rattle.sgt_explain.specs.declared.edge.Edge.{Edge}
 use Rattle.sgt_explain.specs.Places.{entries_before, placed_named}
 use Rattle.sgt_explain.specs.Edges.{TellsPair, TellsPending}
 
--- an edge of a walk leads from one to the next; from the last, which has no next, to the first. That last edge is made by an
--- access of that kind of the key, which the first was about to make after the entries before the end
+-- an edge of a cycle leads from one to the next, and from the last, which has no next, to the first. That last edge
+-- is caused by an access of that kind of the key, which the first was about to make after the entries before the end
 abbrev pub TellsFrom : List Entry → (end : ℕ) → Key → Kind → Edge → (one next first : Option ℕ) → Type 0
 TellsFrom entries end key kind edge None next first = ⊥
 TellsFrom entries end key kind edge (Some t) (Some u) first = TellsPair entries end t u edge
 TellsFrom entries end key kind edge (Some t) None None = ⊥
 TellsFrom entries end key kind edge (Some t) None (Some u) = TellsPending entries end t u key kind edge
 
--- this is edge number n of the walk, from 0
+-- this is edge number n of the cycle, from 0
 abbrev pub TellsEdge : List Entry → (end : ℕ) → Key → Kind → List ℕ → (n : ℕ) → Edge → Type 0
 TellsEdge entries end key kind walk n edge =
     TellsFrom entries end key kind edge (slice_get walk n) (slice_get walk (n + 1)) (slice_get walk 0)
@@ -31,22 +31,22 @@ HasEdgeFrom entries end key kind None next = ⊥
 HasEdgeFrom entries end key kind (Some t) (Some u) = Precedes (entries_before entries end) t u
 HasEdgeFrom entries end key kind (Some t) None = has_conflicting (entries_before entries end) t key kind ≡ true
 
--- the walk has an edge number n, from 0, and accesses make it
+-- the cycle has an edge number n, from 0, and accesses make it
 abbrev pub HasEdge : List Entry → (end : ℕ) → Key → Kind → List ℕ → (n : ℕ) → Type 0
 HasEdge entries end key kind walk n = HasEdgeFrom entries end key kind (slice_get walk n) (slice_get walk (n + 1))
 
--- the transaction of the entry at this place was about to make an access of that kind of the key
+-- the transaction of the entry at this position was about to make an access of that kind of the key
 pub record WasAbout (s : Setting) (entries : List Entry) (place : ℕ) (key : Key) (kind : Kind) : Type 0 where
   pub by : ℕ
   pub named : placed_named entries place ≡ Some by
   pub wants : Wants (next_of s (entries_before entries place) by) key kind
 
--- the two of an edge are a conflict pair of a history; where its later access was about to be made, they would be one with that
+-- the two of an edge conflict in a history; if its later access was about to be made, they would conflict with that
 -- access added as an entry
 abbrev pub IsPairIn : List Entry → Edge → (place : Option ℕ) → Type 0
 IsPairIn past edge (Some n) = Pair past edge.from edge.to
 IsPairIn past edge None = (e : Entry) → IsAccessBy (access_of e) edge.to edge.key edge.kind → Pair (e ∷ past) edge.from edge.to
 
--- so it is of the history before a place
+-- the same for the history before a position
 abbrev pub IsPairAt : List Entry → (place : ℕ) → Edge → Type 0
 IsPairAt entries place edge = IsPairIn (entries_before entries place) edge edge.place

@@ -1,4 +1,4 @@
-//! The edges of the cycle for which a transaction is aborted, each with the accesses that make it.
+//! The edges of the cycle that aborts a transaction, each with the accesses that make it.
 ghost use Rattle.std.specs.Prelude.{◌≡◌, ◌≤◌, ◌<◌, ◌+◌, ◌↔◌, true, length, reverse, IfSome, IfNone, IsSome, []};
 ghost use Rattle.sgt_model.specs.Settings.{Setting};
 ghost use Rattle.sgt_model.specs.Legality.{Legal};
@@ -12,38 +12,40 @@ use crate::search::earlier;
 use sgt_log::History;
 use sgt_model::{Cause, Key, Kind, Reply, Tid, Tids};
 
-/// A transaction's first accesses of a key that conflict with a later one, by their places. At least one of them is there.
+/// A transaction's first accesses of a key that conflict with a later one, by their positions. At least one of them
+/// exists.
 #[derive(Clone, Copy, Debug, PartialEq, Eq)]
 pub struct Earlier {
-    /// Its first look at the key; none where the later access is a look, with which none conflicts.
+    /// Its first read of the key. None if the later access is a read: reads do not conflict.
     pub looked: Option<usize>,
-    /// Its first store.
+    /// Its first write of the key.
     pub stored: Option<usize>,
 }
 
-/// An edge of a walk, with the accesses that make its two transactions a conflict pair.
+/// An edge of a cycle, with the accesses of its two transactions that conflict.
 #[derive(Clone, Copy, Debug, PartialEq, Eq)]
 pub struct Edge {
     /// The transaction that comes first.
     pub from: Tid,
-    /// The one that comes after it.
+    /// The transaction that comes second.
     pub to: Tid,
     /// The key that both accessed.
     pub key: Key,
-    /// What the later access does, which is that of `to`.
+    /// The kind of the later access, which is that of `to`.
     pub kind: Kind,
-    /// The place of the later access; none of one that was about to be made, and was rejected.
+    /// The position of the later access. None if it was about to be made, and was rejected.
     pub place: Option<usize>,
     /// The accesses of `from` before it.
     pub earlier: Earlier,
 }
 
-/// Edge number `number`, from 0, of the walk by which the entry at this place aborts a transaction, where that transaction was
-/// about to make an access of this kind of this key. The edges go from each of the walk to the next, and the last of them back
-/// to the first, which is the one that is aborted: this one is made by the access that it was about to make.
+/// Returns edge number `number`, from 0, of the cycle by which the entry at this position aborts a transaction. That
+/// transaction was about to make an access of this kind of this key. The edges go from each transaction of the cycle
+/// to the next. The last edge leads back to the first transaction, the one that is aborted; the access that it was
+/// about to make causes that edge.
 ///
-/// It is none where the entry aborts nobody by a cycle, the walk has no more edges, or no such accesses are there. In a legal
-/// history, and by the access that the procedure was at, each edge of the walk is told.
+/// None if the entry aborts no transaction by a cycle, the cycle has no such edge, or no such accesses exist. In a
+/// legal history, with the access that the procedure was at, every edge of the cycle is returned.
 pub fn cycle_edge(
     history: &History,
     place: usize,
@@ -64,7 +66,7 @@ pub fn cycle_edge(
     walk_edge(history, place, walk.as_slice(), number, key, kind)
 }
 
-// The walk of the abort by a cycle at a place, if there is one.
+// The cycle of the abort at a position, if there is one.
 fn cycle_at(history: &History, place: usize) -> Option<Tids>
     ensures some { IfSome result (λ walk. walk ≡ placed_cycle history.now.entries place) }
     ensures within { IsSome result → place < length history.now.entries }
@@ -83,7 +85,7 @@ fn cycle_at(history: &History, place: usize) -> Option<Tids>
     }
 }
 
-// An edge of a walk that begins with the transaction that is aborted there.
+// An edge of a cycle that starts with the transaction aborted there.
 fn walk_edge(
     history: &History,
     end: usize,
@@ -105,7 +107,7 @@ fn walk_edge(
     pair_edge(history, end, walk[number], walk[number + 1])
 }
 
-// Why one would come before another, by an access that the other was about to make.
+// Why one would come before another, because of an access that the other was about to make.
 fn pending_edge(
     history: &History,
     end: usize,
@@ -131,7 +133,7 @@ fn pending_edge(
     }
 }
 
-// Why one comes before another in the entries before the end, if it does.
+// Why one comes before another in the entries before `end`, if it does.
 fn pair_edge(history: &History, end: usize, from: Tid, to: Tid) -> Option<Edge>
     requires { end ≤ length history.now.entries }
     ensures told { IfSome result (TellsPair history.now.entries end from to) }
@@ -145,7 +147,7 @@ fn pair_edge(history: &History, end: usize, from: Tid, to: Tid) -> Option<Edge>
     None
 }
 
-// The access of the second at this place, and those of the first that it follows, if it does.
+// The access of the second at this position, and the conflicting ones of the first before it, if there are any.
 fn access_edge(history: &History, place: usize, from: Tid, to: Tid) -> Option<Edge>
     requires { place < length history.now.entries }
     ensures told { IfSome result (TellsAccess history.now.entries from to place) }

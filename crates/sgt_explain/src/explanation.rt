@@ -8,7 +8,7 @@ use sgt_log::History;
 use sgt_model::{Key, Kind, NoMemory};
 use std::alloc::AllocError;
 
-/// How many transactions a walk has at most, and how many fall with an abort.
+/// The most transactions of a cycle, and the most cascading aborts of one abort.
 const MOST: usize = 32;
 
 /// The access that a transaction was about to make.
@@ -16,13 +16,16 @@ const MOST: usize = 32;
 pub struct Pending {
     /// The key.
     pub key: Key,
-    /// Whether it would look at it or store it.
+    /// Whether it would read or write it.
     pub kind: Kind,
 }
 
-/// Adds the lines that say why the entry at this place aborts transactions. First come the lines of the edges of its cycle, if it
-/// aborts by one and the access that was about to be made is given; then those of the transactions that it aborts in cascade. For
-/// any other entry it adds none. The list is as for `append_edge`.
+/// Appends the lines that explain why the entry at this position aborts transactions:
+///
+/// - a line for each edge of its cycle, if it aborts by one and the access that was about to be made is given;
+/// - a line for each transaction that it aborts in cascade.
+///
+/// For any other entry it appends nothing. The list is as for `append_edge`.
 ///
 /// `NoMemory` if an allocation failed; then the text is unchanged.
 pub fn append_explanation(
@@ -41,7 +44,7 @@ pub fn append_explanation(
     Ok(())
 }
 
-// Adds the lines of both kinds.
+// Appends the lines of both kinds.
 fn append_all(
     text: &mut Vec<u8>,
     history: &History,
@@ -55,7 +58,7 @@ fn append_all(
     append_sources(text, history, place, lines)
 }
 
-// Adds a line for each edge of the walk.
+// Appends a line for each edge of the cycle.
 fn append_edges(
     text: &mut Vec<u8>,
     history: &History,
@@ -70,7 +73,7 @@ fn append_edges(
     Ok(())
 }
 
-// Adds an edge's line, if there is one.
+// Appends an edge's line, if there is one.
 fn append_if_edge(
     text: &mut Vec<u8>,
     edge: Option<Edge>,
@@ -83,7 +86,7 @@ fn append_if_edge(
     }
 }
 
-// Adds a line for each that falls.
+// Appends a line for each cascading abort.
 fn append_sources(
     text: &mut Vec<u8>,
     history: &History,
@@ -97,7 +100,7 @@ fn append_sources(
     Ok(())
 }
 
-// Adds a source's line, if there is one.
+// Appends a source's line, if there is one.
 fn append_if_source(
     text: &mut Vec<u8>,
     source: Option<Source>,

@@ -1,21 +1,22 @@
-//! Why transactions were aborted, read from a history. For an abort by a cycle: the accesses that make each edge of the cycle.
-//! For a transaction that was aborted in cascade: its read from one that was undone.
+//! Explains aborts from a history. For an abort by a cycle it finds the accesses that make each edge of the cycle.
+//! For a cascading abort it finds the read from a transaction that was aborted.
 //!
-//! The reply of an abort names a cycle and the transactions that are aborted in cascade. This crate searches the history for the
-//! accesses that brought it about. It names each by its place: how many entries stand before it. Nothing is stored for this while
-//! a history grows, so an abort that nobody asks about costs nothing. An answer costs passes over the entries before the abort:
+//! The reply of an abort names a cycle and the transactions that are aborted in cascade. This crate searches the
+//! history for the accesses that caused it. It names each by its position: the number of entries before it. Nothing
+//! is stored for this while a history grows, so an abort without explanation costs nothing. An explanation costs
+//! passes over the entries before the abort:
 //!
 //! - an edge: one pass, and at most two for each access of its second transaction;
 //! - a cascading abort: one pass, and about two for each of its reads.
 //!
-//! [`cycle_edge`] returns an edge, [`fall_source`] the read of a cascading abort, and [`append_explanation`] writes both as lines of
-//! text.
+//! [`cycle_edge`] returns an edge, and [`fall_source`] the read of a cascading abort. [`append_explanation`] writes
+//! both as lines of text.
 //!
-//! It runs nothing and knows no procedures. So the caller says which access the aborted transaction was about to make;
-//! [`call_before`] and [`progress_before`] return what a procedure needs for that.
+//! The crate runs nothing and knows no procedures. So the caller says which access the aborted transaction was about
+//! to make; [`call_before`] and [`progress_before`] return what a procedure needs for that.
 //!
 //! ```
-//! // What the transaction that is aborted at a place was about to do.
+//! // The next access of the transaction that is aborted at a position.
 //! let call = call_before(history, place, t)?;
 //! let progress = progress_before(alloc, history, place, t)?;
 //! let next = procedures[call.procedure as usize].next(&call.args, progress.read.as_slice(), progress.made);

@@ -1,4 +1,4 @@
-//! An access that an entry of a history makes.
+//! An access that an entry of a history records.
 ghost use Rattle.std.specs.Prelude.{◌≡◌, ◌<◌, length};
 ghost use Rattle.sgt_model.specs.Accesses.{access_at, access_of};
 ghost use Rattle.sgt_explain.specs.Places.{placed_access};
@@ -7,7 +7,7 @@ use sgt_log::{EntryRef, History};
 use sgt_model::{Event, Key, Kind, Reply, Tid};
 use std::marker::Model;
 
-/// An access that a history has: whose, of which key, whether it looked or stored, and the value that it found or stored.
+/// An access in a history: its transaction, its key, whether it is a read or a write, and the value read or written.
 #[derive(Clone, Copy)]
 pub(crate) struct Made {
     pub(crate) by: Tid,
@@ -26,7 +26,7 @@ impl Model for Made {
     ghost inverse = { λ a. record { by = a.by; key = a.key; kind = a.kind; value = a.value } };
 }
 
-/// The access at a place, if the entry there is one.
+/// The access at a position, if the entry there is one.
 pub(crate) fn made_at(history: &History, place: usize) -> Option<Made>
     requires { place < length history.now.entries }
     ensures { result ≡ placed_access history.now.entries place }
@@ -34,7 +34,7 @@ pub(crate) fn made_at(history: &History, place: usize) -> Option<Made>
     made_in(&history.entry(place))
 }
 
-// The access that an entry is, if it is one.
+// The access of an entry, if it is one.
 fn made_in(entry: &EntryRef<'_>) -> Option<Made>
     ensures { result ≡ access_of entry.now }
 {

@@ -1,4 +1,4 @@
-//! What a transaction was started with, and how far it has come.
+//! The call that started a transaction, and the progress of the transaction.
 ghost use Rattle.std.specs.Prelude.{◌≡◌, ◌+◌, ◌^◌, ◌<◌, ◌++◌, ℕ, None, [], length, IfOk, OnOk, IfSome, IfNone};
 ghost use Rattle.std.specs.Option.{option_map};
 ghost use Rattle.sgt_model.specs.Accesses.{act_in};
@@ -11,7 +11,7 @@ use sgt_log::{EntryRef, History};
 use sgt_model::{Args, Event, Kind, NoMemory, Tid};
 use std::alloc::Global;
 
-/// What a transaction was started with.
+/// The call that started a transaction.
 #[derive(Debug, Drop)]
 pub struct Call {
     /// The number of its procedure.
@@ -20,17 +20,17 @@ pub struct Call {
     pub args: Args,
 }
 
-/// How far a transaction has come.
+/// The progress of a transaction.
 #[derive(Debug, Drop)]
 pub struct Progress {
-    /// The values that its looks found, oldest first.
+    /// The values that its reads returned, oldest first.
     pub read: Vec<Option<i64>>,
     /// How many accesses it made.
     pub made: usize,
 }
 
-/// What a transaction was started with in the entries before a place; none if none of them starts it. This and its progress say
-/// what its procedure does next.
+/// The call that started a transaction, in the entries before a position. None if none of them starts it. The call
+/// and the progress determine the next step of the procedure.
 pub fn call_before(history: &History, place: usize, t: Tid) -> Option<Call>
     ensures call { IfSome result (λ call. call_of (entries_before history.now.entries place) t ≡ called call) }
     ensures none { IfNone result
@@ -46,7 +46,7 @@ pub fn call_before(history: &History, place: usize, t: Tid) -> Option<Call>
     None
 }
 
-// What an entry starts the transaction with, if it does.
+// The call by which an entry starts the transaction, if it does.
 fn call_by(entry: &EntryRef<'_>, t: Tid) -> Option<Call>
     ensures { call_in entry.now.event entry.now.reply t ≡ option_map called result }
 {
@@ -59,9 +59,9 @@ fn call_by(entry: &EntryRef<'_>, t: Tid) -> Option<Call>
     }
 }
 
-/// How far a transaction has come in the entries before a place.
+/// The progress of a transaction in the entries before a position.
 ///
-/// `NoMemory` where the growth of the list was refused.
+/// `NoMemory` if an allocation failed.
 pub fn progress_before(
     alloc: Global,
     history: &History,
@@ -81,7 +81,7 @@ pub fn progress_before(
     Ok(progress)
 }
 
-// Notes an access where it is the transaction's.
+// Records an access if it is the transaction's.
 fn note(progress: &mut Progress, made: Option<Made>, t: Tid) -> Result<(), NoMemory>
     requires { progress.old.made + 1 < 2 ^ 64 }
     ensures read { OnOk result

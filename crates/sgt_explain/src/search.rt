@@ -11,8 +11,8 @@ use crate::made::made_at;
 use sgt_log::History;
 use sgt_model::{Key, Kind, Tid};
 
-/// The first look and the first store of the key by a transaction, before the end, that conflict with an access of that kind; or
-/// none, where neither is there.
+/// A transaction's first read and first write of the key, before the end, that conflict with an access of that kind.
+/// None if there is neither.
 pub(crate) fn earlier(
     history: &History,
     end: usize,
@@ -32,7 +32,8 @@ pub(crate) fn earlier(
     Some(Earlier { looked, stored })
 }
 
-// The place of the transaction's first access of the key of the one kind, before the end, that conflicts with one of the other.
+// The position of the transaction's first access of the key of kind `kind`, before the end, that conflicts with one
+// of kind `later`.
 fn first_conflict(
     history: &History,
     end: usize,
@@ -52,14 +53,14 @@ fn first_conflict(
     None
 }
 
-// Whether two accesses of these kinds conflict where they are of one key.
+// Whether two accesses of these kinds to the same key conflict.
 fn does_conflict(earlier: Kind, later: Kind) -> bool
     ensures { result ≡ one_stores earlier later }
 {
     earlier == Kind::Store || later == Kind::Store
 }
 
-// Whether the entry at a place is the transaction's access of that kind of the key.
+// Whether the entry at a position is the transaction's access of that kind of the key.
 fn has_access(history: &History, place: usize, by: Tid, key: Key, kind: Kind) -> bool
     requires { place < length history.now.entries }
     ensures { IsTrue result ↔ IsAccessBy (placed_access history.now.entries place) by key kind }

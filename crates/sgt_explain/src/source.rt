@@ -11,23 +11,25 @@ use crate::writers::{is_among, newest_writer};
 use sgt_log::History;
 use sgt_model::{Key, Kind, Tid};
 
-/// A look that found the value of another transaction.
+/// A read of another transaction's value.
 #[derive(Clone, Copy, Debug, PartialEq, Eq)]
 pub struct Source {
-    /// Who looked.
+    /// The transaction that read.
     pub reader: Tid,
-    /// Whose value it found.
+    /// The transaction that wrote the value.
     pub source: Tid,
     /// The key.
     pub key: Key,
-    /// The place of the look.
+    /// The position of the read.
     pub place: usize,
 }
 
-/// Why transaction number `number`, from 0, of those that the entry at this place aborts in cascade is aborted: its first read of a
-/// value of another one that is aborted there.
+/// Explains a cascading abort. Of the transactions that the entry at this position aborts in cascade, it takes number
+/// `number`, from 0. It returns the first read by that transaction of a value written by another one that is aborted
+/// there.
 ///
-/// None if nobody is aborted there, if there are no more, or if there is no such read. In a legal history each has one.
+/// None if no transaction is aborted there, if there is none of this number, or if there is no such read. In a legal
+/// history each has one.
 pub fn fall_source(history: &History, place: usize, number: usize) -> Option<Source>
     ensures told { IfSome result (λ source. (t : ℕ) → slice_get (placed_falls history.now.entries place) number ≡ Some t
         → TellsSource history.now.entries place t source) }
@@ -45,7 +47,7 @@ pub fn fall_source(history: &History, place: usize, number: usize) -> Option<Sou
     }
 }
 
-// The transaction's first look before the end that read from one that is undone there.
+// The transaction's first read before the end from one that is aborted there.
 fn first_source(history: &History, end: usize, reader: Tid) -> Option<Source>
     requires { end < length history.now.entries }
     ensures told { IfSome result (TellsSource history.now.entries end reader) }
@@ -61,7 +63,7 @@ fn first_source(history: &History, end: usize, reader: Tid) -> Option<Source>
     None
 }
 
-// Whether the entry at the end aborts the transaction, or it falls there.
+// Whether the entry at the end aborts the transaction, in cascade or not.
 fn is_undone(history: &History, end: usize, t: Tid) -> bool
     requires { end < length history.now.entries }
     ensures { IsTrue result ↔ IsUndoneAt history.now.entries end t }
@@ -70,7 +72,7 @@ fn is_undone(history: &History, end: usize, t: Tid) -> bool
     entry.named() == Some(t) || is_among(entry.fell(), t)
 }
 
-// From whom the transaction reads at this place, if it does.
+// The transaction that is read from at this position, if there is one.
 fn source_at(history: &History, place: usize, reader: Tid) -> Option<Source>
     requires { place < length history.now.entries }
     ensures told { IfSome result (TellsLook history.now.entries reader place) }

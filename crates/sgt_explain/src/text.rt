@@ -7,12 +7,13 @@ use itoa::{Buffer, Integer};
 use sgt_model::{Key, Kind, NoMemory};
 use std::alloc::AllocError;
 
-/// Adds the line of an edge of the cycle by which the entry at this place aborts a transaction. If its later access was about to be
-/// made, the line reads `line 12: 1 would write 2/101, which 0 read at line 8 and wrote at line 10`; else it reads
-/// `line 12: 0 wrote 2/102 at line 10, which 1 read at line 7`. The line of the abort comes first.
+/// Appends the line of an edge of the cycle by which the entry at this position aborts a transaction. If its later
+/// access was about to be made, the line reads `line 12: 1 would write 2/101, which 0 read at line 8 and wrote at
+/// line 10`. Else it reads `line 12: 0 wrote 2/102 at line 10, which 1 read at line 7`. The line of the abort comes
+/// first.
 ///
-/// The list has the number of each entry's line, by the place of the entry. An entry past its end is named `entry 7`, by its place
-/// from 0.
+/// The list maps the position of each entry to the number of its line. An entry past the end of the list is named
+/// `entry 7`, by its position from 0.
 ///
 /// `NoMemory` if an allocation failed; then the text is unchanged.
 pub fn append_edge(
@@ -30,8 +31,9 @@ pub fn append_edge(
     Ok(())
 }
 
-/// Adds the line of a transaction that the entry at this place aborts in cascade: its read from one that is undone there, as
-/// `line 12: 3 read 2/101 of 1 at line 9`. The line of the abort comes first. The list is as for `append_edge`.
+/// Appends the line of a transaction that the entry at this position aborts in cascade: its read from one that is
+/// aborted there, as `line 12: 3 read 2/101 of 1 at line 9`. The line of the abort comes first. The list is as for
+/// `append_edge`.
 ///
 /// `NoMemory` if an allocation failed; then the text is unchanged.
 pub fn append_source(
@@ -49,7 +51,7 @@ pub fn append_source(
     Ok(())
 }
 
-/// Adds an edge's line.
+/// Appends an edge's line.
 pub fn append_edge_line(
     text: &mut Vec<u8>,
     edge: &Edge,
@@ -64,7 +66,7 @@ pub fn append_edge_line(
     text.extend_from_slice(b"\n")
 }
 
-/// Adds a source's line.
+/// Appends a source's line.
 pub fn append_source_line(
     text: &mut Vec<u8>,
     source: &Source,
@@ -79,7 +81,7 @@ pub fn append_source_line(
     text.extend_from_slice(b"\n")
 }
 
-// Adds what the later access of an edge does, or would have done.
+// Appends what the later access of an edge does, or would have done.
 fn append_later(text: &mut Vec<u8>, edge: &Edge, lines: &[u64]) -> Result<(), AllocError> {
     match edge.place {
         Some(place) => {
@@ -106,7 +108,7 @@ fn wanted_by(kind: Kind) -> &'static [u8] {
     }
 }
 
-// Adds the earlier accesses of an edge.
+// Appends the earlier accesses of an edge.
 fn append_earlier(text: &mut Vec<u8>, earlier: &Earlier, lines: &[u64]) -> Result<(), AllocError> {
     match (earlier.looked, earlier.stored) {
         (Some(looked), Some(stored)) => {
@@ -119,7 +121,7 @@ fn append_earlier(text: &mut Vec<u8>, earlier: &Earlier, lines: &[u64]) -> Resul
     }
 }
 
-// Adds words and the line of the entry at a place.
+// Appends words and the line of the entry at a position.
 fn append_place(
     text: &mut Vec<u8>,
     words: &[u8],
@@ -134,13 +136,13 @@ fn append_place(
     }
 }
 
-// Adds words and a key.
+// Appends words and a key.
 fn append_key(text: &mut Vec<u8>, words: &[u8], key: Key) -> Result<(), AllocError> {
     append_number(text, words, key.table())?;
     append_number(text, b"/", key.id())
 }
 
-// Adds words and a number.
+// Appends words and a number.
 fn append_number<I: Integer>(
     text: &mut Vec<u8>,
     words: &[u8],

@@ -12,7 +12,8 @@ use crate::made::made_at;
 use sgt_log::{EntryRef, History};
 use sgt_model::{Key, Kind, Tid};
 
-/// Whose store of the key is the newest before the end, of those not aborted by then, if there is one.
+/// The transaction of the newest write of the key before the end, not counting transactions aborted by then, if there
+/// is one.
 pub(crate) fn newest_writer(history: &History, end: usize, key: Key) -> Option<Tid>
     requires { end ≤ length history.now.entries }
     ensures { result ≡ option_map (λ (a : Access). a.by)
@@ -30,7 +31,7 @@ pub(crate) fn newest_writer(history: &History, end: usize, key: Key) -> Option<T
     None
 }
 
-// Who stores the key at this place, if it is a store of it.
+// The transaction that writes the key at this position, if the entry is a write of it.
 fn writer_at(history: &History, place: usize, key: Key) -> Option<Tid>
     requires { place < length history.now.entries }
     ensures { result ≡ option_map (λ (a : Access). a.by) (stores (λ v. true) key (placed_access history.now.entries place)) }
@@ -43,7 +44,7 @@ fn writer_at(history: &History, place: usize, key: Key) -> Option<Tid>
     }
 }
 
-// Whether the transaction was aborted, or fell, before the end.
+// Whether the transaction was aborted before the end, in cascade or not.
 fn is_aborted(history: &History, end: usize, t: Tid) -> bool
     requires { end ≤ length history.now.entries }
     ensures { result ≡ aborted (entries_before history.now.entries end) t }
@@ -58,7 +59,7 @@ fn is_aborted(history: &History, end: usize, t: Tid) -> bool
     false
 }
 
-// Where the entry ends the transaction, whether that is by an abort, its own or another's.
+// Whether the entry ends the transaction by an abort, its own or a cascading one. None if the entry does not end it.
 fn ending_at(entry: &EntryRef<'_>, t: Tid) -> Option<bool>
     ensures { result ≡ option_map (λ (f : Fate). has_aborted (Some f)) (ending_in entry.now.event entry.now.reply t) }
 {

@@ -1,9 +1,9 @@
--- Which line a fault is of.
+-- The line of a fault.
 use Rattle.std.specs.Prelude.{ℕ, Option, None, Some}
 use Rattle.sgt_input.specs.declared.fault.Fault.{Fault}
 use Rattle.sgt_input.specs.declared.fault.Fault.TheVariants as fault
 
--- the number of the line that a fault is of, from 1, or none: then the fault's own line tells all
+-- the number of the faulty line, from 1; or none, if the fault's own line says all
 abbrev pub line_of : Fault → Option ℕ
 line_of (fault.NotJson n) = Some n
 line_of (fault.BadLine n) = Some n

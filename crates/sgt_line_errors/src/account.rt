@@ -1,14 +1,14 @@
-//! What is wrong with the accounts of an opening.
+//! Errors in the accounts of an opening, the first line of an input.
 use crate::message::{Piece, told};
 use serde_json::Value;
 use sgt_format::items;
 use sgt_model::{LEAST, MOST, NoMemory, is_value};
 use std::alloc::Global;
 
-/// What the four numbers of an account are.
+/// The names of the four numbers of an account.
 pub(crate) const NAMES: [&str; 4] = ["name", "customer", "saving", "checking"];
 
-/// What is wrong with the first account that has a fault. Accounts are counted from 1.
+/// The error of the first account that has one. Accounts are counted from 1.
 pub(crate) fn account_fault(alloc: Global, accounts: &[Value]) -> Result<Option<String>, NoMemory> {
     for (index, account) in accounts.iter().enumerate() {
         let fault = fault_behind(alloc, &accounts[..index], account)?;
@@ -19,7 +19,7 @@ pub(crate) fn account_fault(alloc: Global, accounts: &[Value]) -> Result<Option<
     Ok(None)
 }
 
-// What is wrong with an account behind these.
+// The error of an account after these.
 fn fault_behind(
     alloc: Global,
     earlier: &[Value],
@@ -47,7 +47,7 @@ fn fault_behind(
     }
 }
 
-// The first number of an account that is no value, and what it is.
+// The first number of an account that is out of range, with its name.
 fn out_of_range(account: &Value) -> Option<(&'static str, i64)> {
     for (position, name) in NAMES.iter().enumerate() {
         if let Some(amount) = number_at(account, position) {
@@ -59,7 +59,7 @@ fn out_of_range(account: &Value) -> Option<(&'static str, i64)> {
     None
 }
 
-// That an earlier account has the name or the customer of this one.
+// The message that an earlier account has the name or the customer of this one.
 fn taken_fault(
     alloc: Global,
     earlier: &[Value],
@@ -85,7 +85,7 @@ fn taken_fault(
     Ok(None)
 }
 
-// The number at a position of an account that an earlier one has there too, and the number of that one.
+// The number at a position of an account that an earlier one has there too, and the index of that account.
 fn taken(earlier: &[Value], account: &Value, position: usize) -> Option<(i64, u64)> {
     let wanted = number_at(account, position)?;
     for (index, other) in earlier.iter().enumerate() {
@@ -96,7 +96,7 @@ fn taken(earlier: &[Value], account: &Value, position: usize) -> Option<(i64, u6
     None
 }
 
-// The number of the account behind these.
+// The index of the account after these.
 fn number_behind(earlier: &[Value]) -> u64 {
     (earlier.len() as u64).saturating_add(1)
 }

@@ -3,11 +3,11 @@
 /// The command whose run a fault has ended.
 #[derive(Clone, Copy, Debug, PartialEq, Eq)]
 pub enum Command {
-    /// `sgt script`: behind its opening an input has events.
+    /// `sgt script`: after its opening, an input has events.
     Script,
-    /// `sgt bank`: behind its opening an input has jobs.
+    /// `sgt bank`: after its opening, an input has jobs.
     Bank {
-        /// How many workers run them.
+        /// The number of workers that run them.
         workers: u32,
     },
 }

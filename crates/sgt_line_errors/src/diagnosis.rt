@@ -1,4 +1,4 @@
-//! What is wrong with a line for which a run ended with a fault, in one line for a person.
+//! Explains in one line, for a person, what is wrong with the line that ended a run with a fault.
 ghost use Rattle.std.specs.Prelude.{◌≡◌, None, IfOk};
 ghost use Rattle.sgt_line_errors.specs.FaultyLines.{line_of};
 
@@ -20,12 +20,12 @@ use sgt_proc::Flaw;
 use sgt_smallbank::PROCEDURES;
 use std::alloc::Global;
 
-/// What tells more of a fault than its own line does, in one line without its end: where the fault is in the line of the input that
-/// it is of, which is given without its byte 10, and what was expected there. None where the fault's own line tells all.
+/// Explains a fault beyond its own line, in one line without newline: where the error is in the faulty line of the
+/// input, and what was expected there. The line is given without its newline. None if the fault's own line says all.
 ///
 /// # Errors
 ///
-/// `NoMemory` where a growth was refused.
+/// `NoMemory` if an allocation failed.
 pub fn diagnose(
     alloc: Global,
     fault: &Fault,
@@ -45,7 +45,7 @@ pub fn diagnose(
     }
 }
 
-// What is wrong with the tree of a line.
+// The error in the tree of a line.
 fn tree_fault(
     alloc: Global,
     fault: &Fault,
@@ -71,7 +71,7 @@ fn tree_fault(
     }
 }
 
-// What is wrong with the opening's procedure of this number, at the place of its first misfit.
+// The error in the opening's procedure of this number, at the position of its first shape error.
 fn misfit_fault(
     alloc: Global,
     number: u64,
@@ -87,7 +87,7 @@ fn misfit_fault(
     }
 }
 
-// What is wrong with the opening's procedure of this number, which has this flaw.
+// The error in the opening's procedure of this number, which has this flaw.
 fn flaw_fault(
     alloc: Global,
     number: u64,
@@ -103,7 +103,7 @@ fn flaw_fault(
     }
 }
 
-// What is wrong at a place of the procedure of this number. A place shows as in the fault's own line.
+// The error at a position of the procedure of this number. The position is shown as in the fault's own line.
 fn located<'a>(
     alloc: Global,
     number: u64,
@@ -123,7 +123,7 @@ fn located<'a>(
     )
 }
 
-// How many transactions have to be allowed to be live at least.
+// The least number of live transactions that must be allowed.
 fn least_live(command: Command) -> u32 {
     match command {
         Command::Script => 1,

@@ -1,13 +1,13 @@
-//! The beginning of a JSON tree, shortened for a message.
+//! The start of a JSON tree, shortened for a message.
 use serde_json::Value;
 use sgt_model::NoMemory;
 use std::alloc::Global;
 
-/// How many characters of a text are shown.
+/// The maximum number of characters of a text that are shown.
 const LONGEST: usize = 40;
 
-/// Adds a tree as compact JSON to a message: its first 40 characters, with `?` for each that is not printable ASCII, and two dots
-/// where it goes on.
+/// Appends a tree as compact JSON to a message: its first 40 characters, and two dots if there are more. Each
+/// character that is not printable ASCII is shown as `?`.
 pub(crate) fn append_excerpt(
     alloc: Global,
     message: &mut String,
@@ -27,7 +27,7 @@ fn append_shortened(message: &mut String, text: &str) -> Result<(), NoMemory> {
     Ok(())
 }
 
-// The character, where it is printable ASCII, and else `?`.
+// The character if it is printable ASCII, else `?`.
 fn printable(character: char) -> char {
     if (' '..='~').contains(&character) {
         character

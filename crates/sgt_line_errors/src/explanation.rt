@@ -8,8 +8,8 @@ use crate::remembering::Remembering;
 use sgt_input::{Fault, Source};
 use std::alloc::Global;
 
-/// What tells more of the fault of a run that read from this source, as one line without its end. There is none where the fault's
-/// own line tells all, and where there is no memory for it.
+/// Explains the fault of a run that read from this source, as one line without newline. None if the fault's own line
+/// says all, or if memory ran out.
 pub fn explain<S: Source>(
     alloc: Global,
     fault: &Fault,
@@ -25,7 +25,7 @@ pub fn explain<S: Source>(
     }
 }
 
-// The number of the line that a fault is of, if it is of one.
+// The number of the faulty line, if the fault has one.
 fn line_of(fault: &Fault) -> Option<u64>
     ensures { result ≡ line_of fault.now }
 {

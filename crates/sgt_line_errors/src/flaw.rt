@@ -9,7 +9,7 @@ use sgt_proc::{
 };
 use std::alloc::Global;
 
-/// A flaw that was found.
+/// A flaw, with its position.
 #[derive(Drop)]
 pub(crate) struct Found {
     /// The positions that lead to it.
@@ -18,7 +18,7 @@ pub(crate) struct Found {
     pub what: String,
 }
 
-/// Where a procedure has a flaw first, and in what it is.
+/// The first position of this flaw in a procedure, and what is wrong there.
 pub(crate) fn find_flaw(
     alloc: Global,
     procedure: &Value,
@@ -42,7 +42,7 @@ fn arguments_of(procedure: &Value) -> Option<i64> {
     items(procedure)?.first()?.as_i64()
 }
 
-// A flaw of a number, in a procedure that takes so many arguments, in words.
+// A flaw of a number in words, in a procedure that takes so many arguments.
 fn flaw_text(alloc: Global, flaw: Flaw, number: i64, arguments: i64) -> Result<String, NoMemory> {
     let (before, behind) = words_around(flaw);
     match most(flaw, arguments) {
@@ -71,7 +71,7 @@ fn flaw_text(alloc: Global, flaw: Flaw, number: i64, arguments: i64) -> Result<S
     }
 }
 
-// What stands before the number of a flaw in its text, and behind it.
+// The words before and after the number of a flaw.
 fn words_around(flaw: Flaw) -> (&'static str, &'static str) {
     match flaw {
         Flaw::HighRegister => ("register ", " is over "),
@@ -87,7 +87,7 @@ fn words_around(flaw: Flaw) -> (&'static str, &'static str) {
     }
 }
 
-// The most that the number of a flaw may be, where its text tells it, in a procedure that takes so many arguments.
+// The most that the number of a flaw may be, if its text names that, in a procedure that takes so many arguments.
 fn most(flaw: Flaw, arguments: i64) -> Option<i64> {
     match flaw {
         Flaw::HighRegister => Some(i64::from(LAST_REGISTER)),
@@ -102,7 +102,7 @@ fn most(flaw: Flaw, arguments: i64) -> Option<i64> {
     }
 }
 
-// What stands behind that in its text.
+// The words after that in its text.
 fn words_behind_most(flaw: Flaw) -> &'static str {
     match flaw {
         Flaw::NoArgument => ", the number of arguments",

@@ -1,10 +1,10 @@
 //! What holds on all paths to a position of a procedure: the registers that are set, and the number of answers.
 
-/// What is so on the paths that lead to a place of a procedure: which registers all of them set, and how many answers the one with
-/// the most has.
+/// The state of the paths to a position of a procedure: the registers that all of them set, and the most answers on
+/// one of them.
 #[derive(Clone, Copy)]
 pub(crate) struct Flow {
-    /// Whether there is such a path.
+    /// Whether such a path exists.
     is_reached: bool,
     /// Bit n stands for register n.
     registers: u16,
@@ -21,7 +21,7 @@ impl Flow {
         }
     }
 
-    /// Behind an ask.
+    /// After an ask.
     pub(crate) fn stopped() -> Self {
         Flow {
             is_reached: false,
@@ -30,17 +30,17 @@ impl Flow {
         }
     }
 
-    /// Whether some path leads here without setting the register.
+    /// Whether some path to this position does not set the register.
     pub(crate) fn may_lack(self, register: i64) -> bool {
         self.is_reached && self.registers & bit(register) == 0
     }
 
-    /// How many answers the path with the most has.
+    /// The most answers on one path.
     pub(crate) fn answers(self) -> u8 {
         self.answers
     }
 
-    /// Behind a statement that sets the register.
+    /// After a statement that sets the register.
     pub(crate) fn setting(self, register: i64) -> Self {
         Flow {
             registers: self.registers | bit(register),
@@ -48,7 +48,7 @@ impl Flow {
         }
     }
 
-    /// Behind an answer.
+    /// After an answer.
     pub(crate) fn answering(self) -> Self {
         if !self.is_reached {
             return self;
@@ -59,7 +59,7 @@ impl Flow {
         }
     }
 
-    /// Where the paths that lead to two places come together.
+    /// The state where the paths to two positions join.
     pub(crate) fn or(self, other: Self) -> Self {
         if !self.is_reached {
             return other;
@@ -75,7 +75,7 @@ impl Flow {
     }
 }
 
-// The bit of a register; none where there is no such register.
+// The bit of a register; 0 if there is no such register.
 fn bit(register: i64) -> u16 {
     if 0 <= register && register < 16 {
         1 << register

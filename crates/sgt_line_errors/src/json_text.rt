@@ -5,10 +5,10 @@ use serde_json::Value;
 use sgt_model::NoMemory;
 use std::alloc::Global;
 
-/// How deep lists and objects may stand in one another.
+/// The maximum nesting of lists and objects.
 const DEEPEST: u64 = 127;
 
-/// Where a line that is no JSON text ends to be one. Columns are bytes, counted from 1.
+/// The position at which a line that is no JSON text stops being one. Columns are bytes, counted from 1.
 pub(crate) fn json_fault(alloc: Global, line: &[u8]) -> Result<Option<String>, NoMemory> {
     let text = match str::from_utf8(line) {
         Ok(text) => text,
@@ -36,7 +36,7 @@ pub(crate) fn json_fault(alloc: Global, line: &[u8]) -> Result<Option<String>, N
     }
 }
 
-// What is wrong with a text, which ends to be JSON at this column.
+// The error of a text that stops being JSON at this column.
 fn text_fault(alloc: Global, text: &str, column: usize) -> Result<Option<String>, NoMemory> {
     let before = &text.as_bytes()[..column.min(text.len())];
     if depth(before) > DEEPEST {
@@ -60,7 +60,7 @@ fn at_column(alloc: Global, column: usize, words: &str) -> Result<Option<String>
     )
 }
 
-// How many lists and objects are open at the end of a text, as long as it is JSON.
+// How many lists and objects are open at the end of a text, as far as it is JSON.
 fn depth(text: &[u8]) -> u64 {
     let mut open = 0u64;
     let mut in_string = false;

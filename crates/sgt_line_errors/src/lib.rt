@@ -1,11 +1,12 @@
-//! What is wrong with a line of the input, in words: for a person who has the fault of a run before him, and asks for more.
+//! Explains in words what is wrong with a line of the input, for a person who has the fault of a run and asks for
+//! more.
 //!
-//! A [`Fault`](sgt_input::Fault) names a line and a kind. [`diagnose`] looks at that line once more, after the run has ended, and
-//! tells in one line where in it the fault is and what was expected there. A [`Remembering`] source gives a run the bytes of
-//! another source and keeps them, so that the line is there to be looked at; [`explain`] puts both together. No run knows of
-//! this: what it writes and how it ends is the same, and where there is no memory for an explanation, there is none.
+//! A [`Fault`](sgt_input::Fault) names a line and a kind. After the run has ended, [`diagnose`] reads that line once
+//! more. It says in one line where the error is and what was expected there. A [`Remembering`] source passes on the
+//! bytes of another source and stores them, so the line can be read again. [`explain`] combines the two. No run
+//! depends on this: its output and its end stay the same. If memory runs out for an explanation, there is none.
 //!
-//! Parts of the input that are shown are cut short, and are printable ASCII alone.
+//! Parts of the input are shortened when shown, and contain only printable ASCII.
 //!
 //! ```
 //! let mut source = Remembering::new(alloc, Reader::new(rt.reader()));

@@ -1,10 +1,10 @@
-//! What is wrong with the limits of an opening.
+//! Errors in the limits of an opening, the first line of an input.
 use crate::message::{Piece, told};
 use serde_json::Value;
 use sgt_model::{MOST_BEGINS, MOST_LIVE, NoMemory};
 use std::alloc::Global;
 
-/// Which limit is out of its range, of these items, where at least so many transactions have to be allowed to be live.
+/// The first of these limits that is out of range. At least so many live transactions must be allowed.
 pub(crate) fn limit_fault(
     alloc: Global,
     least: u32,
@@ -34,7 +34,7 @@ pub(crate) fn limit_fault(
     worker_fault(alloc, least, limits)
 }
 
-// From where to where a limit may be.
+// The range of a limit.
 fn range(position: usize) -> (i64, i64) {
     match position {
         0 => (1, i64::from(MOST_LIVE)),
@@ -43,7 +43,7 @@ fn range(position: usize) -> (i64, i64) {
     }
 }
 
-// That fewer may be live than there are workers.
+// The message that fewer transactions may be live than there are workers.
 fn worker_fault(alloc: Global, least: u32, limits: &[Value]) -> Result<Option<String>, NoMemory> {
     match live(limits) {
         Some(live) if live < i64::from(least) => {
@@ -62,12 +62,12 @@ fn worker_fault(alloc: Global, least: u32, limits: &[Value]) -> Result<Option<St
     }
 }
 
-// How many transactions may be live.
+// The number of transactions that may be live.
 fn live(limits: &[Value]) -> Option<i64> {
     limits.first()?.as_i64()
 }
 
-/// The place of an item of a short list, in words.
+/// The position of an item of a short list, in words.
 pub(crate) fn ordinal(position: usize) -> &'static str {
     match position {
         0 => "first",

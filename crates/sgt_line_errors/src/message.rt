@@ -9,13 +9,13 @@ use std::alloc::Global;
 pub(crate) enum Piece<'a> {
     Words(&'a str),
     Number(i64),
-    /// How many there are of something, or which of them.
+    /// A number of things, or the index of one of them.
     Count(u64),
-    /// A tree, cut short.
+    /// A tree, shortened.
     Tree(&'a Value),
-    /// A word of the input as JSON, cut short.
+    /// A word of the input as JSON, shortened.
     Word(&'a str),
-    /// The positions that lead to a place, parted by blanks, or `top`.
+    /// The positions that lead to an item, separated by spaces, or `top`.
     Place(&'a [u64]),
 }
 
@@ -28,12 +28,12 @@ pub(crate) fn message(alloc: Global, pieces: &[Piece<'_>]) -> Result<String, NoM
     Ok(message)
 }
 
-/// The same, where there may be none.
+/// The same, as an option.
 pub(crate) fn told(alloc: Global, pieces: &[Piece<'_>]) -> Result<Option<String>, NoMemory> {
     Ok(Some(message(alloc, pieces)?))
 }
 
-/// That something else was expected than this tree.
+/// The message that something else was expected than this tree.
 pub(crate) fn unexpected<'a>(
     alloc: Global,
     wanted: &'a str,
@@ -50,7 +50,7 @@ pub(crate) fn unexpected<'a>(
     )
 }
 
-/// That a word begins nothing.
+/// The message that nothing starts with this word.
 pub(crate) fn unknown(alloc: Global, word: &str) -> Result<Option<String>, NoMemory> {
     told(alloc, &[Piece::Words("unknown word "), Piece::Word(word)])
 }

@@ -7,7 +7,7 @@ use sgt_format::items;
 use sgt_model::NoMemory;
 use std::alloc::Global;
 
-/// What is wrong at the place of a procedure's first misfit.
+/// The message for the first shape error of a procedure.
 pub(crate) fn misfit(
     alloc: Global,
     procedure: &Value,
@@ -25,13 +25,13 @@ pub(crate) fn misfit(
     misfit_of(alloc, part, tree)
 }
 
-// What may stand at a position of a list, and what stands there.
+// What may be at a position of a list, and what is there.
 fn item_at(part: Part, tree: &Value, position: usize) -> Option<(Part, &Value)> {
     let items = items(tree)?;
     Some((part.at(word_of(items), position)?, items.get(position)?))
 }
 
-// Why a tree does not fit where this has to stand.
+// Why a tree does not fit where this is required.
 fn misfit_of(alloc: Global, part: Part, tree: &Value) -> Result<Option<String>, NoMemory> {
     match word_in(part, tree) {
         Some(word) => word_misfit(alloc, part, word, tree),
@@ -39,7 +39,7 @@ fn misfit_of(alloc: Global, part: Part, tree: &Value) -> Result<Option<String>, 
     }
 }
 
-// Why a list that begins with this word does not fit where this has to stand.
+// Why a list that starts with this word does not fit where this is required.
 fn word_misfit(
     alloc: Global,
     part: Part,
@@ -63,7 +63,7 @@ fn word_misfit(
     }
 }
 
-// The word that a list begins with, where words make lists be this.
+// The word that a list starts with, if this part is a list with a word.
 fn word_in(part: Part, tree: &Value) -> Option<&str> {
     match part {
         Part::Statement | Part::Expression | Part::Condition => word_of(items(tree)?),

@@ -1,4 +1,4 @@
-//! What is wrong with the line of an opening.
+//! Errors in an opening, the first line of an input.
 use crate::account::NAMES;
 use crate::limit::ordinal;
 use crate::message::{Piece, told, unexpected};
@@ -14,13 +14,13 @@ const MEMBERS: [&str; 3] = ["limits", "accounts", "procedures"];
 /// How an opening is written.
 const OPENING: &str = "an opening, as {\"limits\":[1,10],\"accounts\":[],\"procedures\":[]}";
 
-/// A part of an opening that has not the shape that it has to have, with its tree.
+/// A part of an opening with a shape error, with its tree.
 #[derive(Clone, Copy)]
 enum Misshapen<'a> {
     Limits(&'a Value),
     /// The limit at this position.
     Limit(usize, &'a Value),
-    /// The member of this name, which is to be a list.
+    /// The member of this name, which must be a list.
     Member(&'static str, &'a Value),
     /// The account of this number, from 1.
     Account(u64, &'a Value),
@@ -28,7 +28,7 @@ enum Misshapen<'a> {
     Amount(&'static str, u64, &'a Value),
 }
 
-/// Why a tree has not the shape of an opening: the first of its faults, in the order in which a run tests them.
+/// Why a tree is no opening: the first error, in the order in which a run tests them.
 pub(crate) fn opening_fault(alloc: Global, tree: &Value) -> Result<Option<String>, NoMemory> {
     if !tree.is_object() {
         return unexpected(alloc, OPENING, tree);
@@ -70,7 +70,7 @@ pub(crate) fn opening_fault(alloc: Global, tree: &Value) -> Result<Option<String
     }
 }
 
-// The first member of an opening that an object has not.
+// The first member of an opening that is missing in an object.
 fn missing_member(tree: &Value) -> Option<&'static str> {
     for name in MEMBERS {
         if tree.get(name).is_none() {
@@ -80,7 +80,7 @@ fn missing_member(tree: &Value) -> Option<&'static str> {
     None
 }
 
-// The first member of an object that an opening has not.
+// The first member of an object that an opening does not have.
 fn unknown_member(tree: &Value) -> Option<&str> {
     for (name, _) in tree.as_object()?.iter() {
         if !MEMBERS.contains(&name.as_str()) {
@@ -90,7 +90,7 @@ fn unknown_member(tree: &Value) -> Option<&str> {
     None
 }
 
-// What is wrong with the shape of the members of an opening.
+// The shape error in the members of an opening.
 fn shape_fault(alloc: Global, tree: &Value) -> Result<Option<String>, NoMemory> {
     match first_misshapen(tree) {
         Some(part) => part_fault(alloc, part),
@@ -98,7 +98,7 @@ fn shape_fault(alloc: Global, tree: &Value) -> Result<Option<String>, NoMemory> 
     }
 }
 
-// What was expected where a part of an opening is misshapen.
+// What was expected in place of a part of an opening with a shape error.
 fn part_fault(alloc: Global, part: Misshapen<'_>) -> Result<Option<String>, NoMemory> {
     match part {
         Misshapen::Limits(tree) => {
@@ -163,7 +163,7 @@ fn part_fault(alloc: Global, part: Misshapen<'_>) -> Result<Option<String>, NoMe
     }
 }
 
-// The first part of an opening that is misshapen.
+// The first part of an opening with a shape error.
 fn first_misshapen(tree: &Value) -> Option<Misshapen<'_>> {
     let accounts = tree.get("accounts")?;
     let misshapen = misshapen_limits(tree.get("limits")?);
@@ -180,7 +180,7 @@ fn first_misshapen(tree: &Value) -> Option<Misshapen<'_>> {
     misshapen_accounts(items(accounts)?)
 }
 
-// What is misshapen in the limits.
+// The shape error in the limits.
 fn misshapen_limits(limits: &Value) -> Option<Misshapen<'_>> {
     match items(limits) {
         Some(numbers) if numbers.len() == 2 || numbers.len() == 3 => {
@@ -191,7 +191,7 @@ fn misshapen_limits(limits: &Value) -> Option<Misshapen<'_>> {
     }
 }
 
-// What is misshapen in the accounts.
+// The shape error in the accounts.
 fn misshapen_accounts(accounts: &[Value]) -> Option<Misshapen<'_>> {
     for (index, account) in accounts.iter().enumerate() {
         let misshapen = misshapen_account((index as u64).saturating_add(1), account);
@@ -202,7 +202,7 @@ fn misshapen_accounts(accounts: &[Value]) -> Option<Misshapen<'_>> {
     None
 }
 
-// What is misshapen in the account of this number.
+// The shape error in the account of this number.
 fn misshapen_account(number: u64, account: &Value) -> Option<Misshapen<'_>> {
     match items(account) {
         Some(numbers) if numbers.len() == 4 => {

@@ -1,8 +1,8 @@
-//! What may stand at a position of a procedure that is written as JSON.
+//! What may be at a position of a procedure in JSON.
 use sgt_model::NoMemory;
 use std::alloc::Global;
 
-/// What may stand at a place of a procedure that is written as JSON.
+/// What may be at a position of a procedure in JSON.
 #[derive(Clone, Copy, PartialEq, Eq)]
 pub(crate) enum Part {
     /// `[args,[statement,..]]`.
@@ -23,7 +23,7 @@ pub(crate) enum Part {
 }
 
 impl Part {
-    /// What may stand at a position of a list that is this, and begins with this word, if it begins with one.
+    /// What may be at a position of such a list, which starts with this word, if it starts with one.
     pub(crate) fn at(self, word: Option<&str>, position: usize) -> Option<Part> {
         match self {
             Part::Procedure => match position {
@@ -39,7 +39,7 @@ impl Part {
         }
     }
 
-    /// What stands behind a word, where a list that begins with it may be this.
+    /// What follows a word, if a list that starts with it may be this.
     pub(crate) fn behind(self, word: &str) -> Option<&'static [Part]> {
         match self {
             Part::Statement => behind_statement(word),
@@ -49,7 +49,7 @@ impl Part {
         }
     }
 
-    /// How a list that begins with the word and has these parts behind it is written, by the names of the parts.
+    /// The form of a list that starts with the word and continues with these parts, by the names of the parts.
     pub(crate) fn form(alloc: Global, word: &str, parts: &[Part]) -> Result<String, NoMemory> {
         let mut form = format!(in alloc; "[\"{word}\"")?;
         for part in parts {
@@ -60,7 +60,7 @@ impl Part {
         Ok(form)
     }
 
-    // What it is called in such a list.
+    // Its name in such a list.
     fn name(self) -> &'static str {
         match self {
             Part::Procedure => "procedure",
@@ -76,7 +76,7 @@ impl Part {
         }
     }
 
-    /// What it is, in words.
+    /// Its description in words.
     pub(crate) fn words(self) -> &'static str {
         match self {
             Part::Procedure => "[arguments,[statement,..]]",
@@ -93,7 +93,7 @@ impl Part {
     }
 }
 
-/// Whether a list of a procedure may begin with the word.
+/// Whether a list of a procedure may start with the word.
 pub(crate) fn is_known(word: &str) -> bool {
     behind_statement(word).is_some()
         || behind_expression(word).is_some()

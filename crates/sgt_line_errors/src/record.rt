@@ -1,11 +1,11 @@
-//! What is wrong with the line of a record.
+//! Errors in a record line.
 use crate::message::{Piece, told};
 use serde_json::Value;
 use sgt_format::items;
 use sgt_model::{LAST_TABLE, LEAST, MOST, NoMemory};
 use std::alloc::Global;
 
-/// The numbers of a record line, whichever they are.
+/// The numbers of a record line, in or out of range.
 #[derive(Clone, Copy)]
 pub(crate) struct RecordNumbers {
     table: i64,
@@ -25,7 +25,7 @@ pub(crate) fn numbers(tree: &Value) -> Option<RecordNumbers> {
     }
 }
 
-/// Why a record line puts no record, or none where a tree has not its form.
+/// Why a record line adds no record, or none if a tree does not have its form.
 pub(crate) fn record_fault(alloc: Global, tree: &Value) -> Result<Option<String>, NoMemory> {
     match numbers(tree) {
         Some(said) => numbers_fault(alloc, said),
@@ -33,7 +33,7 @@ pub(crate) fn record_fault(alloc: Global, tree: &Value) -> Result<Option<String>
     }
 }
 
-// The first of the numbers that is out of its range, or else that their record is there.
+// The first of the numbers that is out of range; else the message that the record exists already.
 fn numbers_fault(alloc: Global, said: RecordNumbers) -> Result<Option<String>, NoMemory> {
     let ranges = [
         ("table", said.table, 0, i64::from(LAST_TABLE)),

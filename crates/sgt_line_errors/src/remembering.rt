@@ -1,4 +1,4 @@
-//! A source that keeps the bytes that it gives.
+//! A source that stores the bytes that it passes on.
 ghost use Rattle.std.specs.Prelude.{◌≡◌, IfOk, OnOk, OnErr, IfSome, false, min, ◌+◌, ◌-◌, ◌^◌, ◌<◌, ◌≤◌, length};
 ghost use Rattle.std.specs.Io.KnownBytes.{ReadConsumes};
 ghost use Rattle.sgt_input.specs.Lines.{has_break};
@@ -7,20 +7,20 @@ use memchr::memchr;
 use sgt_input::{Failed, Source};
 use std::alloc::Global;
 
-/// The most bytes that are kept: as many as an input may have.
+/// The most bytes that are stored: as many as an input may have.
 const MOST_KEPT: usize = 16_777_216;
 
-/// A source that gives what another one does, and keeps it. Where there is no memory for that, it keeps nothing any more, and
-/// gives the same.
+/// A source that passes on what another one returns, and stores it. If memory runs out, it stores nothing more, and
+/// still passes on the same.
 #[derive(Drop)]
 pub struct Remembering<S: Source> {
     source: S,
-    /// The first bytes that were given, unless there was no memory for them.
+    /// The first bytes that were passed on. None if memory ran out.
     kept: Option<Vec<u8>>,
 }
 
 impl<S: Source> Remembering<S> {
-    /// Gives what this source gives from now on. This takes no memory.
+    /// Passes on what this source returns from now on. It allocates nothing.
     pub fn new(alloc: Global, source: S) -> Self
         ensures rest { ⟦<Self as Source>⟧.rest result ≡ S.rest source }
         ensures given { ⟦<Self as Source>⟧.given result ≡ S.given source }
@@ -32,7 +32,7 @@ impl<S: Source> Remembering<S> {
         }
     }
 
-    /// The line of this number, from 1, without its byte 10, if its bytes were kept.
+    /// The line of this number, from 1, without its newline, if its bytes were stored.
     pub fn line(&self, number: u64) -> Option<&[u8]>
         ensures unbroken { IfSome result (λ l. has_break l.now ≡ false) }
     {
@@ -42,7 +42,7 @@ impl<S: Source> Remembering<S> {
         }
     }
 
-    // Keeps these bytes, as many as there is room for within the limit, or nothing any more where there is no memory.
+    // Stores these bytes, up to the limit. If memory runs out, it stores nothing from now on.
     fn keep(&mut self, bytes: &[u8])
         ensures same { self.new.source ≡ self.old.source }
     {
@@ -74,7 +74,7 @@ impl<S: Source> Source for Remembering<S> {
     }
 }
 
-// The line of this number, from 1, if the text has so many.
+// The line of this number, from 1, if the text has so many lines.
 fn line_in(text: &[u8], number: u64) -> Option<&[u8]>
     ensures { IfSome result (λ l. has_break l.now ≡ false) }
 {
@@ -85,13 +85,13 @@ fn line_in(text: &[u8], number: u64) -> Option<&[u8]>
     Some(until_break(rest))
 }
 
-// What stands behind the first byte 10, if there is one.
+// The bytes after the first newline, if there is one.
 fn behind_break(bytes: &[u8]) -> Option<&[u8]> {
     let place = memchr(b'\n', bytes)?;
     Some(&bytes[place + 1..])
 }
 
-// What stands before the first byte 10, or all.
+// The bytes before the first newline, or all.
 fn until_break(bytes: &[u8]) -> &[u8]
     ensures { has_break result.now ≡ false }
 {

@@ -1,4 +1,4 @@
-//! What is wrong with the line of an event or of a job.
+//! Errors in the line of an event or of a job.
 use crate::message::{Piece, told, unexpected, unknown};
 use crate::record::numbers;
 use crate::tree::{first_not_whole, word_of};
@@ -8,13 +8,13 @@ use sgt_model::NoMemory;
 use sgt_proc::MOST_ARGUMENTS;
 use std::alloc::Global;
 
-/// How a start is written.
+/// The form of a start.
 const START: &str = "[\"start\",procedure,[argument,..]]";
 
-/// How a job is written.
+/// The form of a job.
 const JOB: &str = "[\"job\",procedure,[argument,..]]";
 
-/// How a record is written.
+/// The form of a record.
 const RECORD: &str = "[\"record\",table,number,value]";
 
 /// Why a tree is no event of a script.
@@ -51,12 +51,12 @@ pub(crate) fn job_fault(alloc: Global, tree: &Value) -> Result<Option<String>, N
     }
 }
 
-// The word that a list begins with.
+// The word that a list starts with.
 fn word_in(tree: &Value) -> Option<&str> {
     word_of(items(tree)?)
 }
 
-// That a request of the other kind stands where this form has to.
+// The message that a request of the other kind is there in place of this form.
 fn misplaced_request<'a>(
     alloc: Global,
     words: &'a str,
@@ -65,7 +65,8 @@ fn misplaced_request<'a>(
     told(alloc, &[Piece::Words(words), Piece::Words(form)])
 }
 
-// Why a list that begins with the word of a record puts none: its form, or that records end where the first of these comes.
+// Why a list that starts with the word of a record adds none: its form, or that records must come before the first of
+// these.
 fn misplaced_record(alloc: Global, first: &str, tree: &Value) -> Result<Option<String>, NoMemory> {
     match numbers(tree) {
         Some(_) => told(
@@ -79,7 +80,7 @@ fn misplaced_record(alloc: Global, first: &str, tree: &Value) -> Result<Option<S
     }
 }
 
-// What is wrong with a list that is to be a word and a transaction, in this form.
+// The error of a list that must be a word and a transaction, in this form.
 fn transaction_fault(alloc: Global, form: &str, tree: &Value) -> Result<Option<String>, NoMemory> {
     match items(tree) {
         Some([_, number]) => if is_from_zero(number, u32::MAX) {
@@ -91,7 +92,7 @@ fn transaction_fault(alloc: Global, form: &str, tree: &Value) -> Result<Option<S
     }
 }
 
-// What is wrong with a list that is to be a word, a procedure and its arguments, in this form.
+// The error of a list that must be a word, a procedure and its arguments, in this form.
 fn call_fault(alloc: Global, form: &str, tree: &Value) -> Result<Option<String>, NoMemory> {
     let last = u32::from(u16::MAX);
     match items(tree) {
@@ -104,7 +105,7 @@ fn call_fault(alloc: Global, form: &str, tree: &Value) -> Result<Option<String>,
     }
 }
 
-// Whether a tree is a whole number from 0 to the last.
+// Whether a tree is a whole number from 0 to `last`.
 fn is_from_zero(tree: &Value, last: u32) -> bool {
     match tree.as_i64() {
         Some(number) => 0 <= number && number <= i64::from(last),
@@ -112,7 +113,7 @@ fn is_from_zero(tree: &Value, last: u32) -> bool {
     }
 }
 
-// That a tree is no whole number from 0 to the last.
+// The message that a tree is no whole number from 0 to `last`.
 fn range_fault<'a>(
     alloc: Global,
     name: &'a str,
@@ -132,7 +133,7 @@ fn range_fault<'a>(
     )
 }
 
-// What is wrong with the arguments of a call. They are numbered from 0.
+// The error in the arguments of a call. They are numbered from 0.
 fn arguments_fault(alloc: Global, tree: &Value) -> Result<Option<String>, NoMemory> {
     let Some(arguments) = items(tree) else {
         return unexpected(alloc, "a list of arguments", tree);

@@ -10,17 +10,17 @@ use sgt_proc::{
 };
 use std::alloc::Global;
 
-/// A search through a procedure as JSON, from its top and from left to right, for the first place that has a flaw.
+/// A search through a procedure in JSON, top down and from left to right, for the first position that has a flaw.
 #[derive(Drop)]
 pub(crate) struct Search {
     flaw: Flaw,
-    /// How many arguments the procedure takes.
+    /// The number of arguments of the procedure.
     arguments: i64,
-    /// What is so on the paths that lead to where the search is.
+    /// The state of the paths to the current position.
     flow: Flow,
-    /// How many statements it has met.
+    /// The number of statements so far.
     statements: i64,
-    /// The positions that lead to where it is.
+    /// The positions that lead to the current item.
     place: Vec<u64>,
 }
 
@@ -36,18 +36,18 @@ impl Search {
         }
     }
 
-    /// Searches a procedure, and gives the number that the flaw is of, where it is found: of a register, of an argument, of a table, a
-    /// code, a literal, or how many there are of what there may be fewer. The place is where it was found then.
+    /// Searches a procedure. If it finds the flaw, it returns the number concerned: of a register, argument, table,
+    /// code or literal, or a count that is too high. The place is then where it was found.
     pub(crate) fn run(&mut self, procedure: &Value) -> Result<Option<i64>, NoMemory> {
         self.visit(Part::Procedure, procedure, 1)
     }
 
-    /// The positions that lead to where the search has ended.
+    /// The positions that lead to where the search ended.
     pub(crate) fn into_place(self) -> Vec<u64> {
         self.place
     }
 
-    // Searches a tree, which stands where this may stand, and so deep.
+    // Searches a tree at this depth, where this part may be.
     #[cycle(visit)]
     fn visit(&mut self, part: Part, tree: &Value, depth: i64) -> Result<Option<i64>, NoMemory> {
         if part == Part::Statement {
@@ -63,8 +63,8 @@ impl Search {
         }
     }
 
-    // Searches the items of a list, one after another. Each block of a statement begins where the statement does, and where they have
-    // ended their paths come together.
+    // Searches the items of a list in order. Each block of a statement starts with the statement's state, and the
+    // paths join at the ends of the blocks.
     #[cycle(visit)]
     fn visit_items(
         &mut self,
@@ -96,7 +96,7 @@ impl Search {
         Ok(None)
     }
 
-    // The number that the flaw is of, where this tree itself has it.
+    // The number that the flaw concerns, if this tree itself has the flaw.
     fn found_at(&self, part: Part, tree: &Value, depth: i64) -> Option<i64> {
         match self.flaw {
             Flaw::UnsetRegister => self.unset_register(part, tree),
@@ -129,7 +129,7 @@ impl Search {
         }
     }
 
-    // The register that a tree uses, where some path leads to it that does not set that one.
+    // The register that a tree uses, if some path to it does not set that register.
     fn unset_register(&self, part: Part, tree: &Value) -> Option<i64> {
         let register = match items(tree)? {
             [word, number] if part == Part::Expression && word.as_str() == Some("reg") => {
@@ -144,7 +144,7 @@ impl Search {
         }
     }
 
-    // How many answers a path has with this one, where it is one too many.
+    // The number of answers on a path including this one, if it is one too many.
     fn answer(&self, part: Part, tree: &Value) -> Option<i64> {
         let is_answer = part == Part::Statement && word_of(items(tree)?) == Some("answer");
         over(
@@ -155,7 +155,7 @@ impl Search {
     }
 }
 
-// The number, where it counts and is over the most.
+// The number, if it counts and exceeds the most.
 fn over(number: i64, most: u8, counts: bool) -> Option<i64> {
     if counts && number > i64::from(most) {
         Some(number)
@@ -164,7 +164,7 @@ fn over(number: i64, most: u8, counts: bool) -> Option<i64> {
     }
 }
 
-// How deep a part is, directly in another one that is so deep. A block is as deep as its statements.
+// The depth of a part directly inside another one of this depth. A block is as deep as its statements.
 fn depth_at(part: Part, next: Part, depth: i64) -> i64 {
     match (part, next) {
         (Part::Block, Part::Statement) => depth,
@@ -175,7 +175,7 @@ fn depth_at(part: Part, next: Part, depth: i64) -> i64 {
     }
 }
 
-// What is so behind a statement of these items, where this was so behind its expressions, and that behind its blocks.
+// The state after a statement of these items, from the state after its expressions and the state after its blocks.
 fn behind(flow: Flow, blocks: Flow, items: &[Value]) -> Flow {
     match word_of(items) {
         Some("ask") => Flow::stopped(),

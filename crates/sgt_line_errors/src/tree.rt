@@ -1,8 +1,8 @@
-//! What the items of a JSON list are.
+//! The items of a JSON list.
 
 use serde_json::Value;
 
-/// The word that a list begins with, where it begins with a text.
+/// The word that a list starts with, if it starts with a text.
 pub(crate) fn word_of(items: &[Value]) -> Option<&str> {
     items.first()?.as_str()
 }

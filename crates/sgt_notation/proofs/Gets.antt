@@ -1,4 +1,4 @@
--- What stands where in a list and in one that goes on behind it.
+-- The items of a list at each position, and of a longer list with the same start.
 use Rattle.std.proofs.Common.{◌≡◌, ◌<◌, ◌≤◌, ◌⊎◌, ℕ, zero, suc, List, [], ◌∷◌, ◌++◌, length, take, drop, Some, refl, ap, sym, ◌∙◌, inl, inr, arith, take_all}
 use Rattle.std.specs.Prelude.{slice_get, min}
 use Rattle.std.proofs.lemmas.Bool.{cases_lt}
@@ -50,14 +50,14 @@ take_next zero (x ∷ xs) rest y is = (cc, cc, cc)
 take_next (suc n) [] rest y is = absurd (cc)
 take_next (suc n) (x ∷ xs) rest y is = let more = take_next n xs rest y is in (ap (λ l. x ∷ l) more.0, more.1, more.2)
 
--- all is taken where nothing is left
+-- all is taken if nothing is left
 pub take_whole : {A : Type 0} (n : ℕ) (xs : List A) → drop n xs ≡ [] → take n xs ≡ xs
 take_whole zero [] none = refl
 take_whole zero (x ∷ xs) none = absurd (cc)
 take_whole (suc n) [] none = refl
 take_whole (suc n) (x ∷ xs) none = ap (λ l. x ∷ l) (take_whole n xs none)
 
--- what is taken of the first ones, where all of them are
+-- the items taken of the first ones, if all of them are
 pub take_first : {A : Type 0} (n k i : ℕ) (xs : List A) → k ≡ min n (length xs) → length (take k xs) ≤ i → take i (take k xs) ≡ take n xs
 take_first n k i xs is whole = take_all i (take k xs) whole ∙ elim (cases_lt n (length xs)) [
   | inl less ↦ ap (λ j. take j xs) (omega (arith, is, less))

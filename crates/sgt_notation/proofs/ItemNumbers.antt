@@ -29,7 +29,7 @@ other_number bs cs m n w h differ = other_entries _ _ _ _ h.3 _
 some_inj : {A : Type 0} {x y : A} → Some x ≡ Some y → x ≡ y
 some_inj e = cc
 
--- one item more, where its text had no number
+-- one item more, if its text had no number
 pub knows_more : (old new : Items) (text : List ℕ) (n : ℕ) → n ≡ length (texts_of old) → KnowsItems old → number_of old text ≡ None
     → UpdatesBy (λ x y. bytes_eq x.items y.items) (λ k. bytes_eq text k.items) old.numbers new.numbers
     (Some n)

@@ -1,4 +1,4 @@
--- What stands behind the letter of a word.
+-- The text after the letter of a word.
 use Rattle.std.proofs.Common.{◌≡◌, ◌<◌, ◌+◌, ◌^◌, ◌++◌, ◌==◌, ℕ, suc, true, List, [], ◌∷◌, length, take, drop, Option, Some, None, refl, ap, ◌∙◌, subst, arith, length-append}
 use Rattle.std.specs.Prelude.{slice_index, get_or, codes}
 use Rattle.std.specs.Int.{IsInRange}
@@ -9,7 +9,7 @@ use Rattle.memchr.specs.Find.{IsFirstByte, is_byte}
 use Rattle.sgt_notation.specs.Spellings.{IsItem, bracketed}
 use Rattle.sgt_notation.proofs.NumberTexts.{text_is_digits}
 
--- behind digits and the item in brackets: where the bracket is
+-- after digits and the item in brackets: the position of the bracket
 pub opens_at : (rest x : List ℕ) (t : ℕ) → t < 2 ^ 32 → rest ≡ decimal t ++ bracketed x → (o : Option ℕ) → IsFirstByte (is_byte 91) rest o
     → o ≡ Some (length (decimal t))
 opens_at rest x t small is None nowhere = absurd (nowhere (length (decimal t)) (omega arith) inside here)
@@ -37,7 +37,7 @@ opens_at rest x t small is (Some k) (before, found) = ap Some (omega (arith, up,
         ∙ get_or-append (decimal t) (bracketed x) 0 k less in
         grind (arith, digit, same, found)
 
--- the parts of what stands behind the letter
+-- the parts of the text after the letter
 pub parts_behind : (rest x : List ℕ) (t : ℕ) → rest ≡ decimal t ++ bracketed x
     → (take (length (decimal t)) rest ≡ decimal t) × (drop (suc (length (decimal t))) rest ≡ x ++ codes "]")
 parts_behind rest x t is = (
@@ -56,7 +56,7 @@ pub data IsKind (word : List ℕ) : Type 0 where
   IsCommit : (t : ℕ) → t < 2 ^ 32 → word ≡ 99 ∷ decimal t → IsKind word
   IsAbort : (t : ℕ) → t < 2 ^ 32 → word ≡ 97 ∷ decimal t → IsKind word
 
--- the parts behind the letter, at the first bracket
+-- the parts after the letter, split at the first bracket
 pub behind_letter : (rest x : List ℕ) (t k : ℕ) → t < 2 ^ 32 → rest ≡ decimal t ++ bracketed x → IsFirstByte (is_byte 91) rest (Some k)
     → (take k rest ≡ decimal t) × (drop (k + 1) rest ≡ x ++ codes "]")
 behind_letter rest x t k small is first =

@@ -10,7 +10,7 @@ use Rattle.std.proofs.lemmas.Str.Parse.{IsNumeralModel, numerals_by_fold, tells_
 abbrev pub AreDigits : List ℕ → Type 0
 AreDigits ds = (i : ℕ) → i < length ds → IsInRange 48 57 (get_or ds i 0)
 
--- the number that digits spell behind those that spell n
+-- the number spelled by digits after those that spell n
 abbrev pub read_on : ℕ → List ℕ → ℕ
 read_on n [] = n
 read_on n (d ∷ ds) = read_on (10 * n + (d - 48)) ds
@@ -66,7 +66,7 @@ taken_at (suc i) j [] less = refl
 taken_at (suc i) zero (d ∷ ds) less = refl
 taken_at (suc i) (suc j) (d ∷ ds) less = taken_at i j ds (omega (arith, less))
 
--- the digits up to a place
+-- the digits up to a position
 pub taken_digits : (i : ℕ) (ds : List ℕ) → ((j : ℕ) → j < i → IsInRange 48 57 (get_or ds j 0)) → AreDigits (take i ds)
 taken_digits i ds are j less =
     let within : j < i = omega (arith, less, length-take i ds) in

@@ -63,7 +63,7 @@ read_more all rest w n items more new ops op many next read grown one active dis
     older = zip_map _ _ (take n all) ops
         (λ w o s. subst (λ l. IsSpelled w.text l o) (sym grown) (spelled_kept items more w.text o s)) read.spelled
 
--- the words of a text are at fault first where one is
+-- the first error of the words of a text, at the first wrong word
 pub first_fault : (all rest : List Word) (w : Word) (n : ℕ) (items : List (List ℕ)) (ops : List Operation) (f : NotationFault)
     → n ≡ length ops → drop n all ≡ w ∷ rest → AreRead (take n all) items ops → IsFaultAt ops w f → IsFirstFault all f
 first_fault all rest w n items ops NoMemory many next read fault = tt
@@ -72,7 +72,7 @@ first_fault all rest w n items ops (NoOperation line shown) many next read fault
 first_fault all rest w n items ops (Ended line t) many next read fault =
     record { place = n; word = w; items = items; before = ops; read = read; at = (take_next n all rest w next).2; fault = fault }
 
--- where the items are known, no two have one text
+-- if the items are known, no two have one text
 pub known_apart : (items : Items) → KnowsItems items
     → (x y : ℕ) (text : List ℕ) → slice_get (texts_of items) x ≡ Some text → slice_get (texts_of items) y ≡ Some text → x ≡ y
 known_apart items known x y text at_x at_y = let same : Some x ≡ Some y = sym ((known text x).1 at_x) ∙ (known text y).1 at_y in cc

@@ -10,7 +10,7 @@ use Rattle.sgt_notation.specs.Spellings.{bracketed}
 use Rattle.sgt_format.specs.Decimals.{key_text}
 use Rattle.sgt_notation.specs.Transcripts.{access_lines}
 
--- an item in brackets behind a text, in pieces
+-- an item in brackets after a text, in pieces
 item-pieces : (a lb tb sl id rb : List ℕ) → a ++ (lb ++ (tb ++ sl ++ id) ++ rb) ≡ a ++ lb ++ tb ++ sl ++ id ++ rb
 item-pieces a lb tb sl id rb =
     sym (append_assoc a (lb ++ (tb ++ sl ++ id)) rb)
@@ -35,7 +35,7 @@ access_line letter t k a b c d e to_b to_c to_d to_e =
     ∙ append_assoc a (letter ++ decimal t ++ item) (codes "\n")
     ∙ ap (λ l. a ++ l) (sym (append-nil (letter ++ decimal t ++ item ++ codes "\n")))
 
--- what begins with more begins with less
+-- what starts with more starts with less
 pub still_begins : {A : Type 0} (old more mid new : List A) → mid ≡ old ++ more → take (length mid) new ≡ mid → take (length old) new ≡ old
 still_begins old more mid new is kept =
     let longer : length old ≤ length mid = omega (arith, ap length is, length-append old more) in

@@ -5,7 +5,7 @@ use Rattle.std.proofs.lemmas.Grind.{common_steps}
 use Rattle.std.proofs.lemmas.List.{get_or-drop}
 use Rattle.sgt_notation.specs.Words.{words, parts_words, is_break, is_blank, is_hash, begin_word, in_front}
 
--- what is taken of four where no test holds
+-- the choice among four if no test holds
 none_holds : {A : Type 0} (x y z : Bool) (p q r s : A) → (x || (y || z)) ≡ false
     → (if x then p else if false || z then q else if y then r else s) ≡ s
 none_holds false false false p q r s h = refl
@@ -13,7 +13,7 @@ none_holds false false true p q r s h = absurd (cc)
 none_holds false true z p q r s h = absurd (cc)
 none_holds true y z p q r s h = absurd (cc)
 
--- the words of bytes that begin with one of a word
+-- the words of bytes that start with one of a word
 in_word : (n b : ℕ) (bs : List ℕ) → parts_words b ≡ false → words false n (b ∷ bs) ≡ begin_word n b bs (words false n bs)
 in_word n b bs plain = none_holds (is_break b) (is_blank b) (is_hash b) _ _ _ _ plain
 
@@ -33,7 +33,7 @@ first_word n (suc (suc k)) (b ∷ c ∷ cs) some bounds inside ends =
     (λ less. ends (omega (arith, less))) in
     in_word n b (c ∷ cs) (inside 0 (omega arith)) ∙ rw plain (ap (in_front b) rest)
 
--- the word that begins at one place and ends at another
+-- the word from one position to another
 pub word_between : (n from end : ℕ) (text : List ℕ) → from < end → end ≤ length text
     → ((i : ℕ) → from ≤ i → i < end → parts_words (slice_index text i) ≡ false)
     → (end < length text → parts_words (slice_index text end) ≡ true)

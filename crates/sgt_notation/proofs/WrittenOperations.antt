@@ -14,7 +14,7 @@ use Rattle.sgt_textbook.specs.Textbook.{each_does, named, operations_in, operati
 use Rattle.sgt_format.specs.Decimals.{key_text}
 use Rattle.sgt_notation.specs.Transcripts.{NamesKey, TranscriptsSpellTextbooks, access_lines, end_lines, operations_text, spelled_lines}
 
--- accesses, where the item has the key's text
+-- accesses, if the item has the key's text
 reads : (items : List (List ℕ)) (x : ℕ) (k : Key) (ts : List ℕ) → text_at items x ≡ key_text k
     → access_lines (codes "r") k ts ≡ spelled_lines items (each_does (action.Read x) ts)
 reads items x k [] is = refl

@@ -1,4 +1,4 @@
--- What is kept while a text is read: the numbers of its items, and who has ended.
+-- What the reader stores: the numbers of items, and which transactions have ended.
 use Rattle.std.specs.Prelude.{◌≡◌, ◌↔◌, ℕ, Bool, true, false, List, [], ◌∷◌, ◌++◌, Option, Some, IsSome, map, length, slice_get, bytes_eq}
 use Rattle.std.specs.HashMap.{get_by}
 use Rattle.sgt_classes.specs.declared.operation.Operation.{Operation}
@@ -14,22 +14,22 @@ use Rattle.sgt_notation.specs.declared.reader.HistoryReader.{HistoryReader}
 abbrev pub texts_of : Items → List (List ℕ)
 texts_of items = map (λ text. text.items) items.texts.items
 
--- the number that is kept for the text
+-- the number stored for the text
 abbrev pub number_of : Items → List ℕ → Option ℕ
 number_of items text = get_by (λ k. bytes_eq text k.items) items.numbers
 
--- the number that is kept for a text is that of its item
+-- the number stored for a text is that of its item
 abbrev pub KnowsItems : Items → Type 0
 KnowsItems items = (text : List ℕ) (x : ℕ) → (number_of items text ≡ Some x) ↔ (slice_get (texts_of items) x ≡ Some text)
 
--- whether it ends its transaction
+-- whether the action ends its transaction
 abbrev pub is_end : Action → Bool
 is_end (Read x) = false
 is_end (Write x) = false
 is_end Commit = true
 is_end Abort = true
 
--- those that have ended
+-- the transactions that have ended
 abbrev pub KnowsEnds : List Operation → (ℕ → Option ℕ) → Type 0
 KnowsEnds ops ends = (t : ℕ) → IsSome (ends t) ↔ EndedBefore ops t (length ops)
 
@@ -38,7 +38,7 @@ pub record KnowsHistory (r : HistoryReader) : Type 0 where
   pub items : KnowsItems r.items
   pub ends : KnowsEnds r.operations.items (entry_of r.ended)
 
--- the word is the operation that has come behind the others, of a transaction that had not ended
+-- the word is the operation added after the others, of a transaction that had not ended
 pub record TakesWord (old new : HistoryReader) (word : List ℕ) : Type 0 where
   pub operation : Operation
   pub more : List (List ℕ)

@@ -7,7 +7,7 @@ use Rattle.sgt_classes.specs.declared.operation.Operation.{Operation}
 use Rattle.sgt_classes.specs.declared.operation.Action.{Action}
 use Rattle.sgt_classes.specs.declared.operation.Action.TheVariants.{Read, Write, Commit, Abort}
 
--- whether the byte is between these
+-- whether the byte is in this range
 abbrev pub is_within : ℕ → ℕ → ℕ → Bool
 is_within low high b = nat_le low b && nat_le b high
 
@@ -16,7 +16,7 @@ abbrev pub is_item_byte : ℕ → Bool
 is_item_byte b = is_within 65 90 b || (is_within 97 122 b || (is_within 48 57 b
     || (b == 95 || (b == 46 || (b == 47 || (b == 58 || b == 45))))))
 
--- each byte may be one of an item
+-- an item may contain each byte
 abbrev pub are_item_bytes : List ℕ → Bool
 are_item_bytes [] = true
 are_item_bytes (b ∷ bs) = is_item_byte b && are_item_bytes bs
@@ -27,7 +27,7 @@ pub record IsItem (text : List ℕ) : Type 0 where
   pub short : length text ≤ 64
   pub bytes : are_item_bytes text ≡ true
 
--- the brackets round the text of an item
+-- the text of an item in brackets
 abbrev pub bracketed : List ℕ → List ℕ
 bracketed item = codes "[" ++ item ++ codes "]"
 
@@ -35,7 +35,7 @@ bracketed item = codes "[" ++ item ++ codes "]"
 abbrev pub text_at : List (List ℕ) → ℕ → List ℕ
 text_at items x = option_map_or (λ text. text) (slice_get items x) []
 
--- what a transaction does, where these are the items' texts
+-- the text of a transaction's action, with these texts of items
 abbrev pub act_text : List (List ℕ) → ℕ → Action → List ℕ
 act_text items t (Read x) = codes "r" ++ decimal t ++ bracketed (text_at items x)
 act_text items t (Write x) = codes "w" ++ decimal t ++ bracketed (text_at items x)
@@ -46,7 +46,7 @@ act_text items t Abort = codes "a" ++ decimal t
 abbrev pub spelling : List (List ℕ) → Operation → List ℕ
 spelling items op = act_text items op.transaction op.action
 
--- the word spells the operation, on an item of these if on any
+-- the word spells the operation, on one of these items if it has an item
 pub record IsSpelled (word : List ℕ) (items : List (List ℕ)) (op : Operation) : Type 0 where
   pub text : word ≡ spelling items op
   pub transaction : op.transaction < 2 ^ 32

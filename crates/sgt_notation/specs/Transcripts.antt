@@ -20,8 +20,9 @@ access_lines letter key = flat_map (λ t. letter ++ decimal t ++ bracketed (key_
 abbrev pub end_lines : List ℕ → List ℕ → List ℕ
 end_lines letter = flat_map (λ t. letter ++ decimal t ++ codes "\n")
 
--- The lines of the operations that an event with this reply is. A step that looked is a read, and one that stored a write. A
--- commit is one where it is told to be; an abort is that of the event's transaction, and then of each that fell.
+-- The lines of the operations of an event with this reply. `Looked` is a read, and `Wrote` a write. A commit is one
+-- if the reply says so. An abort is first that of the event's transaction, and then one for each that is aborted in
+-- cascade.
 abbrev pub operations_text : Event → Reply → List ℕ
 operations_text event (reply.Looked k v) = access_lines (codes "r") k (stepping event)
 operations_text event (reply.Wrote k v) = access_lines (codes "w") k (stepping event)
@@ -30,7 +31,7 @@ operations_text event (reply.Aborted why fell) = end_lines (codes "a") (named ev
 operations_text event (reply.Refused code fell) = end_lines (codes "a") (named event ++ fell)
 operations_text event _ = []
 
--- the transcript of entries, which stand newest first: the newest one's operations come last
+-- the transcript of entries, newest entry first: the newest one's operations come last
 abbrev pub transcript : List Entry → List ℕ
 transcript [] = []
 transcript (e ∷ past) = transcript past ++ operations_text e.event e.reply
@@ -41,13 +42,13 @@ cut_comment entries = codes "# cut " ++ decimal entries ++ codes "\n"
 
 -- ---- what it spells
 
--- the name of the key's item is the text of the key, where the reply names a key
+-- the name of the key's item is the text of the key, if the reply names a key
 abbrev pub NamesKey : (Key → ℕ) → List (List ℕ) → Reply → Type 0
 NamesKey number items (reply.Looked k v) = text_at items (number k) ≡ key_text k
 NamesKey number items (reply.Wrote k v) = text_at items (number k) ≡ key_text k
 NamesKey number items _ = ⊤
 
--- so it is with each key of these entries
+-- the same for each key of these entries
 abbrev pub NamesKeys : (Key → ℕ) → List (List ℕ) → List Entry → Type 0
 NamesKeys number items [] = ⊤
 NamesKeys number items (e ∷ past) = NamesKeys number items past × NamesKey number items e.reply

@@ -1,4 +1,4 @@
--- A text as words, each with the number of its line. Blanks, ends of lines and comments part them.
+-- A text as words, each with the number of its line. White space and comments separate them.
 use Rattle.std.specs.Prelude.{ℕ, ◌+◌, ◌==◌, Bool, true, false, ◌||◌, if◌then◌else◌, List, [], ◌∷◌}
 
 -- a word and the number of its line, from 1
@@ -6,7 +6,7 @@ pub record Word : Type 0 where
   pub line : ℕ
   pub text : List ℕ
 
--- the end of a line
+-- the newline
 abbrev pub is_break : ℕ → Bool
 is_break b = b == 10
 
@@ -14,25 +14,25 @@ is_break b = b == 10
 abbrev pub is_blank : ℕ → Bool
 is_blank b = b == 32 || (b == 9 || b == 13)
 
--- a `#`, which begins a comment
+-- a `#`, which starts a comment
 abbrev pub is_hash : ℕ → Bool
 is_hash b = b == 35
 
--- no byte of a word
+-- a byte that separates words
 abbrev pub parts_words : ℕ → Bool
 parts_words b = is_break b || (is_blank b || is_hash b)
 
--- with this byte at the front of the first word
+-- with this byte before the first word
 abbrev pub in_front : ℕ → List Word → List Word
 in_front b [] = []
 in_front b (w ∷ ws) = record { line = w.line; text = b ∷ w.text } ∷ ws
 
--- the byte as the front of the word that goes on behind it, or as a word of its own
+-- the byte as the start of the word that continues after it, or as a word of its own
 abbrev pub begin_word : ℕ → ℕ → List ℕ → List Word → List Word
 begin_word n b [] later = record { line = n; text = b ∷ [] } ∷ later
 begin_word n b (c ∷ cs) later = if parts_words c then record { line = n; text = b ∷ [] } ∷ later else in_front b later
 
--- the words of bytes on line n and the later ones, which begin in a comment or not
+-- the words of bytes on line n and later lines, which start in a comment or not
 abbrev pub words : Bool → ℕ → List ℕ → List Word
 words comment n [] = []
 words comment n (b ∷ bs) =

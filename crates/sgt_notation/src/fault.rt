@@ -1,4 +1,4 @@
-//! What can be wrong with the text of a history.
+//! The errors that the text of a history can have.
 ghost use Rattle.std.specs.Prelude.{◌≡◌, map, take, IfOk};
 ghost use Rattle.sgt_notation.specs.declared.fault.NotationFault.TheVariants as fault;
 ghost use Rattle.sgt_notation.specs.Readings.{shown_byte};
@@ -9,7 +9,7 @@ use std::fmt::{self, Display, Formatter};
 use std::str;
 use thiserror::Error;
 
-/// What is wrong with a text. Lines are numbered from 1.
+/// An error of a text. Lines are numbered from 1.
 #[derive(Debug, Drop, PartialEq, Eq, Error)]
 pub enum NotationFault {
     /// A word of the line spells no operation.
@@ -18,7 +18,7 @@ pub enum NotationFault {
     /// The line has an operation of this transaction, which has ended.
     #[error("line {0}: transaction {1} has ended")]
     Ended(u64, u32),
-    /// A growth was refused.
+    /// An allocation failed.
     #[error("no memory")]
     NoMemory,
 }
@@ -34,19 +34,19 @@ impl From<NoMemory> for NotationFault {
 /// How many bytes of a word are shown.
 const LONGEST_SHOWN: usize = 32;
 
-/// The beginning of a word that spells no operation, for a message: its first 32 bytes, with `?` for each that is not printable
-/// ASCII.
+/// The start of a word that spells no operation, for a message: its first 32 bytes. Each byte that is not printable
+/// ASCII is shown as `?`.
 #[derive(Debug, Drop, PartialEq, Eq)]
 pub struct Shown {
     pub text: Vec<u8>,
 }
 
 impl Shown {
-    /// The beginning of the word.
+    /// The start of the word.
     ///
     /// # Errors
     ///
-    /// `NoMemory` where there is none for it.
+    /// `NoMemory` if an allocation failed.
     pub fn of(alloc: Global, word: &[u8]) -> Result<Self, NoMemory>
         ensures { IfOk result (λ s. s.text.items ≡ map shown_byte (take 32 word.now)) }
     {

@@ -28,11 +28,11 @@ impl Items {
         }
     }
 
-    /// The number of the item of this text, which it takes in as the last one where it is new.
+    /// The number of the item with this text. A new item gets the next number.
     ///
     /// # Errors
     ///
-    /// `NoMemory` where there is none for it. It is not to be used again then.
+    /// `NoMemory` if an allocation failed. Do not use the items again then.
     pub fn number(&mut self, alloc: Global, text: &[u8]) -> Result<u32, NoMemory>
         requires few { length (texts_of self.old) + 1 < 2 ^ 32 }
         requires known { KnowsItems self.old }

@@ -1,16 +1,17 @@
-//! Histories as text, in the notation of Bernstein, Hadzilacos and Goodman (1987), chapter 2: `r1[x] w2[x] c1 a2`. One room reads
-//! and writes it.
+//! Histories as text, in the notation of Bernstein, Hadzilacos and Goodman (1987), chapter 2: `r1[x] w2[x] c1 a2`.
+//! This crate both reads and writes it.
 //!
-//! - Reading: [`read_history`] turns the bytes of a text into the operations that it spells, with the texts of their items, or
-//!   reports the first fault. `specs/Words.antt` says what a word is, `specs/Spellings.antt` what it spells, and
-//!   `specs/Readings.antt` what the history of a text is.
-//! - Writing what was read: [`append_operation`] adds an operation as it is spelled.
-//! - Writing a run of the engine: [`append_operations`] adds the operations of an event with its reply, a line each,
-//!   [`append_transcript`] those of a whole history, and [`append_cut_comment`] a comment where a history is cut off. An item is
-//!   then a key, its table and its number there. `specs/Transcripts.antt` says which text these are; the law
-//!   [`transcripts_spell_textbooks`] says that it spells the operations of the textbook's history (`sgt_textbook`).
+//! - Reading: [`read_history`] turns the bytes of a text into its operations and the texts of their items, or reports
+//!   the first error. `specs/Words.antt` defines words, `specs/Spellings.antt` what a word spells, and
+//!   `specs/Readings.antt` the history of a text.
+//! - Writing what was read: [`append_operation`] appends an operation as it is spelled.
+//! - Writing a run of the engine: [`append_operations`] appends the operations of an event with its reply, a line
+//!   each. [`append_transcript`] appends those of a whole history, and [`append_cut_comment`] a comment where a
+//!   history is cut off. An item is then a key: its table and its number there. `specs/Transcripts.antt` defines
+//!   these texts. The law [`transcripts_spell_textbooks`] says that a transcript spells the operations of the
+//!   textbook's history (`sgt_textbook`).
 //!
-//! The crate judges no history: `sgt_classes` does.
+//! The crate does not classify histories: `sgt_classes` does.
 //!
 //! ```
 //! let history = read_history(alloc, b"r1[x] w2[x] # 2 overwrites\nc1 a2")?;

@@ -1,4 +1,4 @@
-//! The operations that an event with its reply is, as text.
+//! The operations of an event with its reply, as text.
 ghost use Rattle.std.specs.Prelude.{◌≡◌, ◌++◌, take, OnOk, OnErr, vec_len, codes};
 ghost use Rattle.std.specs.Fmt.{decimal};
 ghost use Rattle.sgt_notation.specs.Spellings.{bracketed};
@@ -10,9 +10,9 @@ use sgt_format::{append_number, append_numbered};
 use sgt_model::{Event, Key, NoMemory, Reply, Tid, Tids};
 use std::alloc::AllocError;
 
-/// Adds the operations that an event with this reply is, a line each. It takes no memory but the text's growth.
+/// Appends the operations of an event with this reply, a line each. It allocates only for the growth of the text.
 ///
-/// `NoMemory` where the growth was refused.
+/// `NoMemory` if that allocation failed.
 pub fn append_operations(text: &mut Vec<u8>, event: &Event, reply: &Reply) -> Result<(), NoMemory>
     ensures ok { OnOk result (text.new.items ≡ text.old.items ++ operations_text event.now reply.now) }
     ensures err { OnErr result (text.new.items ≡ text.old.items) }
@@ -25,9 +25,10 @@ pub fn append_operations(text: &mut Vec<u8>, event: &Event, reply: &Reply) -> Re
     Ok(())
 }
 
-/// Adds a comment that so many entries were cut off: what follows is another history. It takes no memory but the text's growth.
+/// Appends a comment that so many entries were cut off: what follows is another history. It allocates only for the
+/// growth of the text.
 ///
-/// `NoMemory` where the growth was refused.
+/// `NoMemory` if that allocation failed.
 pub fn append_cut_comment(text: &mut Vec<u8>, entries: usize) -> Result<(), NoMemory>
     ensures ok { OnOk result (text.new.items ≡ text.old.items ++ cut_comment entries) }
     ensures err { OnErr result (text.new.items ≡ text.old.items) }
@@ -55,7 +56,7 @@ fn append_lines(text: &mut Vec<u8>, event: &Event, reply: &Reply) -> Result<(), 
     }
 }
 
-/// Adds the access of the transaction that made the step. On an error the text still begins with what it held.
+/// Appends the access of the transaction that made the step. On an error the text still begins with what it held.
 fn append_access(
     text: &mut Vec<u8>,
     letter: &[u8],
@@ -75,8 +76,8 @@ fn append_access(
     text.extend_from_slice(b"]\n")
 }
 
-/// Adds the aborts of the transaction that the event names, and of those that fell. On an error the text still begins with what
-/// it held.
+/// Appends the aborts of the event's transaction and of those aborted in cascade. On an error the text still begins
+/// with what it held.
 fn append_aborts(text: &mut Vec<u8>, event: &Event, fell: &Tids) -> Result<(), AllocError>
     ensures ok { OnOk result (text.new.items ≡ text.old.items
         ++ end_lines (codes "a") (named event.now ++ fell.now)) }
@@ -86,7 +87,7 @@ fn append_aborts(text: &mut Vec<u8>, event: &Event, fell: &Tids) -> Result<(), A
     append_ends(text, b"a", fell.as_slice())
 }
 
-/// Adds the end of the transaction that the event names. On an error the text still begins with what it held.
+/// Appends the end of the event's transaction. On an error the text still begins with what it held.
 fn append_named(text: &mut Vec<u8>, letter: &[u8], event: &Event) -> Result<(), AllocError>
     ensures ok { OnOk result (text.new.items ≡ text.old.items ++ end_lines letter.now (named event.now)) }
     ensures err { OnErr result (take (vec_len text.old) text.new.items ≡ text.old.items) }
@@ -97,7 +98,7 @@ fn append_named(text: &mut Vec<u8>, letter: &[u8], event: &Event) -> Result<(), 
     }
 }
 
-/// Adds the end of each of these transactions. On an error the text still begins with what it held.
+/// Appends the end of each of these transactions. On an error the text still begins with what it held.
 fn append_ends(text: &mut Vec<u8>, letter: &[u8], tids: &[Tid]) -> Result<(), AllocError>
     ensures ok { OnOk result (text.new.items ≡ text.old.items ++ end_lines letter.now tids.now) }
     ensures err { OnErr result (take (vec_len text.old) text.new.items ≡ text.old.items) }
@@ -108,7 +109,7 @@ fn append_ends(text: &mut Vec<u8>, letter: &[u8], tids: &[Tid]) -> Result<(), Al
     Ok(())
 }
 
-/// Adds a line of words and a number. On an error the text still begins with what it held.
+/// Appends a line of words and a number. On an error the text still begins with what it held.
 fn append_line(text: &mut Vec<u8>, words: &[u8], number: u64) -> Result<(), AllocError>
     ensures ok { OnOk result
         (text.new.items ≡ text.old.items ++ words.now ++ decimal number ++ codes "\n") }

@@ -1,4 +1,4 @@
-//! A text as a history.
+//! Reading a text as a history.
 ghost use Rattle.std.specs.Prelude.{◌≡◌, ◌<◌, ◌≤◌, ◌+◌, ◌^◌, ◌∷◌, ◌++◌, [], ℕ, List, length, IfOk, IfErr, OnOk};
 ghost use Rattle.sgt_classes.specs.declared.operation.Operation.{Operation};
 ghost use Rattle.sgt_classes.specs.Histories.{EndedBefore};
@@ -17,18 +17,19 @@ use sgt_classes::{Action, Operation, Table};
 use sgt_model::NoMemory;
 use std::alloc::Global;
 
-/// About how many bytes an operation has. It bounds nothing but the memory that the numbers of transactions take.
+/// About how many bytes an operation has. It affects only the memory for the numbers of transactions.
 const BYTES: usize = 8;
 
 /// The history that the text spells. Each item has a number of its own.
 ///
-/// An operation costs a look-up among the items' texts, by a hash, and two among the transactions that have ended. The hash has no
-/// secret: whoever writes the text can choose items whose look-ups are long.
+/// An operation costs a hash lookup among the items' texts, and two lookups among the transactions that have ended.
+/// The hash has no secret: the author of a text can choose items whose lookups are slow.
 ///
 /// # Errors
 ///
-/// `NoOperation` at the first word that spells none and `Ended` at the first operation of a transaction that has ended, whichever
-/// comes first. `NoMemory` where a growth was refused.
+/// - `NoOperation` at the first word that spells no operation, or `Ended` at the first operation of a transaction
+///   that has ended, whichever comes first.
+/// - `NoMemory` if an allocation failed.
 pub fn read_history(alloc: Global, text: &[u8]) -> Result<History, NotationFault>
     requires { length text.now < 2 ^ 32 }
     ensures ok { IfOk result (λ h. AreRead (words_of text.now) (texts h) h.operations.items) }
@@ -58,12 +59,12 @@ pub fn read_history(alloc: Global, text: &[u8]) -> Result<History, NotationFault
 pub(crate) struct HistoryReader {
     operations: Vec<Operation>,
     items: Items,
-    /// Where a transaction has ended.
+    /// The position at which a transaction has ended.
     ended: Table,
 }
 
 impl HistoryReader {
-    /// Nothing has been read. The transactions whose numbers are below the bound are found at once.
+    /// Nothing has been read. Transactions with numbers below the bound are found by index.
     pub fn new(alloc: Global, bound: usize) -> Self
         ensures known { KnowsHistory result }
         ensures no_operations { result.operations.items ≡ [] }
@@ -76,11 +77,11 @@ impl HistoryReader {
         }
     }
 
-    /// Takes the next word, of the line of this number.
+    /// Reads the next word, from the line with this number.
     ///
     /// # Errors
     ///
-    /// What is wrong with the word, or `NoMemory`. Nothing is to be read further then.
+    /// The error of the word, or `NoMemory`. Read nothing more then.
     pub fn take(&mut self, alloc: Global, line: u64, word: &[u8]) -> Result<(), NotationFault>
         requires few { length (texts_of self.old.items) + 1 < 2 ^ 32 }
         requires known { KnowsHistory self.old }
@@ -123,7 +124,7 @@ impl HistoryReader {
         }
     }
 
-    /// Notes the operation, and that its transaction has ended where it is an end.
+    /// Records the operation. If it is an end, its transaction has ended.
     fn note(&mut self, operation: Operation) -> Result<(), NoMemory>
         requires ends { KnowsEnds self.old.operations.items (entry_of self.old.ended) }
         ensures operations { OnOk result (self.new.operations.items ≡ self.old.operations.items ++ operation ∷ []) }
@@ -136,14 +137,14 @@ impl HistoryReader {
     }
 }
 
-/// Whether it ends its transaction.
+/// Whether the action ends its transaction.
 fn is_end(action: &Action) -> bool
     ensures { result ≡ is_end action.now }
 {
     matches!(action, Action::Commit | Action::Abort)
 }
 
-/// Notes that the operation's transaction has ended at the place, where the operation is an end.
+/// Records that the operation's transaction has ended at the position, if the operation is an end.
 fn note_end(ended: &mut Table, operation: Operation, place: usize) -> Result<(), NoMemory>
     ensures { OnOk result ((before : List Operation) → KnowsEnds before (entry_of ended.old)
         → KnowsEnds (before ++ operation ∷ []) (entry_of ended.new)) }

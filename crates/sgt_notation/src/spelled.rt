@@ -6,20 +6,20 @@ ghost use Rattle.sgt_notation.specs.Spellings.{is_item_byte, are_item_bytes, IsI
 use memchr::memchr;
 use sgt_classes::{Action, Operation};
 
-/// The most bytes that an item may have.
+/// The maximum length of an item, in bytes.
 const LONGEST_ITEM: usize = 64;
 
-/// The most digits that a transaction may have.
+/// The maximum number of digits of a transaction.
 const LONGEST_NUMBER: usize = 10;
 
-/// An operation on the item of number 0, if on any, and the text of that item.
+/// An operation, and the text of its item. If it has an item, that is number 0.
 #[derive(Clone, Copy)]
 pub(crate) struct Spelled<'a> {
     pub operation: Operation,
     pub item: &'a [u8],
 }
 
-/// What the word spells, or `None` where it is no operation.
+/// What the word spells, or `None` if it is no operation.
 pub(crate) fn read_word<'a>(word: &'a [u8]) -> Option<Spelled<'a>>
     ensures some { IfSome result (λ s. IsSpelled word.now (s.item.now ∷ []) s.operation) }
     ensures none { IsNone result → ¬ IsOperation word.now }
@@ -37,7 +37,7 @@ pub(crate) fn read_word<'a>(word: &'a [u8]) -> Option<Spelled<'a>>
     }
 }
 
-/// A commit or an abort by what stands behind its letter.
+/// A commit or an abort from the text after its letter.
 fn read_end<'a>(rest: &'a [u8], action: Action) -> Option<Spelled<'a>>
     ensures some { IfSome result (λ s. (s.operation.action ≡ action) × (s.operation.transaction < 2 ^ 32)
         × (rest.now ≡ decimal s.operation.transaction)) }
@@ -54,7 +54,7 @@ fn read_end<'a>(rest: &'a [u8], action: Action) -> Option<Spelled<'a>>
     })
 }
 
-/// A read or a write by what stands behind its letter.
+/// A read or a write from the text after its letter.
 fn read_access<'a>(rest: &'a [u8], action: Action) -> Option<Spelled<'a>>
     ensures some { IfSome result (λ s. (s.operation.action ≡ action) × (s.operation.transaction < 2 ^ 32) × IsItem s.item.now
         × (rest.now ≡ decimal s.operation.transaction ++ bracketed s.item.now)) }
@@ -76,7 +76,7 @@ fn read_access<'a>(rest: &'a [u8], action: Action) -> Option<Spelled<'a>>
     Some(Spelled { operation, item })
 }
 
-/// An item by what stands behind its opening bracket.
+/// An item from the text after its opening bracket.
 fn read_item<'a>(bytes: &'a [u8]) -> Option<&'a [u8]>
     ensures some { IfSome result (λ x. IsItem x.now × (bytes.now ≡ x.now ++ codes "]")) }
     ensures none { IsNone result → (x : List ℕ) → IsItem x → bytes.now ≢ x ++ codes "]" }
@@ -92,7 +92,7 @@ fn read_item<'a>(bytes: &'a [u8]) -> Option<&'a [u8]>
     }
 }
 
-/// Whether each byte may be one of an item.
+/// Whether an item may contain each byte.
 fn are_item_bytes(bytes: &[u8]) -> bool
     ensures { result ≡ are_item_bytes bytes.now }
 {
@@ -104,14 +104,14 @@ fn are_item_bytes(bytes: &[u8]) -> bool
     true
 }
 
-/// Whether the byte may be one of an item: a letter, a digit, or one of `_ . / : -`.
+/// Whether an item may contain the byte: a letter, a digit, or one of `_ . / : -`.
 fn is_item_byte(byte: u8) -> bool
     ensures { result ≡ is_item_byte byte }
 {
     matches!(byte, b'A'..=b'Z' | b'a'..=b'z' | b'0'..=b'9' | b'_' | b'.' | b'/' | b':' | b'-')
 }
 
-/// The number that the digits spell, without leading zeros, if it is one of a transaction.
+/// The number that the digits spell, without leading zeros, if it can be a transaction's.
 fn read_number(digits: &[u8]) -> Option<u32>
     ensures some { IfSome result (λ n. (n < 2 ^ 32) × (digits.now ≡ decimal n)) }
     ensures none { IsNone result → (n : ℕ) → n < 2 ^ 32 → digits.now ≢ decimal n }

@@ -1,4 +1,4 @@
-//! An operation of a history that was read, as it is spelled.
+//! Writes an operation of a history as it was spelled when read.
 ghost use Rattle.std.specs.Prelude.{◌≡◌, ◌++◌, [], OnOk, slice_get};
 ghost use Rattle.std.specs.Option.{option_map_or};
 ghost use Rattle.sgt_notation.specs.Spellings.{spelling, bracketed, text_at};
@@ -9,11 +9,11 @@ use sgt_classes::{Action, Operation};
 use sgt_format::append_numbered;
 use sgt_model::NoMemory;
 
-/// Adds the operation as it is spelled.
+/// Appends the operation as it is spelled.
 ///
 /// # Errors
 ///
-/// `NoMemory` if a growth failed.
+/// `NoMemory` if an allocation failed.
 pub fn append_operation(
     text: &mut Vec<u8>,
     history: &History,
@@ -35,7 +35,7 @@ pub fn append_operation(
     }
 }
 
-/// Adds the item in its brackets.
+/// Appends the item in its brackets.
 fn append_item(text: &mut Vec<u8>, history: &History, item: u32) -> Result<(), NoMemory>
     ensures { OnOk result (text.new.items ≡ text.old.items ++ bracketed (text_at (texts history.now) item)) }
 {
@@ -45,7 +45,7 @@ fn append_item(text: &mut Vec<u8>, history: &History, item: u32) -> Result<(), N
     Ok(())
 }
 
-/// Adds the text of the item.
+/// Appends the text of the item.
 fn append_name(text: &mut Vec<u8>, history: &History, item: u32) -> Result<(), NoMemory>
     ensures { OnOk result (text.new.items
         ≡ text.old.items ++ option_map_or (λ name. name.items) (slice_get history.now.items.items item) []) }

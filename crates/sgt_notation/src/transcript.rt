@@ -6,9 +6,9 @@ use crate::operations::append_operations;
 use sgt_log::History;
 use sgt_model::{Entry, NoMemory};
 
-/// Adds the operations of a whole history, a line each.
+/// Appends the operations of a whole history, a line each.
 ///
-/// `NoMemory` where a growth was refused.
+/// `NoMemory` if an allocation failed.
 pub fn append_transcript(text: &mut Vec<u8>, history: &History) -> Result<(), NoMemory>
     ensures { OnOk result
         (text.new.items ≡ text.old.items ++ transcript (reverse history.now.entries)) }

@@ -1,8 +1,8 @@
-//! Where the words of a text are.
+//! The positions of the words of a text.
 ghost use Rattle.std.specs.Prelude.{◌≡◌, ◌<◌, ◌≤◌, ◌+◌, ◌-◌, ◌^◌, ◌∷◌, false, length, drop, take, slice_index};
 ghost use Rattle.sgt_notation.specs.Words.{words, parts_words};
 
-/// A place in a text: the next byte, and its line from 1.
+/// A position in a text: the next byte, and its line from 1.
 #[derive(Clone, Copy)]
 pub(crate) struct Place {
     /// How many bytes come before it.
@@ -11,14 +11,14 @@ pub(crate) struct Place {
     pub line: u64,
 }
 
-/// Whether no word has the byte.
+/// Whether the byte separates words.
 fn parts_words(byte: u8) -> bool
     ensures { result ≡ parts_words byte }
 {
     matches!(byte, b'\n' | b' ' | b'\t' | b'\r' | b'#')
 }
 
-/// Where the next word begins, or the end of the text where there is none.
+/// The start of the next word, or the end of the text if there is none.
 pub(crate) fn next_word(text: &[u8], from: Place) -> Place
     requires bounds { from.at ≤ length text.now }
     requires countable { from.line + length text.now < 2 ^ 64 + from.at }
@@ -45,7 +45,7 @@ pub(crate) fn next_word(text: &[u8], from: Place) -> Place
     place
 }
 
-/// Where the word ends that begins at the place.
+/// The end of the word that starts at the position.
 pub(crate) fn word_end(text: &[u8], from: usize, line: u64) -> usize
     requires bounds { from < length text.now }
     requires word { parts_words (slice_index text.now from) ≡ false }

@@ -1,4 +1,4 @@
--- Steps that come to an access, or to the code that is asked in its place.
+-- Steps that lead to an access, or to the code raised in its place.
 use Rattle.std.proofs.Common.{◌≡◌, refl, sym, ap, ◌∙◌, ℕ, ℤ, ◌+◌, ◌<◌, Bool, true, false, Ok, Err, cond}
 use Rattle.sgt_model.specs.Numbers.{is_value}
 use Rattle.sgt_model.specs.Contents.{Key}
@@ -39,7 +39,7 @@ both_made (Err code) v key make found e = ap (λ r. and_then r (λ p. make p.0 p
 
 module _ (b : Block) (m : Place) (s : Statement) (inside : IsIn b m)
     (here : behind m.at (inner m.path.items b) ≡ in_front s (behind (m.at + 1) (inner m.path.items b))) where
-  -- where the statements to come lead, which begin with this one
+  -- where the remaining statements lead, which start with this one
   led : reach_from b m ≡ reach (followed_by (in_front s (behind (m.at + 1) (inner m.path.items b))) (outer m.path.items b))
       m.args m.registers m.answers
   led = ap (λ x. reach (followed_by x (outer m.path.items b)) m.args m.registers m.answers) here
@@ -52,7 +52,7 @@ module _ (b : Block) (m : Place) (s : Statement) (inside : IsIn b m)
   stops : (st : Stop) → reach_from b m ≡ reached_at b m st → StopsBefore m st → HasFound st → Stops b m st m
   stops st same before found = record { same = sym same; inside = inside; before = before; found = found }
 
-  -- a look
+  -- a read
   module _ (to table : ℕ) (id : Expr) (absent : ℕ) (is : s ≡ Look to table id absent) (found : OrCode Key)
       (looked_for : found ≡ and_then (number_or_code (value_of (expr_text id) m.args m.registers)) (λ n. key_of table n)) where
     look_led : reach_from b m ≡ and_then found (λ key. Ok (AtLook key to absent (rest_from b m (m.at + 1))))
@@ -86,7 +86,7 @@ module _ (b : Block) (m : Place) (s : Statement) (inside : IsIn b m)
     find_asks code e = stops (stop.Asks code)
         (find_led ∙ ap (λ x. and_then x (λ p. Ok (AtFind p.0 to p.1 (rest_from b m (m.at + 1))))) (sym e)) tt tt
 
-  -- a store
+  -- a write
   module _ (table : ℕ) (id value : Expr) (is : s ≡ Put table id value) (found : OrCode (Key × ℤ))
       (looked_for : found ≡ in_turn {A = Key × ℤ} (number_or_code (value_of (expr_text id) m.args m.registers))
       (number_or_code (value_of (expr_text value) m.args m.registers))

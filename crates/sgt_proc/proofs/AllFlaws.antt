@@ -14,7 +14,7 @@ all_flaws =
 same_truth : (a b : Bool) → a ≡ b → IsTrue a ↔ IsTrue b
 same_truth a b e = (subst IsTrue e, subst IsTrue (sym e))
 
--- a flaw of single numbers is in the text where some number in it is bad
+-- a flaw of single numbers is in the text if some number in it is bad
 pub number_flaw : (f : Flaw) (p : ProcedureText) (found : Bool)
     → (f ≡ HighRegister) ⊎ ((f ≡ NoArgument) ⊎ ((f ≡ HighTable) ⊎ ((f ≡ BadCode) ⊎ (f ≡ BadLiteral))))
     → found ≡ in_block (is_bad f p.args) p.body → IsTrue found ↔ HasFlaw f p

@@ -15,7 +15,7 @@ use Rattle.sgt_proc.specs.declared.numbers.Number.TheVariants.{Register, Argumen
 use Rattle.sgt_proc.specs.Flaws.{in_expr, in_cond, in_block}
 use Rattle.sgt_proc.specs.NumberFlaws.{is_bad}
 
--- some number along a way is so
+-- it holds for some number along a path
 abbrev pub in_way : (Number → Bool) → Way → Bool
 in_way so way.end = false
 in_way so (way.look to table id absent rest) =
@@ -32,7 +32,7 @@ or_none : (a b : Bool) → a ≡ false → b ≡ false → (a || b) ≡ false
 or_none true b e f = e
 or_none false b e f = f
 
--- the ways of a text have no number that the text has not
+-- the paths of a text have only numbers of the text
 pub in_onto : (so : Number → Bool) (b : Block) (rest : Way) → in_block so b ≡ false → in_way so rest ≡ false
     → in_way so (onto b rest) ≡ false
 in_onto so text.empty rest h r = r
@@ -49,7 +49,7 @@ in_onto so (text.choose test ys ns b) rest h r =
     (in_onto so ns (onto b rest) branches.1 (in_onto so b rest p.1 r)))
 in_onto so (text.answer value b) rest h r = let p = or_parts _ (in_block so b) h in or_none _ _ p.0 (in_onto so b rest p.1 r)
 
--- where no number is so, none in a text is
+-- if it holds for no number, it holds for none in a text
 term_nothing : (t : ExprText) → in_expr (λ n. false) t ≡ false
 term_nothing (text.num n) = refl
 term_nothing (text.arg n) = refl

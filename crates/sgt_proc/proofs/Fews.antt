@@ -14,7 +14,7 @@ use Rattle.sgt_proc.specs.declared.next.Next.TheVariants as declared
 use Rattle.sgt_proc.specs.Nexts.{seen, IsAccess}
 use Rattle.sgt_proc.specs.Flaws.{size, IsFlawless}
 
--- a run makes at most so many accesses, whatever its looks find
+-- a run makes at most so many accesses, whatever its reads return
 abbrev pub MakesAtMost : Run → ℕ → Type 0
 MakesAtMost (ends answers) n = Unit {0}
 MakesAtMost (raises code) n = Unit {0}
@@ -55,7 +55,7 @@ within_found : (n : ℕ) (absent : ℕ) (found : Option ℤ) (go : ℤ → Run) 
 within_found n absent None go h = tt
 within_found n absent (Some v) go h = h v
 
--- a way whose runs make at most so many accesses
+-- a path whose runs make at most so many accesses
 abbrev WayMakesAtMost : Way → ℕ → Type 0
 WayMakesAtMost w n = (args : List ℤ) (regs : Registers) (answers : List ℤ) → MakesAtMost (run args w regs answers) n
 
@@ -103,7 +103,7 @@ pub within_size : (p : ProcedureText) (args : List ℤ) → MakesAtMost (run_wit
 within_size p args = within_more (run_with p args) (size p.body + 0) (size p.body) (omega arith)
     (within_onto p.body way.end 0 (λ args regs answers. tt) args fresh [])
 
--- and where an access is next, it has made fewer
+-- and if an access is next, it has made fewer
 
 abbrev pub AccessNext : Next → Type 0
 AccessNext (Looks k) = Unit {0}

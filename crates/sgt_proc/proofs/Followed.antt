@@ -37,7 +37,7 @@ followed_size (ask code a) b = omega (arith, followed_size a b)
 followed_size (choose test ys ns a) b = omega (arith, followed_size a b)
 followed_size (answer value a) b = omega (arith, followed_size a b)
 
--- where statements come to that others follow
+-- where statements lead that others follow
 
 then_then : {A : Type 0} (o : OrCode A) (first : A → OrCode Reached) (go_on : Reached → OrCode Reached) (both : A → OrCode Reached)
     → ((a : A) → both a ≡ and_then (first a) go_on) → and_then o both ≡ and_then (and_then o first) go_on
@@ -52,7 +52,7 @@ last_then false r r' go_on same = refl
 abbrev rest_with : Block → List ℤ → Registers → List ℤ → Rest
 rest_with b args registers answers = record { statements = b; args = args; registers = registers; answers = answers }
 
--- what is behind an If, with more behind that
+-- what is after an If, with more after that
 if_then : (args : List ℤ) (b more : Block) (o : OrCode Reached)
     → ((registers : Registers) (answers : List ℤ) → reach (followed_by b more) args registers answers ≡ and_then
     (reach b args registers answers) (then_behind more (reach more args)))

@@ -27,7 +27,7 @@ begun p args m s found same registers answers path at =
     (ap (λ b. ToRun (record { statements = b; args = args; registers = fresh; answers = [] })) (followed_empty p.body))
 
 module _ (b : Block) (behind now : Place) where
-  -- behind a look that found a value
+  -- after a read that returned a value
   pub looked_on : (key : Key) (to absent : ℕ) (v : ℤ) (m : Place) (s : Stop)
       → reached_at b now (stop.Look key to absent) ≡ reached (left_behind b behind (stop.Look key to absent))
       → m ≡ with_found_in (record now { at = now.at + 1 }) to v → HasFound s
@@ -37,7 +37,7 @@ module _ (b : Block) (behind now : Place) where
       ∙ (ap (λ (x : Place). ToRun (rest_from b x x.at)) is
       ∙ ap (λ o. behind_look (Some v) o (left_behind b behind (stop.Look key to absent))) same)
 
-  -- behind a store
+  -- after a write
   pub stored_on : (key : Key) (v : ℤ) (m : Place) (s : Stop)
       → reached_at b now (stop.Put key v) ≡ reached (left_behind b behind (stop.Put key v)) → m ≡ record now { at = now.at + 1 }
       → HasFound s → left_behind b m s ≡ after_store (left_behind b behind (stop.Put key v))

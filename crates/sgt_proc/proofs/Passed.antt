@@ -1,4 +1,4 @@
--- What comes next in a trace, behind the accesses that a cursor has passed.
+-- What comes next in a trace, after the accesses that a cursor has passed.
 use Rattle.std.specs.Prelude.{◌≡◌, ℕ, zero, suc, ◌+◌, ◌<◌, ◌≤◌, ℤ, List, [], ◌∷◌, ◌++◌, length, take, drop, get_or, Option}
 use Rattle.std.proofs.Common.{refl, sym, ap, ◌∙◌, subst, arith}
 use Rattle.std.proofs.lemmas.List.{take-append-drop, take_more, drop_all}
@@ -44,7 +44,7 @@ used_store (raises code) [] zero q x used next = cc
 used_store (raises code) (v ∷ vs) zero q x used next = absurd used
 used_store (raises code) vs (suc made) q x used next = absurd used
 
--- where the values run on, what comes next is the same
+-- if more values follow, what comes next is the same
 
 next_more : (r : Run) (vs more : List (Option ℤ)) (made : ℕ) → Used r vs made
     → next_at (trace r (vs ++ more)) made ≡ next_at (trace r vs) made
@@ -60,7 +60,7 @@ next_more (ends answers) vs more (suc made) used = absurd used
 next_more (raises code) vs more zero used = refl
 next_more (raises code) vs more (suc made) used = absurd used
 
--- and it stays so where no access can be made: at the end, at a code, and at a look for which no value is left
+-- and it stays the same if no access can be made: at the end, at a code, and at a read without a value left
 
 abbrev pub Stays : List (Option ℤ) → Next → Type 0
 Stays more (Looks k) = more ≡ []
@@ -90,7 +90,7 @@ next_stays (raises code) vs more zero zero used stays within = refl
 next_stays (raises code) vs more zero (suc later) used stays within = refl
 next_stays (raises code) vs more (suc made) later used stays within = absurd used
 
--- a cursor has passed so many accesses, of which the looks found so many of the values
+-- a cursor has passed so many accesses, whose reads returned so many of the values
 pub record HasPassed (p : ProcedureText) (args : List ℤ) (read : List (Option ℤ)) (used made : ℕ) (w : ProcedureText × Left) : Type 0 where
   pub few : used ≤ length read
   pub done : Used (run_with p args) (take used read) made
@@ -107,7 +107,7 @@ module _ (p : ProcedureText) (args : List ℤ) (read : List (Option ℤ)) (used 
   one : suc made ≡ made + 1
   one = omega arith
 
-  -- one more look
+  -- one more read
   pub look_passed : (k : Key) (other : Option ℤ) → Looks k ≡ next_left w.1 → used < length read
       → HasPassed p args read (used + 1) (made + 1) (w.0, after_look (get_or read used other) w.1)
   look_passed k other told within = record {
@@ -124,7 +124,7 @@ module _ (p : ProcedureText) (args : List ℤ) (read : List (Option ℤ)) (used 
     more : take (used + 1) read ≡ take used read ++ found ∷ []
     more = take_more read used other within
 
-  -- one more store
+  -- one more write
   pub store_passed : (k : Key) (x : ℤ) → Puts k x ≡ next_left w.1 → HasPassed p args read used (made + 1) (w.0, after_store w.1)
   store_passed k x told = record {
     few = passed.few;
@@ -149,7 +149,7 @@ module _ (p : ProcedureText) (args : List ℤ) (read : List (Option ℤ)) (used 
       ∙ (next_stays (run_with p args) (take used read) (drop used read) made later passed.done
       (subst (Stays (drop used read)) (sym (trace_next n told)) stays) within ∙ trace_next n told))
 
-  -- the look for which no value is left
+  -- the read without a value left
   pub look_stays : (k : Key) (later : ℕ) → Looks k ≡ next_left w.1 → length read ≤ used → made ≤ later
       → Looks k ≡ next_at (trace (run_with p args) read) later
   look_stays k later told none within = next_stays_on (Looks k) later told (drop_all used read none) within

@@ -50,7 +50,7 @@ pub list_size : (list : List Statement) → length list ≤ size (block_of list)
 list_size [] = omega arith
 list_size (s ∷ list) = omega (arith, list_size list, before_size s (block_of list))
 
--- the one at a place
+-- the one at a position
 pub behind_at : (list : List Statement) (n : ℕ) (s : Statement) → n < length list → s ≡ get_or list n s
     → behind n (block_of list) ≡ in_front s (behind (n + 1) (block_of list))
 behind_at list n s h e = behind_list n list ∙ (block_drop list n s h e ∙ ap (in_front s) (sym (behind_list (n + 1) list)))

@@ -1,4 +1,4 @@
--- What is said of a list of statements, by what is said of one of them and of those behind it.
+-- Facts of a list of statements, from those of one statement and of the ones after it.
 use Rattle.std.proofs.Common.{◌≡◌, refl, ap, ◌∙◌, ℕ, ◌+◌, ◌<◌, max, length, get_or, drop, Bool, true, false, ◌||◌, List, arith}
 use Rattle.sgt_model.specs.declared.procedure.Statement.{Statement}
 use Rattle.sgt_model.specs.declared.procedure.Statement.TheVariants.{Look, Find, Put, Let, Ask, If', Answer}

@@ -21,21 +21,21 @@ onto_before (Ask code) b rest = refl
 onto_before (If' cond s ys t ns) b rest = refl
 onto_before (Answer value) b rest = refl
 
--- the text from place i of a list begins with the statement there
+-- the text from index i of a list starts with the statement there
 pub block_drop : (list : List Statement) (i : ℕ) (s : Statement) → i < length list → s ≡ get_or list i s
     → block_of (drop i list) ≡ in_front s (block_of (drop (i + 1) list))
 block_drop list i s h e =
     let d : drop i list ≡ s ∷ drop (i + 1) list = rw add-one (drop-cons list i s h ∙ ap (λ x. x ∷ drop (suc i) list) (sym e)) in
     ap block_of d
 
--- the ways through a list go at last through its last statement
+-- the last step of the paths through a list is its last statement
 pub onto_last : (list : List Statement) (s : Statement) (rest : Way)
     → onto (block_of (list ++ s ∷ [])) rest ≡ onto (block_of list) (onto (in_front s empty) rest)
 onto_last [] s rest = refl
 onto_last (x ∷ xs) s rest = onto_before x (block_of (xs ++ s ∷ [])) rest
     ∙ (ap (onto (in_front x empty)) (onto_last xs s rest) ∙ sym (onto_before x (block_of xs) (onto (in_front s empty) rest)))
 
--- the ways through a list up to place a go at last through the statement before it
+-- the last step of the paths through a list up to index a is the statement before it
 pub onto_ahead : (list : List Statement) (a i : ℕ) (s : Statement) (rest : Way) → a ≡ i + 1 → i < length list → s ≡ get_or list i s
     → onto (block_of (take a list)) rest ≡ onto (block_of (take i list)) (onto (in_front s empty) rest)
 onto_ahead list a i s rest next h e =
@@ -43,14 +43,14 @@ onto_ahead list a i s rest next h e =
     rw (next, add-one) (take-suc list i s h ∙ ap (λ x. take i list ++ x ∷ []) (sym e)) in
     ap (λ l. onto (block_of l) rest) d ∙ onto_last (take i list) s rest
 
--- where nothing is left ahead, the ways are those behind
+-- if nothing is left ahead, the paths are those after
 pub onto_none : (list : List Statement) (a : ℕ) (rest behind : Way) → a ≤ 0
     → onto (block_of list) rest ≡ onto (block_of (take a list)) behind → onto (block_of list) rest ≡ behind
 onto_none list zero rest behind h e = e
 onto_none list (suc a) rest behind h e = absurd (omega arith)
 
--- a loop from the last statement back has found the value of the ways along the statements from `ahead` on, where `behind` is the
--- value of what comes after all of them
+-- a loop from the last statement back has found the value of the paths along the statements from `ahead` on; `behind`
+-- is the value of what comes after all of them
 abbrev pub IsFound : {A : Type 0} → (Way → A) → List Statement → ℕ → A → A → Type 0
 IsFound value list ahead behind found = (rest : Way) → behind ≡ value rest
     → (after : Way) × ((onto (block_of list) rest ≡ onto (block_of (take ahead list)) after) × (found ≡ value after))
@@ -71,7 +71,7 @@ pub found_all : {A : Type 0} (value : Way → A) (list : List Statement) (a : �
 found_all value list a behind found end is rest e =
     let h = is rest e in h.1.1 ∙ ap value (sym (onto_none list a rest h.0 end h.1.0))
 
--- an If is a fork, whose branches go on behind it
+-- an If is a fork, whose branches continue after it
 pub onto_if : (c : Cond) (ys ns : Vec Statement Global) (rest : Way)
     → onto (in_front (If c ys ns) empty) rest ≡ fork (cond_text c) (onto (block_of ys.items) rest) (onto (block_of ns.items) rest)
 onto_if c ys ns rest = ap (λ b. onto b rest) (before_if c ys ns empty)

@@ -1,4 +1,4 @@
--- How the logic stores what is left of a procedure and what a cursor is seen as; no contract says more of them.
+-- How the logic stores the rest of a procedure and the view of a cursor. No contract says more of them.
 use Rattle.std.specs.Prelude.{◌≡◌, ◌⊎◌, ℕ, ℤ, List, Option}
 use Rattle.std.proofs.Common.{refl, inl, inr}
 use Rattle.std.specs.Coded.{Coded, code_by, coded×, coded⊎, coded_ℕ, coded_ℤ, coded_list, coded_option}
@@ -6,7 +6,7 @@ use Rattle.sgt_model.specs.Codes.{coded_procedure, coded_block}
 use Rattle.sgt_model.specs.Syntax.{Block, ProcedureText}
 use Rattle.sgt_model.specs.Left.{Rest, Left, ToRun, ToAsk}
 
--- the parts of a rest, in their order
+-- the parts of a rest, in order
 abbrev pub coded_rest : Coded Rest
 coded_rest = code_by (Block × (List ℤ × (List (Option ℤ) × List ℤ))) (coded× coded_block (coded× (coded_list coded_ℤ) (coded× (coded_list (coded_option coded_ℤ)) (coded_list coded_ℤ)))) (λ r. (r.statements, (r.args, (r.registers, r.answers)))) (λ q. record { statements = q.0; args = q.1.0; registers = q.1.1.0; answers = q.1.1.1 }) (λ _. refl)
 

@@ -1,4 +1,4 @@
--- What a cursor is seen as.
+-- The view of a cursor.
 use Rattle.std.specs.Prelude.{◌≡◌}
 use Rattle.sgt_model.specs.Syntax.{Block}
 use Rattle.sgt_model.specs.Left.{Left, ToRun, ToAsk, reached}
@@ -7,12 +7,12 @@ use Rattle.sgt_proc.specs.declared.place.Stop.{Stop}
 use Rattle.sgt_proc.specs.declared.place.Stop.TheVariants as stop
 use Rattle.sgt_proc.specs.Places.{IsIn, rest_from, reached_at, StopsBefore, StopsAtValue}
 
--- what is left just behind the last access: a code, where that was a look that found none
+-- the rest right after the last access; a code, if that was a read that found no record
 abbrev pub left_behind : Block → Place → Stop → Left
 left_behind b behind (stop.Absent code) = ToAsk code
 left_behind b behind _ = ToRun (rest_from b behind behind.at)
 
--- a cursor stands where what is left comes to by itself
+-- a cursor stands where the rest leads without an access
 pub record Stands (b : Block) (behind now : Place) (s : Stop) : Type 0 where
   pub inside : IsIn b now
   pub before : StopsBefore now s

@@ -9,7 +9,7 @@ use Rattle.sgt_proc.specs.declared.flaw.Flaw.TheVariants.{HighRegister, UnsetReg
 use Rattle.sgt_proc.specs.declared.numbers.Number.{Number}
 use Rattle.sgt_proc.specs.declared.numbers.Number.TheVariants.{Register, Argument, Table, Code, Literal}
 
--- some number in an expression is so
+-- whether it holds for some number in an expression
 abbrev pub in_expr : (Number → Bool) → ExprText → Bool
 in_expr so (num n) = so (Literal n)
 in_expr so (arg n) = so (Argument n)
@@ -19,13 +19,13 @@ in_expr so (diff a b) = in_expr so a || in_expr so b
 in_expr so (product a b) = in_expr so a || in_expr so b
 in_expr so (quotient a b) = in_expr so a || in_expr so b
 
--- some number in a condition is so
+-- whether it holds for some number in a condition
 abbrev pub in_cond : (Number → Bool) → CondText → Bool
 in_cond so (less a b) = in_expr so a || in_expr so b
 in_cond so (at_most a b) = in_expr so a || in_expr so b
 in_cond so (equal a b) = in_expr so a || in_expr so b
 
--- some number in statements is so, wherever it stands
+-- whether it holds for some number in statements, at any position
 abbrev pub in_block : (Number → Bool) → Block → Bool
 in_block so empty = false
 in_block so (look to table id absent b) = (so (Register to) || (so (Table table) || (in_expr so id || so (Code absent)))) || in_block so b
@@ -77,7 +77,7 @@ cond_uses r (less a b) = uses r a || uses r b
 cond_uses r (at_most a b) = uses r a || uses r b
 cond_uses r (equal a b) = uses r a || uses r b
 
--- on some way the register is used before it is set
+-- on some path the register is used before it is set
 abbrev pub uses_unset : ℕ → Way → Bool
 uses_unset r way.end = false
 uses_unset r (way.look to table id absent rest) = uses r id || (not (nat_eq to r) && uses_unset r rest)
@@ -88,11 +88,11 @@ uses_unset r (way.ask code) = false
 uses_unset r (way.fork test ys ns) = cond_uses r test || (uses_unset r ys || uses_unset r ns)
 uses_unset r (way.answer value rest) = uses r value || uses_unset r rest
 
--- on some way some register, from 0 to 15, is used before it is set
+-- on some path some register, from 0 to 15, is used before it is set
 abbrev pub UsesUnset : Way → Type 0
 UsesUnset w = (r : ℕ) × ((r < 16) × IsTrue (uses_unset r w))
 
--- how many answers the way with the most has
+-- the most answers on one path
 abbrev pub most_answers : Way → ℕ
 most_answers way.end = 0
 most_answers (way.look to table id absent rest) = most_answers rest
@@ -103,7 +103,7 @@ most_answers (way.ask code) = 0
 most_answers (way.fork test ys ns) = max (most_answers ys) (most_answers ns)
 most_answers (way.answer value rest) = most_answers rest + 1
 
--- how many statements there are
+-- the number of statements
 abbrev pub size : Block → ℕ
 size empty = 0
 size (look to table id absent b) = 1 + size b
@@ -114,7 +114,7 @@ size (ask code b) = 1 + size b
 size (choose test ys ns b) = 1 + (size ys + size ns) + size b
 size (answer value b) = 1 + size b
 
--- how deep an expression is
+-- the depth of an expression
 abbrev pub expr_depth : ExprText → ℕ
 expr_depth (num n) = 1
 expr_depth (arg n) = 1
@@ -124,13 +124,13 @@ expr_depth (diff a b) = 1 + max (expr_depth a) (expr_depth b)
 expr_depth (product a b) = 1 + max (expr_depth a) (expr_depth b)
 expr_depth (quotient a b) = 1 + max (expr_depth a) (expr_depth b)
 
--- how deep the deeper expression of a condition is
+-- the depth of the deeper expression of a condition
 abbrev pub cond_depth : CondText → ℕ
 cond_depth (less a b) = max (expr_depth a) (expr_depth b)
 cond_depth (at_most a b) = max (expr_depth a) (expr_depth b)
 cond_depth (equal a b) = max (expr_depth a) (expr_depth b)
 
--- how deep the deepest expression in statements is
+-- the depth of the deepest expression in statements
 abbrev pub exprs_depth : Block → ℕ
 exprs_depth empty = 0
 exprs_depth (look to table id absent b) = max (expr_depth id) (exprs_depth b)
@@ -141,7 +141,7 @@ exprs_depth (ask code b) = exprs_depth b
 exprs_depth (choose test ys ns b) = max (max (cond_depth test) (max (exprs_depth ys) (exprs_depth ns))) (exprs_depth b)
 exprs_depth (answer value b) = max (expr_depth value) (exprs_depth b)
 
--- how deep the deepest statement is
+-- the depth of the deepest statement
 abbrev pub depth : Block → ℕ
 depth empty = 0
 depth (look to table id absent b) = max 1 (depth b)

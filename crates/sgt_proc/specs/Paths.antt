@@ -1,10 +1,11 @@
--- A path into a procedure's text: the Ifs that a place is in, from the outermost on, each with the branch that was taken.
+-- A path into a procedure's text: the Ifs that a position is inside of, outermost first, each with the branch that
+-- was taken.
 use Rattle.std.specs.Prelude.{ℕ, zero, suc, ◌+◌, ◌<◌, Bool, cond, List, [], ◌∷◌}
 use Rattle.sgt_model.specs.Syntax.{Block, empty, look, find, put, save, ask, choose, answer}
 use Rattle.sgt_model.specs.Left.{followed_by}
 use Rattle.sgt_proc.specs.declared.place.Turn.{Turn}
 
--- the statements behind so many
+-- the statements after so many
 abbrev pub behind : ℕ → Block → Block
 behind zero b = b
 behind (suc n) empty = empty
@@ -16,12 +17,12 @@ behind (suc n) (ask code b) = behind n b
 behind (suc n) (choose test ys ns b) = behind n b
 behind (suc n) (answer value b) = behind n b
 
--- an If comes first
+-- the first statement is an If
 abbrev pub IsIf : Block → Type 0
 IsIf (choose test ys ns b) = Unit {0}
 IsIf _ = ⊥
 
--- a branch of the If that comes first
+-- a branch of the If that is the first statement
 abbrev pub branch : Bool → Block → Block
 branch held (choose test ys ns b) = cond held ys ns
 branch held _ = empty
@@ -36,11 +37,11 @@ abbrev pub inner : List Turn → Block → Block
 inner [] b = b
 inner (t ∷ path) b = inner path (branch t.held (behind t.at b))
 
--- what is to come behind the Ifs
+-- the statements after the Ifs
 abbrev pub outer : List Turn → Block → Block
 outer [] b = empty
 outer (t ∷ path) b = followed_by (outer path (branch t.held (behind t.at b))) (behind (t.at + 1) b)
 
--- the statements to come, where so many of the innermost list are done
+-- the remaining statements, if so many of the innermost list are done
 abbrev pub to_come : List Turn → ℕ → Block → Block
 to_come path at b = followed_by (behind at (inner path b)) (outer path b)

@@ -5,10 +5,10 @@ ghost use Rattle.sgt_proc.specs.Dataflow.{AnswersFrom};
 
 use sgt_model::Statement;
 
-/// The most answers that a procedure gives.
+/// The maximum number of answers of a procedure.
 pub const MOST_ANSWERS: u8 = 8;
 
-/// How many answers the way with the most has, if the ways behind the statements have so many. Here 9 stands for more.
+/// The most answers on one path, if each path after the statements has `behind` answers. 9 stands for more than 8.
 #[cycle(answers)]
 pub fn most_answers(statements: &[Statement], behind: u8) -> u8
     ensures { AnswersFrom (block_of statements.now) behind result }

@@ -1,4 +1,4 @@
-//! A procedure without a flaw, and what it does next.
+//! A procedure without a flaw, and its next step.
 ghost use Rattle.std.specs.Prelude.{◌≡◌, ◌≤◌, ◌<◌, IfOk, OnOk, IfErr};
 ghost use Rattle.sgt_model.specs.ProcedureTexts.{procedure_text};
 ghost use Rattle.sgt_model.specs.Meaning.{run_with};
@@ -34,8 +34,8 @@ impl Model for Checked {
     ghost invariant = { λ c. IsFlawless (procedure_text c.procedure) };
 }
 
-/// The procedure as one that may run, where it has no flaw. Else it comes back, with the flaw that has the least number. This
-/// takes no memory.
+/// Returns the procedure as one that may run, if it has no flaw. Else it returns the procedure with its flaw of the
+/// least number. It allocates nothing.
 pub fn check(procedure: Procedure) -> Result<Checked, Flawed>
     ensures same { IfOk result (λ checked. checked ≡ procedure_text procedure) }
     ensures flawless { OnOk result (IsFlawless (procedure_text procedure)) }
@@ -51,14 +51,14 @@ pub fn check(procedure: Procedure) -> Result<Checked, Flawed>
 }
 
 impl Checked {
-    /// The procedure as it is written.
+    /// The procedure as it was written.
     pub fn procedure(&self) -> &Procedure
         ensures { procedure_text result.now ≡ self.now }
     {
         &self.procedure
     }
 
-    /// How many arguments it takes, at most 4.
+    /// The number of its arguments, at most 4.
     pub fn args(&self) -> u8
         ensures value { result ≡ self.now.args }
         ensures few { result ≤ 4 }
@@ -67,14 +67,15 @@ impl Checked {
         self.procedure.args
     }
 
-    /// Access number `made`, from 0, of its trace with these arguments, whose looks find the values of `read` in order, or
-    /// how that trace ends. Where a look finds no value left, that look.
+    /// Returns access number `made`, from 0, of the procedure's trace with these arguments. Its reads return the
+    /// values of `read` in order. If the trace ends before that access, the result is its end. If a read has no value
+    /// left, the result is that read.
     pub fn next(&self, args: &Args, read: &[Option<i64>], made: usize) -> Next
         ensures next { seen result ≡ next_at (trace (run_with self.now args.now) read.now) made }
         ensures in_range { StoresValue result }
         ensures few { IsAccess result → Used (run_with self.now args.now) read.now made → made < 64 }
     {
-        // Where a field is used it is known that the procedure has no flaw.
+        // Using a field makes known that the procedure has no flaw.
         let _ = &self.procedure;
         let mut cursor = self.begin(args);
         let mut used = 0;
@@ -95,7 +96,7 @@ impl Checked {
         cursor.next(self)
     }
 
-    /// Goes on from a place in it to the next access, or to the end or a code.
+    /// Continues from a position to the next access, or to the end or a code.
     pub(crate) fn advance(&self, place: &mut Place) -> Stop
         requires inside { IsIn self.now.body place.old }
         ensures stops { Stops self.now.body place.old result place.new }

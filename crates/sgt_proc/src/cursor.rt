@@ -12,16 +12,16 @@ use sgt_model::{Answers, Args};
 use std::marker::Model;
 use std::snapshot::Snapshot;
 
-/// A run of a procedure that goes on in place, from one access to the next. It is seen as what is left of the procedure just
-/// after its last access.
+/// A run of a procedure, which continues in place from one access to the next. Its view is the rest of the procedure
+/// right after its last access.
 ///
-/// It stands at the next access, the end or a code: what makes no access is executed as soon as it is come to. It keeps the
-/// registers, the answers and its place, and none of the values that were looked at; its size is that of any other.
+/// It stands at the next access, the end or a code: steps without an access are executed at once. It stores the
+/// registers, the answers and its position, and none of the values that were read. All cursors have the same size.
 #[derive(Drop)]
 pub struct Cursor {
     place: Place,
     stop: Stop,
-    // Seen by contracts alone: the procedure, and the place just behind the last access.
+    // Used in contracts only: the procedure, and the position right after the last access.
     procedure: Snapshot<Checked>,
     behind: Snapshot<Place>,
 }
@@ -42,7 +42,7 @@ impl Model for Cursor {
 }
 
 impl Cursor {
-    /// What the procedure does next.
+    /// The next step of the procedure.
     pub fn next(&self, _procedure: &Checked) -> Next
         ensures next { seen result ≡ next_left self.now.1 }
         ensures in_range { StoresValue result }
@@ -55,7 +55,8 @@ impl Cursor {
         }
     }
 
-    /// Goes on behind the look that is next, which found this. Where no look is next, it stays.
+    /// Continues after the read that is next, which returned this value. If the next step is no read, it does
+    /// nothing.
     pub fn looked(&mut self, procedure: &Checked, value: Option<i64>)
         requires same { self.old.0 ≡ procedure.now }
         ensures { self.new ≡ (self.old.0, after_look value self.old.1) }
@@ -82,7 +83,7 @@ impl Cursor {
         }
     }
 
-    /// Goes on behind the store that is next. Where no store is next, it stays.
+    /// Continues after the write that is next. If the next step is no write, it does nothing.
     pub fn stored(&mut self, procedure: &Checked)
         requires same { self.old.0 ≡ procedure.now }
         ensures { self.new ≡ (self.old.0, after_store self.old.1) }
@@ -96,7 +97,7 @@ impl Cursor {
 }
 
 impl Checked {
-    /// What does the procedure access by access, with these arguments. This takes no memory.
+    /// Starts to run the procedure access by access, with these arguments. It allocates nothing.
     pub fn begin(&self, args: &Args) -> Cursor
         ensures { result ≡ (self.now, left_at_start self.now args.now) }
     {

@@ -1,4 +1,4 @@
-//! How deep the statements and the expressions of a procedure are.
+//! The depths of the statements and the expressions of a procedure.
 ghost use Rattle.std.specs.Prelude.{◌≡◌, ◌+◌, min, max};
 ghost use Rattle.sgt_model.specs.Syntax.{empty};
 ghost use Rattle.sgt_model.specs.ProcedureTexts.{expr_text, cond_text, in_front, block_of};
@@ -6,10 +6,10 @@ ghost use Rattle.sgt_proc.specs.Flaws.{depth, expr_depth, cond_depth, exprs_dept
 
 use sgt_model::{Cond, Expr, Statement};
 
-/// The deepest that a statement or an expression may be.
+/// The maximum depth of a statement or an expression.
 pub const DEEPEST: u8 = 16;
 
-/// How deep the deepest statement is; 17 stands for more.
+/// The depth of the deepest statement; 17 stands for more than 16.
 #[cycle(depth)]
 pub fn depth(statements: &[Statement]) -> u8
     ensures { result ≡ min 17 (depth (block_of statements.now)) }
@@ -36,7 +36,7 @@ fn depth_of(statement: &Statement) -> u8
     }
 }
 
-/// How deep the deepest expression is; 17 stands for more.
+/// The depth of the deepest expression; 17 stands for more than 16.
 #[cycle(terms)]
 pub fn exprs_depth(statements: &[Statement]) -> u8
     ensures { result ≡ min 17 (exprs_depth (block_of statements.now)) }
@@ -86,7 +86,7 @@ fn cond_depth(cond: &Cond) -> u8
     }
 }
 
-/// One deeper than the deeper of the two.
+/// One more than the greater of two depths.
 fn one_deeper(a: u8, b: u8) -> u8
     ensures { result ≡ min 17 (1 + max a b) }
 {

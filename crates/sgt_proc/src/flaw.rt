@@ -1,4 +1,4 @@
-//! What can be wrong with a procedure.
+//! The flaws that a procedure can have.
 ghost use Rattle.std.specs.Prelude.{◌≡◌, ◌↔◌, IsTrue};
 ghost use Rattle.sgt_model.specs.ProcedureTexts.{procedure_text};
 ghost use Rattle.sgt_proc.specs.Flaws.{number, HasFlaw};
@@ -10,27 +10,27 @@ use crate::registers::uses_unset;
 use crate::sizes::{MOST_STATEMENTS, size};
 use sgt_model::Procedure;
 
-/// The most arguments that a procedure takes.
+/// The maximum number of arguments of a procedure.
 pub const MOST_ARGUMENTS: u8 = 4;
 
-/// What can be wrong with a procedure's text. A way through it takes either branch of each If, whatever the condition, and
+/// A flaw in a procedure's text. A path through the text takes either branch of each If, whatever the condition, and
 /// stops at an Ask.
 #[derive(Clone, Copy, Debug, PartialEq, Eq)]
 pub enum Flaw {
     /// A register number is over 15.
     HighRegister,
-    /// On some way an expression uses a register that no Look, Find or Let before it on that way sets.
+    /// On some path an expression uses a register that no Look, Find or Let before it on that path sets.
     UnsetRegister,
     /// An argument number is not below the number of arguments that the procedure takes.
     NoArgument,
     /// A table number is over 7.
     HighTable,
-    /// There are over 64 statements. Those inside an If count, and so does the If itself.
+    /// There are more than 64 statements. Those inside an If count, and so does the If itself.
     TooLong,
-    /// A statement or an expression is over 16 deep. Statements in an If are one deeper than it, and a sum, difference,
-    /// product or quotient is one deeper than its deeper part.
+    /// A statement or an expression is more than 16 deep. Statements in an If are one deeper than it, and a sum,
+    /// difference, product or quotient is one deeper than its deeper part.
     TooDeep,
-    /// Some way has more than 8 answers.
+    /// Some path has more than 8 answers.
     ManyAnswers,
     /// A code is 0 or over 999.
     BadCode,
@@ -40,7 +40,7 @@ pub enum Flaw {
     BadLiteral,
 }
 
-/// A procedure that was refused, and the flaw with the least number that it has.
+/// A procedure that was refused, and its flaw with the least number.
 #[derive(Drop)]
 pub struct Flawed {
     pub flaw: Flaw,
@@ -48,7 +48,7 @@ pub struct Flawed {
 }
 
 impl Flaw {
-    /// All of them, in the order of their numbers.
+    /// All flaws, in the order of their numbers.
     pub(crate) const ALL: [Flaw; 10] = [
         Flaw::HighRegister,
         Flaw::UnsetRegister,

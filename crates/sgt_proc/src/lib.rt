@@ -1,9 +1,9 @@
-//! The procedure language: `check` tells whether a procedure has a flaw, and a procedure that has none tells what it does
-//! next.
+//! The procedure language: `check` finds flaws in a procedure, and a procedure without flaws reports its next step.
 //!
-//! It makes no access itself. A `Cursor` stands before a procedure's next access, tells it, and goes on behind it once it was
-//! made; `Checked::next` tells the same from the start, given what the looks found so far. Both answer the next access, the
-//! answers or the code that is asked. What a procedure means stands in `sgt_model`.
+//! The crate makes no access itself. A `Cursor` stands before a procedure's next access, reports it, and continues
+//! after it once it was made. `Checked::next` returns the same from the start, given what the reads returned so far.
+//! Both return the next access, the answers or the code that is raised. `sgt_model` defines the meaning of a
+//! procedure.
 //!
 //! ```
 //! let checked = check(procedure)?;

@@ -1,15 +1,15 @@
-//! What a procedure does next.
+//! The next step of a procedure.
 use sgt_model::{Answers, Key};
 
-/// What a procedure does next.
+/// The next step of a procedure.
 #[derive(Drop, PartialEq, Eq)]
 pub enum Next {
-    /// It looks at the record.
+    /// It reads the record.
     Look(Key),
-    /// It stores the value in the record.
+    /// It writes the value to the record.
     Put(Key, i64),
-    /// It is at its end, with these answers.
+    /// It ends, with these answers.
     Ends(Answers),
-    /// It asks the code: one of its own from 1 to 999, or 1000 of arithmetic.
+    /// It aborts with the code: one of its own from 1 to 999, or 1000 from arithmetic.
     Asks(u16),
 }

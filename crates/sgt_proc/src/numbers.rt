@@ -11,10 +11,10 @@ use sgt_model::{Cond, Expr, LAST_TABLE, Statement, is_value};
 /// The greatest number of a register.
 pub const LAST_REGISTER: u8 = 15;
 
-/// The greatest code that a procedure of a text asks.
+/// The greatest code that a procedure of a text aborts with.
 pub const LAST_CODE: u16 = 999;
 
-/// A number that stands in the text of a procedure.
+/// A number in the text of a procedure.
 #[derive(Clone, Copy)]
 pub enum Number {
     Register(u8),
@@ -24,7 +24,7 @@ pub enum Number {
     Literal(i64),
 }
 
-/// What no number in a text may be: one with this flaw, in a procedure that takes so many arguments.
+/// The rule that no number in a text may break: none has this flaw, in a procedure that takes so many arguments.
 #[derive(Clone, Copy)]
 pub struct Rule {
     pub flaw: Flaw,
@@ -114,7 +114,7 @@ impl Rule {
         }
     }
 
-    /// Whether a number of the text has the flaw, also where no way leads.
+    /// Whether a number of the text has the flaw, even one that no path reaches.
     #[cycle(text)]
     pub fn is_broken_in_text(self, statements: &[Statement]) -> bool
         ensures { result ≡ in_block (is_bad self.flaw self.args) (block_of statements.now) }

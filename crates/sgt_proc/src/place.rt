@@ -15,29 +15,29 @@ use crate::value::{WRONG, key, numbers, test, value};
 use arrayvec::ArrayVec;
 use sgt_model::{Answers, Args, Expr, Key, Statement, is_value};
 
-/// An If that a place is in.
+/// An If that a position is inside of.
 #[derive(Clone, Copy, Default)]
 pub struct Turn {
-    /// Its place in its list.
+    /// Its index in its list.
     pub at: u8,
-    /// Whether its condition held, so that `yes` was taken.
+    /// Whether its condition held, so the branch `yes` was taken.
     pub held: bool,
 }
 
-/// Where a procedure has stopped: at an access, at its end or at a code.
+/// Where a procedure stopped: at an access, at its end or at a code.
 #[derive(Clone, Copy)]
 pub enum Stop {
-    /// At a look, which sets the register, or asks the code where it finds no record.
+    /// At a read, which sets the register, or aborts with the code if there is no record.
     Look { key: Key, reg: u8, absent: u16 },
-    /// At a look, which sets the register to what it finds, or to `absent` where it finds no record.
+    /// At a read, which sets the register to the value, or to `absent` if there is no record.
     Find { key: Key, reg: u8, absent: i64 },
-    /// At a store.
+    /// At a write.
     Put(Key, i64),
     /// At its end.
     End,
-    /// It asks the code.
+    /// It aborts with the code.
     Asks(u16),
-    /// It asks the code, as its last look found no record.
+    /// It aborts with the code, because its last read found no record.
     Absent(u16),
 }
 
@@ -51,20 +51,20 @@ impl From<u16> for Stop {
     }
 }
 
-/// A place in a procedure, and what the procedure works on.
+/// A position in a procedure, and the state of the procedure there.
 #[derive(Drop)]
 pub struct Place {
     pub args: Args,
     pub registers: [Option<i64>; 16],
     pub answers: Answers,
-    /// The Ifs that it is in, from the outermost on.
+    /// The Ifs that it is inside of, outermost first.
     pub path: ArrayVec<Turn, 16>,
-    /// How many statements of the innermost list are behind it.
+    /// How many statements of the innermost list are done.
     pub at: u8,
 }
 
 impl Place {
-    /// Goes on to the next access, or to the end or a code.
+    /// Continues to the next access, or to the end or a code.
     pub fn advance(&mut self, body: &[Statement]) -> Stop
         requires shallow { depth (block_of body.now) ≤ 16 }
         requires short { size (block_of body.now) ≤ 64 }
@@ -154,7 +154,7 @@ impl Place {
         }
     }
 
-    /// Sets a register; one that is not there stays so.
+    /// Sets a register. If there is no such register, it does nothing.
     pub fn set(&mut self, register: u8, value: i64)
         ensures { self.new ≡ with_found_in self.old register value }
     {
@@ -164,7 +164,7 @@ impl Place {
         }
     }
 
-    // The key of this table's record that an expression names there, or the code that is asked in its place.
+    // The key of this table's record that an expression names there, or the code raised in its place.
     #[inline(always)]
     fn key(&self, table: u8, id: &Expr) -> Result<Key, u16>
         ensures { result ≡ and_then (number_or_code (value_of (expr_text id.now) self.now.args self.now.registers))
@@ -173,7 +173,8 @@ impl Place {
         key(table, self.value(id)?)
     }
 
-    // The same key, and what another expression gives, which is evaluated before it is known whether there is a key.
+    // The same key, and the value of another expression. That expression is evaluated before it is known whether
+    // there is a key.
     #[inline(always)]
     fn key_and_value(&self, table: u8, id: &Expr, other: &Expr) -> Result<(Key, i64), u16>
         ensures { result ≡ in_turn (number_or_code (value_of (expr_text id.now) self.now.args self.now.registers))
@@ -185,7 +186,7 @@ impl Place {
         Ok((key, other))
     }
 
-    // What an expression gives there, or the code that is asked in its place.
+    // The value of an expression there, or the code raised in its place.
     fn value(&self, expr: &Expr) -> Result<i64, u16>
         ensures { result ≡ number_or_code (value_of (expr_text expr.now) self.now.args self.now.registers) }
     {
@@ -193,7 +194,7 @@ impl Place {
     }
 }
 
-/// The innermost list of a path; none where the path is at no Ifs.
+/// The innermost list of a path; empty if the path does not follow Ifs.
 fn list_at<'a>(body: &'a [Statement], path: &[Turn]) -> &'a [Statement]
     ensures { block_of result.now ≡ inner path.now (block_of body.now) }
 {
@@ -204,7 +205,7 @@ fn list_at<'a>(body: &'a [Statement], path: &[Turn]) -> &'a [Statement]
     list
 }
 
-/// The branch of the If at this place of a list; none where no If is there.
+/// The branch of the If at this index of a list; empty if there is no If.
 fn branch_at<'a>(list: &'a [Statement], turn: Turn) -> &'a [Statement]
     ensures { block_of result.now ≡ branch turn.held (behind turn.at (block_of list.now)) }
 {
@@ -216,7 +217,7 @@ fn branch_at<'a>(list: &'a [Statement], turn: Turn) -> &'a [Statement]
     }
 }
 
-/// The branch of an If; none of another statement.
+/// The branch of an If; empty for any other statement.
 fn branch_of<'a>(statement: &'a Statement, held: bool) -> &'a [Statement]
     ensures { (rest : Block) → block_of result.now ≡ branch held (in_front statement.now rest) }
 {

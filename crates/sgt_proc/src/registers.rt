@@ -1,4 +1,4 @@
-//! Whether a procedure uses a register that is not set.
+//! Whether a procedure uses an unset register.
 ghost use Rattle.std.specs.Prelude.{◌≡◌, ◌↔◌, IsTrue};
 ghost use Rattle.sgt_model.specs.Syntax.{empty};
 ghost use Rattle.sgt_model.specs.ProcedureTexts.{expr_text, cond_text, in_front, block_of};
@@ -8,7 +8,7 @@ ghost use Rattle.sgt_proc.specs.Dataflow.{LiveBefore};
 
 use sgt_model::{Cond, Expr, Statement};
 
-/// Whether on some way an expression uses a register that nothing before it on that way set.
+/// Whether an expression on some path uses a register that nothing before it on that path set.
 pub fn uses_unset(body: &[Statement]) -> bool
     ensures { IsTrue result ↔ UsesUnset (onto (block_of body.now) end) }
 {
@@ -20,8 +20,8 @@ pub fn uses_unset(body: &[Statement]) -> bool
     false
 }
 
-/// Whether the register is live before the statements: on some way it is used before it is set. It is live behind them or
-/// not, as told.
+/// Whether the register is live before the statements: on some path it is used before it is set. `behind` says
+/// whether it is live after them.
 #[cycle(live)]
 fn is_live(statements: &[Statement], register: u8, behind: bool) -> bool
     ensures { LiveBefore register (block_of statements.now) behind result }

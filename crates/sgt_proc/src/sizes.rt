@@ -1,4 +1,4 @@
-//! How many statements a procedure has.
+//! The number of statements of a procedure.
 ghost use Rattle.std.specs.Prelude.{◌≡◌, min};
 ghost use Rattle.sgt_model.specs.Syntax.{empty};
 ghost use Rattle.sgt_model.specs.ProcedureTexts.{in_front, block_of};
@@ -6,10 +6,10 @@ ghost use Rattle.sgt_proc.specs.Flaws.{size};
 
 use sgt_model::Statement;
 
-/// The most statements of a procedure.
+/// The maximum number of statements of a procedure.
 pub const MOST_STATEMENTS: u8 = 64;
 
-/// How many statements there are; 65 stands for more.
+/// The number of statements; 65 stands for more than 64.
 #[cycle(size)]
 pub fn size(statements: &[Statement]) -> u8
     ensures { result ≡ min 65 (size (block_of statements.now)) }

@@ -7,13 +7,13 @@ ghost use Rattle.sgt_model.specs.Left.{number_or_code, choice_or_code};
 
 use sgt_model::{Cond, Expr, Key, is_value};
 
-/// The code that is asked where what arithmetic gives is no value, and where a number is divided by 0.
+/// The code raised if a result of arithmetic is no value, and at a division by 0.
 const OVER: u16 = 1000;
 
-/// The code that stands for what no checked procedure does.
+/// The code for what no checked procedure does.
 pub const WRONG: u16 = 0;
 
-/// What an expression gives, or the code that is asked in its place. Most are of one part, which is found with no call.
+/// The value of an expression, or the code raised in its place. Most expressions have one part, which needs no call.
 #[cycle(value)]
 #[inline(always)]
 pub fn value(expr: &Expr, args: &[i64], registers: &[Option<i64>; 16]) -> Result<i64, u16>
@@ -57,7 +57,7 @@ fn value_by_parts(expr: &Expr, args: &[i64], registers: &[Option<i64>; 16]) -> R
     }
 }
 
-/// What two expressions give, one after the other, or the code that is asked in place of the first that gives none.
+/// The values of two expressions, one after the other, or the code of the first that has none.
 #[cycle(value)]
 #[inline(always)]
 pub fn numbers(
@@ -92,7 +92,7 @@ fn register(registers: &[Option<i64>; 16], n: u8) -> Result<i64, u16>
     }
 }
 
-/// Whether a condition holds, or the code that is asked in its place.
+/// Whether a condition holds, or the code raised in its place.
 pub fn test(cond: &Cond, args: &[i64], registers: &[Option<i64>; 16]) -> Result<bool, u16>
     ensures { result ≡ choice_or_code (truth_of (cond_text cond.now) args.now registers.now) }
 {
@@ -105,7 +105,7 @@ pub fn test(cond: &Cond, args: &[i64], registers: &[Option<i64>; 16]) -> Result<
     })
 }
 
-/// The key, or the code that is asked where it is none.
+/// The key, or the code raised if it is invalid.
 pub fn key(table: u8, id: i64) -> Result<Key, u16>
     ensures { result ≡ key_of table id }
 {
@@ -115,7 +115,7 @@ pub fn key(table: u8, id: i64) -> Result<Key, u16>
     }
 }
 
-/// What was found, or the number in its place where there is no record.
+/// The value read, or the number in its place if there is no record.
 pub fn found_or(absent: i64, found: Option<i64>) -> i64
     ensures { result ≡ found_or absent found }
 {

@@ -1,4 +1,4 @@
--- The row of an If, and what its misfits tell.
+-- The list of an If, and its shape errors.
 use Rattle.std.proofs.Common.{◌≡◌, refl, ap, sym, ◌∙◌, ◌≤◌, ◌<◌, ◌⊎◌, Bool, true, false, List, [], ◌∷◌, length, get_or, Ok, Err, arith}
 use Rattle.std.proofs.Math.Path.{fun_ext}
 use Rattle.std.specs.Prelude.{cond, codes}

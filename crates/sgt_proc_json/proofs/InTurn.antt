@@ -1,21 +1,21 @@
--- Two things that are read in turn, of which the first misfit counts.
+-- Two things that are read in order; the first shape error counts.
 use Rattle.std.proofs.Common.{◌≡◌, ap, ◌∙◌, Ok, Err, Result}
 use Rattle.std.specs.Prelude.{IfErr}
 use Rattle.sgt_proc_json.specs.Readings.{Reading, two}
 use Rattle.sgt_proc_json.specs.Refusals.{Tells}
 use Rattle.sgt_proc_json.specs.declared.errors.ReadError.{ReadError}
 
--- an error that is handed on tells the same
+-- an error that is passed on reports the same
 pub handed_on : {A B : Type 0} (reading : Reading A) (error : ReadError) (result : Result B ReadError) → result ≡ Err error
     → Tells reading error → IfErr result (Tells reading)
 handed_on reading error result is told = rw is told
 
--- the first part's misfit is that of both
+-- the first part's shape error is that of both
 pub first_tells : {A B C : Type 0} (make : A → B → C) (reading : Reading C) (a : Reading A) (b : Reading B) (error : ReadError)
     → reading ≡ two make a b → Tells a error → Tells reading error
 first_tells make reading a b error is told place same = is ∙ ap (λ r. two make r b) (told place same)
 
--- the second's, where the first is read
+-- the second's, if the first is read
 pub second_tells : {A B C : Type 0} (make : A → B → C) (reading : Reading C) (a : Reading A) (b : Reading B) (first : A)
     (error : ReadError) → reading ≡ two make a b → a ≡ Ok first → Tells b error → Tells reading error
 second_tells make reading a b first error is read told place same = is

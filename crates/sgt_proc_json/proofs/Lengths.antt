@@ -11,7 +11,7 @@ use Rattle.sgt_proc_json.specs.Rows.{other_row}
 use Rattle.sgt_proc_json.specs.declared.errors.ReadError.{ReadError}
 use Rattle.sgt_proc_json.specs.declared.errors.ReadError.TheVariants.{Shape}
 
--- a misfit of the tree itself is told by the empty place
+-- a shape error of the tree itself has the empty position
 pub told_here : {A : Type 0} (r : Reading A) (e : ReadError) → e ≡ Shape [] → r ≡ here → Tells r e
 told_here r e is none place e' = none ∙ (cc)
 

@@ -18,7 +18,7 @@ pub read_is_spelled : (d : Data) (r : Result Procedure ReadError) → IfOk r (λ
 read_is_spelled d (Ok p) is = spelled_read (procedure_text p) d is
 read_is_spelled d (Err error) is = tt
 
--- a tree with a misfit spells none
+-- a tree with a shape error spells none
 none_spelled : (d : Data) (error : ReadError) → Tells (reading d) error → error ≢ NoMemory → SpellsNone d
 none_spelled d (Shape place) told other p is = let both : Ok p ≡ Err place = sym (read_spelled p d is) ∙ told place refl in absurd (cc)
 none_spelled d NoMemory told other p is = absurd (other refl)

@@ -1,4 +1,4 @@
--- The positions that a place keeps.
+-- The indexes that a position stores.
 use Rattle.std.proofs.Common.{◌≡◌, ap, ◌∙◌, ℕ, ◌≤◌, List, take, length}
 use Rattle.std.specs.Prelude.{min}
 use Rattle.std.proofs.lemmas.List.{take_all, take_min}

@@ -12,7 +12,7 @@ read_byte n i d is = ap (λ o. at i (or_here o)) is
 read_short : (n i : ℕ) (d : Data) → Short n d → at i (short d) ≡ Ok n
 read_short n i d is = ap (λ o. at i (or_here o)) is
 
--- a row is a list that begins with its word
+-- a row is a list that starts with its word
 row_is : (word : List ℕ) (shapes : List Shape) (d : Data) → WordAnd word shapes d
     → (items : Items) × (d ≡ array (item (string word) items)) × Each shapes items
 row_is word shapes null is = absurd is
@@ -147,7 +147,7 @@ read_list : (b : Block) (d : Data) → ((items : Items) → SpellsBlock b items 
     → block d ≡ Ok b
 read_list b d read is = let l = listed_is (SpellsBlock b) d is in rw l.1 (read l.0 l.2)
 
--- a statement, and those behind it
+-- a statement, and those after it
 read_first : (n : ℕ) (d : Data) (rest : Items) (f : Block → Block) (b : Block) → statement d ≡ Ok f → statements (n + 1) rest ≡ Ok b
     → statements n (item d rest) ≡ Ok (f b)
 read_first n d rest f b is others = rw (is, others) refl

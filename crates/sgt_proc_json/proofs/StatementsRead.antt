@@ -14,7 +14,7 @@ abbrev pub onto_block : List Statement → Block → Block
 onto_block [] rest = rest
 onto_block (s ∷ list) rest = in_front s (onto_block list rest)
 
--- behind all of them
+-- after all of them
 pub onto_last : (list : List Statement) (s : Statement) (rest : Block)
     → onto_block (list ++ s ∷ []) rest ≡ onto_block list (in_front s rest)
 onto_last [] s rest = refl

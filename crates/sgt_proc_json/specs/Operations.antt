@@ -1,4 +1,4 @@
--- What an operation of arithmetic and what a relation make of two expressions.
+-- An operation of arithmetic and a relation, applied to two expressions.
 use Rattle.sgt_model.specs.Syntax.{ExprText, sum, diff, product, quotient, CondText, less, at_most, equal}
 use Rattle.sgt_proc_json.specs.declared.read_expr.Operation.{Operation}
 use Rattle.sgt_proc_json.specs.declared.read_expr.Operation.TheVariants.{Sum, Diff, Product, Quotient}

@@ -1,56 +1,56 @@
--- What the items behind a statement's word spell.
+-- What the items after a statement's word spell.
 use Rattle.std.specs.Prelude.{Bool, false, codes}
 use Rattle.serde_json.specs.Data.{Data, Items, no_items, item}
 use Rattle.serde_json.specs.Find.{as_str}
 use Rattle.sgt_model.specs.Syntax.{CondText, Block, look, find, put, save, ask, choose, answer}
 use Rattle.sgt_proc_json.specs.Readings.{Reading, here, at, one, two, three, four, is_word, byte, short, expression, condition, block, one_item, two_items, three_items, four_items}
 
--- behind `ask`
+-- after `ask`
 abbrev pub ask_of : Data → Reading (Block → Block)
 ask_of a = one (λ code rest. ask code rest) (at 1 (short a))
 
--- behind `answer`
+-- after `answer`
 abbrev pub answer_of : Data → Reading (Block → Block)
 answer_of a = one (λ value rest. answer value rest) (at 1 (expression a))
 
--- behind `let`
+-- after `let`
 abbrev pub let_of : Data → Data → Reading (Block → Block)
 let_of a b = two (λ to value rest. save to value rest) (at 1 (byte a)) (at 2 (expression b))
 
--- behind `put`
+-- after `put`
 abbrev pub put_of : Data → Data → Data → Reading (Block → Block)
 put_of a b c = three (λ table id value rest. put table id value rest) (at 1 (byte a)) (at 2 (expression b)) (at 3 (expression c))
 
--- behind `look`
+-- after `look`
 abbrev pub look_of : Data → Data → Data → Data → Reading (Block → Block)
 look_of a b c d =
     four (λ to table id absent rest. look to table id absent rest) (at 1 (byte a)) (at 2 (byte b)) (at 3 (expression c)) (at 4 (short d))
 
--- behind `find`
+-- after `find`
 abbrev pub find_of : Data → Data → Data → Data → Reading (Block → Block)
 find_of a b c d =
     four (λ to table id absent rest. find to table id absent rest) (at 1 (byte a)) (at 2 (byte b)) (at 3 (expression c)) (at 4 (expression d))
 
--- behind `if`
+-- after `if`
 abbrev pub if_of : Reading CondText → Reading Block → Reading Block → Reading (Block → Block)
 if_of = three (λ test ys ns rest. choose test ys ns rest)
 
--- a word and three items behind it, where the word is that of an If
+-- a word and three items after it, if the word is that of an If
 abbrev pub if_row : Items → Reading (Block → Block)
 if_row (item w (item a (item b (item c no_items)))) = if_of (at 1 (condition a)) (at 2 (block b)) (at 3 (block c))
 if_row items = here
 
--- the branches of such a row
+-- the branches of such a list
 abbrev pub branches : Items → Reading (Block × Block)
 branches (item w (item a (item b (item c no_items)))) = two (λ ys ns. (ys, ns)) (at 2 (block b)) (at 3 (block c))
 branches items = here
 
--- whether the items are so
+-- whether the items have this form
 abbrev pub is_if : Items → Bool
 is_if (item w (item a (item b (item c no_items)))) = is_word (as_str w) (codes "if")
 is_if items = false
 
--- a word and the items behind it, where they spell no If
+-- a word and the items after it, if they spell no If
 abbrev pub other_row : Items → Reading (Block → Block)
 other_row (item w (item a no_items)) = one_item (as_str w) a
 other_row (item w (item a (item b no_items))) = two_items (as_str w) a b

@@ -1,11 +1,11 @@
--- Which tree of JSON spells a procedure: the table of the formats, a row for each kind of statement, condition and
--- expression.
+-- Which tree of JSON spells a procedure: the table of the formats, with a row for each kind of statement, condition
+-- and expression.
 use Rattle.std.specs.Prelude.{◌≡◌, ⊤, ℕ, ℤ, List, [], ◌∷◌, Some, option_and_then, codes}
 use Rattle.serde_json.specs.Data.{Data, array, string, Items, no_items, item}
 use Rattle.sgt_model.specs.Syntax.{ExprText, num, arg, reg, sum, diff, product, quotient, CondText, less, at_most, equal, Block, empty, look, find, put, save, ask, choose, answer, ProcedureText}
 use Rattle.sgt_proc_json.specs.Trees.{whole, natural}
 
--- what a tree may be
+-- a property of trees
 abbrev pub Shape : Type 1
 Shape = Data → Type 0
 
@@ -49,17 +49,17 @@ SpellsTest (less a b) = WordAnd (codes "less") (SpellsTerm a ∷ SpellsTerm b �
 SpellsTest (at_most a b) = WordAnd (codes "most") (SpellsTerm a ∷ SpellsTerm b ∷ [])
 SpellsTest (equal a b) = WordAnd (codes "same") (SpellsTerm a ∷ SpellsTerm b ∷ [])
 
--- a list whose items are so
+-- a list whose items have the property
 abbrev pub Listed : (Items → Type 0) → Shape
 Listed so (array items) = so items
 Listed so tree = ⊥
 
--- the first item spells a statement, and the others those behind it
+-- the first item spells a statement, and the others the statements after it
 abbrev pub First : Shape → (Items → Type 0) → Items → Type 0
 First shape rest no_items = ⊥
 First shape rest (item tree items) = shape tree × rest items
 
--- the items spell the statements, one after another
+-- the items spell the statements, in order
 abbrev pub SpellsBlock : Block → Items → Type 0
 SpellsBlock empty no_items = ⊤
 SpellsBlock empty (item tree items) = ⊥
@@ -71,7 +71,7 @@ SpellsBlock (ask code b) items = First (WordAnd (codes "ask") (Short code ∷ []
 SpellsBlock (choose test ys ns b) items = First (WordAnd (codes "if") (SpellsTest test ∷ Listed (SpellsBlock ys) ∷ Listed (SpellsBlock ns) ∷ [])) (SpellsBlock b) items
 SpellsBlock (answer value b) items = First (WordAnd (codes "answer") (SpellsTerm value ∷ [])) (SpellsBlock b) items
 
--- the tree spells the procedure: a list of the count of its arguments and the list of its statements
+-- the tree spells the procedure: a list of the number of its arguments and the list of its statements
 abbrev pub Spells : ProcedureText → Shape
 Spells p = Listed (Each (Byte p.args ∷ Listed (SpellsBlock p.body) ∷ []))
 

@@ -1,4 +1,4 @@
-//! Why a tree gives no procedure.
+//! Why a tree is no procedure.
 ghost use Rattle.std.specs.Prelude.{◌≡◌, []};
 ghost use Rattle.sgt_proc_json.specs.declared.errors.ReadError.TheVariants as read_error;
 
@@ -6,13 +6,13 @@ use crate::place::Place;
 use std::alloc::{AllocError, AllocFailed};
 use thiserror::Error;
 
-/// Why a tree gives no procedure.
+/// Why a tree is no procedure.
 #[derive(Debug, Drop, Error)]
 pub enum ReadError {
-    /// The tree spells no procedure, and its first misfit is at this place.
+    /// The tree spells no procedure, and its first shape error is at this position.
     #[error("shape at {0}")]
     Shape(Place),
-    /// A growth was refused.
+    /// An allocation failed.
     #[error("no memory")]
     NoMemory,
 }
@@ -36,14 +36,14 @@ impl<T: Drop> From<AllocFailed<T>> for ReadError {
 impl ReadError {
     ghost use Rattle.sgt_proc_json.specs.Refusals.{error_under};
 
-    /// A misfit of the tree itself.
+    /// A shape error of the tree itself.
     pub(crate) fn here() -> Self
         ensures { result ≡ read_error.Shape [] }
     {
         ReadError::Shape(Place::top())
     }
 
-    /// The same error, seen from the list whose item at this position it is in.
+    /// The same error, seen from the list that has the item at this position.
     pub(crate) fn under(self, position: u64) -> Self
         ensures { result ≡ error_under position self }
     {

@@ -1,14 +1,14 @@
-//! Procedures as trees of JSON: [`read`] takes a tree apart, and [`write`] makes one.
+//! Procedures as trees of JSON: [`read`] reads a tree, and [`write`] writes one.
 //!
-//! Which tree spells which procedure is a table with a row for each kind of statement, condition and expression:
-//! `specs/Spelling.antt`. A tree that spells none has a first misfit, and [`Place`] leads to it: `specs/Readings.antt`. That
-//! the two agree is a law, [`reading_is_spelling`].
+//! A table says which tree spells which procedure, with a row for each kind of statement, condition and expression:
+//! `specs/Spelling.antt`. A tree that spells none has a first shape error. [`Place`] is the position of that error:
+//! `specs/Readings.antt`. The law [`reading_is_spelling`] says that the two agree.
 //!
-//! It knows no text: `serde_json` makes a tree of a line. Nor does it ask whether a procedure may run, which `sgt_proc` does:
-//! it reads any register from 0 to 255, say, though only 0 to 15 have a place.
+//! The crate reads no text: `serde_json` makes a tree of a line. It does not check whether a procedure may run;
+//! `sgt_proc` does. For example it reads any register from 0 to 255, though only 0 to 15 exist.
 //!
 //! ```
-//! // It answers what the record holds that argument 0 names, and asks code 5 where there is none.
+//! // Answers the value of the record that argument 0 names, and aborts with code 5 if there is none.
 //! let text = "[1,[[\"look\",0,2,[\"arg\",0],5],[\"answer\",[\"reg\",0]]]]";
 //! let tree = Value::from_str(alloc, text)?;
 //! let procedure = sgt_proc_json::read(alloc, &tree)?;

@@ -5,8 +5,8 @@ use sgt_model::Bounded;
 use std::fmt;
 use std::marker::Model;
 
-/// The place of a thing in a tree: the positions that lead to it from the top, counted from 0. The empty place is the top.
-/// A place keeps its first 128 positions. It shows as its positions, parted by blanks, or as `top`.
+/// The position of an item in a tree: the indexes that lead to it from the top, counted from 0. The empty list is the
+/// top. At most the first 128 indexes are stored. It is shown as its indexes, separated by spaces, or as `top`.
 #[derive(Debug, Drop, PartialEq, Eq)]
 pub struct Place {
     positions: Bounded<u64, 128>,
@@ -32,7 +32,7 @@ impl Place {
         }
     }
 
-    /// The same place, seen from the list whose item at this position it is in.
+    /// The same position, seen from the list that has the item at this index.
     pub(crate) fn under(&self, position: u64) -> Self
         ensures { result ≡ take 128 (position ∷ self.now) }
     {
@@ -45,7 +45,7 @@ impl Place {
         Place { positions }
     }
 
-    /// The positions, from the top.
+    /// The indexes, from the top.
     pub fn as_slice(&self) -> &[u64]
         ensures { result.now ≡ self.now }
     {

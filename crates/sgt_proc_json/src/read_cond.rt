@@ -16,7 +16,7 @@ use serde_json::Value;
 use sgt_model::{Cond, Expr};
 use std::alloc::Global;
 
-/// What a condition says of two numbers.
+/// A relation of two numbers.
 #[derive(Clone, Copy)]
 enum Relation {
     Less,
@@ -25,7 +25,7 @@ enum Relation {
 }
 
 impl Relation {
-    /// The condition that it holds between two expressions.
+    /// The condition that the relation holds between two expressions.
     fn of(self, left: Expr, right: Expr) -> Cond
         ensures { cond_text result ≡ tested self (expr_text left) (expr_text right) }
     {

@@ -45,7 +45,7 @@ fn read_row(alloc: Global, items: &[Value]) -> Result<Statement, ReadError>
     other_row(alloc, items)
 }
 
-/// Whether these items are four, of which the first is the word of an If.
+/// Whether these are four items, the first of which is the word of an If.
 fn is_if(items: &[Value]) -> bool
     ensures { result ≡ is_if (items_view items.now) }
 {
@@ -62,7 +62,7 @@ fn is_word_if(word: &Value) -> bool
     matches!(word.as_str(), Some("if"))
 }
 
-/// The If that a list of these items spells, whose first is its word.
+/// The If that a list of these items spells. Its first item is its word.
 #[cycle(statement)]
 fn if_row(alloc: Global, items: &[Value]) -> Result<Statement, ReadError>
     ensures ok { IfOk result (λ s. if_row (items_view items.now) ≡ Ok (in_front s)) }
@@ -78,7 +78,7 @@ fn if_row(alloc: Global, items: &[Value]) -> Result<Statement, ReadError>
     }
 }
 
-/// The branches of the If that a list of these items spells, behind its condition.
+/// The branches of the If that a list of these items spells, after its condition.
 #[cycle(statement)]
 fn branches(alloc: Global, items: &[Value]) -> Result<(Vec<Statement>, Vec<Statement>), ReadError>
     ensures ok { IfOk result (λ found. branches (items_view items.now) ≡ Ok (block_of found.0.items, block_of found.1.items)) }
@@ -94,7 +94,7 @@ fn branches(alloc: Global, items: &[Value]) -> Result<(Vec<Statement>, Vec<State
     }
 }
 
-/// The statement that a list of these items spells, where it has no blocks.
+/// The statement that a list of these items spells, if it has no blocks.
 fn other_row(alloc: Global, items: &[Value]) -> Result<Statement, ReadError>
     ensures ok { IfOk result (λ s. other_row (items_view items.now) ≡ Ok (in_front s)) }
     ensures err { IfErr result (Tells (other_row (items_view items.now))) }

@@ -15,14 +15,15 @@ use serde_json::Value;
 use sgt_model::Procedure;
 use std::alloc::Global;
 
-/// The procedure that a tree spells: a list of the count of its arguments, from 0 to 255, and the list of its statements.
+/// The procedure that a tree spells: a list of the number of its arguments, from 0 to 255, and the list of its
+/// statements.
 ///
-/// It goes as deep as the tree, and no deeper: a tree that `serde_json` read is at most 127 deep.
+/// Recursion is as deep as the tree, and no deeper: a tree that `serde_json` read is at most 127 deep.
 ///
 /// # Errors
 ///
-/// `Shape` with the place of the first misfit, where the tree spells none; and `NoMemory`, but only where the tree is a list of a count
-/// of arguments and a list.
+/// `Shape` with the position of the first shape error, if the tree spells no procedure. `NoMemory`, but only if the
+/// tree is a list of a number of arguments and a list.
 pub fn read(alloc: Global, tree: &Value) -> Result<Procedure, ReadError>
     ensures spells { IfOk result (λ p. Spells (procedure_text p) (view tree.now)) }
     ensures procedure { IfOk result (λ p. reading (view tree.now) ≡ Ok (procedure_text p)) }

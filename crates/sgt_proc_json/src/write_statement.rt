@@ -128,7 +128,7 @@ fn write_answer(alloc: Global, value: &Expr) -> Result<Value, NoMemory>
     row_of_one(alloc, "answer", value)
 }
 
-/// The tree of statements in a row.
+/// The tree of a list of statements.
 #[cycle(statement)]
 pub(crate) fn write_block(alloc: Global, list: &[Statement]) -> Result<Value, NoMemory>
     ensures { IfOk result (λ v. Listed (SpellsBlock (block_of list.now)) (view v)) }

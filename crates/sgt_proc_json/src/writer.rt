@@ -11,11 +11,11 @@ use serde_json::Value;
 use sgt_model::{NoMemory, Procedure};
 use std::alloc::Global;
 
-/// A tree of the procedure, which `read` gives back.
+/// The tree of the procedure. `read` returns the procedure from it.
 ///
 /// # Errors
 ///
-/// `NoMemory` where a growth was refused.
+/// `NoMemory` if an allocation failed.
 pub fn write(alloc: Global, procedure: &Procedure) -> Result<Value, NoMemory>
     ensures spells { IfOk result (λ v. Spells (procedure_text procedure.now) (view v)) }
     ensures reads_back { IfOk result (λ v. reading (view v) ≡ Ok (procedure_text procedure.now)) }
@@ -24,7 +24,7 @@ pub fn write(alloc: Global, procedure: &Procedure) -> Result<Value, NoMemory>
     Ok(tree)
 }
 
-/// The tree of the count of arguments and the statements.
+/// The tree of the number of arguments and the statements.
 fn write_items(alloc: Global, procedure: &Procedure) -> Result<Value, NoMemory>
     ensures { IfOk result (λ v. Spells (procedure_text procedure.now) (view v)) }
 {

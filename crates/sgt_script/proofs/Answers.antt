@@ -15,7 +15,7 @@ use Rattle.sgt_script.specs.Parts.{Answer, LegalRun, Part, asked, left_by, lines
 use Rattle.sgt_script.specs.Scripts.{Execution, RunOutput, script_line_at, Closing, Last}
 use Rattle.sgt_script.specs.Answering.{AllAnswered, AnswersAll, BeginWith, NoLine}
 
--- what the lines ask for, with one answer more
+-- the requests of the lines, with one answer more
 pub lines_of-answer : (a : Answer) (answers : List Answer) → lines_of (a ∷ answers) ≡ lines_of answers ++ asked a ∷ []
 lines_of-answer a answers = ap (map asked) (reverse_onto answers a []) ∙ map-append asked (reverse answers) (a ∷ [])
 
@@ -88,7 +88,7 @@ output-fault w s n known r f held held' failed answered exact =
     (output-all w s n known all.answers (Err f) [] held held' all.legal all.all refl
     (subst (Appends held held') (sym (append-nil (answers_text w all.answers))) all.written))
 
--- the database behind an engine's part
+-- the database after an engine's part
 pub closes-part : (w : Output) (p q : Part) (last : List ℕ) → p ≡ q → Last w (left_by q) last → Closing w (left_by p) (Ok tt) last
 closes-part w p q last same is = subst (λ (x : Part). Last w (left_by x) last) (sym same) is
 

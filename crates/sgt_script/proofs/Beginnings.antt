@@ -1,4 +1,4 @@
--- Laws of a run that stopped on the way: it wrote the beginning of what a whole run writes.
+-- Laws of an unfinished run: it wrote a prefix of what a whole run writes.
 use Rattle.std.proofs.Common.{◌≡◌, ◌≢◌, ℕ, ◌+◌, List, [], ◌∷◌, ◌++◌, refl, ap, sym, ◌∙◌, append_assoc, append-nil, subst, inl, inr, arith}
 use Rattle.std.proofs.lemmas.List.{take-append-drop}
 use Rattle.std.specs.Result.{is_err}
@@ -77,16 +77,16 @@ part-of (Err e) a b bytes seen same failed (k, part) = record {
 pub same-fault : {A : Type 0} (r : Result A Fault) (end : End) (f g : Fault) → r ≡ Err f → end ≡ Err f → end ≡ Err g → r ≡ Err g
 same-fault r end f g was is ends = was ∙ ap (λ (h : Fault). Err h) (cc (sym is ∙ ends))
 
--- and its lines did not fail to be written where it stopped
+-- and no write of its lines failed before it stopped
 pub stop-well : {A : Type 0} (r : Result A Fault) (end : End) (f : Fault) → r ≡ Err f → end ≡ Err f → IsStop end → r ≢ Err fault.Writing
 stop-well r end f was is stop writing =
     let same : f ≡ fault.Writing = cc (sym was ∙ writing) in subst IsStop (is ∙ ap (λ (h : Fault). Err h) same) stop
 
--- what holds of a fault holds where that fault came
+-- a claim for the case of an error holds if that error occurred
 pub on-failed : {P : Type 0} (r : End) (f : Fault) → r ≡ Err f → OnErr r P → P
 on-failed {P} r f is holds = subst (λ (e : End). OnErr e P) is holds
 
--- behind some lines
+-- after some lines
 
 -- of known lines from number n on, those before this intake were answered, and here an engine's part and what is gathered stand
 pub record IsAnsweredSo (w : Output) (s : Setting) (n : ℕ) (known : Option Cut) (from old : Option (List ℕ)) (i : Intake)
@@ -128,7 +128,7 @@ answered-none w i rest held gathered s past empty none = record {
 }
 
 module _ (w : Output) (s : Setting) (n : ℕ) (known : Option Cut) (from old : Option (List ℕ)) where
-  -- where some of what is gathered is written out
+  -- if a prefix of the gathered text is written
   pub answered-flushed : (i : Intake) (rest b c : Option (List ℕ)) (held held' : List ℕ) (p : Part)
       → IsAnsweredSo w s n known from old i rest b held p → Flushed b c held held' → IsAnsweredSo w s n known from old i rest c held' p
   answered-flushed i rest b c held held' p so flushed = record {
@@ -140,7 +140,7 @@ module _ (w : Output) (s : Setting) (n : ℕ) (known : Option Cut) (from old : O
     written = gathers-less w old b c so.answers held held' so.written flushed;
   }
 
-  -- behind one more
+  -- after one more
   pub answered-next : (i i' : Intake) (rest rest' held : Option (List ℕ)) (gathered gathered' : List ℕ) (p p' : Part) (line : ScriptLine)
       → IsAnsweredSo w s n known from old i rest held gathered p
       → BeginWith (i.number + 1) (cut_left i rest) (line ∷ []) (i'.number + 1) (cut_left i' rest')
@@ -159,7 +159,7 @@ module _ (w : Output) (s : Setting) (n : ℕ) (known : Option Cut) (from old : O
     written = gathers-next w old held so.answers step.answer gathered gathered' so.written step.text;
   }
 
-  -- where what is gathered is written out
+  -- if the gathered text is written
   pub some-written : (i : Intake) (rest to b c : Option (List ℕ)) (held : List ℕ) (p : Part) (wrote unread : Type 0)
       → (so : IsAnsweredSo w s n known from old i rest b held p) → Appends b c held → (unread → AnswersRead n from to so.answers)
       → AnswersSome w s n known from to old c wrote unread
@@ -177,7 +177,7 @@ module _ (w : Output) (s : Setting) (n : ℕ) (known : Option Cut) (from old : O
     read = read;
   }
 
-  -- where the write of it failed
+  -- if that write failed
   pub some-part : (i : Intake) (rest to b c : Option (List ℕ)) (held : List ℕ) (p : Part) (wrote unread : Type 0)
       → (so : IsAnsweredSo w s n known from old i rest b held p) → AppendsPart b c held → ¬ wrote → ¬ unread
       → AnswersSome w s n known from to old c wrote unread
@@ -195,7 +195,7 @@ module _ (w : Output) (s : Setting) (n : ℕ) (known : Option Cut) (from old : O
     read = λ reading. absurd (unread' reading);
   }
 
-  -- where the run ends there with a failed write
+  -- if the run ends there with a failed write
   pub some-failed : {A : Type 0} (i : Intake) (rest to b c : Option (List ℕ)) (held : List ℕ) (p : Part) (r : Result A Fault)
       → (so : IsAnsweredSo w s n known from old i rest b held p) → AppendsPart b c held → r ≡ Err fault.Writing
       → AnswersSome w s n known from to old c (r ≢ Err fault.Writing) (r ≡ Err fault.Reading)
@@ -203,7 +203,7 @@ module _ (w : Output) (s : Setting) (n : ℕ) (known : Option Cut) (from old : O
       some-part i rest to b c held p (r ≢ Err fault.Writing) (r ≡ Err fault.Reading) so part (λ other. other is)
       (λ reading. absurd (cc (sym reading ∙ is)))
 
-  -- where it stops there
+  -- if it stops there
   pub some-stop : {A : Type 0} (i : Intake) (rest to b c : Option (List ℕ)) (held : List ℕ) (p : Part) (r : Result A Fault)
       (f told : Fault) → (so : IsAnsweredSo w s n known from old i rest b held p) → WritesAt f told b c held → r ≡ Err told
       → (f ≡ fault.Reading → AnswersRead n from to so.answers)
@@ -214,7 +214,7 @@ module _ (w : Output) (s : Setting) (n : ℕ) (known : Option Cut) (from old : O
   some-stop i rest to b c held p r f told so (inr (failed, part)) is read =
       some-failed i rest to b c held p r so part (is ∙ ap (λ (g : Fault). Err g) failed)
 
-  -- where it stops as a growth was refused, which has left what is gathered as it was
+  -- if it stops at a failed allocation, which left the gathered text unchanged
   pub some-refused : {A : Type 0} (i : Intake) (rest to b c : Option (List ℕ)) (held held' : List ℕ) (p : Part) (r : Result A Fault)
       (told : Fault) → IsAnsweredSo w s n known from old i rest b held p → held' ≡ held → WritesAt fault.NoMemory told b c held'
       → r ≡ Err told → AnswersSome w s n known from to old c (r ≢ Err fault.Writing) (r ≡ Err fault.Reading)
@@ -222,7 +222,7 @@ module _ (w : Output) (s : Setting) (n : ℕ) (known : Option Cut) (from old : O
       some-stop i rest to b c held p r fault.NoMemory told so (subst (λ (l : List ℕ). WritesAt fault.NoMemory told b c l) kept written) is
       (λ reading. absurd (cc reading))
 
-  -- where these were all lines
+  -- if these were all lines
   pub all-so : (i : Intake) (rest b c : Option (List ℕ)) (held : List ℕ) (p : Part) (end : End)
       → (so : IsAnsweredSo w s n known from old i rest b held p) → NoLine (i.number + 1) (cut_left i rest) end → Appends b c held
       → (all : AnswersAll w s n known old c end) × (part_of s all.answers ≡ p)
@@ -236,7 +236,7 @@ module _ (w : Output) (s : Setting) (n : ℕ) (known : Option Cut) (from old : O
     so.part,
   )
 
-  -- where they end at a fault of the input
+  -- if they end at a fault of the input
   pub fault-stop : (i : Intake) (rest b c : Option (List ℕ)) (held : List ℕ) (p : Part) (f told : Fault)
       → (so : IsAnsweredSo w s n known from old i rest b held p) → WritesAt f told b c held
       → (IsOfInput f → NoLine (i.number + 1) (cut_left i rest) (Err f)) → IsOfInput told → AnswersAll w s n known old c (Err told)
@@ -247,7 +247,7 @@ module _ (w : Output) (s : Setting) (n : ℕ) (known : Option Cut) (from old : O
 
 -- whole runs
 
--- what stands behind the answers
+-- what follows the answers
 closes : (w : Output) → SettledAreRows → (s : Setting) (rows : List Row) (answers : List Answer) (end : End) → s.opening ≡ contents_of rows
     → (last : List ℕ) × Closing w (left_by (part_of s answers)) end last
 closes History are_rows s rows answers (Ok tt') is = ([], refl)
@@ -293,7 +293,7 @@ goes-on w some are_rows s rows n m c (Some left) answers out rest is legal answe
       );
     }
 
--- what a run over known lines from number n on wrote that stopped behind a reply
+-- what a run over known lines from number n on wrote that stopped after a reply
 abbrev pub Stops : Output → Setting → ℕ → Option Cut → (from to old new : Option (List ℕ)) → End → Type 0
 Stops w s n known from to old new end = IfSome known (λ c. (answered : List Answer) × Appends old new (answers_text w answered)
     × Begins (LineRuns w s n c) answered (answers_text w answered) × (end ≡ Err fault.Reading → AnswersRead n from to answered))
@@ -330,7 +330,7 @@ fails-from w answer are_rows s rows n (Some c) from to old new wrote unread is s
       some.parts,
 )
 
--- where the write of the database failed
+-- if the write of the database failed
 pub fails-last : (w : Output) (s : Setting) (n : ℕ) (known : Option Cut) (q : Part) (gathered : List ℕ)
     (held held' held'' : Option (List ℕ))
     → (all : AnswersAll w s n known held held' (Ok tt)) × (part_of s all.answers ≡ q) → Last w (left_by q) gathered
@@ -364,7 +364,7 @@ fails-last w s n (Some c) q gathered held held' held'' (all, present) is part = 
 
 -- from the first line
 
--- a whole run behind an opening is one of the script
+-- a whole run after an opening is one of the script
 of-script : (w : Output) (s : Setting) (bytes line : List ℕ) (n : ℕ) (c : Cut) (o : Opening) (answered : List Answer) (out : List ℕ)
     → HaveBegun 1 bytes line o n c → s ≡ opened_setting o → Begins (LineRuns w s n c) answered out
     → Begins (ScriptRuns w bytes) answered out
@@ -384,7 +384,7 @@ of-script w s bytes line n c o answered out opened is begun = record {
       });
 }
 
--- the text of answers is empty where the records at the end are written alone
+-- the text of answers is empty if only the records at the end are written
 answers-unwritten : (answers : List Answer) → answers_text Records answers ≡ []
 answers-unwritten [] = refl
 answers-unwritten (a ∷ answers) = append-nil (answers_text Records answers) ∙ answers-unwritten answers
@@ -404,7 +404,7 @@ stops-nothing w (Some bytes) to held end read = record {
   nothing = λ is. appends-none held;
 }
 
--- nor where a read failed, or a growth was refused, behind line 1
+-- nor after a failed read or a failed allocation after line 1
 pub stops-records : (w : Output) (input : Option (List ℕ)) (i : Intake) (rest to held : Option (List ℕ)) (o : Opening) (end : End)
     → HasOpened 1 input i rest o → (end ≡ Err fault.Reading → (i.ended ≡ false) × ReadsRecords (bytes_left i rest) to)
     → IsStopped w input to held held end
@@ -417,7 +417,7 @@ stops-records w (Some bytes) i rest to held o end opened read = record {
   nothing = λ is. appends-none held;
 }
 
--- behind an opening
+-- after an opening
 pub stops-opened : (w : Output) (i k : Intake) (s : Setting) (input rest rest' to old new : Option (List ℕ)) (known : Option Cut)
     (first o : Opening) (end : End) → HasOpened 1 input i rest first → Begun 1 input i.line o (k.number + 1) known
     → s ≡ opened_setting o

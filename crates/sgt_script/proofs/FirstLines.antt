@@ -47,7 +47,7 @@ wrote-refused w (Some bytes) held f r refused is = record {
       end_is = is ∙ ap (λ (g : Fault). Err g) fault-is;
     })
 
--- a record line behind line 1 can't be put
+-- a record line after line 1 is refused
 pub wrote-bad-record : (w : Output) (rest held : Option (List ℕ)) (line : List ℕ) (f : Fault) (r : End) → HasBadRecord 1 rest line f
     → r ≡ Err f → IsWhole w rest held held r
 wrote-bad-record w None held line f r refused is = tt

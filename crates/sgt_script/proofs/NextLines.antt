@@ -1,4 +1,4 @@
--- Laws of the next line of a script, which asks for something, is at fault, or is not there.
+-- Laws of the next line of a script: it requests something, is faulty, or does not exist.
 use Rattle.std.proofs.Common.{◌≡◌, ℕ, ◌+◌, List, [], ◌∷◌, ap, ◌∙◌, subst}
 use Rattle.std.specs.Prelude.{Option, None, Some, Ok, Err}
 use Rattle.sgt_format.specs.declared.script_line.ScriptLine.{ScriptLine}
@@ -11,7 +11,7 @@ use Rattle.sgt_input.proofs.FaultsRead.{explained-end}
 use Rattle.sgt_script.specs.Scripts.{script_line_at}
 use Rattle.sgt_script.specs.Answering.{BeginWith, NoLine}
 
--- it asks for something
+-- it requests something
 pub line-asks : (n m : ℕ) (old new : Option Cut) (line : List ℕ) (asked : ScriptLine) → m ≡ n → Gives old line new
     → script_line_at m line ≡ Ok asked → BeginWith n old (asked ∷ []) (m + 1) new
 line-asks n m None new line asked number gives is = tt

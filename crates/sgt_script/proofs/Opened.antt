@@ -1,4 +1,4 @@
--- Line 1 of an input, as it is given.
+-- Line 1 of an input, as it is read.
 use Rattle.std.proofs.Common.{◌≡◌, ◌≢◌, ℕ, ◌+◌, false, List, [], refl, ap, sym, ◌∙◌, subst}
 use Rattle.std.specs.Prelude.{Option, None, Some, Err}
 use Rattle.std.specs.Io.KnownBytes.{Consumes, Keeps, prepend_known}
@@ -48,7 +48,7 @@ refused-line least i (Some bytes) line (Some c) f start gives refused =
     subst (λ (j : Intake). Gives (cut_left j (Some bytes)) line (Some c)) start gives in
     subst (λ (ls : List (List ℕ)). LinesRefused least ls (cut bytes).ending f) (sym gives'.0) refused
 
--- without a line 1 a run ends where the cutting does
+-- without a line 1 a run ends as the reading of lines does
 no-first : (ending : Ending) (f : Fault) → end_at 1 ending ≡ Err f → no_opening ending ≡ Err f
 no-first AtEnd f is = absurd (cc is)
 no-first AtLongLine f is = is
@@ -88,7 +88,7 @@ begun-behind input i rest new first o m opened leaves limits procedures =
     begun 1 before_input input i.line (cut_left i rest) new first o i.number m refl opened.gives opened.opens opened.number leaves limits
     procedures
 
--- or one that can't be put
+-- or one that is refused
 pub bad-behind : (input : Option (List ℕ)) (i : Intake) (rest : Option (List ℕ)) (first : Opening) (f : Fault)
     → HasOpened 1 input i rest first → IsBadRecord f i.number (contents_of first.database) (cut_left i rest)
     → HasBadRecord 1 input i.line f

@@ -20,14 +20,14 @@ use Rattle.sgt_script.specs.Answering.{AnswersLine}
 use Rattle.sgt_script.specs.declared.output.Output.{Output}
 use Rattle.sgt_script.specs.Parts.{Answer, Replied, WasCut, StillLive, LegalAnswer, LegalRun, Part, answer_text, asked, lines_of, part_at, part_of, answers_text}
 
--- the history of the present part is legal
+-- the history of the current part is legal
 pub legal-part : (s : Setting) (answers : List Answer) → LegalRun s answers → Legal (part_of s answers).setting (part_of s answers).past
 legal-part s [] legal = tt
 legal-part s (Replied e ∷ answers) legal = (legal-part s answers legal.0, legal.1)
 legal-part s (WasCut entries ∷ answers) legal = tt
 legal-part s (StillLive ∷ answers) legal = legal-part s answers legal.0
 
--- what the present part started from can be told in rows
+-- rows can represent what the current part started from
 pub part-rows : SettledAreRows → (s : Setting) (rows : List Row) (answers : List Answer) → s.opening ≡ contents_of rows
     → (opened : List Row) × ((part_of s answers).setting.opening ≡ contents_of opened)
 part-rows are_rows s rows [] is = (rows, is)

@@ -29,7 +29,7 @@ use Rattle.sgt_script.specs.Scripts.{Execution, Closing, Opened, RunOutput, Scri
 use Rattle.sgt_script.specs.RunLaws.{HistoryLaws, InEachPart, InEachTextbook, IsSerialText, PartLaws, RunLaws, behind_cut, transcripts, carried, chained, line_telling, opened_on, replies_telling, results_left}
 use Rattle.sgt_script.proofs.Parts.{legal-part}
 
--- one more reply, which tells what it tells, behind a text
+-- one more reply after a text: the line of its own results is its text
 tells-one : (r : Reply) (results : List RunResult) (before : List ℕ) (telling : List RunResult → List ℕ) → telling results ≡ before
     → telling (results_left (told_in r ++ results) r) ++ line_telling (told_in r ++ results) r ≡ before ++ text r
 tells-one (reply.Committed answers) results before telling is = ap (λ l. l ++ text (reply.Committed answers)) is
@@ -58,7 +58,7 @@ closing-same w m n (Err fault) last same is = is
 
 -- a run in the output mode History writes the transcripts of its parts
 
--- one more entry of the present part
+-- one more entry of the current part
 transcript-more : (s : Setting) (e : Entry) (past : List Entry) (parts : List Part)
     → behind_cut (record { setting = s; past = past }) parts ++ operations_text e.event e.reply
     ≡ behind_cut (record { setting = s; past = e ∷ past }) parts
@@ -107,7 +107,7 @@ module _ (headline : HeadlineHolds) where
       (ap (λ (t : Setting). t.rules) before)
   chain s (StillLive ∷ answers) legal = chain s answers legal.0
 
-  -- so the serial run of a part tells what was told in it
+  -- so the serial run of a part returns what the part reported
   chain-tells : (s : Setting) (answers : List Answer) → LegalRun s answers → (chained s answers).results ≡ told (part_of s answers).past
   chain-tells s answers legal =
       let p = part_of s answers in

@@ -1,4 +1,4 @@
--- Laws of bytes that are read line by line: the whole lines among them, and what these ask for.
+-- Laws of bytes that are read line by line: the whole lines among them, and what these request.
 use Rattle.std.proofs.Common.{◌≡◌, ℕ, ◌+◌, false, List, [], ◌∷◌, ◌++◌, length, refl, ap, sym, ◌∙◌, append_assoc, append-nil, subst, arith}
 use Rattle.std.proofs.lemmas.List.{length-append}
 use Rattle.std.specs.Prelude.{Result, Option, None, Some, ⊤, Ok, Err}
@@ -17,9 +17,9 @@ use Rattle.sgt_script.specs.Scripts.{script_line_at}
 use Rattle.sgt_script.specs.Answering.{AreAnswered, AnswersRead, AreBehindRecords, AreLaterAnswered, AnswersScriptRead}
 use Rattle.sgt_script.proofs.Answers.{lines_of-answer}
 
--- one more line behind lines that all spell something
+-- one more line after lines that all spell something
 
--- behind one of these
+-- after one of these
 spelled-behind : {A : Type 0} (r : Result A Fault) (x : A) (later more : List A) (end end' : End) → or_later r end ≡ Ok tt
     → (end ≡ Ok tt → (more ≡ later ++ x ∷ []) × (end' ≡ Ok tt))
     → (and_later r more ≡ and_later r later ++ x ∷ []) × (or_later r end' ≡ Ok tt)
@@ -60,7 +60,7 @@ pub record IsReadSo (n : ℕ) (old now : Option (List ℕ)) (answers : List Answ
   pub are : AreAnswered n lines answers
   pub number : m ≡ n + length lines
 
--- a line with its byte 10
+-- a line with its newline
 read-line : (n m m' : ℕ) (a b c : Option (List ℕ)) (answers : List Answer) (x : Answer) (line : List ℕ) → IsReadSo n a b answers m
     → Consumes b c (line ++ 10 ∷ []) → has_break line ≡ false → script_line_at m line ≡ Ok (asked x) → m' ≡ m + 1
     → IsReadSo n a c (x ∷ answers) m'
@@ -76,7 +76,7 @@ read-line n m m' a b c answers x line read taken unbroken is next = record {
   number = omega (arith, next, read.number, length-append read.lines (line ∷ []));
 }
 
--- the next line, where the source has not ended with it
+-- the next line, if the source has not ended with it
 pub read-next : (n : ℕ) (from : Option (List ℕ)) (i i' : Intake) (rest rest' : Option (List ℕ)) (answers : List Answer) (x : Answer)
     → (i.ended ≡ false → IsReadSo n from (bytes_left i rest) answers (i.number + 1)) → (i'.ended ≡ false → i.ended ≡ false)
     → Consumes (bytes_left i rest) (bytes_left i' rest') (taken i') → has_break i'.line ≡ false
@@ -88,7 +88,7 @@ read-next n from i i' rest rest' answers x read before took unbroken is number g
     (subst (Consumes (bytes_left i rest) (bytes_left i' rest')) line took) unbroken (ap (λ k. script_line_at k i'.line) (sym number) ∙ is)
     (omega (arith, number))
 
--- where a read failed
+-- if a read failed
 
 -- what is held was read
 consumes-held : (from now rest : Option (List ℕ)) (bytes held : List ℕ) → Consumes from now bytes → Keeps now (prepend_known held rest)
@@ -114,7 +114,7 @@ read-failed n m from i i' rest rest' answers read none = (
 
 -- from the first line
 
--- where it was not whole
+-- if it was not whole
 pub read-nothing : (rest to : Option (List ℕ)) → ReadsNoLine rest to → AnswersScriptRead rest to []
 read-nothing rest to (read, took, none) = (read, took, subst (λ (ls : List (List ℕ)). AreLaterAnswered ls []) (sym none) refl)
 
@@ -123,7 +123,7 @@ abbrev pub AnswersBehind : Option (List ℕ) → Option (List ℕ) → List Answ
 AnswersBehind None to answers = ⊤
 AnswersBehind (Some old) to answers = (read : List ℕ) × Consumes (Some old) to read × AreBehindRecords (whole_lines read) answers
 
--- behind line 1
+-- after line 1
 pub read-opened : (i : Intake) (bytes : List ℕ) (rest to : Option (List ℕ)) (o : Opening) (answers : List Answer)
     → HasOpened 1 (Some bytes) i rest o → i.ended ≡ false → AnswersBehind (bytes_left i rest) to answers
     → AnswersScriptRead (Some bytes) to answers
@@ -153,7 +153,7 @@ only-records (Some old) (Some now) (read, bytes, are) = (
   record { records = whole_lines read; others = []; parts = sym (append-nil (whole_lines read)); are = are; answered = (refl, refl) },
 )
 
--- behind record lines others were
+-- others after record lines
 pub behind-records : (old mid to : Option (List ℕ)) (n m : ℕ) (answers : List Answer) → n ≡ 1 → Passes n old m mid
     → AnswersRead (m + 1) mid to answers → AnswersBehind old to answers
 behind-records None mid to n m answers one passes read = tt

@@ -1,4 +1,4 @@
--- What a run has written that stopped on the way: the beginning of what a whole run writes.
+-- What an unfinished run has written: a prefix of what a whole run writes.
 use Rattle.std.specs.Prelude.{◌≡◌, ℕ, ⊤, List, ◌++◌, Option, Some, Err, ◌⊎◌}
 use Rattle.std.specs.Io.KnownBytes.{Appends}
 use Rattle.sgt_model.specs.Settings.{Setting}
@@ -10,7 +10,7 @@ use Rattle.sgt_script.specs.declared.output.Output.{Output}
 use Rattle.sgt_script.specs.Parts.{Answer}
 use Rattle.sgt_script.specs.Scripts.{Execution, RunOutput, Script}
 
--- known bytes grow by the first of these
+-- a prefix of these bytes is appended to the known bytes
 pub record AppendsPart (old new : Option (List ℕ)) (bytes : List ℕ) : Type 0 where
   pub written : List ℕ
   pub rest : List ℕ
@@ -30,19 +30,20 @@ pub record Begins (Whole : Wholes) (answered : List Answer) (out : List ℕ) : T
   pub end : End
   pub whole : Whole run (out ++ rest) end
 
--- the whole runs of a script over these bytes, which open
+-- the whole runs of a script over these bytes that have a valid opening
 abbrev pub ScriptRuns : Output → List ℕ → Wholes
 ScriptRuns w bytes run out end = Script w bytes (Some run) out end
 
--- the whole runs behind an opening, over these lines, from number n on
+-- the whole runs after an opening, over these lines, from number n on
 abbrev pub LineRuns : Output → Setting → ℕ → Cut → Wholes
 LineRuns w s n c run out end = (run.setting ≡ s) × RunOutput w run n c.given c.ending out end
 
--- these bytes are written; where not all of them could be, the first are, and the fault is that and not this one
+-- these bytes are written, and this fault is reported; or a write failed: a prefix is written, and `Writing` is
+-- reported
 abbrev pub WritesAt : Fault → Fault → Option (List ℕ) → Option (List ℕ) → List ℕ → Type 0
 WritesAt f told old new bytes = ((told ≡ f) × Appends old new bytes) ⊎ ((told ≡ fault.Writing) × AppendsPart old new bytes)
 
--- the run stopped behind the reply to a line: a read failed, or a growth was refused
+-- the run stopped after the reply to a line: a read or an allocation failed
 abbrev pub IsStop : End → Type 0
 IsStop (Err fault.Reading) = ⊤
 IsStop (Err fault.NoMemory) = ⊤

@@ -1,4 +1,4 @@
--- Line 1 of an input, which opens it or does not.
+-- Line 1 of an input, and whether it is a valid opening.
 use Rattle.std.specs.Prelude.{◌≡◌, ◌≢◌, ℕ, false, List, [], ◌∷◌, Option, IfSome, Err}
 use Rattle.std.specs.Io.KnownBytes.{Consumes}
 use Rattle.sgt_format.specs.Openings.{Opens, Refuses}
@@ -10,7 +10,7 @@ use Rattle.sgt_input.specs.Lines.{Ending, cut, has_break, whole_lines}
 use Rattle.sgt_input.specs.Intake.{Intake, Gives, before_input, bytes_left, cut_left, taken}
 use Rattle.sgt_input.specs.Ends.{fault_of_opening, no_opening}
 
--- of an input line 1 was given, which spells this opening
+-- line 1 of an input was returned, and it spells this opening
 pub record HasOpened (least : ℕ) (input : Option (List ℕ)) (i : Intake) (rest : Option (List ℕ)) (o : Opening) : Type 0 where
   pub opens : Opens least i.line o
   pub gives : Gives (cut_left before_input input) i.line (cut_left i rest)
@@ -18,7 +18,7 @@ pub record HasOpened (least : ℕ) (input : Option (List ℕ)) (i : Intake) (res
   pub took : Consumes (bytes_left before_input input) (bytes_left i rest) (taken i)
   pub unbroken : has_break i.line ≡ false
 
--- these lines do not open, with this fault: there is no line 1, or it is refused as an opening
+-- these lines are refused with this fault: there is no line 1, or it is no valid opening
 abbrev pub LinesRefused : ℕ → List (List ℕ) → Ending → Fault → Type 0
 LinesRefused least [] ending f = no_opening ending ≡ Err f
 LinesRefused least (line ∷ later) ending f =
@@ -28,6 +28,6 @@ LinesRefused least (line ∷ later) ending f =
 abbrev pub IsRefused : ℕ → Option (List ℕ) → Fault → Type 0
 IsRefused least input f = IfSome input (λ bytes. LinesRefused least (cut bytes).given (cut bytes).ending f)
 
--- from there to here known bytes were read that have no whole line
+-- between the two, known bytes were read that have no whole line
 abbrev pub ReadsNoLine : Option (List ℕ) → Option (List ℕ) → Type 0
 ReadsNoLine input rest = (read : List ℕ) × Consumes input rest read × (whole_lines read ≡ [])

@@ -1,4 +1,5 @@
--- What a run of a script owes its caller, in each output mode: what it has written when it ends, and which failures it reports.
+-- What a run of a script guarantees in each output mode: what it has written when it ends, and which failures it
+-- reports.
 use Rattle.std.specs.Prelude.{◌≡◌, ◌≢◌, ℕ, ◌+◌, List, [], Option, Some, IfSome, Err, ◌⊎◌}
 use Rattle.std.specs.Io.KnownBytes.{Appends}
 use Rattle.sgt_input.specs.declared.fault.Fault.TheVariants as fault
@@ -18,8 +19,8 @@ LawsOf Replies run out end = RunLaws run out end
 LawsOf History run out end = HistoryLaws run out
 LawsOf Records run out end = RecordLaws run out end
 
--- a run over these bytes ended well or at a fault of the script. It appended what such a run writes. Its execution obeys the laws;
--- there is none if the script does not open.
+-- a run over these bytes ended well or at a fault of the script. It appended what such a run writes. Its execution
+-- obeys the laws; there is none if the opening is refused.
 pub record WritesWhole (mode : Output) (bytes : List ℕ) (old new : Option (List ℕ)) (end : End) : Type 0 where
   pub run : Option Execution
   pub out : List ℕ
@@ -27,9 +28,9 @@ pub record WritesWhole (mode : Output) (bytes : List ℕ) (old new : Option (Lis
   pub script : Script mode bytes run out end
   pub laws : IfSome run (λ r. LawsOf mode r out end)
 
--- a run over these bytes stopped at a failed read or out of memory, with these bytes left. It appended the text of some first
--- answers of a whole run. After a failed read these are the answers to all whole lines that were read. In the mode Records that is
--- no text.
+-- a run over these bytes stopped at a failed read or a failed allocation, with these bytes left. It appended the text
+-- of some first answers of a whole run. After a failed read these are the answers to all whole lines that were read.
+-- In the mode Records that is no text.
 pub record WritesAnswers (mode : Output) (bytes : List ℕ) (left old new : Option (List ℕ)) (end : End) : Type 0 where
   pub answered : List Answer
   pub appends : Appends old new (answers_text mode answered)
@@ -37,7 +38,7 @@ pub record WritesAnswers (mode : Output) (bytes : List ℕ) (left old new : Opti
   pub read : end ≡ Err fault.Reading → AnswersScriptRead (Some bytes) left answered
   pub nothing : mode ≡ Records → Appends old new []
 
--- a write failed in a run over these bytes. What was appended by then is the beginning of what a whole run writes.
+-- a write failed in a run over these bytes. It had appended a prefix of what a whole run writes.
 pub record WritesPart (mode : Output) (bytes : List ℕ) (old new : Option (List ℕ)) : Type 0 where
   pub answered : List Answer
   pub out : List ℕ
@@ -56,8 +57,8 @@ IsStopped mode input left old new end = IfSome input (λ bytes. WritesAnswers mo
 abbrev pub IsCutOff : Output → (input old new : Option (List ℕ)) → Type 0
 IsCutOff mode input old new = IfSome input (λ bytes. WritesPart mode bytes old new)
 
--- the source's count of failures rises by one if the run ends with Reading. It stays the same if the run ends well or at a fault of
--- the script.
+-- the source's count of failures rises by one if the run ends with Reading. It stays the same if the run ends well or
+-- at a fault of the script.
 abbrev pub CountsReads : End → (old new : ℕ) → Type 0
 CountsReads end old new = (IsExact end → new ≡ old) × (end ≡ Err fault.Reading → new ≡ old + 1)
 

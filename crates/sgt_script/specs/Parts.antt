@@ -1,4 +1,4 @@
--- What the lines of a script are answered, and the parts that its cuts divide a run into.
+-- The answers to the lines of a script, and the parts into which its cuts divide a run.
 use Rattle.std.specs.Prelude.{◌≡◌, ℕ, ⊤, List, [], ◌∷◌, ◌++◌, length, map, reverse}
 use Rattle.sgt_model.specs.declared.entry.Entry.{Entry}
 use Rattle.sgt_model.specs.Contents.{Contents}
@@ -17,25 +17,25 @@ use Rattle.sgt_format.specs.declared.script_line.ScriptLine.TheVariants as scrip
 
 -- ---- answers
 
--- what a line is answered: an event gets a reply, and becomes an entry; a cut is told how many entries were cut off, or that a
--- transaction is live
+-- the answer to a line: an event gets a reply, and becomes an entry; a cut gets the number of entries that were cut
+-- off, or that a transaction is live
 pub data Answer : Type 0 where
   Replied : Entry → Answer
   WasCut : ℕ → Answer
   StillLive : Answer
 
--- what the line asks for
+-- what the line requests
 abbrev pub asked : Answer → ScriptLine
 asked (Replied e) = script_line.Event e.event
 asked (WasCut entries) = script_line.Cut
 asked StillLive = script_line.Cut
 
--- what the lines ask for that got these answers, oldest first
+-- the requests that got these answers, oldest first
 abbrev pub lines_of : List Answer → List ScriptLine
 lines_of answers = map asked (reverse answers)
 
--- the text of an answer, by the output mode: the line that replies to it; or its operations as a history has them, with a comment
--- where one history ends and another begins; or nothing
+-- the text of an answer, by the output mode: the line that replies to it; or its operations, with a comment where one
+-- history ends and another starts; or nothing
 abbrev pub answer_text : Output → Answer → List ℕ
 answer_text Replies (Replied e) = text e.reply
 answer_text Replies (WasCut entries) = cut_text entries
@@ -45,33 +45,34 @@ answer_text History (WasCut entries) = cut_comment entries
 answer_text History StillLive = []
 answer_text Records a = []
 
--- the text of these answers, the oldest first
+-- the text of these answers, oldest first
 abbrev pub answers_text : Output → List Answer → List ℕ
 answers_text w [] = []
 answers_text w (a ∷ answers) = answers_text w answers ++ answer_text w a
 
 -- ---- parts
 
--- a part of a run: what it started from, and the history of the events answered since
+-- a part of a run: what it started from, and the history of the events since
 pub record Part : Type 0 where
   pub setting : Setting
   pub past : List Entry
 
--- the committed contents that a part leaves
+-- the committed contents at the end of a part
 abbrev pub left_by : Part → Contents
 left_by p = settled p.setting.opening p.past
 
--- the part that is an engine's
+-- the part of an engine
 abbrev pub part_at : EngineView → Part
 part_at e = record { setting = setting_of e; past = e.past }
 
--- the present part behind one more answer: an event is an entry of it, and a cut begins a new one on what it leaves
+-- the current part after one more answer: an event adds an entry to it, and a cut starts a new part on its committed
+-- contents
 abbrev pub part_behind : Answer → Part → Part
 part_behind (Replied e) p = record { setting = p.setting; past = e ∷ p.past }
 part_behind (WasCut entries) p = record { setting = setting_behind p.setting p.past; past = [] }
 part_behind StillLive p = p
 
--- the present part behind these answers
+-- the current part after these answers
 abbrev pub part_of : Setting → List Answer → Part
 part_of s [] = record { setting = s; past = [] }
 part_of s (a ∷ answers) = part_behind a (part_of s answers)
@@ -82,25 +83,25 @@ cut_by (Replied e) p = []
 cut_by (WasCut entries) p = p ∷ []
 cut_by StillLive p = []
 
--- the parts cut off, the newest first
+-- the parts cut off, newest first
 abbrev pub cut_off : Setting → List Answer → List Part
 cut_off s [] = []
 cut_off s (a ∷ answers) = cut_by a (part_of s answers) ++ cut_off s answers
 
--- all parts, the present one first
+-- all parts, the current one first
 abbrev pub parts_of : Setting → List Answer → List Part
 parts_of s answers = part_of s answers ∷ cut_off s answers
 
 -- ---- legal answers
 
--- the next line may be answered so: an event by a legal reply; a cut by the number of the part's entries where nobody is live,
--- and else that a transaction is
+-- the answer is a legal one for the next line: to an event, a legal reply; to a cut, the number of the part's entries
+-- if no transaction is live, and else that one is
 abbrev pub LegalAnswer : Part → Answer → Type 0
 LegalAnswer p (Replied e) = LegalReply p.setting p.past e.event e.reply
 LegalAnswer p (WasCut entries) = NobodyLive p.past × (entries ≡ length p.past)
 LegalAnswer p StillLive = ¬ NobodyLive p.past
 
--- each answer is legal behind those before it
+-- each answer is legal after those before it
 abbrev pub LegalRun : Setting → List Answer → Type 0
 LegalRun s [] = ⊤
 LegalRun s (a ∷ answers) = LegalRun s answers × LegalAnswer (part_of s answers) a

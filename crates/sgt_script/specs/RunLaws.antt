@@ -1,4 +1,4 @@
--- What is true of every run of a script: the headline, each part by itself, and on what was written.
+-- What every run of a script obeys: the headline for each part, and laws of what was written.
 use Rattle.std.specs.Prelude.{◌≡◌, ℕ, List, [], ◌∷◌, ◌++◌, ⊤, length}
 use Rattle.sgt_model.specs.declared.reply.Reply.{Reply}
 use Rattle.sgt_model.specs.declared.reply.Reply.TheVariants as reply
@@ -18,31 +18,32 @@ use Rattle.sgt_script.specs.declared.output.Output.TheVariants.{Replies}
 use Rattle.sgt_script.specs.Parts.{Answer, Replied, WasCut, StillLive, Part, answer_text, part_of, parts_of}
 use Rattle.sgt_script.specs.Scripts.{Execution, Closing}
 
--- the line that tells the first of these results to a transaction that commits. A code has no such line
+-- the line that reports the first of these results to a transaction that commits. A code has no such line
 abbrev pub answers_line : List RunResult → List ℕ
 answers_line [] = []
 answers_line (GaveAnswers answers ∷ results) = text (reply.Committed answers)
 answers_line (AskedCode code ∷ results) = []
 
--- the line that tells it to one that is refused, where these fell. Answers have no such line
+-- the line that reports the first of these results to a transaction that is refused, with these aborted in cascade.
+-- Answers have no such line
 abbrev pub code_line : List ℕ → List RunResult → List ℕ
 code_line fell [] = []
 code_line fell (GaveAnswers answers ∷ results) = []
 code_line fell (AskedCode code ∷ results) = text (reply.Refused code fell)
 
--- the line of a reply; to a transaction that commits or is refused, of the first of these results and not of the reply's own
--- answers or code
+-- the line of a reply. For a transaction that commits or is refused, it reports the first of these results in place
+-- of the reply's own answers or code
 abbrev pub line_telling : List RunResult → Reply → List ℕ
 line_telling results (reply.Committed answers) = answers_line results
 line_telling results (reply.Refused code fell) = code_line fell results
 line_telling results r = text r
 
--- the results behind the first
+-- the results after the first
 abbrev pub later_results : List RunResult → List RunResult
 later_results [] = []
 later_results (r ∷ results) = results
 
--- those left, where a reply took the first
+-- the results left after a reply took the first
 abbrev pub results_left : List RunResult → Reply → List RunResult
 results_left results (reply.Committed answers) = later_results results
 results_left results (reply.Refused code fell) = later_results results
@@ -50,32 +51,33 @@ results_left results _ = results
 
 -- ---- the serial run of all parts
 
--- the same rules, on these opening contents
+-- the same rules, on these initial contents
 abbrev pub opened_on : Contents → Setting → Setting
 opened_on m s = record { opening = m; rules = s.rules }
 
--- the contents that the serial run of the parts cut off leaves: each runs on what the one before it left, the first on the opening
+-- the contents after the serial run of the parts cut off: each runs on what the one before it left, the first on the
+-- initial contents
 abbrev pub carried : Setting → List Answer → Contents
 carried s [] = s.opening
 carried s (Replied e ∷ answers) = carried s answers
 carried s (WasCut entries ∷ answers) = (folded (opened_on (carried s answers) s) (part_of s answers).past).last
 carried s (StillLive ∷ answers) = carried s answers
 
--- the serial run of the present part, on what those cut off left
+-- the serial run of the current part, on the contents that the parts cut off left
 abbrev pub chained : Setting → List Answer → Folded
 chained s answers = folded (opened_on (carried s answers) s) (part_of s answers).past
 
--- the text of these answers where the transactions that commit or are refused are told what the serial run of their part gives:
--- in the present part these results, the last one first
+-- the text of these answers, in which transactions that commit or are refused get the results of the serial run of
+-- their part. In the current part these are the given results, last one first
 abbrev pub replies_telling : Setting → List RunResult → List Answer → List ℕ
 replies_telling s results [] = []
 replies_telling s results (Replied e ∷ answers) = replies_telling s (results_left results e.reply) answers ++ line_telling results e.reply
 replies_telling s results (WasCut entries ∷ answers) = replies_telling s (chained s answers).results answers ++ answer_text Replies (WasCut entries)
 replies_telling s results (StillLive ∷ answers) = replies_telling s results answers ++ answer_text Replies StillLive
 
--- what was written is what the serial run of all parts tells, one after another: each `committed` line has the answers that it
--- gives there, each `refused` line the code that it asks there, and the lines at the end, where the run ends well, are the
--- database that it leaves
+-- what was written is what the serial run of all parts, one after another, returns: each `committed` line has its
+-- answers, and each `refused` line the code that it raises. If the run ends well, the last lines are the database
+-- that it leaves
 pub record IsSerialText (run : Execution) (out : List ℕ) (end : End) : Type 0 where
   pub last : List ℕ
   pub closing : Closing Replies (chained run.setting run.answers).last end last
@@ -91,35 +93,35 @@ pub record PartLaws (p : Part) : Type 0 where
   pub order : CommitsInOrder p.past
   pub bank : CommitsAreBank p.setting p.past
 
--- they hold of each of these parts
+-- they hold for each of these parts
 abbrev pub InEachPart : List Part → Type 0
 InEachPart [] = ⊤
 InEachPart (p ∷ parts) = PartLaws p × InEachPart parts
 
--- they hold of each part of a run, between its cuts, and what was written is what one serial run tells
+-- they hold for each part of a run, between its cuts, and what was written is what one serial run returns
 pub record RunLaws (run : Execution) (out : List ℕ) (end : End) : Type 0 where
   pub parts : InEachPart (parts_of run.setting run.answers)
   pub written : IsSerialText run out end
 
 -- ---- in the output mode History
 
--- what the textbook says holds of the history of each of these parts
+-- what the textbook says holds for the history of each of these parts
 abbrev pub InEachTextbook : List Part → Type 0
 InEachTextbook [] = ⊤
 InEachTextbook (p ∷ parts) = TextbookLaws p.past × InEachTextbook parts
 
--- the transcript of a part, behind a comment that so many entries were cut off before it
+-- the transcript of a part, after a comment with the number of entries that were cut off before it
 abbrev pub behind_cut : Part → List Part → List ℕ
 behind_cut p [] = transcript p.past
 behind_cut p (q ∷ parts) = behind_cut q parts ++ cut_comment (length q.past) ++ transcript p.past
 
--- the transcripts of the parts, the present one's last, with a comment wherever a history was cut off
+-- the transcripts of the parts, the current one last, with a comment wherever a history was cut off
 abbrev pub transcripts : List Part → List ℕ
 transcripts [] = []
 transcripts (p ∷ parts) = behind_cut p parts
 
--- The laws hold of each part of a run, and the textbook's too, and what was written are the transcripts of the parts, which spell
--- the operations of the textbook's histories.
+-- The laws hold for each part of a run, and so do the textbook's. What was written are the transcripts of the parts,
+-- which spell the operations of the textbook's histories.
 pub record HistoryLaws (run : Execution) (out : List ℕ) : Type 0 where
   pub parts : InEachPart (parts_of run.setting run.answers)
   pub textbooks : InEachTextbook (parts_of run.setting run.answers)

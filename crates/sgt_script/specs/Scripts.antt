@@ -22,29 +22,29 @@ use Rattle.sgt_script.specs.declared.output.Output.{Output}
 use Rattle.sgt_script.specs.declared.output.Output.TheVariants.{Replies, History, Records}
 use Rattle.sgt_script.specs.Parts.{Answer, LegalRun, left_by, lines_of, part_of, answers_text}
 
--- what line n asks for, or its fault
+-- what line n requests, or its fault
 abbrev pub script_line_at : ℕ → List ℕ → Result ScriptLine Fault
 script_line_at n line = at_line n (script_line_of line)
 
--- what stands behind the answers of a run that ended well, by the output mode: the database of these contents; nothing; or these
--- contents as record lines
+-- what follows the answers of a run that ended well, by the output mode: the database with these contents; nothing;
+-- or these contents as record lines
 abbrev pub Last : Output → Contents → List ℕ → Type 0
 Last Replies m last = (rows : List Row) × IsByKey rows × ((k : Key) → contents_of rows k ≡ m k) × (last ≡ database_text rows)
 Last History m last = last ≡ []
 Last Records m last = (rows : List Row) × IsByKey rows × ((k : Key) → contents_of rows k ≡ m k) × (last ≡ record_lines rows)
 
--- what stands behind the answers; nothing at a fault
+-- what follows the answers; nothing at a fault
 abbrev pub Closing : Output → Contents → End → List ℕ → Type 0
 Closing w m (Ok _) last = Last w m last
 Closing w m (Err fault) last = last ≡ []
 
--- the execution of a script: what it started from, and what its lines were answered, the newest answer first
+-- the execution of a script: what it started from, and the answers to its lines, newest first
 pub record Execution : Type 0 where
   pub setting : Setting
   pub answers : List Answer
 
--- what a run over these lines behind the opening, from number n on, writes: the text of legal answers to them, and the closing
--- text, of what the last part leaves
+-- what a run over these lines after the opening, from number n on, writes: the text of legal answers to them, and the
+-- closing text for the contents that the last part leaves
 pub record RunOutput (w : Output) (run : Execution) (n : ℕ) (later : List (List ℕ)) (ending : Ending) (out : List ℕ) (end : End) : Type 0 where
   pub last : List ℕ
   pub legal : LegalRun run.setting run.answers
@@ -53,7 +53,7 @@ pub record RunOutput (w : Output) (run : Execution) (n : ℕ) (later : List (Lis
   pub closing : Closing w (left_by (part_of run.setting run.answers)) end last
   pub text : out ≡ answers_text w run.answers ++ last
 
--- line 1 and the record lines behind it are an opening, and the lines behind those are answered
+-- line 1 and the record lines after it are an opening, and the lines after those are answered
 pub record Opened (w : Output) (line : List ℕ) (later : List (List ℕ)) (ending : Ending) (run : Execution) (out : List ℕ) (end : End) : Type 0 where
   pub opening : Opening
   pub opens : OpensWith 1 line (leading_records later) opening
@@ -68,7 +68,7 @@ pub record Refused (line out : List ℕ) (end : End) : Type 0 where
   pub nothing : out ≡ []
   pub end_is : end ≡ Err (fault_of_opening error)
 
--- line 1 is an opening, and a record line behind it can't be put
+-- line 1 is an opening, and a record line after it is refused
 pub record RefusedRecord (line : List ℕ) (later : List (List ℕ)) (out : List ℕ) (end : End) : Type 0 where
   pub bad : ℕ
   pub refuses : RefusesRecord 1 line (leading_records later) bad
@@ -79,7 +79,7 @@ pub record RefusedRecord (line : List ℕ) (later : List (List ℕ)) (out : List
 abbrev pub Unopened : Ending → List ℕ → End → Type 0
 Unopened ending out end = (out ≡ []) × (end ≡ no_opening ending)
 
--- what a run over these lines writes: with an execution where they open, and without one where they do not
+-- what a run over these lines writes: with an execution if the opening is valid, and else without one
 abbrev pub ScriptOf : Output → List (List ℕ) → Ending → Option Execution → List ℕ → End → Type 0
 ScriptOf w [] ending None out end = Unopened ending out end
 ScriptOf w [] ending (Some run) out end = ⊥

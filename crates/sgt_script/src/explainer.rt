@@ -12,22 +12,22 @@ use sgt_model::NoMemory;
 use std::alloc::Global;
 use std::marker::Model;
 
-/// The line at the end if an explanation had no memory.
+/// The line at the end if memory ran out for an explanation.
 const LEFT_OUT: &[u8] = b"explanations are left out: no memory\n";
 
-/// Writes to a sink why transactions are aborted, and which are live at the end. The explanations are gathered, and written after
-/// the answers that they belong to. After a failed write it writes no more.
+/// Writes to a sink why transactions are aborted, and which are live at the end. Explanations are gathered, and
+/// written after the answers that they belong to. After a failed write it writes no more.
 #[derive(Drop)]
 pub(crate) struct Explainer<'a, E: Sink> {
     alloc: Global,
     errors: &'a mut E,
     /// Whether a write has failed.
     has_failed: bool,
-    /// Whether an explanation had no memory.
+    /// Whether memory ran out for an explanation.
     has_lost: bool,
-    /// The line number of each entry. If one had no memory, the list ends before it.
+    /// The line number of each entry. If memory ran out for one, the list ends before it.
     lines: Vec<u64>,
-    /// The explanations that are not written yet.
+    /// The explanations that are not yet written.
     text: Vec<u8>,
 }
 
@@ -56,7 +56,7 @@ impl<'a, E: Sink> Explainer<'a, E> {
         }
     }
 
-    /// Writes the explanations that are left when the run is over.
+    /// Writes the remaining explanations when the run is over.
     pub(crate) fn finish(mut self) {
         self.write_out();
         let Explainer {
@@ -70,7 +70,7 @@ impl<'a, E: Sink> Explainer<'a, E> {
         }
     }
 
-    // Writes what was gathered.
+    // Writes the gathered explanations.
     fn write_out(&mut self) {
         if !self.has_failed && write_all(self.errors, self.text.as_slice()).is_err() {
             self.has_failed = true;
@@ -78,8 +78,8 @@ impl<'a, E: Sink> Explainer<'a, E> {
         self.text.clear();
     }
 
-    // Notes the line of the entry at a place, if the lines of all entries before it are noted. Lines that are noted from this place
-    // on belong to a history that was cut off.
+    // Records the line of the entry at a position, if the lines of all entries before it are recorded. Lines recorded
+    // from this position on belong to a history that was cut off.
     fn note_line(&mut self, place: usize, line: u64) {
         self.lines.truncate(place);
         if self.lines.len() == place {
@@ -87,14 +87,14 @@ impl<'a, E: Sink> Explainer<'a, E> {
         }
     }
 
-    // Gathers the explanation of the entry at a place, if it aborts a transaction.
+    // Gathers the explanation of the entry at a position, if it aborts a transaction.
     fn explain_at(&mut self, engine: &SgtEngine, place: usize) {
         if aborts_at(engine.history(), place) && self.append(engine, place).is_err() {
             self.has_lost = true;
         }
     }
 
-    // Adds that explanation. If there is no memory, it adds nothing.
+    // Appends that explanation. If an allocation fails, it appends nothing.
     fn append(&mut self, engine: &SgtEngine, place: usize) -> Result<(), NoMemory> {
         let history = engine.history();
         let pending = pending_at(self.alloc, history, place, engine.sched().procedures())?;
@@ -130,7 +130,7 @@ impl<E: Sink> Observer for Explainer<'_, E> {
     }
 }
 
-// Whether the entry at a place aborts a transaction.
+// Whether the entry at a position aborts a transaction.
 fn aborts_at(history: &History, place: usize) -> bool {
     match history.get_entry(place) {
         Some(entry) => entry.is_ending() && !entry.is_commit(),

@@ -1,10 +1,11 @@
-//! A whole script over a source and a sink: bytes in, lines, events, replies, text out. `specs/Outcomes.antt` says what a run owes
-//! its caller, and `specs/Scripts.antt` what it writes.
+//! Runs a whole script from a source to a sink: bytes in, lines, events, replies, text out. `specs/Outcomes.antt`
+//! says what a run guarantees, and `specs/Scripts.antt` what it writes.
 //!
-//! [`run_script`] writes the replies and then the database. [`run`] does the same in each output mode, with explanations on a
-//! second sink if they are asked for.
+//! [`run_script`] writes the replies and then the database. [`run`] offers each output mode, and can explain aborts
+//! on a second sink.
 //!
-//! This is not a program: it opens no file and knows no command line. The engine of `sgt_assembly` answers the events.
+//! This is not a program: it opens no file and knows no command line. The engine of `sgt_assembly` handles the
+//! events.
 //!
 //! ```
 //! let mut reader = Reader::new(rt.reader());

@@ -5,10 +5,10 @@ use sgt_format::append_numbered;
 use sgt_model::{NoMemory, Tid};
 use std::alloc::{AllocError, Global};
 
-/// Adds a line that tells which transactions are live at the end, as `2 transactions are live at the end: 3, 7`; nothing where
-/// none is.
+/// Appends a line that lists the transactions live at the end, as `2 transactions are live at the end: 3, 7`. If none
+/// is live, it appends nothing.
 ///
-/// `NoMemory` where a growth was refused; the text is as it was then.
+/// `NoMemory` if an allocation failed; then the text is unchanged.
 pub(crate) fn append_live(alloc: Global, text: &mut Vec<u8>, live: &[Tid]) -> Result<(), NoMemory>
     ensures kept { take (vec_len text.old) text.new.items ≡ text.old.items }
     ensures err { OnErr result (text.new.items ≡ text.old.items) }
@@ -21,7 +21,7 @@ pub(crate) fn append_live(alloc: Global, text: &mut Vec<u8>, live: &[Tid]) -> Re
     Ok(())
 }
 
-// Adds the line.
+// Appends the line.
 fn append_live_line(line: &mut Vec<u8>, live: &[Tid]) -> Result<(), AllocError> {
     append_numbered(line, b"", live.len())?;
     line.extend_from_slice(words_for(live.len()))?;
@@ -33,7 +33,7 @@ fn append_live_line(line: &mut Vec<u8>, live: &[Tid]) -> Result<(), AllocError> 
     line.extend_from_slice(b"\n")
 }
 
-// The words behind the number of those that are live.
+// The words after the number of live transactions.
 fn words_for(count: usize) -> &'static [u8] {
     if count == 1 {
         b" transaction is live at the end:"

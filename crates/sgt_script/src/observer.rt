@@ -1,4 +1,4 @@
-//! What follows a run line by line, and changes nothing of it.
+//! Observers of a run. They see each line, and change nothing.
 
 use sgt_assembly::SgtEngine;
 use sgt_input::Lines;
@@ -8,7 +8,7 @@ pub(crate) trait Observer: Drop {
     /// The engine has answered the event of the line with this number: that event is the newest entry.
     fn answered(&mut self, engine: &SgtEngine, line: u64);
 
-    /// Each answer that has to be written before the next read is written.
+    /// Each answer that must be written before the next read is written.
     fn written(&mut self, lines: &Lines);
 
     /// All lines are answered.

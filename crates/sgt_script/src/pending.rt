@@ -6,10 +6,10 @@ use sgt_model::{Kind, NoMemory, Tid};
 use sgt_proc::{Checked, Next};
 use std::alloc::Global;
 
-/// The access that a transaction was about to make, where the entry at this place aborts it since that access would close a
-/// cycle. Of another entry it is none.
+/// The access that a transaction was about to make when the entry at this position aborted it because of a cycle. For
+/// any other entry it is none.
 ///
-/// `NoMemory` where a growth was refused.
+/// `NoMemory` if an allocation failed.
 pub(crate) fn pending_at(
     alloc: Global,
     history: &History,
@@ -22,7 +22,7 @@ pub(crate) fn pending_at(
     }
 }
 
-// The transaction that the entry at this place aborts by a cycle, if it does.
+// The transaction that the entry at this position aborts by a cycle, if it does.
 fn rejected_at(history: &History, place: usize) -> Option<Tid> {
     let entry = history.get_entry(place)?;
     if entry.is_by_cycle() {
@@ -32,7 +32,7 @@ fn rejected_at(history: &History, place: usize) -> Option<Tid> {
     }
 }
 
-// The access that the transaction makes next, behind the entries before a place.
+// The next access of the transaction, after the entries before a position.
 fn pending_of(
     alloc: Global,
     history: &History,
@@ -47,7 +47,7 @@ fn pending_of(
     Ok(pending_in(procedures, &call, &progress))
 }
 
-// The access that the procedure of a call makes next, behind what was made of it, if it makes one.
+// The next access of the procedure of a call, after what it has made, if it makes one.
 fn pending_in(procedures: &[Checked], call: &Call, progress: &Progress) -> Option<Pending> {
     let procedure = procedures.get(usize::from(call.procedure))?;
     match procedure.next(&call.args, progress.read.as_slice(), progress.made) {

@@ -1,4 +1,4 @@
-//! A run of a script from its first line to its last: each line is answered, and what is written depends on the output mode.
+//! Runs a script from its first line to its last. Each line is answered; the output mode says what is written.
 ghost use Rattle.std.specs.Prelude.{◌≡◌, ◌≢◌, ℕ, List, Option, false, IfOk, IfErr, OnOk, OnErr, IfSome, IsSome, IsNone, Err, Ok, Some, None, ◌⊎◌, [], ◌∷◌, ◌++◌, ◌+◌, ◌^◌, ◌<◌, ◌≤◌, length};
 ghost use Rattle.std.specs.Io.KnownBytes.{Appends, Consumes};
 ghost use Rattle.sgt_model.specs.declared.entry.Entry.{Entry};
@@ -33,7 +33,7 @@ use sgt_smallbank::replay_is_bank;
 use sgt_textbook::{legal_are_commit_ordered, legal_are_recoverable, legal_are_serializable};
 use std::alloc::Global;
 
-/// What the next line asks for, if there is one.
+/// What the next line requests, if there is one.
 #[inline(always)]
 fn next_script_line<S: Source>(
     alloc: Global,
@@ -78,7 +78,7 @@ fn next_script_line<S: Source>(
     Ok(Some(asked))
 }
 
-/// Answers an event: the text of that is added.
+/// Answers an event, and appends the text of the answer.
 #[inline(always)]
 fn answer_event(
     engine: &mut SgtEngine,
@@ -104,8 +104,8 @@ fn answer_event(
     }
 }
 
-/// Adds the operations of the newest entry. The entry is made in full for that, in a function of its own: so replies need no room
-/// for one.
+/// Appends the operations of the newest entry. The entry is built in full, so this is a function of its own: replies
+/// then need no space for one.
 #[inline(never)]
 fn append_newest(engine: &SgtEngine, text: &mut Vec<u8>) -> Result<(), NoMemory>
     requires { 0 < length engine.now.past }
@@ -119,7 +119,7 @@ fn append_newest(engine: &SgtEngine, text: &mut Vec<u8>) -> Result<(), NoMemory>
     }
 }
 
-/// Cuts the history off, where nobody is live: the text that answers this is added. What was cut off is dropped.
+/// Cuts off the history if no transaction is live, and appends the answer. The entries that were cut off are dropped.
 #[inline(never)]
 fn answer_cut(
     alloc: Global,
@@ -141,7 +141,7 @@ fn answer_cut(
     }
 }
 
-/// Adds that so many entries were cut off.
+/// Appends the number of entries that were cut off.
 fn append_was_cut(entries: usize, output: Output, text: &mut Vec<u8>) -> Result<(), NoMemory>
     ensures text { OnOk result
         (text.new.items ≡ text.old.items ++ answer_text output (WasCut entries)) }
@@ -154,7 +154,8 @@ fn append_was_cut(entries: usize, output: Output, text: &mut Vec<u8>) -> Result<
     }
 }
 
-/// Adds that nothing was cut off, as a transaction is live. Where replies are not written that is nothing.
+/// Appends that nothing was cut off, because a transaction is live. Only the output mode `Replies` has a text for
+/// that.
 fn append_was_not_cut(output: Output, text: &mut Vec<u8>) -> Result<(), NoMemory>
     ensures text { OnOk result (text.new.items ≡ text.old.items ++ answer_text output StillLive) }
     ensures kept { OnErr result (text.new.items ≡ text.old.items) }
@@ -165,7 +166,7 @@ fn append_was_not_cut(output: Output, text: &mut Vec<u8>) -> Result<(), NoMemory
     }
 }
 
-/// What is written behind the answers of a run that ends well.
+/// What is written after the answers of a run that ends well.
 fn last_text(alloc: Global, engine: &SgtEngine, output: Output) -> Result<Vec<u8>, NoMemory>
     ensures { IfOk result (λ text. Last output (left_by (part_at engine.now)) text.items) }
 {
@@ -174,7 +175,7 @@ fn last_text(alloc: Global, engine: &SgtEngine, output: Output) -> Result<Vec<u8
     Ok(text)
 }
 
-/// Adds that to no text.
+/// The same, appended to an empty text.
 fn append_last(
     alloc: Global,
     engine: &SgtEngine,
@@ -191,7 +192,7 @@ fn append_last(
     }
 }
 
-/// Writes out what was gathered.
+/// Writes the gathered text.
 fn flush<T: Sink>(sink: &mut T, gathered: &mut Vec<u8>) -> Result<(), Fault>
     requires { T.failures sink.old + 1 < 2 ^ 64 }
     ensures bytes { OnOk result (Appends (T.held sink.old) (T.held sink.new) gathered.old.items) }
@@ -208,7 +209,7 @@ fn flush<T: Sink>(sink: &mut T, gathered: &mut Vec<u8>) -> Result<(), Fault>
     Ok(())
 }
 
-/// Writes out what was gathered where the next line has not come.
+/// Writes the gathered text if the next line has not arrived.
 fn flush_before_read<T: Sink>(
     lines: &Lines,
     sink: &mut T,
@@ -230,7 +231,7 @@ fn flush_before_read<T: Sink>(
     flush(sink, gathered)
 }
 
-/// Writes out what was gathered where a run stops at a fault, and tells the fault: this one, or else that the write failed.
+/// Writes the gathered text when a run stops at a fault. Returns the fault, or `Writing` if the write failed.
 fn stop<T: Sink>(sink: &mut T, gathered: &mut Vec<u8>, fault: Fault) -> Fault
     requires writing { T.failures sink.old + 1 < 2 ^ 64 }
     requires other { fault ≢ Fault.Writing }
@@ -244,7 +245,7 @@ fn stop<T: Sink>(sink: &mut T, gathered: &mut Vec<u8>, fault: Fault) -> Fault
     }
 }
 
-/// Answers the line of a number: the text of that is added.
+/// Answers the line with this number, and appends the text of the answer.
 #[inline(always)]
 fn answer_line<X: Observer>(
     alloc: Global,
@@ -269,7 +270,7 @@ fn answer_line<X: Observer>(
     }
 }
 
-/// Answers the lines that are left. The answers are gathered, and written out before each read and at the end.
+/// Answers the remaining lines. The answers are gathered, and written before each read and at the end.
 fn answer_lines<S: Source, T: Sink, X: Observer>(
     alloc: Global,
     lines: &mut Lines,
@@ -335,14 +336,17 @@ fn answer_lines<S: Source, T: Sink, X: Observer>(
     }
 }
 
-/// Runs a script behind its opening: answers each line, and writes the committed database at the end.
+/// Runs a script after its opening: answers each line, and writes the committed database at the end.
 ///
 /// # Errors
 ///
-/// The fault of the first line that spells neither event nor cut or is too long, or of the input: the answers to the lines before
-/// it are written. `Reading` if a read failed: the answers to the whole lines that were read are written. `NoMemory` if an
-/// allocation failed: the answers to some first lines are written. None of these writes the database. `Writing` if a write
-/// failed: the beginning of what a whole run writes is written.
+/// - The fault of the first line that is too long or is no event and no cut, or the fault of the input: the answers
+///   to the lines before it are written.
+/// - `Reading` if a read failed: the answers to the whole lines that were read are written.
+/// - `NoMemory` if an allocation failed: the answers to some first lines are written.
+/// - `Writing` if a write failed: a prefix of what a whole run writes is written.
+///
+/// The first three write no database.
 pub(crate) fn run_opened<S: Source, T: Sink, X: Observer>(
     alloc: Global,
     lines: &mut Lines,
@@ -379,7 +383,7 @@ pub(crate) fn run_opened<S: Source, T: Sink, X: Observer>(
     ensures write_failed { result ≡ Err Fault.Writing →
         T.failures sink.new ≡ T.failures sink.old + 1 }
 {
-    // Whatever was answered by then, some whole run goes on from there.
+    // Whatever was answered by now, some whole run continues from here.
     some_reply_is_legal();
     histories_go_on();
     answer_lines(alloc, lines, source, sink, engine, output, observer)?;
@@ -387,7 +391,7 @@ pub(crate) fn run_opened<S: Source, T: Sink, X: Observer>(
     flush(sink, &mut text)
 }
 
-/// Reads line 1, and tells the opening that it spells: line 1 is the line given last, then.
+/// Reads line 1 and returns the opening that it spells. Line 1 is then the line given last.
 fn open_input<S: Source>(alloc: Global, source: &mut S) -> Result<(Lines, Opening), Fault>
     requires { S.failures source.old + 1 < 2 ^ 64 }
     ensures opened { IfOk result (λ input.
@@ -410,14 +414,17 @@ fn open_input<S: Source>(alloc: Global, source: &mut S) -> Result<(Lines, Openin
     Ok((lines, opening))
 }
 
-/// Runs a script: line 1 opens, and the record lines after it fill the database. Each later line is an event or a cut, and is
-/// answered. What is written depends on the output mode. The observer follows the run.
+/// Runs a script. Line 1 and the record lines after it make the initial database. Each later line is an event or a
+/// cut, and is answered. The output mode says what is written. The observer follows the run.
 ///
 /// # Errors
 ///
-/// The first fault of the script: the answers to the lines before it are written. `Reading` if a read failed: the answers to the
-/// whole lines that were read are written. `NoMemory` if an allocation failed: the answers to some first lines are written. None of
-/// these writes the database. `Writing` if a write failed: the beginning of what a whole run writes is written.
+/// - The first fault of the script: the answers to the lines before it are written.
+/// - `Reading` if a read failed: the answers to the whole lines that were read are written.
+/// - `NoMemory` if an allocation failed: the answers to some first lines are written.
+/// - `Writing` if a write failed: a prefix of what a whole run writes is written.
+///
+/// The first three write no database.
 pub(crate) fn run_observed<S: Source, T: Sink, X: Observer>(
     alloc: Global,
     source: &mut S,
@@ -442,7 +449,7 @@ pub(crate) fn run_observed<S: Source, T: Sink, X: Observer>(
     legal_are_serializable();
     legal_are_recoverable();
     transcripts_spell_textbooks();
-    // Each of SmallBank's procedures does the bank's arithmetic, if its part began with values.
+    // Each of SmallBank's procedures does the bank's arithmetic, if its part started with values.
     opened_hold_values();
     replays_hold_values();
     replay_is_bank();

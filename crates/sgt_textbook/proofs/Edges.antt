@@ -1,4 +1,4 @@
--- The edges of the textbook's serialization graph are the conflict pairs of committed transactions.
+-- The edges of the textbook's serialization graph are the conflicts of committed transactions.
 use Rattle.std.proofs.Common.{◌≡◌, ◌<◌, ℕ, true, List, [], ◌∷◌, Some, ap, ap₂, inl, inr, ◌∙◌, arith}
 use Rattle.std.proofs.lemmas.Bool.{or_cases}
 use Rattle.std.proofs.lemmas.Option.{slice_get_within}

@@ -59,7 +59,7 @@ stepping_once (Step u) n m t first second = (alone u n t first).0 ∙ sym (alone
 stepping_once (Commit u) n m t first second = absurd (cc)
 stepping_once (Quit u) n m t first second = absurd (cc)
 
--- the event's transaction is not among those that fall with it
+-- the event's transaction is not among those aborted in cascade with it
 undone_once : (past : List Entry) (event : Event) (fell : List ℕ) → Falls past (subject event) fell → AreOnce (named event ++ fell)
 undone_once past event fell falls n m t first second =
     go (split_at (named event) fell n t first) (split_at (named event) fell m t second)

@@ -1,4 +1,4 @@
--- What an entry's operations say of its access and of whom it ends.
+-- The access of an entry's operations, and the transactions that they end.
 use Rattle.std.proofs.Common.{◌≡◌, ℕ, ℤ, zero, suc, Bool, true, false, cond, ◌⊎◌, List, [], ◌∷◌, ◌++◌, Option, Some, None, nat_eq, refl, sym, ap, subst, inl, inr, ◌∙◌}
 use Rattle.std.specs.Prelude.{slice_get}
 use Rattle.std.specs.List.{list_any}
@@ -114,7 +114,7 @@ stepping_at number (Step u) k kind v a is = ap (λ b. Some (access_as number b))
 stepping_at number (Commit u) k kind v a is = absurd (cc)
 stepping_at number (Quit u) k kind v a is = absurd (cc)
 
--- of those that fall
+-- of those aborted in cascade
 
 any_at : (l : List ℕ) (j t : ℕ) → slice_get l j ≡ Some t → list_any (λ u. nat_eq u t) l ≡ true
 any_at [] j t at = absurd (cc)
@@ -214,7 +214,7 @@ commits number event answers = record {
   commit_does = λ j t at. ((named_is event j t at).0, each_at action.Commit (named event) j t at);
 }
 
--- an abort, or a refusal, which is an abort for the code that was asked
+-- an abort; or a refusal, which is an abort for the code that was raised
 record IsUndoing (event : Event) (r : Reply) (why : Cause) (fell : List ℕ) : Type 0 where
   ends : (t : ℕ) → ending_in event r t ≡ undone_in event why fell t
   no_access : access_in event r ≡ None

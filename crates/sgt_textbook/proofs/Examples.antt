@@ -31,12 +31,12 @@ dirty_read_then number ends =
     ∷ does 1 (action.Read (number (2, pos 101)))
     ∷ ends
 
--- a dirty read, and a quit that takes its reader along
+-- a dirty read, and an abort that aborts its reader in cascade
 quit_takes_reader-textbook : (number : Key → ℕ) → textbook number quit_takes_reader ≡
     dirty_read_then number (does 0 action.Abort ∷ does 1 action.Abort ∷ [])
 quit_takes_reader-textbook number = refl
 
--- a look past an aborted store
+-- a read past an aborted write
 read_past_aborted-textbook : (number : Key → ℕ) → textbook number read_past_aborted ≡
     does 0 (action.Write (number (3, pos 7)))
     ∷ does 1 (action.Write (number (3, pos 7)))
@@ -47,7 +47,7 @@ read_past_aborted-textbook : (number : Key → ℕ) → textbook number read_pas
     ∷ []
 read_past_aborted-textbook number = refl
 
--- who reads what is not committed commits behind its source
+-- a transaction that reads an uncommitted value commits after its writer
 dirty_read_waits-textbook : (number : Key → ℕ) → textbook number dirty_read_waits ≡
     dirty_read_then number (does 0 action.Commit ∷ does 1 action.Commit ∷ [])
 dirty_read_waits-textbook number = refl
@@ -59,7 +59,7 @@ dirty_read_waits-order = refl
 two_deposits-order : commit_order two_deposits ≡ 0 ∷ 2 ∷ []
 two_deposits-order = refl
 
--- a refusal is an abort, and takes its reader along
+-- a refusal is an abort, and aborts its reader in cascade
 refusal_takes_reader-textbook : (number : Key → ℕ) → textbook number refusal_takes_reader ≡
     does 0 (action.Write (number (3, pos 7)))
     ∷ does 1 (action.Read (number (3, pos 7)))
@@ -68,7 +68,7 @@ refusal_takes_reader-textbook : (number : Key → ℕ) → textbook number refus
     ∷ []
 refusal_takes_reader-textbook number = refl
 
--- one looks at what another has stored, and neither has ended
+-- a transaction reads what another has written, and neither has ended
 abbrev dirty_read : List Entry
 dirty_read =
     entry (Step 1) (reply.Looked (3, pos 7) (Some (pos 1)))
@@ -84,7 +84,7 @@ dirty_read-textbook : (number : Key → ℕ) → textbook number dirty_read ≡
     does 0 (action.Write (number (3, pos 7))) ∷ does 1 (action.Read (number (3, pos 7))) ∷ []
 dirty_read-textbook number = refl
 
--- before place 1 only the first operation is done
+-- before position 1 only the first operation is done
 only_first : (op : Operation) (rest : List Operation) (i t : ℕ) (a : Action) → i < 1 → Does (op ∷ rest) i t a → op.action ≡ a
 only_first op rest zero t a h at = ap (λ (o : Operation). o.action) (some_is op (does t a) at)
 only_first op rest (suc i) t a h at = absurd (omega (arith, h))

@@ -41,7 +41,7 @@ commit_committed number s (e ∷ past) h i t at = elim (split_at (textbook numbe
       ((tells number e.event e.reply).told new.0 t action.Commit new.2)
 ]
 
--- and the other way round
+-- and conversely
 pub committed_commits : (number : Key → ℕ) (past : List Entry) (t : ℕ) → committed past t ≡ true
     → (i : ℕ) × Does (textbook number past) i t action.Commit
 committed_commits number [] t c = absurd (cc)
@@ -62,7 +62,7 @@ abort_aborted number s (e ∷ past) h i t at = elim (split_at (textbook number p
       ap (λ o. has_aborted (option_or o (fate_of past t))) undone.1 ∙ undone.2
 ]
 
--- and the other way round
+-- and conversely
 pub aborted_aborts : (number : Key → ℕ) (past : List Entry) (t : ℕ) → aborted past t ≡ true
     → (i : ℕ) × Does (textbook number past) i t action.Abort
 aborted_aborts number [] t a = absurd (cc)
@@ -110,7 +110,7 @@ does_access number e j t kind x at =
 pub same_key : (number : Key → ℕ) → IsNumbering number → (j k : Key) → number j ≡ number k → key_eq j k ≡ true
 same_key number injective j k same = subst (λ l. key_eq j l ≡ true) (injective j k same) (key_eq-refl j)
 
--- who has used an item has a conflicting access of its key, where one of the two stores
+-- a transaction that has used an item has a conflicting access of its key, if one of the two writes
 used_before : (number : Key → ℕ) → IsNumbering number → (past : List Entry) (i t : ℕ) (was kind : Kind) (k : Key)
     → one_stores was kind ≡ true → Does (textbook number past) i t (action_on was (number k)) → has_conflicting past t k kind ≡ true
 used_before number injective [] i t was kind k stores at = absurd (cc)
@@ -124,7 +124,7 @@ used_before number injective (e ∷ past) i t was kind k stores at =
     now a = ap (λ o. conflicts o t k kind) a.is ∙ and_from _ _ (eq-eqb _ _ a.by)
         (and_from _ _ (same_key number injective _ _ a.item) (ap (λ w. one_stores w kind) a.kind_is ∙ stores))
 
--- where an operation conflicts with an earlier one, so do their accesses
+-- if an operation conflicts with an earlier one, so do their accesses
 uses_in_turn : (number : Key → ℕ) → IsNumbering number → (past : List Entry) (i j t u x : ℕ) (was kind : Kind)
     → one_stores was kind ≡ true → i < j → Does (textbook number past) i t (action_on was x)
     → Does (textbook number past) j u (action_on kind x) → Precedes past t u

@@ -1,4 +1,5 @@
--- A numbering of all keys: a number's parity tells whether it ends here, once for each table below the key's, and then the sign.
+-- A numbering of all keys: a number's parity says whether it ends here, once for each table below the key's, and then
+-- the sign.
 use Rattle.std.proofs.Common.{◌≡◌, ◌+◌, ℕ, zero, suc, ℤ, pos, negsuc, refl, sym, ap, arith}
 use Rattle.sgt_textbook.specs.Textbook.{IsNumbering}
 use Rattle.sgt_textbook.specs.Laws.{KeysCanBeNumbered}

@@ -1,4 +1,4 @@
--- The places of a list that is put together of two.
+-- The positions of two lists in their concatenation.
 use Rattle.std.proofs.Common.{◌≡◌, ◌<◌, ◌≤◌, ◌+◌, ◌⊎◌, ℕ, zero, suc, List, [], ◌∷◌, ◌++◌, length, Some, inl, inr, arith}
 use Rattle.std.specs.Prelude.{slice_get}
 
@@ -6,7 +6,7 @@ use Rattle.std.specs.Prelude.{slice_get}
 abbrev pub InFirst : {A : Type 0} → List A → ℕ → A → Type 0
 InFirst h i x = (i < length h) × (slice_get h i ≡ Some x)
 
--- the element stands there in the second list, behind the first
+-- the element is at that position in the second list, after the first
 abbrev pub InSecond : {A : Type 0} → List A → List A → ℕ → A → Type 0
 InSecond h l i x = (j : ℕ) × (i ≡ length h + j) × (slice_get l j ≡ Some x)
 
@@ -28,7 +28,7 @@ pub in_second : {A : Type 0} (h l : List A) (j : ℕ) (x : A) → slice_get l j 
 in_second [] l j x at = (j, omega arith, at)
 in_second (y ∷ h) l j x at = let p = in_second h l j x at in (suc p.0, omega (arith, p.1), p.2)
 
--- at a place of the first list stands what stands there in it
+-- at a position of the first list is its own element
 pub still : {A : Type 0} (h l : List A) (i : ℕ) (x : A) → i < length h → slice_get (h ++ l) i ≡ Some x → slice_get h i ≡ Some x
 still [] l i x within at = absurd (omega (arith, within))
 still (y ∷ h) l zero x within at = at

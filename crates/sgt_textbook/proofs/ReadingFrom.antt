@@ -1,4 +1,4 @@
--- Who reads from whom in the textbook's history is who has read from whom: it is recoverable.
+-- Reads-from in the textbook's history agrees with `ReadFrom`; so it is recoverable.
 use Rattle.std.proofs.Common.{◌≡◌, ◌<◌, ◌≤◌, ℕ, Bool, true, false, not, List, [], ◌∷◌, length, Option, Some, None, refl, sym, ap, ap₂, inl, inr, ◌∙◌, arith, ◌≢◌, ◌+◌, cond, subst}
 use Rattle.std.specs.Option.{option_or}
 use Rattle.std.proofs.lemmas.Option.{slice_get_within}
@@ -30,13 +30,13 @@ store_kind : (kind : Kind) → is_store kind ≡ true → kind ≡ Store
 store_kind Look h = absurd (cc)
 store_kind Store h = refl
 
--- a write by one that counts is a store
+-- a textbook write by a transaction that counts is a write of the history
 stored_here : (number : Key → ℕ) → IsNumbering number → (e : Entry) (counts : ℕ → Bool) (k : Key) {j w : ℕ}
     (a : IsAccess number e.event e.reply j w Store (number k)) → counts w ≡ true → stores counts k (access_of e) ≡ Some a.access
 stored_here number injective e counts k a counted = ap (stores counts k) a.is ∙ ap (λ b. cond b (Some a.access) None)
     (and_from _ _ (ap is_store a.kind_is) (and_from _ _ (same_key number injective _ _ a.item) (ap counts a.by ∙ counted)))
 
--- the last write of an item by one that counts, where each later one is by none that does, is its newest store
+-- the last write of an item by a transaction that counts, if each later one is by none that does, is its newest write
 newest_is : (number : Key → ℕ) → IsNumbering number → (past : List Entry) (counts : ℕ → Bool) (k : Key) (i w : ℕ)
     → Does (textbook number past) i w (action.Write (number k)) → counts w ≡ true
     → ((m t : ℕ) → i < m → Does (textbook number past) m t (action.Write (number k)) → counts t ≡ false)
@@ -134,7 +134,7 @@ record LastWrite (number : Key → ℕ) (past : List Entry) (counts : ℕ → Bo
   counted : counts w ≡ true
   last : (m t : ℕ) → place < m → Does (textbook number past) m t (action.Write (number k)) → counts t ≡ false
 
--- the newest store of a key is such a write
+-- the newest write of a key is such a write
 last_write : (number : Key → ℕ) → IsNumbering number → (past : List Entry) (counts : ℕ → Bool) (k : Key) (w : ℕ)
     → IsBy (newest_store counts k past) w → LastWrite number past counts k w
 last_write number injective [] counts k w by = absurd by

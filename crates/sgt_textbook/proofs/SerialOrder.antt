@@ -18,7 +18,7 @@ use Rattle.sgt_textbook.proofs.Places.{split_at, in_first, in_second}
 use Rattle.sgt_textbook.proofs.Entries.{tells}
 use Rattle.sgt_textbook.proofs.Histories.{commit_committed, committed_commits, conflict_commits}
 
--- who is told to commit does
+-- a transaction whose reply is a commit does commit
 now_commits : (number : Key → ℕ) (e : Entry) (j t : ℕ) → slice_get (committed_in e.event e.reply) j ≡ Some t
     → (j ≡ 0) × (ending_in e.event e.reply t ≡ Some fate.Committed)
 now_commits number e j t at = let d = (tells number e.event e.reply).commit_does j t at in
@@ -38,7 +38,7 @@ listed_committed number s (e ∷ past) h i t at = elim (split_at (commit_order p
   | inr new ↦ ap (λ o. has_committed (option_or o (fate_of past t))) (now_commits number e new.0 t new.2).1
 ]
 
--- and the other way round
+-- and conversely
 committed_listed : (number : Key → ℕ) (past : List Entry) (t : ℕ) → committed past t ≡ true
     → (i : ℕ) × (slice_get (commit_order past) i ≡ Some t)
 committed_listed number [] t c = absurd (cc)
@@ -49,7 +49,7 @@ committed_listed number (e ∷ past) t c = elim (commit-case e past t c) [
       (p.0, in_first (commit_order past) (committed_in e.event e.reply) p.0 t p.1)
 ]
 
--- a place in the order of commits is one before an entry, or that of the entry's commit
+-- a position in the commit order is one before an entry, or that of the entry's commit
 abbrev Placed : Entry → List Entry → ℕ → ℕ → Type 0
 Placed e past i t = ((i < length (commit_order past)) × (slice_get (commit_order past) i ≡ Some t) × (committed past t ≡ true))
     ⊎ ((i ≡ length (commit_order past)) × (ending_in e.event e.reply t ≡ Some fate.Committed))

@@ -1,4 +1,4 @@
--- What the textbook's classes say of every legal history, whatever numbers its keys get.
+-- The textbook's classes of every legal history, for any numbering of its keys.
 use Rattle.std.specs.Prelude.{◌≡◌, ◌≢◌, ◌↔◌, true, ℕ, List}
 use Rattle.sgt_model.specs.declared.entry.Entry.{Entry}
 use Rattle.sgt_model.specs.Contents.{Key}
@@ -16,11 +16,11 @@ use Rattle.sgt_classes.specs.Equivalence.{IsSerializable, IsSerialRun, committed
 use Rattle.sgt_classes.specs.ViewEquivalence.{AreViewEquivalent}
 use Rattle.sgt_textbook.specs.Textbook.{IsNumbering, textbook, commit_order}
 
--- what holds of the textbook's history of every legal one, for each numbering of its keys
+-- what holds for the textbook's history of every legal one, for each numbering of its keys
 abbrev pub OfEachTextbook : (List Operation → Type 0) → Type 0
 OfEachTextbook P = (number : Key → ℕ) → IsNumbering number → InEach (λ s past. P (textbook number past))
 
--- what the textbook says of these entries, whatever numbers the keys get
+-- what the textbook says of these entries, for any numbering of the keys
 pub record TextbookLaws (past : List Entry) : Type 0 where
   pub commit_ordered : (number : Key → ℕ) → IsNumbering number → IsCommitOrdered (textbook number past)
   pub serializable : (number : Key → ℕ) → IsNumbering number → IsSerializable (textbook number past)
@@ -30,7 +30,7 @@ pub record TextbookLaws (past : List Entry) : Type 0 where
 abbrev pub AreWellFormed : Type 0
 AreWellFormed = OfEachTextbook IsWellFormed
 
--- it is commit ordered: where operations of two committed transactions conflict, that of the earlier one commits first
+-- it is commit ordered: if operations of two committed transactions conflict, that of the earlier one commits first
 abbrev pub AreCommitOrdered : Type 0
 AreCommitOrdered = OfEachTextbook IsCommitOrdered
 
@@ -42,29 +42,29 @@ AreSerializable = OfEachTextbook IsSerializable
 abbrev pub AreRecoverable : Type 0
 AreRecoverable = OfEachTextbook IsRecoverable
 
--- its serialization graph is that of the conflict pairs of committed transactions
+-- the edges of its serialization graph are the conflicts of committed transactions
 abbrev pub EdgesArePairs : Type 0
 EdgesArePairs = (number : Key → ℕ) → IsNumbering number → InEach (λ s past. (t u : ℕ) →
     IsEdge (textbook number past) t u ↔ ((committed past t ≡ true) × (committed past u ≡ true) × Pair past t u))
 
--- at some place r reads from w
+-- at some position r reads from w
 abbrev pub ReadsSomewhere : List Operation → ℕ → ℕ → Type 0
 ReadsSomewhere h w r = (i : ℕ) × (k : ℕ) × (x : ℕ) × ReadsFrom h i k x w r
 
--- one reads from another in it exactly where it has read from that one
+-- one reads from another in it exactly if it has read from that one
 abbrev pub ReadsAgree : Type 0
 ReadsAgree = (number : Key → ℕ) → IsNumbering number → InEach (λ s past. (w r : ℕ) → w ≢ r →
     ReadsSomewhere (textbook number past) w r ↔ ReadFrom past r w)
 
--- Its committed transactions in the order of their commits are a serial order of it. One after another in this order, they are a serial
--- history that is conflict equivalent to its committed projection.
+-- Its committed transactions in commit order are a serial order of it. One after another in this order, they are a
+-- serial history that is conflict equivalent to its committed projection.
 abbrev pub CommitOrdersAreSerial : Type 0
 CommitOrdersAreSerial = (number : Key → ℕ) → IsNumbering number
     → InEach (λ s past. IsSerialOrder (textbook number past) (commit_order past)
     × IsSerialRun (textbook number past) (serial_history (textbook number past) (commit_order past)))
 
--- This serial history is view equivalent to its committed projection: each read reads from the same write, and the final writes are the
--- same.
+-- This serial history is view equivalent to its committed projection: each read reads from the same write, and the
+-- final writes are the same.
 abbrev pub CommitOrdersReadAlike : Type 0
 CommitOrdersReadAlike = (number : Key → ℕ) → IsNumbering number
     → InEach (λ s past. AreViewEquivalent (committed_projection (textbook number past))

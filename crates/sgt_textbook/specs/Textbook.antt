@@ -1,5 +1,5 @@
--- The textbook's history of a list of entries: reads, writes, commits and aborts in one order, the first at place 0 (Bernstein,
--- Hadzilacos and Goodman (1987), chapter 2). Items are the numbers of keys.
+-- The textbook's history of a list of entries: reads, writes, commits and aborts in one order, from position 0
+-- (Bernstein, Hadzilacos and Goodman (1987), chapter 2). Items are the numbers of keys.
 use Rattle.std.specs.Prelude.{◌≡◌, ℕ, List, [], ◌∷◌, ◌++◌}
 use Rattle.sgt_model.specs.declared.event.Event.{Event}
 use Rattle.sgt_model.specs.declared.event.Event.TheVariants.{Start, Step, Commit, Quit}
@@ -34,8 +34,9 @@ abbrev pub each_does : Action → List ℕ → List Operation
 each_does a [] = []
 each_does a (t ∷ others) = record { transaction = t; action = a } ∷ each_does a others
 
--- The operations that an event with this reply is. A step that looked is a read, and one that stored a write. A commit is one
--- where it is told to be; an abort is that of the event's transaction, and then of each that fell. All else is no operation.
+-- The operations of an event with this reply. `Looked` is a read, and `Wrote` a write. A commit is one if the reply
+-- says so. An abort is first that of the event's transaction, and then one for each that is aborted in cascade. All
+-- else is no operation.
 abbrev pub operations_in : (Key → ℕ) → Event → Reply → List Operation
 operations_in number event (reply.Looked k v) = each_does (action.Read (number k)) (stepping event)
 operations_in number event (reply.Wrote k v) = each_does (action.Write (number k)) (stepping event)
@@ -48,17 +49,17 @@ operations_in number event _ = []
 abbrev pub operations_of : (Key → ℕ) → Entry → List Operation
 operations_of number e = operations_in number e.event e.reply
 
--- the textbook's history of the entries, which stand newest first: the newest one's operations come last
+-- the textbook's history of the entries, newest entry first: the newest one's operations come last
 abbrev pub textbook : (Key → ℕ) → List Entry → List Operation
 textbook number [] = []
 textbook number (e ∷ past) = textbook number past ++ operations_of number e
 
--- the transaction that commits by an event with this reply, alone, if one does
+-- the transaction that an event with this reply commits, alone, if there is one
 abbrev pub committed_in : Event → Reply → List ℕ
 committed_in event (reply.Committed answers) = named event
 committed_in event _ = []
 
--- the committed transactions, in the order of their commits, the first one first
+-- the committed transactions in commit order, first one first
 abbrev pub commit_order : List Entry → List ℕ
 commit_order [] = []
 commit_order (e ∷ past) = commit_order past ++ committed_in e.event e.reply

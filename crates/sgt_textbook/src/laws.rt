@@ -1,4 +1,4 @@
-//! Laws of the textbook's history of every legal one. A body calls the laws that it rests on, and does nothing else: the law is
+//! Laws of the textbook's history of every legal history. Each body only calls the laws that it rests on: the law is
 //! its contract.
 ghost use Rattle.sgt_textbook.specs.Laws.{AreCommitOrdered, AreRecoverable, AreSerializable, AreWellFormed, CommitOrdersAreSerial, CommitOrdersReadAlike, EdgesArePairs, KeysCanBeNumbered, ReadsAgree, SomeCascade};
 
@@ -7,15 +7,15 @@ use sgt_classes::{
 };
 use sgt_model::{aborts_have_cause, commit_order_is_total, commits_in_order};
 
-/// The textbook's history of a legal one is well formed: no transaction does anything after its commit or abort (Bernstein,
-/// Hadzilacos and Goodman (1987), chapter 2).
+/// The textbook's history of a legal one is well formed: no transaction does anything after its commit or abort
+/// (Bernstein, Hadzilacos and Goodman (1987), chapter 2).
 pub fn legal_are_well_formed()
     ensures { AreWellFormed }
 {
     aborts_have_cause();
 }
 
-/// The textbook's history of a legal one is commit ordered: where operations of two committed transactions conflict, the
+/// The textbook's history of a legal one is commit ordered: if operations of two committed transactions conflict, the
 /// transaction of the earlier one commits first (Durner and Neumann, ICDE 2019).
 pub fn legal_are_commit_ordered()
     ensures { AreCommitOrdered }
@@ -24,8 +24,8 @@ pub fn legal_are_commit_ordered()
     commits_in_order();
 }
 
-/// The textbook's history of a legal one is serializable: its committed projection is conflict equivalent to a serial history
-/// (Bernstein, Hadzilacos and Goodman (1987), chapter 2).
+/// The textbook's history of a legal one is serializable: its committed projection is conflict equivalent to a serial
+/// history (Bernstein, Hadzilacos and Goodman (1987), chapter 2).
 pub fn legal_are_serializable()
     ensures { AreSerializable }
 {
@@ -33,8 +33,8 @@ pub fn legal_are_serializable()
     commit_ordered_are_serializable();
 }
 
-/// The textbook's history of a legal one is recoverable: no transaction commits before one that it has read from (Bernstein,
-/// Hadzilacos and Goodman (1987), chapter 2).
+/// The textbook's history of a legal one is recoverable: no transaction commits before one that it has read from
+/// (Bernstein, Hadzilacos and Goodman (1987), chapter 2).
 pub fn legal_are_recoverable()
     ensures { AreRecoverable }
 {
@@ -42,21 +42,22 @@ pub fn legal_are_recoverable()
     commits_in_order();
 }
 
-/// The serialization graph of the textbook's history of a legal one is that of the conflict pairs: an edge leads from one
-/// transaction to another exactly where both are committed and are such a pair.
+/// The serialization graph of the textbook's history of a legal one has exactly the conflicts as edges. An edge leads
+/// from one transaction to another exactly if both are committed and conflict in this order.
 pub fn edges_are_pairs()
     ensures { EdgesArePairs }
 {}
 
-/// One transaction reads from another in the textbook's history of a legal one exactly where it has read from it: the newest
-/// store, past those of aborted transactions, that a look of it found.
+/// One transaction reads from another in the textbook's history of a legal one exactly if it has read from it: a read
+/// of it returned the other's write. That write was the newest one, not counting those of aborted transactions.
 pub fn reads_agree()
     ensures { ReadsAgree }
 {}
 
-/// The committed transactions of a legal history, in the order of their commits, are a serial order of the textbook's history
-/// of it: each of them once, and each edge of the serialization graph leads on. One after another in this order, they are a serial
-/// history that is conflict equivalent to its committed projection (Bernstein, Hadzilacos and Goodman (1987), chapter 2).
+/// The committed transactions of a legal history, in commit order, are a serial order of its textbook's history. Each
+/// occurs once, and each edge of the serialization graph leads forward. One after another in this order, they are a
+/// serial history that is conflict equivalent to its committed projection (Bernstein, Hadzilacos and Goodman (1987),
+/// chapter 2).
 pub fn commit_orders_are_serial()
     ensures { CommitOrdersAreSerial }
 {
@@ -65,8 +66,8 @@ pub fn commit_orders_are_serial()
     commits_in_order();
 }
 
-/// This serial history is view equivalent to the committed projection: each read reads from the same write, and the final writes are
-/// the same (Bernstein, Hadzilacos and Goodman (1987), chapter 2).
+/// This serial history is view equivalent to the committed projection: each read reads from the same write, and the
+/// final writes are the same (Bernstein, Hadzilacos and Goodman (1987), chapter 2).
 pub fn commit_orders_read_alike()
     ensures { CommitOrdersReadAlike }
 {
@@ -80,8 +81,8 @@ pub fn keys_can_be_numbered()
     ensures { KeysCanBeNumbered }
 {}
 
-/// A legal history need not avoid cascading aborts, and so need not be strict: a transaction may read what another has written
-/// that has not ended (Bernstein, Hadzilacos and Goodman (1987), chapter 2).
+/// A legal history need not avoid cascading aborts, and so need not be strict: a transaction may read a value whose
+/// writer has not ended (Bernstein, Hadzilacos and Goodman (1987), chapter 2).
 pub fn some_histories_cascade()
     ensures { SomeCascade }
 {}
