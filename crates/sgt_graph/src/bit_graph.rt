@@ -88,7 +88,7 @@ impl Graph for BitGraph {
     }
 
     fn has_no_cycle(&self) {
-        // The invariant of the fields that are read: they are a graph.
+        // Reading a field makes the invariant known: the fields are a graph.
         let _taken = self.taken;
     }
 }
