@@ -32,8 +32,8 @@ abbrev pub IsAccessBy : Option Access → ℕ → Key → Kind → Type 0
 IsAccessBy None t k kind = ⊥
 IsAccessBy (Some a) t k kind = (a.by ≡ t) × (a.key ≡ k) × (a.kind ≡ kind)
 
--- t's next access would close this walk, a cycle; and with that access added as an entry, no serial order of the walk's
--- members agrees with all edges among them
+-- t's next access would close this path (`walk`) to a cycle; and with that access added as an entry, no serial order of the
+-- path's members agrees with all edges among them
 pub record ClosesCycle (s : Setting) (past : List Entry) (t : ℕ) (walk : List ℕ) : Type 0 where
   pub rest : List ℕ
   pub is : walk ≡ t ∷ rest

@@ -18,7 +18,7 @@ pub record Call : Type 0 where
   pub procedure : ℕ
   pub args : List ℤ
 
--- what a start asks for
+-- the call that a start requests
 abbrev pub call_at : Event → Option Call
 call_at (Start p args) = Some (record { procedure = p; args = args })
 call_at _ = None
