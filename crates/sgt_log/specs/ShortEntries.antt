@@ -1,4 +1,4 @@
--- Which entries short ones stand for, by the lists of transactions and of values.
+-- The entries of short ones, by the lists of transactions and of values.
 use Rattle.std.specs.Prelude.{◌≤◌, ℕ, ℤ, List, [], ◌∷◌}
 use Rattle.sgt_model.specs.declared.entry.Entry.{Entry}
 use Rattle.sgt_model.specs.declared.event.Event.{Event}
