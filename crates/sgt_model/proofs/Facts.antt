@@ -90,7 +90,7 @@ pub access-live : (s : Setting) (past : List Entry) (event : Event) (r : Reply) 
 access-live s past event r h a e = let x = access_case (effect s past event r h) a e in
     subst (λ (b : Access). live past b.by ≡ true) x.1 x.0.is_live
 
--- and closes no walk
+-- and closes no cycle
 pub access-free : (s : Setting) (past : List Entry) (event : Event) (r : Reply) → LegalReply s past event r → (a : Access)
     → access_in event r ≡ Some a → (rest : List ℕ) → Closes past a.by a.key a.kind rest → ⊥
 access-free s past event r h a e = let x = access_case (effect s past event r h) a e in
@@ -102,7 +102,7 @@ pub access-fits : (s : Setting) (past : List Entry) (event : Event) (r : Reply) 
 access-fits s past event r h a e = let x = access_case (effect s past event r h) a e in
     subst (λ (b : Access). Fits (next_of s past b.by) b) x.1 x.0.fits
 
--- and where it is a look, found what was visible
+-- and where it is a read, returned what was visible
 pub look-found : (s : Setting) (past : List Entry) (event : Event) (r : Reply) → LegalReply s past event r → (a : Access)
     → access_in event r ≡ Some a → a.kind ≡ Look → a.value ≡ visible s.opening past a.key
 look-found s past event r h a e = let x = access_case (effect s past event r h) a e in

@@ -76,7 +76,7 @@ older_more rows newer at j r ordered is none k =
     go true e = ap (λ o. option_or o (Some r.1)) (sym (ap (contents_of (take j newer)) (sym (key_eq-true r.0 k e)) ∙ none))
     go false e = refl
 
--- and the rows behind it are apart from one more newer row, which comes before them
+-- and the rows after it are apart from one more newer row, which comes before them
 pub apart_more : (rows newer : List Row) (at j : ℕ) (q : Row) → IsByKey rows → IsByKey newer → slice_get newer j ≡ Some q
     → ((r : Row) → slice_get rows at ≡ Some r → key_lt q.0 r.0 ≡ true) → AreApart rows at (take j newer)
     → AreApart rows at (take (j + 1) newer)

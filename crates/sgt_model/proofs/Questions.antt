@@ -105,7 +105,7 @@ over past e t P ends h = over_at past e t P ends (nat_lt t (start_count past)) (
 named_own : (u t : ℕ) → Some u ≡ Some t → nat_eq u t ≡ true
 named_own u t e = eq-eqb u t (some_is u t e)
 
--- where a test holds, so many are told
+-- where a test holds, so many are reported
 told : (b : Bool) (u t : ℕ) → cond b (Some u) None ≡ Some t → (b ≡ true) × (Some u ≡ Some t)
 told true u t e = (refl, e)
 told false u t e = absurd (cc)

@@ -98,7 +98,7 @@ low_moves rows m q k rising at less i r h at' = within (nat_eq i m) refl where
       (same_Some _ _ (sym at ∙ (ap (slice_get rows) (sym (eqb-true i m e)) ∙ at'))) less
   within false e = key_lt-trans r.0 q.0 k (by_key_at rows i m r q rising (omega (arith, eqb-false i m e)) at' at) less
 
--- and none behind it where it does not come first
+-- and none after it where it does not come first
 pub high_moves : (rows : List Row) (m : ℕ) (q : Row) (k : Key) → IsByKey rows → slice_get rows m ≡ Some q → key_lt q.0 k ≡ false
     → (i : ℕ) (r : Row) → m ≤ i → slice_get rows i ≡ Some r → key_lt r.0 k ≡ false
 high_moves rows m q k rising at more i r h at' = within (nat_eq i m) refl where

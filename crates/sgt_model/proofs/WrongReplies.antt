@@ -111,7 +111,7 @@ keeps_committed_places h = cc h
 starts_too_many : LegalReply (small_bank 1 1) one_committed (Start 0 (pos 2 ∷ [])) (reply.Started 1) → ⊥
 starts_too_many h = cc h
 
--- a transaction that read its own write has read from none, whose value it ever wrote over
+-- a transaction that read its own write has read from none, whatever value it wrote over
 own_readers_fall : LegalReply small_bank_put_over stored_over (Quit 0) (reply.Aborted cause.Quit (1 ∷ [])) → ⊥
 own_readers_fall h =
     let named : h.fell ≡ 1 ∷ [] = cc h.is in
