@@ -1,4 +1,4 @@
--- The history keeps room for one end of each live transaction; and which legal replies end one.
+-- The history keeps capacity for one end of each live transaction; and which legal replies end one.
 use Rattle.std.proofs.Common.{◌≡◌, ℕ, ◌+◌, ◌≤◌, arith, Bool, true, false, ◌&&◌, cond, nat_eq, ℤ, inl, inr, List, length, nat_lt, Option, Some, None, refl, sym, ap, ap₂, ◌∙◌, subst}
 use Rattle.std.proofs.lemmas.Bool.{true≢false, and_parts}
 use Rattle.std.specs.Option.{is_none}
@@ -82,7 +82,7 @@ module _ (laws : StateLaws) (s : Setting) (past : List Entry) (legal : Legal s p
         ∙ live-no_fate past t alive;
   }
 
-  -- an event that has got its room leaves room for one end of each that is live then
+  -- an event that has got its capacity leaves capacity for one end of each that is live then
   pub room_left : (event : Event) (after : State) (r : Reply) (room : ℕ) → CallEffect s.rules event c r after → length c.live ≤ room
       → ((EndsOne s.rules.limits.asks event c → ⊥) → length c.live + 2 ≤ room) → length after.live + 1 ≤ room
   room_left event after r room done kept more = both (is_ending r) refl where
