@@ -1,4 +1,4 @@
--- The live writes, read one by one, and what is left of them.
+-- The live writes, read one by one, and what remains of them.
 use Rattle.std.proofs.Common.{◌≡◌, ◌≢◌, ℕ, ◌+◌, ◌<◌, ℤ, Bool, true, false, cond, not, ◌&&◌, ◌||◌, nat_eq, List, [], ◌∷◌, ◌++◌, length, take, get_or, Option, Some, refl, sym, ap, ◌∙◌, subst, add-one}
 use Rattle.std.proofs.lemmas.Bool.{true≢false, eq-eqb, ne_eqb, eqb-true}
 use Rattle.std.proofs.lemmas.List.Elements.{All-filter, All-push}
@@ -23,7 +23,7 @@ or_assoc false b c = refl
 
 -- on one chain
 
--- who writes in what is left
+-- which transactions write in what remains
 pub writers_left : (t u : ℕ) (c : List (ℕ × ℤ)) → writes_in u (chain_without t c) ≡ (not (nat_eq u t) && writes_in u c)
 writers_left t u [] = go (nat_eq u t)
   where
