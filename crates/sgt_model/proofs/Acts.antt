@@ -8,11 +8,11 @@ use Rattle.sgt_model.specs.Accesses.{Access, is_store}
 use Rattle.sgt_model.specs.Progress.{values_read, made}
 use Rattle.sgt_model.proofs.Effects.{Fits}
 
--- what the run asks for, by the values read and the number of accesses made
+-- what the run wants next, by the values read and the number of accesses made
 abbrev pub asks_of : Run → List (Option ℤ) → ℕ → Next
 asks_of r vs made = next_at (trace r vs) made
 
--- each access is what is asked for after those before it
+-- each access is what the run wants after those before it
 abbrev pub AsAsked : (List (Option ℤ) → ℕ → Next) → List Access → Type 0
 AsAsked asked [] = Unit {0}
 AsAsked asked (a ∷ before) = AsAsked asked before × Fits (asked (values_read before) (length before)) a

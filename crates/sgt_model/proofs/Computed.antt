@@ -357,7 +357,7 @@ refused_by {past} {t} {k} {kind} rest fell paths set c r e a = record {
   aborts = aborts_by fell paths set r e a;
 }
 
--- who must wait
+-- which transactions must wait
 
 -- HasNoLivePredecessor
 abbrev pub none_live_test : List Entry → ℕ → Bool

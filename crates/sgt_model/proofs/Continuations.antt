@@ -49,7 +49,7 @@ index_of k (r ∷ rows) = both (index_of k rows) (key_lt r.0 k) refl where
   both (n, rest) true e = (suc n, (e, rest))
   both rest false e = (zero, e)
 
--- a value put into rows
+-- a value written to rows
 put_rows : (k : Key) (v : ℤ) (rows : List Row) → IsByKey rows → HasRows (put_in (contents_of rows) k v)
 put_rows k v rows rising = at (slice_get rows n) refl where
   n : ℕ

@@ -22,7 +22,7 @@ use Rattle.sgt_model.proofs.LeftRuns.{run_left, next_after, look_after, store_af
 abbrev pub left_by : Setting → Call → List Access → Left
 left_by s c all = left_after (left_of_call s.rules c) (values_read all) (length all)
 
--- accesses that were asked for use the values that they read
+-- accesses that the run wanted use the values that they read
 
 one_used : (r : Run) (done : List Access) (a : Access) (n : Next) → next_at (trace r (values_read done)) (length done) ≡ n → Fits n a
     → Used r (values_read done) (length done) → Used r (values_read done ++ if_look a.kind a.value) (suc (length done))

@@ -9,7 +9,7 @@ use Rattle.sgt_model.specs.Databases.{Row, contents_of, key_lt, IsByKey, HasValu
 use Rattle.sgt_model.proofs.Rows.{below_at, by_key_at, key_eq-below, key_lt-trans}
 use Rattle.sgt_model.proofs.Stores.{key_eq-true}
 
--- a row more puts its value
+-- one more row writes its value
 one_row_more : (rows : List Row) (i : ℕ) (r : Row) → IsByKey rows → slice_get rows i ≡ Some r → (k : Key)
     → contents_of (take (suc i) rows) k ≡ put_in (contents_of (take i rows)) r.0 r.1 k
 one_row_more [] i r ordered at k = absurd (cc)

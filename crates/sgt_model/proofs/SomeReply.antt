@@ -82,7 +82,7 @@ least_or_none test (t ∷ l) = elim (cases_Bool (test t)) [
   ]
 ]
 
--- who was started is listed
+-- a started transaction is listed
 pub begun_has : (past : List Entry) (t : ℕ) → t < start_count past → Member t (started_ones past)
 begun_has [] t less = absurd (omega arith)
 begun_has (e ∷ past) t less = go (begun_has past t) (is_start e.reply) less
@@ -172,7 +172,7 @@ module _ (past : List Entry) (t : ℕ) where
       )
     ]
 
-  -- who must be waited for
+  -- which transaction must be waited for
 
   abbrev before : ℕ → Bool
   before u = live past u && pair past u t

@@ -70,7 +70,7 @@ conflicts_any None t k kind h = absurd (cc)
 conflicts_any (Some a) t k kind h = let p = and_parts _ _ h in let q = and_parts _ _ p.1 in
     and_from _ _ p.0 (and_from _ _ q.0 (one_stores_any a.kind kind q.1))
 
--- who has written the key has an access that conflicts with any of it
+-- a transaction that has written the key has an access that conflicts with any of it
 pub stored-has_conflicting : (past : List Entry) (t : ℕ) (k : Key) (kind : Kind) → has_conflicting past t k Look ≡ true
     → has_conflicting past t k kind ≡ true
 stored-has_conflicting [] t k kind h = absurd (cc)
