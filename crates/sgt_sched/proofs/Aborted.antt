@@ -85,7 +85,7 @@ drops_more t why fell u before now after apart d e = record {
   same w = group (nat_eq t w) (list_any (λ v. nat_eq v w) fell) (nat_eq u w)
       ∙ ap (λ b. nat_eq t w || b) (sym (list_any-append (λ v. nat_eq v w) fell (u ∷ [])))
 
--- who has not left yet is a node still
+-- a transaction that has not left yet is a node still
 pub still_node : (t : ℕ) (why : Cause) (fell : List ℕ) (u : ℕ) (before now : State) → Drops t why fell before now → before.nodes u ≡ true
     → u ≢ t → (Member u fell → ⊥) → now.nodes u ≡ true
 still_node t why fell u before now d node apart stays =

@@ -23,7 +23,7 @@ use Rattle.sgt_sched.specs.Endings.{IsBlocked}
 use Rattle.sgt_sched.specs.Steps.{with_source}
 use Rattle.sgt_sched.proofs.Lists.{numbers-changed, progress_at-changed, progress_at-own}
 
--- who is listed has accessed some key
+-- a listed transaction has accessed some key
 store_conflicts : (kind : Kind) → one_stores kind Store ≡ true
 store_conflicts Look = refl
 store_conflicts Store = refl
@@ -41,7 +41,7 @@ listed_conflicting (a ∷ rest) t h = elim (or_cases (nat_eq a.by t) (is_listed 
       ↦ (let r = listed_conflicting rest t there in (r.0, or_right (is_conflicting t r.0 Store a) _ r.1))
 ]
 
--- a read's source, as the state tells it
+-- a read's source, as the state has it
 pub read_added : (o : Option (ℕ × ℤ)) (s : Option ℤ) (t : ℕ) (reads : List (ℕ × ℕ)) (u v : ℕ)
     → Has (with_source (top_from o s) t reads) u v ↔ (Has reads u v ⊎ ((v ≡ t) × (u ≢ t) × SourceIs o u))
 read_added None None t reads u v = ((λ h. inl h), (λ h. elim h [ inl old ↦ old | inr new ↦ absurd new.2 ]))
@@ -71,7 +71,7 @@ read_added (Some w) s t reads u v = both (nat_eq w.0 t) refl where
     (λ h. elim h [ inl old ↦ old_stays reads old | inr new ↦ new_there reads new.2 (sym new.0) ]),
   )
 
--- what a read finds, as the state tells it
+-- what a read returns, as the state has it
 pub value_of_top-from : (o : Option (ℕ × ℤ)) (s : Option ℤ) → value_of_top (top_from o s) ≡ top_value o s
 value_of_top-from None None = refl
 value_of_top-from None (Some v) = refl

@@ -61,7 +61,7 @@ live-set walks (end.Fell first ∷ ends) zero e h z = absurd (cc)
 live-set walks (end.Cycle index ∷ ends) zero e h z = absurd (cc)
 live-set walks (x ∷ ends) (suc t) e h z = let rest = live-set walks ends t e h z in omega (arith, rest)
 
--- who has or had no fate was started
+-- a transaction that has or had no fate was started
 pub started : (walks : List (List ℕ)) (ends : List End) (t : ℕ) → slice_get (fates_of_ends walks ends) t ≡ Some None → t < length ends
 started walks [] t h = absurd (cc)
 started walks (e ∷ ends) zero h = omega arith

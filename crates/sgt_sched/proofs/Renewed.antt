@@ -31,7 +31,7 @@ no_writes : (chain : List (ℕ × ℤ)) → ((t : ℕ) → writes_in t chain ≡
 no_writes [] none = refl
 no_writes (w ∷ rest) none = absurd (none w.0 (or_left _ _ (eq-eqb w.0 w.0 refl)))
 
--- nobody writes in an empty chain
+-- no transaction writes in an empty chain
 no_writer : (t : ℕ) → writes_in t [] ≡ true → ⊥
 no_writer t w = false≢true w
 
