@@ -424,7 +424,7 @@ module _ (taken : ℕ) (tids pairs reached : List ℕ) (g : IsBitGraph taken tid
       and_from _ _ h (and_from _ _ (other_than u i a) (other_than v j b)))
       (λ h. (and_parts (is_pair taken tids pairs u v) _ h).0)
 
--- the column of an index: who has an edge to it
+-- the column of an index: the transactions with an edge to it
 module _ (taken : ℕ) (tids pairs reached : List ℕ) (g : IsBitGraph taken tids pairs reached) (t index : ℕ)
     (here : is_at taken tids t index ≡ true) (column alone : ℕ)
     (alone_is : (i : ℕ) → is_set alone i ≡ nat_eq i index)
@@ -436,7 +436,7 @@ module _ (taken : ℕ) (tids pairs reached : List ℕ) (g : IsBitGraph taken tid
     (λ step. (column_is i).1 (index, step, alone_is index ∙ eq-eqb index index refl)),
   )
 
-  -- who has an edge to t stands at an index of the column
+  -- a transaction with an edge to t is at an index of the column
   pub no_pred_of : ((i : ℕ) → is_set column i ≡ false) → (u : ℕ) → is_pair taken tids pairs u t ≡ false
   no_pred_of none u = false_from_ne_true (is_pair taken tids pairs u t) (λ h.
       let (i, j, a, b, step) = pair_at taken tids (placed taken tids pairs reached g) pairs g.of_taken u t h in

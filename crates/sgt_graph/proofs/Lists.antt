@@ -22,7 +22,7 @@ member_node t [] m = absurd m
 member_node t (u ∷ nodes) (inl e) = or_left (nat_eq t u) _ (eq-eqb t u e)
 member_node t (u ∷ nodes) (inr m) = or_right (nat_eq t u) _ (member_node t nodes m)
 
--- what stands at an index is a member
+-- the item at an index is a member
 pub at_member : (xs : List ℕ) (i d : ℕ) → i < length xs → Member (slice_index_or xs i d) xs
 at_member [] i d below = omega arith
 at_member (y ∷ xs) zero d below = inl refl

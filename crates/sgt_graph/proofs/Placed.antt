@@ -109,7 +109,7 @@ module _ (taken : ℕ) (tids pairs reached : List ℕ) (g : IsBitGraph taken tid
   pub placed : Placed taken tids
   placed = record { apart = g.apart; low = g.low }
 
-  -- what is reached by steps stands in the rows reached
+  -- what is reached by steps is in the rows reached
   all_reached : (i k : ℕ) (path : List ℕ) → is_bit pairs i k ≡ true → PathOf (Holds (is_bit pairs)) k path
       → is_bit reached i (last_of k path) ≡ true
   all_reached i k [] step p = g.closure.each i k step
