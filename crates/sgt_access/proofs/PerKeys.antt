@@ -1,4 +1,4 @@
--- Accesses by key that stand for a list, when the list changes.
+-- Accesses by key that represent a list, when the list changes.
 use Rattle.std.proofs.Common.{◌≡◌, ℕ, ◌+◌, ◌<◌, ◌≤◌, Bool, true, false, ◌||◌, ◌&&◌, not, nat_eq, List, [], ◌∷◌, ◌++◌, length, get_or, set, take, drop, refl, sym, ap, subst, ◌∙◌}
 use Rattle.std.specs.List.{list_any, insert, AllWithin}
 use Rattle.std.proofs.lemmas.List.{length-set}
@@ -34,7 +34,7 @@ stands_noted list accesses i a stands within before after = record {
   alike = λ p takes. any_inserted p accesses i a ∙ ap (λ b. p a || b) (stands.alike p takes) ∙ sym (any_noted p list a);
 }
 
--- of two accesses of a transaction and a key, a test that takes stores is passed by a write where it is by the other
+-- for two accesses of a transaction and a key: a write passes a test that takes stores if the other access does
 store_passes : (p : ListedAccess → Bool) → TakesStores p → (x a : ListedAccess) → x.by ≡ a.by → x.key ≡ a.key → a.kind ≡ Store → p x ≡ true
     → p a ≡ true
 store_passes p takes x a by key store h = at x.kind refl

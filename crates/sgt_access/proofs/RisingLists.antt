@@ -76,7 +76,7 @@ index_absent (x ∷ xs) t (suc i) at (inr m) = index_absent xs t i
           (suc k) (omega arith) (omega arith);
     }) m
 
--- put in at its index, it leaves the list rising
+-- inserted at its index, it leaves the list rising
 pub index_rises : (xs : List ℕ) (t i : ℕ) → Rising xs → IsIndex xs t i → Rising (insert xs i t)
 index_rises [] t zero h at = tt
 index_rises [] t (suc i) h at = tt
