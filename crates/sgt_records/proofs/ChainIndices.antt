@@ -35,7 +35,7 @@ has_value t (w ∷ c) = go (nat_eq w.0 t) (has_value t c)
     go true rest = refl
     go false rest = rest
 
--- t stands at this index, and nowhere before it
+-- t is at this index, and nowhere before it
 abbrev pub IsFirstAt : ℕ → List (ℕ × ℤ) → ℕ → Type 0
 IsFirstAt t [] n = ⊥
 IsFirstAt t (w ∷ c) zero = nat_eq w.0 t ≡ true

@@ -83,7 +83,7 @@ module _ (m : Key → Option Record) (a : Slab Chain) (none : (k : Key) → writ
     in_range = values;
   }
 
--- what a record that is found tells of its key
+-- what a record that is found says of its key
 module _ (m : Key → Option Record) (a : Slab Chain) (key : Key) (r : Record) (is : m key ≡ Some r) (index : IsIndex m a) where
   pub written_is : written_by (m key) ≡ r.written
   written_is = ap written_by is

@@ -9,12 +9,18 @@ use crate::top::Top;
 use sgt_model::{Database, Key, NoMemory, Tid};
 use std::alloc::Global;
 
-/// Four parts: the records in a list, the index of each by its key, a slab with the chains of the keys that several live
-/// transactions have written, and one list of which transaction has written which key.
+/// Records with chains in a slab. There are four parts:
+///
+/// - the records in a list;
+/// - the index of each by its key;
+/// - a slab with the chains of the keys that several live transactions have written;
+/// - one list of which transaction has written which key.
+///
+/// Costs:
 ///
 /// - `top`, `reserve` and `committed` search the map of indices once, and twice if `reserve` finds no record. `write`, which
 ///   comes after `reserve`, does not. All read only that key's chain.
-/// - `settle` and `undo` go once through the list of who has written, which has the indices of the records.
+/// - `settle` and `undo` go once through the list of live writes, which has the indices of the records.
 /// - `build` and `all` go once through the map.
 ///
 /// A chain holds 32 writes, which takes 520 bytes. So a record has one only after a second live transaction has written it,
