@@ -65,8 +65,8 @@ abbrev pub CommitsAgree : Setting → List Entry → Type 0
 CommitsAgree s [] = Unit {0}
 CommitsAgree s (e ∷ past) = CommitsAgree s past × CommitAgrees s past e.event e.reply
 
--- at each Committed or Refused entry, each value that its transaction read is its own last one of that key before the read
--- or, if it had none, the one that was committed just before the entry
+-- consider a Committed or Refused entry, and a value that its transaction read. It is the transaction's own last one of that
+-- key before the read or, if it had none, the one that was committed just before the entry
 abbrev pub LooksAgreeAtCommit : Type 0
 LooksAgreeAtCommit = InEach CommitsAgree
 

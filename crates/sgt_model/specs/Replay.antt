@@ -1,7 +1,7 @@
--- The committed and the refused transactions run one after another in the order of their replies, each as if alone. This is
--- the serial history that a serializable one is equivalent to (Bernstein, Hadzilacos and Goodman (1987), chapter 2), here by
--- the answers or codes reported and the values left. If codes are reported at the step, none is refused, and the order is
--- commit order.
+-- The committed and the refused transactions run one after another in the order of their replies, each as if alone. A
+-- serializable history is equivalent to this serial one (Bernstein, Hadzilacos and Goodman (1987), chapter 2). Here that is
+-- said of the answers or codes reported and the values left. If codes are reported at the step, none is refused, and the
+-- order is commit order.
 use Rattle.std.specs.Prelude.{◌≡◌, ℕ, ℤ, List, [], ◌∷◌, ◌++◌}
 use Rattle.sgt_model.specs.declared.event.Event.{Event}
 use Rattle.sgt_model.specs.declared.reply.Reply.{Reply}
