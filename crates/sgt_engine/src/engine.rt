@@ -44,11 +44,17 @@ use std::marker::Model;
 
 /// An in-memory transaction engine that schedules by serialization graph testing, with the history of all events and replies.
 ///
-/// For every list of events, run the procedures of the committed transactions one after another, in commit order, on the
-/// initial database as a plain map. This gives each transaction the answers that were reported, and ends in the engine's
-/// committed database. A transaction is aborted only if its step would close a conflict cycle, it read from an aborted one,
-/// its procedure raised a code, or its caller quit. If codes are reported at commit, the serial run includes the refused
-/// transactions, in reply order; each gets its answers or its code.
+/// For every list of events, run the procedures of the committed transactions serially, in commit order, on the initial
+/// database as a plain map. This gives each transaction the answers that were reported, and ends in the engine's
+/// committed database. If codes are reported at commit, the serial run includes the refused transactions, in reply order;
+/// each gets its answers or its code.
+///
+/// A transaction is aborted only for one of these reasons:
+///
+/// - its step would close a conflict cycle;
+/// - it read from an aborted transaction;
+/// - its procedure raised a code;
+/// - its caller quit it.
 ///
 /// At every moment the history is legal: each reply is the one that the definitions of histories allow after the entries
 /// before it. Each answered event is one entry, refusals included. An event for which an allocation failed is no entry,
