@@ -118,7 +118,7 @@ pub parted_through : (xs : List ListedAccess) (k : Key) → AreInKeyOrder xs
 parted_through xs k sorted i j d le short h =
     at_most_below _ _ (searchable_from_sorted key_order (λ (a : ListedAccess). a.key) xs k sorted i j d le short) h
 
--- one more, behind those that are not after it and before those that are, leaves them by key
+-- one more, after those that are not after it and before those that are, leaves them by key
 pub by_key_inserted : (xs : List ListedAccess) (i : ℕ) (a : ListedAccess) → i ≤ length xs → AreInKeyOrder xs
     → AllWithin (λ (x : ListedAccess). key_lt a.key x.key ≡ false) xs 0 i
     → AllWithin (λ (x : ListedAccess). key_lt a.key x.key ≡ true) xs i (length xs) → AreInKeyOrder (insert xs i a)

@@ -1,4 +1,4 @@
--- Accesses by key that stand for a list, when the list changes.
+-- Accesses by key that represent a list, when the list changes.
 use Rattle.std.proofs.Common.{◌≡◌, ℕ, ◌+◌, ◌<◌, ◌≤◌, Bool, true, false, ◌||◌, ◌&&◌, not, nat_eq, List, [], ◌∷◌, ◌++◌, length, get_or, set, take, drop, refl, sym, ap, subst, ◌∙◌}
 use Rattle.std.specs.List.{list_any, insert, AllWithin}
 use Rattle.std.proofs.lemmas.List.{length-set}
@@ -34,7 +34,7 @@ stands_noted list accesses i a stands within before after = record {
   alike = λ p takes. any_inserted p accesses i a ∙ ap (λ b. p a || b) (stands.alike p takes) ∙ sym (any_noted p list a);
 }
 
--- of two accesses of a transaction and a key, a test that takes stores is passed by a store where it is by the other
+-- for two accesses of a transaction and a key: a write passes a test that takes stores if the other access does
 store_passes : (p : ListedAccess → Bool) → TakesStores p → (x a : ListedAccess) → x.by ≡ a.by → x.key ≡ a.key → a.kind ≡ Store → p x ≡ true
     → p a ≡ true
 store_passes p takes x a by key store h = at x.kind refl
@@ -52,7 +52,7 @@ store_passes p takes x a by key store h = at x.kind refl
     at Look e = is ∙ takes a.by a.key (ap (λ kind. p (of_kind kind)) (sym e) ∙ there)
     at Store e = is ∙ ap (λ kind. p (of_kind kind)) (sym e) ∙ there
 
--- and a look's by whichever other
+-- and a read's by whichever other
 look_passes : (p : ListedAccess → Bool) → TakesStores p → (x a : ListedAccess) → x.by ≡ a.by → x.key ≡ a.key → a.kind ≡ Look → p a ≡ true
     → p x ≡ true
 look_passes p takes x a by key look h = at x.kind refl
@@ -69,7 +69,7 @@ look_passes p takes x a by key look h = at x.kind refl
 
 module _ (list accesses : List ListedAccess) (i : ℕ) (a d : ListedAccess) (stands : StandsFor list accesses) (short : i < length accesses)
     (by : (get_or accesses i d).by ≡ a.by) (key : (get_or accesses i d).key ≡ a.key) where
-  -- one more look is passed by where its transaction has an access of the key
+  -- one more read is passed by where its transaction has an access of the key
   pub stands_looked : a.kind ≡ Look → StandsFor (list ++ a ∷ []) accesses
   stands_looked look = record { by_key = stands.by_key; alike = λ p takes. at p takes (p a) refl ∙ sym (any_noted p list a) }
     where
@@ -104,7 +104,7 @@ stands_forgotten list accesses t stands =
     both true h e = h e
     both false h e = e
 
--- a store conflicts with what a look does
+-- a write conflicts with what a read does
 pub conflicting_takes : (u : ℕ) (k : Key) (kind : Kind) → TakesStores (is_conflicting u k kind)
 conflicting_takes u k kind by key = at (nat_eq by u) (key_eq key k) (one_stores Look kind)
   where

@@ -47,7 +47,7 @@ first_least x xs zero h short = omega arith
 first_least x [] (suc j) h short = omega arith
 first_least x (y ∷ xs) (suc j) h short = omega (arith, h.0, first_least y xs j h.1 (omega arith))
 
--- the numbers of a rising list do not fall from index to index
+-- the numbers of a rising list do not decrease from index to index
 by_index : (xs : List ℕ) → Rising xs → (i j : ℕ) → i ≤ j → j < length xs → get_or xs i 0 ≤ get_or xs j 0
 by_index [] h i j le short = omega arith
 by_index (x ∷ xs) h zero j le short = first_least x xs j h short
@@ -76,7 +76,7 @@ index_absent (x ∷ xs) t (suc i) at (inr m) = index_absent xs t i
           (suc k) (omega arith) (omega arith);
     }) m
 
--- put in at its index, it leaves the list rising
+-- inserted at its index, it leaves the list rising
 pub index_rises : (xs : List ℕ) (t i : ℕ) → Rising xs → IsIndex xs t i → Rising (insert xs i t)
 index_rises [] t zero h at = tt
 index_rises [] t (suc i) h at = tt

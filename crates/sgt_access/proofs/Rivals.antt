@@ -58,7 +58,7 @@ module _ (t : ℕ) (k : Key) (kind : Kind) (list : List ListedAccess) (i : ℕ) 
     ],
   )
 
--- who has a conflicting access among the first ones has a listed one
+-- a transaction with a conflicting access among the first ones has a listed one
 pub rival_listed : (list : List ListedAccess) (i u : ℕ) (k : Key) (kind : Kind) → lists_conflicting (take i list) u k kind ≡ true
     → is_listed list u ≡ true
 rival_listed list i u k kind h = subst (λ l. is_listed l u ≡ true) (take-append-drop i list)

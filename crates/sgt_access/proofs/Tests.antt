@@ -46,7 +46,7 @@ module _ {X : Type 0} (p : X → Bool) where
       at rest true = ap (λ b. p x || b) rest
       at rest false = rest
 
-  -- another in the place of one: it passes where that one does
+  -- another in place of one: it passes where that one does
   pub any_set : (xs : List X) (i : ℕ) (x d : X) → i < length xs → (p (get_or xs i d) ≡ true → p x ≡ true)
       → list_any p (set xs i x) ≡ (p x || list_any p xs)
   any_set [] i x d short passes = absurd (omega arith)
@@ -63,7 +63,7 @@ module _ {X : Type 0} (p : X → Bool) where
       swapped true false = refl
       swapped false c = refl
 
--- items that are alike in what is read of them are so with one in the place of another
+-- items that are alike in what is read of them are so with one in place of another
 pub reads_set : {X Y : Type 0} (f : X → Y) (xs : List X) (i : ℕ) (x d : X) → i < length xs → f x ≡ f (get_or xs i d) → (k : ℕ) (e : X)
     → f (get_or (set xs i x) k e) ≡ f (get_or xs k e)
 reads_set f [] i x d short same k e = absurd (omega arith)

@@ -1,4 +1,4 @@
--- Accesses ordered by key, in the place of a list of them.
+-- Accesses ordered by key, which represent a list of them.
 use Rattle.std.specs.Prelude.{◌≡◌, ℕ, Bool, true, List}
 use Rattle.std.specs.List.{list_any}
 use Rattle.std.specs.List.Sorted.{IsSortedByKey}
@@ -7,19 +7,19 @@ use Rattle.sgt_model.specs.Contents.{Key}
 use Rattle.sgt_model.specs.Databases.{key_cmp}
 use Rattle.sgt_model.specs.AccessList.{ListedAccess}
 
--- by their keys, none comes before the one before it
+-- no access has a key before that of the previous access
 abbrev pub AreInKeyOrder : List ListedAccess → Type 0
 AreInKeyOrder accesses = IsSortedByKey (λ (a : ListedAccess). a.key) key_cmp accesses
 
--- a test that an access passes with a store if it does with a look
+-- a test that a write passes if a read of the same transaction and key does
 abbrev pub TakesStores : (ListedAccess → Bool) → Type 0
 TakesStores p = (by : ℕ) (key : Key) → p (record { by = by; key = key; kind = Look }) ≡ true → p (record { by = by; key = key; kind = Store }) ≡ true
 
--- some of the one pass such a test exactly where some of the other do
+-- some access of one list passes such a test exactly if some access of the other does
 abbrev pub Alike : List ListedAccess → List ListedAccess → Type 0
 Alike accesses list = (p : ListedAccess → Bool) → TakesStores p → list_any p accesses ≡ list_any p list
 
--- accesses in the order of their keys that stand for a list
+-- accesses in the order of their keys that represent a list
 pub record StandsFor (list accesses : List ListedAccess) : Type 0 where
   pub by_key : AreInKeyOrder accesses
   pub alike : Alike accesses list

@@ -24,7 +24,7 @@ impl Model for Access {
 }
 
 impl Access {
-    /// Whether it is by another than t and conflicts with an access of this kind of the key.
+    /// Whether its transaction is not t and it conflicts with an access of this kind of the key.
     pub fn is_rival_of(&self, t: Tid, key: Key, kind: Kind) -> bool
         ensures { IsTrue result
             ↔ ((self.now.by ≢ t) × (is_conflicting self.now.by key kind self.now ≡ true)) }

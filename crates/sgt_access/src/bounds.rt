@@ -1,4 +1,4 @@
-//! Where the accesses of a key begin and end, among accesses ordered by key.
+//! The first and last index of the accesses of a key, among accesses ordered by key.
 ghost use Rattle.std.specs.Prelude.{◌≡◌, ◌≤◌, true, false, length};
 ghost use Rattle.std.specs.List.{AllWithin};
 ghost use Rattle.sgt_model.specs.Databases.{key_lt};
@@ -7,7 +7,7 @@ ghost use Rattle.sgt_access.specs.ByKey.{AreInKeyOrder};
 use crate::access::Access;
 use sgt_model::Key;
 
-/// So many accesses are gone through faster, one after another, than they are searched.
+/// Up to so many accesses, a linear scan is faster than a search.
 pub const FEW: usize = 8;
 
 /// How many accesses are of keys before this one.
@@ -33,7 +33,7 @@ pub fn count_through(accesses: &[Access], key: Key) -> usize
     accesses.partition_point(|access| access.key <= key)
 }
 
-/// The same as `count_through`, by looking at one after another: for few accesses, and for those that begin at this key.
+/// The same as `count_through`, by a linear scan: for few accesses, and for those that begin at this key.
 pub fn count_along(accesses: &[Access], key: Key) -> usize
     requires { AreInKeyOrder accesses.now }
     ensures within { result ≤ length accesses.now }

@@ -8,7 +8,7 @@ use crate::rising::add_rising;
 use arrayvec::ArrayVec;
 use sgt_model::{Key, Kind, Tid, Tids};
 
-/// Whether one of these accesses is another's than t's and conflicts with this one.
+/// Whether one of these accesses conflicts with this one and is not t's.
 #[inline(always)]
 pub fn has_rival_among(accesses: &[Access], t: Tid, key: Key, kind: Kind) -> bool
     ensures exact { IsTrue result

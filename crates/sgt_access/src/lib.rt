@@ -1,8 +1,8 @@
 //! The access list: what the live transactions have read and written so far, and which of them an access conflicts with.
 //!
-//! It keeps no value and no history, and it decides nothing: it names the rivals of an access, and the scheduler makes
-//! edges of them. `Accesses` is the contract; `OneList` is one list for all keys, the plain body that tests compare with, and
-//! `PerKey` keeps the accesses in the order of their keys.
+//! It stores no value and no history, and it decides nothing. It names the rivals of an access, and the scheduler makes
+//! edges of them. `Accesses` is the contract. `OneList`, one list for all keys, is the plain implementation that tests compare
+//! with. `PerKey` stores the accesses in the order of their keys.
 //!
 //! ```
 //! let mut accesses = OneList::empty(alloc);

@@ -16,13 +16,17 @@ use sgt_model::{Key, Kind, NoMemory, Tid, Tids};
 use std::alloc::Global;
 use std::marker::Model;
 
-/// The accesses in the order of their keys, those of one key side by side and oldest first.
+/// The accesses in the order of their keys, those of one key next to each other and oldest first.
 ///
-/// `has_rival` and `rivals` search for the key and look at its accesses alone; of few accesses they look at all, which costs less
-/// than the search. `note` searches for the index behind them and moves the accesses of later keys up by one; but where the last of
-/// the key's accesses is of the same transaction, the two are kept as one, a store if either is: it conflicts with whatever one of
-/// them does. `forget` goes once through the accesses of those
-/// who are live. Nothing is kept of a key without accesses. The order in which accesses of different keys were noted is there
+/// - `has_rival` and `rivals` search for the key and read its accesses alone. If there are few accesses, they read all, which
+///   costs less than the search.
+/// - `note` searches for the index after them and moves the accesses of later keys up by one. If the last of the key's
+///   accesses is of the same transaction, the two are stored as one, a write if either is: it conflicts with whatever one of
+///   them does.
+/// - `forget` goes once through the accesses of the live transactions.
+///
+/// Nothing is stored of a key without accesses. The order in which accesses of different keys were recorded exists for
+/// proofs alone.
 /// for proofs alone.
 #[derive(Drop)]
 pub struct PerKey {
@@ -48,7 +52,7 @@ impl PerKey {
     ghost use Rattle.sgt_model.specs.declared.kind.Kind.{Kind};
     ghost use Rattle.sgt_model.specs.AccessList.{lists_conflicting, is_listed};
 
-    // The accesses of a key, or all where they are few: they conflict with an access of the key as all accesses do.
+    // The accesses of a key, or all if they are few: their conflicts with an access of the key are the same.
     fn of_key(&self, key: Key) -> &[Access]
         ensures conflicting { (u : ℕ) (kind : Kind) → lists_conflicting result.now u key kind
             ≡ lists_conflicting self.now.0 u key kind }
@@ -104,8 +108,8 @@ impl Accesses for PerKey {
     }
 }
 
-// Adds an access behind those of its key and of keys before it. Where the last of these is of its transaction and its key,
-// a look adds nothing, and a store takes that one's place.
+// Adds an access after those of its key and of keys before it. If the last of these is of its transaction and its key,
+// a read adds nothing, and a write replaces it.
 fn add(accesses: &mut Vec<Access>, index: usize, access: Access)
     requires room { vec_len accesses.old < vec_capacity accesses.old }
     requires within { index ≤ length accesses.old.items }
@@ -127,7 +131,7 @@ fn add(accesses: &mut Vec<Access>, index: usize, access: Access)
     }
 }
 
-// Puts a store in the place of an access of its transaction and its key. A look adds nothing to that.
+// Replaces an access by a write of the same transaction and key. A read adds nothing to it.
 fn raise(accesses: &mut Vec<Access>, index: usize, access: Access)
     requires { index < length accesses.old.items }
     ensures look { access.kind ≡ Look → accesses.new.items ≡ accesses.old.items }

@@ -1,11 +1,11 @@
-//! Adding to a list of transactions in their order.
+//! Adding to a rising list of transactions.
 ghost use Rattle.std.specs.Prelude.{◌≡◌, ℕ, ◌<◌, length, ◌⊎◌, ◌↔◌};
 ghost use Rattle.sgt_model.specs.Walks.{Member, Rising};
 
 use arrayvec::ArrayVec;
 use sgt_model::Tid;
 
-/// Adds t in its order, unless it is there.
+/// Adds t at its position in the order, unless it is there.
 pub fn add_rising(tids: &mut ArrayVec<Tid, 32>, t: Tid)
     requires rising { Rising tids.old.items }
     requires room { ¬ Member t tids.old.items → length tids.old.items < 32 }

@@ -1,4 +1,4 @@
-//! A list of accesses that keeps every call it has had: it is for proofs.
+//! A list of accesses that stores every call it has had. It is for proofs.
 ghost use Rattle.std.specs.Prelude.{◌≡◌, [], ◌∷◌, ◌++◌};
 ghost use Rattle.sgt_model.specs.AccessList.{forgotten};
 
@@ -8,8 +8,8 @@ use std::marker::Model;
 use std::mem;
 use std::snapshot::Snapshot;
 
-/// The calls that a list has had, from the newest to the one that made it. A snapshot has no bytes, so the calls before the
-/// newest are there for proofs alone.
+/// The calls on a list, from the newest to the one that made it. A snapshot has no bytes, so the calls before the
+/// newest exist for proofs alone.
 #[derive(Drop)]
 pub enum Calls {
     Empty,
@@ -23,7 +23,7 @@ pub enum Calls {
     },
 }
 
-/// The whole access list, as contracts see it. It has no bytes, and its calls do nothing when the program runs.
+/// The whole access list, as contracts see it. It has no bytes, and its calls do nothing at run time.
 #[derive(Drop)]
 pub struct WholeList {
     calls: Snapshot<Calls>,
@@ -58,7 +58,7 @@ impl WholeList {
         self.calls = Snapshot::of(&Calls::Note { before, access });
     }
 
-    /// Drops the accesses of a transaction.
+    /// Removes the accesses of a transaction.
     pub fn forget(&mut self, t: Tid)
         ensures { self.new ≡ forgotten t self.old }
     {

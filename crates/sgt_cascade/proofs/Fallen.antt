@@ -124,7 +124,7 @@ standing_first read_from live t = record {
     away true e = ap not e
     away false e = refl
 
--- one that has read from another that fell leaves them
+-- one that has read from another that was aborted in cascade leaves them
 pub standing_next : (read_from : List (ℕ × ℕ)) (live : List ℕ) (t : ℕ) (standing : List ℕ)
     → ((u v : ℕ) → Has read_from u v → Member u live × Member v live) → IsStanding read_from live t standing → (u v : ℕ)
     → has_read read_from u v ≡ true → stands standing u ≡ false → IsStanding read_from live t (filter (λ x. not (nat_eq v x)) standing)
@@ -140,7 +140,7 @@ standing_next read_from live t standing pairs is u v read out_u = record {
     there : Has read_from u v
     there = read_has read_from u v read
 
--- where no reader of one that fell stands, none that is reached does
+-- where no reader of one that was aborted in cascade stands, none that is reached does
 none_stands : (read_from : List (ℕ × ℕ)) (standing : List ℕ)
     → ((u v : ℕ) → has_read read_from u v ≡ true → stands standing v ≡ true → stands standing u ≡ true) → (a : ℕ) (path : List ℕ)
     → stands standing a ≡ false → PathOf (Has read_from) a path → stands standing (last_of a path) ≡ false
@@ -151,7 +151,7 @@ none_stands read_from standing closed a (b ∷ path) out p = none_stands read_fr
     go true e = absurd (true≢false (sym (closed a b (has_found read_from a b p.0) e) ∙ out))
     go false e = refl
 
--- the others that do not stand are those that fall
+-- the others that do not stand are those aborted in cascade
 pub fallen_exact : (read_from : List (ℕ × ℕ)) (live : List ℕ) (t : ℕ) (standing fell : List ℕ) → IsStanding read_from live t standing
     → ((u v : ℕ) → has_read read_from u v ≡ true → stands standing v ≡ true → stands standing u ≡ true)
     → ((u : ℕ) → Member u fell ↔ (Member u (filter (λ x. not (nat_eq t x)) live) × (stands standing u ≡ false))) → (u : ℕ)

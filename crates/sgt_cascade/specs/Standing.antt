@@ -1,4 +1,4 @@
--- Those that still stand while a cascading abort is followed from reader to reader.
+-- The transactions that still stand while a cascading abort is followed from reader to reader.
 use Rattle.std.specs.Prelude.{ℕ, Bool, cond, ◌&&◌, nat_eq, nat_lt, List, [], ◌∷◌}
 use Rattle.std.specs.List.{list_any}
 

@@ -6,11 +6,11 @@ ghost use Rattle.sgt_model.specs.Walks.{Member, Reaches, Rising};
 use crate::standing::{fallen, next_fall, without};
 use sgt_model::{Tid, Tids};
 
-/// Those that fall with t when it aborts: the live ones other than t that have read from it, directly or through others.
-/// They rise, in whatever order the live ones come.
+/// Those aborted in cascade with t: the live ones other than t that have read from it, directly or through others.
+/// The result rises, whatever the order of the live ones.
 ///
-/// Each pair is of two live ones: the source, and the reader that has read from it. This takes no memory. It goes through the
-/// pairs once more than transactions fall, and for each pair through the live ones.
+/// Each pair in `read_from` is of two live ones: the source, and its reader. The call allocates nothing. It goes through
+/// the pairs once more than transactions are aborted in cascade, and for each pair through the live ones.
 ///
 /// Bernstein, Hadzilacos and Goodman (1987), chapter 1: cascading abort.
 pub fn fallers(read_from: &[(Tid, Tid)], live: &Tids, t: Tid) -> Tids

@@ -1,6 +1,6 @@
-//! Who falls when a transaction aborts: those that have read from it, directly or through others.
+//! Cascading aborts: an abort also aborts those that have read from the transaction, directly or through others.
 //!
-//! [`fallers`] is exact. It knows numbers alone, keeps nothing and takes no memory.
+//! [`fallers`] is exact. It knows numbers alone, stores nothing and allocates nothing.
 //!
 //! ```
 //! let read_from = [(Tid(0), Tid(1)), (Tid(1), Tid(2))];   // 1 has read from 0, and 2 from 1

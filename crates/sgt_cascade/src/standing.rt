@@ -1,4 +1,4 @@
-//! The live transactions that still stand: those of which nothing says yet that they fall.
+//! The live transactions that still stand: those not yet known to be aborted in cascade.
 ghost use Rattle.std.specs.Prelude.{◌≡◌, ◌↔◌, ◌<◌, ◌≤◌, ℕ, true, false, not, nat_eq, IfSome, IsNone, ◌∷◌, ◌++◌, length, take, drop};
 ghost use Rattle.std.specs.List.{filter};
 ghost use Rattle.sgt_model.specs.Walks.{Member, Rising};
@@ -20,7 +20,7 @@ pub fn without(list: &Tids, t: Tid) -> Tids
     left
 }
 
-/// A pair whose reader stands and whose source does not.
+/// A pair (source, reader) whose reader stands and whose source does not.
 pub fn next_fall(read_from: &[(Tid, Tid)], standing: &[Tid]) -> Option<(Tid, Tid)>
     ensures pair { IfSome result (λ p. has_read read_from.now p.0 p.1 ≡ true) }
     ensures source { IfSome result (λ p. stands standing.now p.0 ≡ false) }
@@ -52,7 +52,7 @@ pub fn fallen(others: &Tids, standing: &[Tid]) -> Tids
     fell
 }
 
-/// Adds a transaction to a list that rises, where it belongs, unless it is there.
+/// Adds a transaction at its position in a list that rises, unless it is there.
 fn add(list: &mut Tids, t: Tid)
     requires { length list.old < 32 }
     ensures { list.new ≡ with_member t list.old }
@@ -68,7 +68,7 @@ fn add(list: &mut Tids, t: Tid)
     }
 }
 
-/// The list with the transaction behind its first ones, as many as are told.
+/// The list with the transaction inserted at this index.
 fn inserted(list: &Tids, at: usize, t: Tid) -> Tids
     requires room { length list.now < 32 }
     requires within { at ≤ length list.now }

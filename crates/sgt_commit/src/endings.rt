@@ -1,4 +1,4 @@
-//! Whom a commit waits for, and what a commit and an abort do in the layers.
+//! Which transaction a commit waits for, and what a commit and an abort do in the layers.
 ghost use Rattle.std.specs.Prelude.{◌≡◌, ℕ, false, not, ◌&&◌, nat_eq, IfSome, IsNone};
 ghost use Rattle.std.specs.Option.{option_or};
 ghost use Rattle.sgt_model.specs.Contents.{Key};
@@ -12,7 +12,7 @@ use sgt_graph::Graph;
 use sgt_model::Tid;
 use sgt_records::Records;
 
-/// Whom a commit of t has to wait for: the least live predecessor, or nobody.
+/// The transaction that a commit of t must wait for: the least live predecessor, or none.
 ///
 /// Durner and Neumann (ICDE 2019): a commit waits for its predecessors, so commit order agrees with the order of conflicts.
 pub fn decide<G: Graph>(graph: &G, t: Tid) -> Option<Tid>
@@ -22,8 +22,8 @@ pub fn decide<G: Graph>(graph: &G, t: Tid) -> Option<Tid>
     graph.least_pred(t)
 }
 
-/// Commits t in the layers: each value of it, the first of its chain, becomes the committed one, and t leaves the chains, the
-/// access list and the graph. This takes no memory.
+/// Commits t in the layers. Each of its values, the first of its chain, becomes the committed one, and t leaves the chains,
+/// the access list and the graph. It allocates nothing.
 pub fn finish<R: Records, A: Accesses, G: Graph>(
     records: &mut R,
     accesses: &mut A,
@@ -44,10 +44,10 @@ pub fn finish<R: Records, A: Accesses, G: Graph>(
     graph.remove(t);
 }
 
-/// Aborts t in the layers: its values leave the chains, where those written over them stay, and t leaves the access list and
-/// the graph. The committed values stay. This takes no memory.
+/// Aborts t in the layers. Its values leave the chains, where later writes stay, and t leaves the access list and
+/// the graph. The committed values stay. It allocates nothing.
 ///
-/// No value from before t's writes is written back.
+/// No before image is written back.
 pub fn unwind<R: Records, A: Accesses, G: Graph>(
     records: &mut R,
     accesses: &mut A,

@@ -1,8 +1,8 @@
-//! How a transaction ends in the layers: a commit settles its values, an abort takes them out, and with either it leaves the
+//! How a transaction ends in the layers. A commit commits its values, an abort removes them; either way it leaves the
 //! access list and the graph.
 //!
-//! It knows the three layers by their contracts alone, so any body of them will do. It keeps nothing, and takes no memory.
-//! Who falls with an abort is not its part: each that falls is unwound in turn.
+//! It knows the three layers by their contracts alone, so any implementations will do. It stores nothing, and allocates
+//! nothing. It does not decide which transactions are aborted in cascade: each of those is unwound in turn.
 //!
 //! ```
 //! match decide(&graph, t) {

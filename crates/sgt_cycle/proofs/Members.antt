@@ -4,13 +4,13 @@ use Rattle.std.proofs.Common.{take, add-one, zero, suc, refl, sym, subst, inl, i
 use Rattle.std.proofs.Math.Seq.{take-suc}
 use Rattle.sgt_model.specs.Walks.{Member, Distinct}
 
--- a member stands at some index
+-- a member has some index
 pub member_at : (x : ℕ) (xs : List ℕ) → Member x xs → (i : ℕ) × (i < length xs) × ((d : ℕ) → slice_index_or xs i d ≡ x)
 member_at x [] m = elim m [ ]
 member_at x (y ∷ xs) (inl e) = (0, omega arith, λ d. sym e)
 member_at x (y ∷ xs) (inr m) = let (i, below, at) = member_at x xs m in (suc i, omega arith, at)
 
--- what stands at an index is a member
+-- the item at an index is a member
 pub at_member : (xs : List ℕ) (i d : ℕ) → i < length xs → Member (slice_index_or xs i d) xs
 at_member [] i d below = omega arith
 at_member (y ∷ xs) zero d below = inl refl

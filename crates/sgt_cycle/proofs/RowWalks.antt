@@ -163,7 +163,7 @@ module _ (rows : List ℕ) (source targets : ℕ) where
         was i other e = false_from_ne_true (is_set fresh i)
             (λ t. both_ways _ e (less i ∙ and_from _ _ t (ap not (false_from_ne_true (nat_eq i next) (λ u. other (eqb-true i next u))))))
 
-    -- so there is room for one more
+    -- so there is capacity for one more
     pub search_room : (next : ℕ) → next < 32 → is_set fresh next ≡ true → length ((q ++ here ∷ []) ++ next ∷ []) ≤ 32
     search_room next low new =
         omega (
@@ -201,7 +201,7 @@ module _ (rows : List ℕ) (source targets : ℕ) where
       ];
     }
 
-    -- at a target the path is a walk
+    -- at a target the path is a walk (`IsWalk`)
     pub search_ends : is_set targets here ≡ true → IsWalk (is_bit rows) source (indices targets) (q ++ here ∷ [])
     search_ends target = go q s.begins s.follows s.distinct
       where

@@ -98,7 +98,7 @@ module _ (links : List (ℕ × ℕ)) (targets : List ℕ) where
         | inr (i, less, link) ↦ (member_append (slice_index seen j) first few.among).1 (inr (few.all _ (link_ends links _ _ link).0))
       ])
 
-  -- so there is room for one more
+  -- so there is capacity for one more
   pub searched_room : (few : AtMost 32 (is_end links)) (first seen : List ℕ) (at a to : ℕ) → Within targets first → length first ≤ 32
       → Searched links targets at seen → is_link links a to ≡ true → (Member a seen → ⊥) → length seen < 64
   searched_room few first seen at a to known short s link new =
@@ -145,7 +145,7 @@ pub closed_path : (step : ℕ → ℕ → Type 0) (inside : ℕ → Type 0) → 
 closed_path step inside closed t [] i p = i
 closed_path step inside closed t (u ∷ path) i p = closed_path step inside closed u path (closed t u i p.0) p.1
 
--- no walk leads from outside a list that has the targets and each source of its numbers
+-- no path leads from outside a list that has the targets and each source of its numbers
 pub no_walk : (test : ℕ → ℕ → Bool) (source : ℕ) (targets seen : List ℕ) → Within targets seen
     → ((a b : ℕ) → Holds test a b → Member b seen → Member a seen) → (Member source seen → ⊥) → NoWalk test source targets
 no_walk test source targets seen known closed out rest w =

@@ -1,4 +1,4 @@
--- The walk forward from the source: it goes on to numbers that were seen before.
+-- The path forward from the source: it goes on to numbers that were seen before.
 use Rattle.std.specs.Prelude.{◌≡◌, ℕ, ◌<◌, ◌≤◌, ◌+◌, ◌↔◌, Bool, nat_eq, List, [], ◌∷◌, ◌++◌, length, slice_index, slice_index_or}
 use Rattle.std.proofs.Common.{take, zero, suc, add-one, refl, sym, ◌∙◌, ap, subst, inl, inr, arith, length-take, get_or-take}
 use Rattle.std.proofs.lemmas.Bool.{eq-eqb, or_left, or_right}
@@ -11,7 +11,7 @@ use Rattle.sgt_model.proofs.Conditions.{distinct_fits}
 use Rattle.sgt_cycle.proofs.Members.{at_member, any_default, member_push, distinct_apart, distinct_push}
 use Rattle.sgt_cycle.proofs.Links.{link_ends}
 
--- a walk from the source to the number at an index, all of it at that index or after
+-- a path from the source to the number at an index, all of it at that index or after
 pub record Walked (test : ℕ → ℕ → Bool) (source : ℕ) (seen : List ℕ) (at : ℕ) (path : List ℕ) : Type 0 where
   pub rest : List ℕ
   pub is : path ≡ source ∷ rest
@@ -41,7 +41,7 @@ module _ (test : ℕ → ℕ → Bool) (source : ℕ) (seen : List ℕ) where
         ];
       }
 
-  -- the walk goes on to an index before
+  -- the path goes on to an index before
   pub walked_next : (at : ℕ) (path : List ℕ) (next r u : ℕ) → Distinct seen → Walked test source seen at path → at < length seen
       → r ≡ slice_index_or seen at r
       → next < length (take at seen) → Holds test r (slice_index (take at seen) next) → u ≡ slice_index_or seen next u
@@ -67,7 +67,7 @@ module _ (test : ℕ → ℕ → Bool) (source : ℕ) (seen : List ℕ) where
         none (slice_index (take at seen) i) (at_member (take at seen) i 0 within) (rw (s_here, get_or-take at seen i 0 less) link)
   ]
 
--- a walk passes no more numbers than occur
+-- a path passes no more numbers than occur
 pub walked_fits : (links : List (ℕ × ℕ)) (source : ℕ) (seen : List ℕ) (at : ℕ) (path : List ℕ) (few : AtMost 32 (occurs links source))
     → Walked (is_link links) source seen at path → length path ≤ 32
 walked_fits links source seen at path few w =

@@ -1,4 +1,4 @@
--- Links between numbers: a list of pairs, each leading from its first number to its second.
+-- Links between numbers: a list of pairs, each from its first number to its second.
 use Rattle.std.specs.Prelude.{ℕ, Bool, ◌||◌, ◌&&◌, nat_eq, List}
 use Rattle.std.specs.List.{list_any}
 

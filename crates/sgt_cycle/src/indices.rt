@@ -1,8 +1,8 @@
-//! A set of indices from 0 to 31, as the bits of a number: index `i` is in the set where bit `i` is 1.
+//! A set of indices from 0 to 31, as the bits of a number: index `i` is in the set if bit `i` is 1.
 ghost use Rattle.std.specs.Prelude.{◌≡◌, ℕ, ◌<◌, ◌≤◌, true, false, not, ◌||◌, ◌&&◌, ◌↔◌, nat_eq, IsTrue, IfSome, IsNone};
 ghost use Rattle.sgt_cycle.specs.Indices.{is_set};
 
-/// The index alone.
+/// The set of this index alone.
 pub fn only(index: u8) -> u32
     requires { index < 32 }
     ensures { (i : ℕ) → is_set result i ≡ nat_eq i index }
@@ -25,14 +25,14 @@ pub fn complement(set: u32) -> u32
     !set
 }
 
-/// The indices of both sets together.
+/// The union of both sets.
 pub fn joined(set: u32, other: u32) -> u32
     ensures { (i : ℕ) → is_set result i ≡ (is_set set i || is_set other i) }
 {
     set | other
 }
 
-/// The indices that both sets have.
+/// The indices that are in both sets.
 pub fn common(set: u32, other: u32) -> u32
     ensures { (i : ℕ) → is_set result i ≡ (is_set set i && is_set other i) }
 {

@@ -1,9 +1,9 @@
-//! The search for a walk along links between transactions: a list of links, each from one number to another; a source; and
-//! some targets.
+//! The search for a path along links between transactions. Its input is a list of links, each from one number to another, a
+//! source, and some targets.
 //!
-//! [`walk`] is exact: it answers a walk from the source to a target that passes no number twice, and `None` only where there
-//! is none. [`walk_rows`] does the same over rows of bits, where the numbers are indices below 32 and [`indices`] has the sets of
-//! them. [`is_walk`] tests a path. None of them takes memory, keeps a link, or knows what the links mean.
+//! [`walk`] is exact: it returns a path from the source to a target that passes no number twice, and `None` only if there
+//! is none. [`walk_rows`] does the same over rows of bits: the numbers are indices below 32, and [`indices`] has sets of
+//! them. [`is_walk`] tests a path. None of them allocates, stores a link, or knows what the links mean.
 //!
 //! ```
 //! let links = [(Tid(0), Tid(1)), (Tid(1), Tid(2))];

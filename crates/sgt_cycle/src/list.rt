@@ -1,4 +1,4 @@
-//! Where a number stands in a list.
+//! The position of a number in a list.
 ghost use Rattle.std.specs.Prelude.{◌≡◌, ◌<◌, ◌↔◌, IsTrue, IsNone, IfSome, length, slice_index};
 ghost use Rattle.sgt_model.specs.Walks.{Member};
 

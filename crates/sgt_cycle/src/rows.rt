@@ -1,4 +1,4 @@
-//! A path in a graph that is given as rows of bits.
+//! A path in a graph given as rows of bits.
 ghost use Rattle.std.specs.Prelude.{◌≡◌, ◌<◌, IfSome, IsNone};
 ghost use Rattle.sgt_cycle.specs.Indices.{is_bit, indices};
 ghost use Rattle.sgt_cycle.specs.Walk.{IsWalk, NoWalk};
@@ -7,8 +7,8 @@ use crate::indices::{common, complement, has, least, minus, only};
 use arrayvec::ArrayVec;
 use sgt_model::Bounded;
 
-/// A walk along the rows from the source to one of the targets, through no index twice; None where there is none. Row `i` has
-/// the indices to which a step leads from index `i`. It takes no memory, and comes to each index at most once.
+/// A path along the rows from the source to one of the targets, through no index twice; None if there is none. Row `i` has
+/// the indices to which a step leads from index `i`. It allocates nothing, and visits each index at most once.
 ///
 /// Depth first (Tarjan, "Depth-first search and linear graph algorithms", 1972).
 pub fn walk_rows(rows: &[u32; 32], source: u8, targets: u32) -> Option<Bounded<u8, 32>>

@@ -1,4 +1,4 @@
-//! A path in a graph that is given as a list of links.
+//! A path in a graph given as a list of links.
 ghost use Rattle.std.specs.Prelude.{◌≡◌, ◌↔◌, ℕ, IsTrue, IfSome, IsNone};
 ghost use Rattle.sgt_model.specs.Walks.{AtMost};
 ghost use Rattle.sgt_cycle.specs.Links.{is_link, occurs};
@@ -8,8 +8,8 @@ use crate::list::{has, index};
 use crate::search::{next_index, with_ancestors};
 use sgt_model::{Tid, Tids};
 
-/// A walk along the links from the source to one of the targets, through no number twice; None where there is none. It takes
-/// no memory, and looks at each link at most three times for each number that it meets.
+/// A path along the links from the source to one of the targets, through no number twice; None if there is none. It
+/// allocates nothing, and reads each link at most three times for each number that it visits.
 pub fn walk(links: &[(Tid, Tid)], source: Tid, targets: &Tids) -> Option<Tids>
     requires few { AtMost 32 (occurs links.now source) }
     ensures some { IfSome result (IsWalk (is_link links.now) source targets.now) }
@@ -31,7 +31,7 @@ pub fn walk(links: &[(Tid, Tid)], source: Tid, targets: &Tids) -> Option<Tids>
     Some(path)
 }
 
-/// Whether each two neighbours of the path are a link. A path of no or one number is a walk.
+/// Whether each two neighbours of the path are a link. A path of no or one number is one too.
 pub fn is_walk(links: &[(Tid, Tid)], path: &[Tid]) -> bool
     ensures { IsTrue result ↔ Follows (is_link links.now) path.now }
 {

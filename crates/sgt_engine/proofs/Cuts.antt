@@ -1,4 +1,4 @@
--- What a cut leaves behind.
+-- What a cut leaves.
 use Rattle.std.proofs.Common.{◌≡◌, []}
 use Rattle.sgt_model.specs.Contents.{Key}
 use Rattle.sgt_model.specs.Databases.{contents_of}
@@ -7,7 +7,7 @@ use Rattle.sgt_model.specs.Values.{settled}
 use Rattle.sgt_engine.specs.Cuts.{GoesOn}
 use Rattle.sgt_engine.specs.EngineView.{EngineView}
 
--- an engine goes on that opens with what was settled, has the same rules, and has an empty history
+-- the engine continues: its initial database is what was committed, its rules are the same, and its history is empty
 pub goes_on_from : (before after : EngineView)
     → ((k : Key) → contents_of after.opening k ≡ settled (contents_of before.opening) before.past k)
     → after.procedures ≡ before.procedures → after.limits ≡ before.limits → after.past ≡ [] → GoesOn before after

@@ -1,4 +1,4 @@
--- The history keeps room for one end of each live transaction; and which legal replies end one.
+-- The history keeps capacity for one end of each live transaction; and which legal replies end one.
 use Rattle.std.proofs.Common.{◌≡◌, ℕ, ◌+◌, ◌≤◌, arith, Bool, true, false, ◌&&◌, cond, nat_eq, ℤ, inl, inr, List, length, nat_lt, Option, Some, None, refl, sym, ap, ap₂, ◌∙◌, subst}
 use Rattle.std.proofs.lemmas.Bool.{true≢false, and_parts}
 use Rattle.std.specs.Option.{is_none}
@@ -37,7 +37,7 @@ pub record StateLaws : Type 0 where
   pub replies : RepliesEndWhere
   pub counts : CallsCount
 
--- who is live
+-- which transactions are live
 live_from : (past : List Entry) (t : ℕ) → nat_lt t (start_count past) ≡ true → fate_of past t ≡ None → live past t ≡ true
 live_from past t started unended = ap₂ (λ a b. a && is_none b) started unended
 
@@ -69,12 +69,12 @@ start_quiet limits begun living (Some count) args = fits (args_fit count args) w
   fits false = refl
 
 module _ (laws : StateLaws) (s : Setting) (past : List Entry) (legal : Legal s past) (c : State) (i : IsStateAfter s past c) where
-  -- who was started and has not ended is listed as live
+  -- a transaction that was started and has not ended is listed as live
   pub unended_listed : (t : ℕ) → IsUnended c t → Member t c.live
   unended_listed t u = ((laws.sound s past legal c i).listed t).0
       (i.nodes t ∙ live_from past t (ap (nat_lt t) (sym i.start_count) ∙ u.begun) (sym (i.fates t) ∙ u.unended))
 
-  -- who is live was started, and has not ended
+  -- a live transaction was started, and has not ended
   pub live_unended : (t : ℕ) → live past t ≡ true → IsUnended c t
   live_unended t alive = record {
     begun = ap (nat_lt t) i.start_count ∙ live-started past t alive;
@@ -82,7 +82,7 @@ module _ (laws : StateLaws) (s : Setting) (past : List Entry) (legal : Legal s p
         ∙ live-no_fate past t alive;
   }
 
-  -- an event that has got its room leaves room for one end of each that is live then
+  -- an event that has got its capacity leaves capacity for one end of each that is live then
   pub room_left : (event : Event) (after : State) (r : Reply) (room : ℕ) → CallEffect s.rules event c r after → length c.live ≤ room
       → ((EndsOne s.rules.limits.asks event c → ⊥) → length c.live + 2 ≤ room) → length after.live + 1 ≤ room
   room_left event after r room done kept more = both (is_ending r) refl where
@@ -116,7 +116,7 @@ module _ (laws : StateLaws) (s : Setting) (past : List Entry) (legal : Legal s p
   step_ends t (Ends answers) r l x e = absurd (quiet r _ x refl e)
   step_ends t (Raises code) r l x e = asked_step_ends s.rules.limits.asks t code r x e
 
-  -- who has no live predecessor has none in the graph
+  -- a transaction without a live predecessor has none in the graph
   first_in : (t : ℕ) → HasNoLivePredecessor past t → IsFirst t c
   first_in t none u p = let pair = (i.pairs u t).0 p in none u (record { is_live = pair.first_live; pair = pair.pair })
 

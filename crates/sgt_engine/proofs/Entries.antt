@@ -27,7 +27,7 @@ Kept s past c = Legal s past × IsStateAfter s past c
 pub longer : (items new : List Entry) (e : Entry) → new ≡ items ++ e ∷ [] → reverse new ≡ e ∷ reverse items
 longer items new e is = ap reverse is ∙ reverse-append items (e ∷ [])
 
--- a setting is the same where its parts are
+-- two configurations are the same if their parts are
 pub same_setting : (opening : Contents) (procedures procedures' : List ProcedureText) (limits limits' : Limits) → procedures' ≡ procedures
     → limits' ≡ limits → setting opening procedures limits ≡ setting opening procedures' limits'
 same_setting opening procedures procedures' limits limits' p l = ap₂ (setting opening) (sym p) (sym l)

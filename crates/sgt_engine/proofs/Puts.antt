@@ -1,4 +1,4 @@
--- Rows put in, one on; and an empty history.
+-- Rows added, one after another; and an empty history.
 use Rattle.std.proofs.Common.{◌≡◌, ℕ, zero, suc, ◌+◌, ◌<◌, cond, List, [], ◌∷◌, ◌++◌, length, reverse, take, get_or, Some, None, refl, sym, ap, ◌∙◌, arith}
 use Rattle.std.proofs.lemmas.List.{take_more, reverse-reverse}
 use Rattle.sgt_model.specs.Contents.{Key, Contents, key_eq, put_in}

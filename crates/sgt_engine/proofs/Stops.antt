@@ -16,7 +16,7 @@ use Rattle.sgt_engine.specs.Stops.{StopsAtNoEnd}
 pub stops_at_end : (e : EngineView) (done : ℕ) (events : List Event) → length events ≤ done → StopsAtNoEnd e done events
 stops_at_end e done events behind event is r legal = absurd (omega (arith, behind, slice_get_within events done event is))
 
--- an event that was refused memory ends none
+-- an event that failed to allocate ends none
 pub stops_refused : (e now : EngineView) (done : ℕ) (events : List Event) (event : Event) (result : Result Reply NoMemory) → now ≡ e
     → slice_get events done ≡ Some event → is_ok result ≡ false
     → ((r : Reply) → LegalReply (setting_of e) e.past event r → is_ending r ≡ true → IsOk result) → StopsAtNoEnd now done events

@@ -1,4 +1,4 @@
--- What a cut leaves: a past of its own, and an engine that goes on from what it settled.
+-- What a cut leaves: a past of its own, and an engine that continues from what the past committed.
 use Rattle.std.specs.Prelude.{◌≡◌, List, []}
 use Rattle.sgt_model.specs.declared.entry.Entry.{Entry}
 use Rattle.sgt_model.specs.Fates.{live_ones}
@@ -6,15 +6,15 @@ use Rattle.sgt_model.specs.Settings.{Setting}
 use Rattle.sgt_model.specs.Values.{settled}
 use Rattle.sgt_engine.specs.EngineView.{EngineView, setting_of}
 
--- nobody is live after the history
+-- no transaction is live after the history
 abbrev pub NobodyLive : List Entry → Type 0
 NobodyLive past = live_ones past ≡ []
 
--- the setting behind a cut: what the past has settled is opened, and the rules are the same
+-- the configuration after a cut: the initial database is what the past has committed, and the rules are the same
 abbrev pub setting_behind : Setting → List Entry → Setting
 setting_behind s past = record { opening = settled s.opening past; rules = s.rules }
 
--- the engine goes on behind a cut, with an empty history
+-- the engine continues after a cut, with an empty history
 pub record GoesOn (before after : EngineView) : Type 0 where
   pub setting : setting_of after ≡ setting_behind (setting_of before) before.past
   pub procedures : after.procedures ≡ before.procedures

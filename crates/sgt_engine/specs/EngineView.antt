@@ -9,14 +9,14 @@ use Rattle.sgt_model.specs.Databases.{Row, contents_of}
 use Rattle.sgt_model.specs.Syntax.{ProcedureText}
 use Rattle.sgt_model.specs.Settings.{Setting, setting}
 
--- the opening database, the procedures, the limits, and the history, newest entry first
+-- the initial database, the procedures, the limits, and the history, newest entry first
 pub record EngineView : Type 0 where
   pub opening : List Row
   pub procedures : List ProcedureText
   pub limits : Limits
   pub past : List Entry
 
--- what it was made of, as the definitions of histories have it
+-- its configuration, as the definitions of histories use it
 abbrev pub setting_of : EngineView → Setting
 setting_of e = setting (contents_of e.opening) e.procedures e.limits
 
@@ -24,7 +24,7 @@ setting_of e = setting (contents_of e.opening) e.procedures e.limits
 abbrev pub made_of : List Row → List ProcedureText → Limits → EngineView
 made_of opening procedures limits = record { opening = opening; procedures = procedures; limits = limits; past = [] }
 
--- the engine with one entry more
+-- the engine with one more entry
 abbrev pub with_entry : Event → Reply → EngineView → EngineView
 with_entry event reply e = record {
   opening = e.opening;

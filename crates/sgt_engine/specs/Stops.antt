@@ -6,7 +6,7 @@ use Rattle.sgt_model.specs.Legality.{LegalReply}
 use Rattle.sgt_model.specs.Questions.{is_ending}
 use Rattle.sgt_engine.specs.EngineView.{EngineView, setting_of}
 
--- behind so many of these events: the next one, if there is one, ends no live transaction
+-- after so many of these events, the next one, if any, ends no live transaction
 abbrev pub StopsAtNoEnd : EngineView → ℕ → List Event → Type 0
 StopsAtNoEnd e done events = (event : Event) → slice_get events done ≡ Some event → (r : Reply) → LegalReply (setting_of e) e.past event r
     → is_ending r ≡ false

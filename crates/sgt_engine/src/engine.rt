@@ -43,24 +43,29 @@ use sgt_sched::{Sched, endings_agree};
 use std::alloc::Global;
 use std::marker::Model;
 
-/// An in-memory transaction engine that schedules by serialization graph testing, with the history of all it was asked and
-/// answered.
+/// An in-memory transaction engine that schedules by serialization graph testing, with the history of all events and replies.
 ///
-/// For every list of events, running the committed transactions' procedures one after another in commit order on the opening
-/// database, as a plain map, gives each the answers it was told and ends in the engine's committed database; and a
-/// transaction is aborted only where its step would close a conflict cycle, it read from an aborted one, or its procedure or
-/// caller asked. Where asks are answered at the commit, this is said of the committed and refused transactions, in reply order,
-/// and of the answers or the code that each was told.
+/// For every list of events, run the procedures of the committed transactions serially, in commit order, on the initial
+/// database as a plain map. This gives each transaction the answers that were reported, and ends in the engine's
+/// committed database. If codes are reported at commit, the serial run includes the refused transactions, in reply order;
+/// each gets its answers or its code.
+///
+/// A transaction is aborted only for one of these reasons:
+///
+/// - its step would close a conflict cycle;
+/// - it read from an aborted transaction;
+/// - its procedure raised a code;
+/// - its caller quit it.
 ///
 /// At every moment the history is legal: each reply is the one that the definitions of histories allow after the entries
-/// before it. Each event that is answered, refusals among them, is one entry. An event that was refused memory is none, and
-/// changes nothing. The layers below may be any bodies of their contracts.
+/// before it. Each answered event is one entry, refusals included. An event for which an allocation failed is no entry,
+/// and changes nothing. The layers below may be any implementations of their contracts.
 #[derive(Drop)]
 pub struct Engine<R: Records, A: Accesses, G: Graph> {
     opening: Database,
     sched: Sched<R, A, G>,
     history: History,
-    // The reply of the newest entry, where there is one.
+    // The reply of the newest entry, if there is one.
     newest: Reply,
 }
 
@@ -98,9 +103,9 @@ impl<R: Records, A: Accesses, G: Graph> Model for Engine<R, A, G> {
 }
 
 impl<R: Records, A: Accesses, G: Graph> Engine<R, A, G> {
-    /// A new engine over an opening database, with an empty history. The procedures are numbered from 0 in their order.
+    /// A new engine over an initial database, with an empty history. The procedures are numbered from 0 in their order.
     ///
-    /// `BadLimits` where a limit is out of its range, tested first; `NoMemory` where a growth was refused.
+    /// `BadLimits` if a limit is out of its range, tested first; `NoMemory` if an allocation failed.
     pub fn new(
         alloc: Global,
         opening: Database,
@@ -119,27 +124,26 @@ impl<R: Records, A: Accesses, G: Graph> Engine<R, A, G> {
         })
     }
 
-    /// Takes memory for so many more entries, but for what their lists will hold, so that those that are there need not be moved
-    /// until then. Nothing else changes.
+    /// Allocates memory for so many more entries, but not for the items of their lists. Until these entries are used up, the
+    /// present ones need not be moved. Nothing else changes.
     ///
-    /// `NoMemory` where the growth was refused.
+    /// `NoMemory` if the allocation failed.
     pub fn reserve(&mut self, entries: usize) -> Result<(), NoMemory>
         ensures { self.new ≡ self.old }
     {
         self.history.reserve_entries(entries)
     }
 
-    /// Takes an event, answers it, and adds both to the history as one entry. A transaction is named by the number that its
-    /// start was answered; any event may come at any time. What each event does is said at [`Event`], and the answers at
-    /// [`Reply`].
+    /// Answers an event, and adds both to the history as one entry. A transaction is named by the number that its
+    /// start returned. Any event may come at any time. See [`Event`] for what each event does, and [`Reply`] for the replies.
     ///
-    /// Serialization graph testing is that of Bernstein, Hadzilacos and Goodman (1987), chapter 4, and the falling of readers
-    /// that of chapter 1. That a commit waits for its live predecessors, so that commit order is a serial order, is from
+    /// Serialization graph testing is that of Bernstein, Hadzilacos and Goodman (1987), chapter 4, and the cascading abort of
+    /// readers that of chapter 1. A commit waits for its live predecessors, so that commit order is a serial order: this is from
     /// Durner and Neumann (ICDE 2019).
     ///
-    /// `NoMemory` where a growth was refused; then nothing has changed. A quit of a live transaction takes no memory, nor does
-    /// any event whose reply ends a live transaction: the room for that entry was taken when it started. What an event costs
-    /// does not grow with the history, which is never looked at, but for growing a list now and then.
+    /// `NoMemory` if an allocation failed; then nothing has changed. A quit of a live transaction allocates nothing, nor does
+    /// any event whose reply ends a live transaction: the capacity for that entry was allocated at the start. The cost of an
+    /// event does not grow with the history, which is never read, except when a list grows now and then.
     pub fn apply(&mut self, event: Event) -> Result<Reply, NoMemory>
         ensures adds { IfOk result (λ r. self.new ≡ with_entry event r self.old) }
         ensures reply { IfOk result (LegalReply (setting_of self.old) self.old.past event) }
@@ -161,7 +165,7 @@ impl<R: Records, A: Accesses, G: Graph> Engine<R, A, G> {
         }
     }
 
-    /// The same, where the reply is not handed out: [`Engine::last_reply`] lends it until the next event.
+    /// The same, without returning the reply: [`Engine::last_reply`] lends it until the next event.
     pub fn answer(&mut self, event: Event) -> Result<(), NoMemory>
         ensures adds { OnOk result ((r : Reply) × (self.new ≡ with_entry event r self.old)
             × LegalReply (setting_of self.old) self.old.past event r) }
@@ -176,7 +180,7 @@ impl<R: Records, A: Accesses, G: Graph> Engine<R, A, G> {
             → IsOk result }
         ensures quits { (t : ℕ) → event ≡ Quit t → live self.old.past t ≡ true → IsOk result }
     {
-        // The laws that the proof rests on, which do nothing when it runs: of calls and states, and of legal histories.
+        // The laws that the proof rests on, of calls and states, and of legal histories. They do nothing at run time.
         calls_simulate();
         states_are_sound();
         verdicts_agree();
@@ -190,8 +194,8 @@ impl<R: Records, A: Accesses, G: Graph> Engine<R, A, G> {
         Ok(())
     }
 
-    /// What the newest event was answered, if there was one: the reply of the newest entry, where it stands. The history would
-    /// have to make it anew.
+    /// The reply to the newest event, if there was one. It is the stored reply of the newest entry; the history would have to
+    /// build it again.
     pub fn last_reply(&self) -> Option<&Reply>
         ensures { option_copied result ≡ newest_reply self.now.past }
     {
@@ -202,7 +206,7 @@ impl<R: Records, A: Accesses, G: Graph> Engine<R, A, G> {
         }
     }
 
-    /// The scheduler with its layers. It holds just what the history says of the live transactions, how the others ended, and
+    /// The scheduler with its layers. It holds exactly what the history says of the live transactions, how the others ended, and
     /// the committed values.
     pub fn sched(&self) -> &Sched<R, A, G>
         ensures state { IsStateAfter (setting_of self.now) self.now.past
@@ -213,14 +217,14 @@ impl<R: Records, A: Accesses, G: Graph> Engine<R, A, G> {
         &self.sched
     }
 
-    /// Whether the history is empty: nothing was answered since the engine was made or cut.
+    /// Whether the history is empty: no event was answered since the engine was made or cut.
     pub fn is_new(&self) -> bool
         ensures { IsTrue result ↔ (self.now.past ≡ []) }
     {
         self.history.is_empty()
     }
 
-    /// The history, oldest entry first. Nothing is ever taken out of it.
+    /// The history, oldest entry first. No entry is ever removed from it.
     pub fn history(&self) -> &History
         ensures entries { reverse result.now.entries ≡ self.now.past }
         ensures legal { Legal (setting_of self.now) self.now.past }
@@ -233,7 +237,7 @@ impl<R: Records, A: Accesses, G: Graph> Engine<R, A, G> {
         &self.history
     }
 
-    /// The committed value of the key, or none: the last one that a committed transaction stored, else the opening's. It is also
+    /// The committed value of the key, or none: the last one that a committed transaction wrote, else the initial one. It is also
     /// what the committed transactions leave there, run one after another in commit order.
     pub fn committed(&self, key: Key) -> Option<i64>
         ensures value { result ≡ settled (contents_of self.now.opening) self.now.past key }
@@ -243,10 +247,10 @@ impl<R: Records, A: Accesses, G: Graph> Engine<R, A, G> {
         self.sched.records().committed(key)
     }
 
-    /// The committed database: of all keys what `committed` tells. Where the history is shorter than the opening it goes once through
-    /// both, else once through all records.
+    /// The committed database: what `committed` returns, for all keys. If the history is shorter than the initial database, it goes
+    /// through both once; otherwise it goes through all records once.
     ///
-    /// `NoMemory` where a growth was refused.
+    /// `NoMemory` if an allocation failed.
     pub fn database(&self, alloc: Global) -> Result<Database, NoMemory>
         ensures values { IfOk result (λ d. (k : Key) →
             contents_of d k ≡ settled (contents_of self.now.opening) self.now.past k) }
@@ -271,7 +275,7 @@ impl<R: Records, A: Accesses, G: Graph> Engine<R, A, G> {
         self.sched.records().all(alloc)
     }
 
-    // The opening with what the history has changed in it.
+    // The initial database with what the history has changed in it.
     fn changed_opening(&self, alloc: Global) -> Result<Database, NoMemory>
         ensures values { IfOk result (λ d. (k : Key) →
             contents_of d k ≡ settled (contents_of self.now.opening) self.now.past k) }
@@ -281,7 +285,7 @@ impl<R: Records, A: Accesses, G: Graph> Engine<R, A, G> {
         self.opening.updated(alloc, &changes)
     }
 
-    /// The opening and the history, of an engine that takes no more events. This takes no memory.
+    /// The initial database and the history, of an engine that takes no more events. It allocates nothing.
     pub fn into_past(self) -> Past
         ensures opening { result.opening ≡ self.opening }
         ensures entries { reverse result.history.entries ≡ self.past }

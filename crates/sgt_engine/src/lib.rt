@@ -1,9 +1,9 @@
-//! The engine: a scheduler with the history of what it was asked and answered.
+//! The engine: a scheduler with the history of its events and replies.
 //!
-//! Its contracts are what the other crates are for. `Engine::apply` keeps a legal history, and whatever the events, running
-//! the committed transactions one after another in commit order gives the answers that were told and the committed database.
-//! It is no database system: it keeps all in memory, writes no log, and has no lock, thread or waiting. A commit that has to
-//! wait is answered so, and its caller asks again.
+//! Its contracts are the purpose of the other crates. `Engine::apply` keeps the history legal. Whatever the events, running
+//! the committed transactions one after another in commit order gives the answers that were reported and the committed
+//! database. It is no database system: it holds everything in memory, writes no log, and has no lock, thread or waiting. If
+//! a commit must wait, the reply says so, and the caller asks again.
 //!
 //! ```
 //! let mut engine: Engine<ListRecords, OneList, PairGraph> = Engine::new(alloc, opening, procedures, limits)?;

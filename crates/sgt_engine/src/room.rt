@@ -1,4 +1,4 @@
-//! Room in the history for an event and for the ends of the live transactions, and the entry that fills it.
+//! Capacity in the history for an event and for the ends of the live transactions, and the entry that uses it.
 ghost use Rattle.std.specs.Prelude.{◌≡◌, ◌+◌, ◌<◌, ◌≤◌, [], ◌∷◌, ◌++◌, length, OnOk};
 ghost use Rattle.std.specs.Result.{IsOk};
 ghost use Rattle.sgt_sched.specs.Briefs.{in_full};
@@ -12,11 +12,12 @@ use sgt_model::{Event, NoMemory, Reply};
 use sgt_records::Records;
 use sgt_sched::{Brief, Sched};
 
-/// Sees to it that the history has the room that an event needs. An event that ends a live transaction has it: the history keeps
-/// room for one end of each, and does not grow. Any other needs room for itself, for those ends, and for the end of one that it
-/// may start.
+/// Ensures that the history has the capacity that an event needs.
 ///
-/// `NoMemory` where a growth was refused; then the room is as it was.
+/// - An event that ends a live transaction has it: the history keeps capacity for one end of each, and does not grow.
+/// - Any other event needs capacity for itself, for those ends, and for the end of the transaction that it may start.
+///
+/// `NoMemory` if an allocation failed; then the capacity is unchanged.
 #[inline(always)]
 pub fn make_room<R: Records, A: Accesses, G: Graph>(
     history: &mut History,
@@ -32,15 +33,15 @@ pub fn make_room<R: Records, A: Accesses, G: Graph>(
     ensures no_memory { EndsOne (asks_of sched.now) event.now (state sched.now) → IsOk result }
 {
     let needed = sched.live_count() + 2;
-    // Whether it ends one is worked out only where there is less room than others need.
+    // Whether it ends one is computed only if there is less capacity than other events need.
     if history.room() < needed && !sched.ends(event) {
         history.reserve(needed)?;
     }
     Ok(())
 }
 
-/// Adds an entry, for which there is room, and leaves its reply in full in `out`, where it stands already if it is placed. This
-/// takes no memory.
+/// Adds an entry, for which there is capacity, and leaves its full reply in `out`. A placed reply is there already. It
+/// allocates nothing.
 #[inline(always)]
 pub fn file(history: &mut History, event: &Event, brief: &Brief, out: &mut Reply)
     requires { 0 < history.old.room }
@@ -53,7 +54,7 @@ pub fn file(history: &mut History, event: &Event, brief: &Brief, out: &mut Reply
     history.push(event, out);
 }
 
-// Writes the reply in full, where it is not placed.
+// Writes the reply in full, unless it is placed.
 fn write_out(brief: &Brief, out: &mut Reply)
     ensures { out.new ≡ in_full brief.now out.old }
 {

@@ -21,20 +21,20 @@ use sgt_proc::Checked;
 use sgt_records::Records;
 use std::alloc::Global;
 
-/// What became of a list of events. The replies stand in the engine's history.
+/// The result of running a list of events. The replies are in the engine's history.
 #[derive(Drop)]
 pub struct Ran<R: Records, A: Accesses, G: Graph> {
     /// The engine, with the events that were applied as its history.
     pub engine: Engine<R, A, G>,
-    /// How many were applied: all, or as many as came before a growth was refused. So fewer than all means `NoMemory`.
+    /// How many were applied: all, or as many as came before an allocation failed. So fewer than all means `NoMemory`.
     pub done: usize,
 }
 
-/// Makes an engine, and applies the events in their order, all of them unless a growth is refused.
+/// Makes an engine, and applies the events in order: all of them, unless an allocation fails.
 ///
-/// `BadLimits` where a limit is out of its range, tested first; `NoMemory` where a growth was refused before the first event.
+/// `BadLimits` if a limit is out of its range, tested first; `NoMemory` if an allocation failed before the first event.
 ///
-/// Only tests call this. It is part of the specification: it says of a whole list what [`Engine::apply`] says of one event.
+/// Only tests call this. It is part of the specification: it says for a whole list what [`Engine::apply`] says for one event.
 pub fn run_list<R: Records, A: Accesses, G: Graph>(
     alloc: Global,
     opening: Database,

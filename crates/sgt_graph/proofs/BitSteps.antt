@@ -1,4 +1,4 @@
--- The indices stay a graph: with a transaction more, with pairs into one index, without an index.
+-- The indices stay a graph: with a transaction more, with edges into one index, without an index.
 use Rattle.std.specs.Prelude.{◌≡◌, ◌≢◌, ℕ, ◌<◌, ◌≤◌, ◌⊎◌, ◌↔◌, Bool, true, false, not, ◌&&◌, ◌||◌, nat_eq, List, [], ◌∷◌, map, length, slice_index, slice_set, cond, Option, Some, None, IfSome}
 use Rattle.std.proofs.Common.{zero, suc, refl, sym, ◌∙◌, ap, subst, inl, inr, arith}
 use Rattle.std.proofs.lemmas.List.{get_or-set_same, get_or-set_other}
@@ -63,7 +63,7 @@ alone_left taken p alone i = none_in i ∙ sym (ap (λ x. x && not (nat_eq i p))
     nothing true = refl
     nothing false = refl
 
--- where one index alone is taken there is no pair
+-- where one index alone is taken there is no edge
 module _ (taken : ℕ) (tids pairs reached : List ℕ) (g : IsBitGraph taken tids pairs reached) (p : ℕ)
     (alone : (i : ℕ) → is_set taken i ≡ nat_eq i p) where
   pub alone_none : (i j : ℕ) → is_bit pairs i j ≡ false
@@ -166,7 +166,7 @@ module _ (taken : ℕ) (tids pairs reached : List ℕ) (g : IsBitGraph taken tid
       old u i h there =
           elim (at_cases u i h) [ inl x ↦ x | inr x ↦ absurd (both_ways _ is_free (subst (λ y. is_set taken y ≡ true) x.0 there)) ]
 
--- pairs from some indices into one
+-- edges from some indices into one
 module _ (taken : ℕ) (tids pairs reached : List ℕ) (g : IsBitGraph taken tids pairs reached) (from p : ℕ) (new after : List ℕ)
     (there : is_set taken p ≡ true) (sources : (i : ℕ) → is_set from i ≡ true → is_set taken i ≡ true)
     (apart : is_set from p ≡ false) (none_back : (i : ℕ) → is_set from i ≡ true → is_bit reached p i ≡ false)
@@ -288,7 +288,7 @@ module _ (taken : ℕ) (tids pairs reached : List ℕ) (g : IsBitGraph taken tid
     acyclic = λ i. false_from_ne_true (is_bit after i i) (λ h. both_ways _ (g.acyclic i) (all i i (old_leads i i (closure.leads i i h))));
   }
 
-  -- where no pair leads to the index, what is reached from the others stays
+  -- where no edge leads to the index, what is reached from the others stays
   pub first_freed : (after : List ℕ) → ((i : ℕ) → is_bit pairs i p ≡ true → ⊥)
       → ((i j : ℕ) → is_bit after i j ≡ (is_bit reached i j && (not (nat_eq i p) && not (nat_eq j p)))) → IsClosure new after
   first_freed after none after_is = record {
@@ -361,7 +361,7 @@ module _ (taken : ℕ) (tids pairs reached : List ℕ) (g : IsBitGraph taken tid
         → is_pair taken' tids' new u v ≡ (is_pair taken tids pairs u v && (not (nat_eq t u) && not (nat_eq t v)))
     removed_pairs tids' same u v = ap (λ x. is_pair taken' x new u v) same ∙ freed_pairs u v
 
--- a walk over indices goes through indices below 32
+-- a path over indices goes through indices below 32
 pub walk_low : (taken : ℕ) (tids pairs reached : List ℕ) → IsBitGraph taken tids pairs reached → (p from : ℕ) (path : List ℕ) → p < 32
     → IsWalk (is_bit pairs) p (indices from) path → (i : ℕ) → Member i path → i < 32
 walk_low taken tids pairs reached g p from path low (rest, is, w) i m = elim (subst (λ l. Member i l) is m) [
@@ -383,7 +383,7 @@ module _ (taken : ℕ) (tids pairs reached : List ℕ) (g : IsBitGraph taken tid
   verdict_of others Accepted v = accepted taken tids pairs reached g t index targets preds here exact others v
   verdict_of others (Closes walk) (path, is, same) = closes taken tids pairs reached g t index targets preds here exact path walk is same
 
-  -- pairs from the targets to the index are what an insertion adds
+  -- edges from the targets to the index are what an insertion adds
   pub inserts : ((u : ℕ) → Member u preds → is_placed taken tids u ≡ true) → (verdict : Verdict) → verdict ≡ Accepted
       → (taken' : ℕ) (tids' new reached' : List ℕ)
       → taken' ≡ taken → tids' ≡ tids → ((i j : ℕ) → is_bit new i j ≡ (is_bit pairs i j || (is_set targets i && nat_eq j index)))
@@ -396,7 +396,7 @@ module _ (taken : ℕ) (tids pairs reached : List ℕ) (g : IsBitGraph taken tid
       (inserted taken tids pairs reached g t index targets preds here exact new more
       (subst (λ x. (i j : ℕ) → is_bit new i j ≡ true → (is_set x i ≡ true) × (is_set x j ≡ true)) same_taken after.of_taken) nodes u v)))
 
--- a transaction that is nowhere has no pairs
+-- a transaction that is nowhere has no edges
 pub none_in_index : (taken : ℕ) (tids pairs reached : List ℕ) → IsBitGraph taken tids pairs reached → (t : ℕ)
     → ((i : ℕ) → is_at taken tids t i ≡ false)
     → (u : ℕ) → is_pair taken tids pairs u t ≡ false
@@ -424,7 +424,7 @@ module _ (taken : ℕ) (tids pairs reached : List ℕ) (g : IsBitGraph taken tid
       and_from _ _ h (and_from _ _ (other_than u i a) (other_than v j b)))
       (λ h. (and_parts (is_pair taken tids pairs u v) _ h).0)
 
--- the column of an index: who has a pair to it
+-- the column of an index: the transactions with an edge to it
 module _ (taken : ℕ) (tids pairs reached : List ℕ) (g : IsBitGraph taken tids pairs reached) (t index : ℕ)
     (here : is_at taken tids t index ≡ true) (column alone : ℕ)
     (alone_is : (i : ℕ) → is_set alone i ≡ nat_eq i index)
@@ -436,7 +436,7 @@ module _ (taken : ℕ) (tids pairs reached : List ℕ) (g : IsBitGraph taken tid
     (λ step. (column_is i).1 (index, step, alone_is index ∙ eq-eqb index index refl)),
   )
 
-  -- who has a pair to t stands at an index of the column
+  -- a transaction with an edge to t is at an index of the column
   pub no_pred_of : ((i : ℕ) → is_set column i ≡ false) → (u : ℕ) → is_pair taken tids pairs u t ≡ false
   no_pred_of none u = false_from_ne_true (is_pair taken tids pairs u t) (λ h.
       let (i, j, a, b, step) = pair_at taken tids (placed taken tids pairs reached g) pairs g.of_taken u t h in

@@ -1,4 +1,4 @@
--- Pairs into one node, added one after another.
+-- Edges into one node, added one after another.
 use Rattle.std.specs.Prelude.{◌≡◌, ℕ, ◌<◌, ◌+◌, Bool, true, ◌||◌, ◌&&◌, ◌⊎◌, ◌↔◌, nat_eq, List, [], ◌∷◌, ◌++◌, length, slice_index_or}
 use Rattle.std.proofs.Common.{take, sym, ◌∙◌, ap, subst, inl, inr, add-one}
 use Rattle.std.proofs.Math.Seq.{take-suc}
@@ -11,14 +11,14 @@ use Rattle.sgt_cycle.specs.Links.{is_link}
 use Rattle.sgt_cycle.specs.Walk.{Holds, NoWalk}
 use Rattle.sgt_graph.proofs.Lists.{pushed_cases}
 
--- where no walk leads to a target, no path does
+-- where no path leads to a target, no `Walk` does
 pub no_path : (test : ℕ → ℕ → Bool) (t : ℕ) (targets : List ℕ) → NoWalk test t targets → (u : ℕ) → Member u targets
     → Reaches (Holds test) t u → ⊥
 no_path test t targets none u m (path, goes, ends) =
     let s : Simple (Holds test) t path = simple (Holds test) t path goes in
     none s.rest (record { distinct = s.distinct; goes = s.goes; ends = subst (λ x. Member x targets) (sym (s.ends ∙ ends)) m })
 
--- the new pairs are the old ones and those from the preds to t
+-- the new edges are the old ones and those from the preds to t
 abbrev pub Adds : List (ℕ × ℕ) → List (ℕ × ℕ) → ℕ → List ℕ → Type 0
 Adds old new t preds = (a b : ℕ) → (is_link new a b ≡ true) ↔ ((is_link old a b ≡ true) ⊎ ((b ≡ t) × Member a preds))
 
@@ -34,7 +34,7 @@ still_no_path old new t preds adds u free (path, goes, ends) =
     grows : Grows (Holds (is_link old)) (Holds (is_link new)) t (λ x. Member x preds)
     grows = record { each = λ a b h. elim ((adds a b).0 h) [ inl o ↦ inl o | inr n ↦ inr (n.1, n.0) ] }
 
--- one pair more
+-- one edge more
 pub adds_next : (old mid new : List (ℕ × ℕ)) (t : ℕ) (preds : List ℕ) (i u : ℕ) → i < length preds → u ≡ slice_index_or preds i u
     → Adds old mid t (take i preds)
     → ((a b : ℕ) → is_link new a b ≡ (is_link mid a b || (nat_eq u a && nat_eq t b))) → Adds old new t (take (i + 1) preds)

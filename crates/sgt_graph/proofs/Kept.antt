@@ -1,4 +1,4 @@
--- The two lists stay a graph: with a new node, with a new pair, without a node.
+-- The two lists stay a graph: with a new node, with a new edge, without a node.
 use Rattle.std.specs.Prelude.{◌≡◌, ℕ, ◌<◌, ◌≤◌, Bool, true, false, not, cond, ◌⊎◌, nat_eq, List, [], ◌∷◌, ◌++◌, length}
 use Rattle.std.specs.List.{filter}
 use Rattle.std.proofs.Common.{refl, sym, ◌∙◌, subst, inl, inr, arith, length-append}
@@ -14,7 +14,7 @@ use Rattle.sgt_graph.specs.PairGraphs.{is_node, is_apart, Once, IsPairGraph}
 use Rattle.sgt_graph.proofs.Lists.{node_member, member_node, node_push, node_without, pair_here, pair_there, pair_push, pushed_cases, pair_without, end_node}
 use Rattle.sgt_graph.proofs.Room.{pairs_fit}
 
--- no nodes and no pairs
+-- no nodes and no edges
 pub kept_none : IsPairGraph [] []
 kept_none = record { few = omega arith; distinct = tt; once = tt; of_nodes = λ u v h. cc; acyclic = acyclic }
   where
@@ -38,7 +38,7 @@ few_kept f (x ∷ xs) = go (f x) (few_kept f xs)
     go true rest = omega arith
     go false rest = omega arith
 
--- pairs and one more
+-- edges and one more
 once_push : (pairs : List (ℕ × ℕ)) (u t : ℕ) → Once pairs → is_link pairs u t ≡ false → Once (pairs ++ (u, t) ∷ [])
 once_push [] u t once new = (refl, tt)
 once_push (p ∷ pairs) u t once new = (
@@ -79,7 +79,7 @@ module _ (nodes : List ℕ) (pairs : List (ℕ × ℕ)) (g : IsPairGraph nodes p
   pub nodes_fit : (most : ℕ) → AtMost most (is_node nodes) → length nodes ≤ most
   nodes_fit most room = omega (arith, distinct_fits nodes room.among g.distinct (λ x m. room.all x (member_node x nodes m)), room.few)
 
-  -- its pairs are few
+  -- its edges are few
   pub pairs_few : length pairs ≤ 496
   pairs_few = pairs_fit nodes pairs g.few g.once
       (λ a b h. let (from, to) = g.of_nodes a b h in (
@@ -100,7 +100,7 @@ module _ (nodes : List ℕ) (pairs : List (ℕ × ℕ)) (g : IsPairGraph nodes p
     acyclic = g.acyclic;
   }
 
-  -- a new pair, where no path leads back
+  -- a new edge, where no path leads back
   pub kept_pair : (u t : ℕ) → is_node nodes u ≡ true → is_node nodes t ≡ true → (Reaches (Holds (is_link pairs)) t u → ⊥)
       → is_link pairs u t ≡ false
       → IsPairGraph nodes (pairs ++ (u, t) ∷ [])

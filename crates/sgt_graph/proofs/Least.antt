@@ -1,4 +1,4 @@
--- The least of the numbers with a pair to t, over pairs one after another.
+-- The least of the numbers with an edge to t, over edges one after another.
 use Rattle.std.specs.Prelude.{◌≡◌, ◌≢◌, ℕ, ◌<◌, ◌+◌, min, unwrap_or, true, false, List, [], ◌∷◌, ◌++◌, length, slice_index_or, Option, Some, None}
 use Rattle.std.proofs.Common.{take, refl, sym, ◌∙◌, ap, subst, inl, inr, arith, add-one}
 use Rattle.std.proofs.Math.Seq.{take-suc}
@@ -19,7 +19,7 @@ module _ (pairs : List (ℕ × ℕ)) (a b t : ℕ) where
   new_pair : b ≡ t → is_link (pairs ++ (a, b) ∷ []) a t ≡ true
   new_pair e = pair_push pairs a b a t ∙ or_right (is_link pairs a t) _ (and_from _ _ (eq-eqb a a refl) (eq-eqb b t e))
 
-  -- a pair to t
+  -- an edge to t
   least_push : (least : Option ℕ) → LeastAmong pairs t least → b ≡ t
       → LeastAmong (pairs ++ (a, b) ∷ []) t (Some (min (unwrap_or least a) a))
   least_push None none e = record {
@@ -40,7 +40,7 @@ module _ (pairs : List (ℕ × ℕ)) (a b t : ℕ) where
     ];
   }
 
-  -- a pair to another
+  -- an edge to another
   least_skip : (least : Option ℕ) → LeastAmong pairs t least → b ≢ t → LeastAmong (pairs ++ (a, b) ∷ []) t least
   least_skip None none other = λ u. false_from_ne_true (is_link (pairs ++ (a, b) ∷ []) u t)
       (λ h. elim (pushed_cases pairs a b u t (sym (pair_push pairs a b u t) ∙ h)) [
@@ -55,7 +55,7 @@ module _ (pairs : List (ℕ × ℕ)) (a b t : ℕ) where
     ];
   }
 
--- the next pair leads to t
+-- the next edge leads to t
 pub least_next : (pairs : List (ℕ × ℕ)) (i : ℕ) (p : ℕ × ℕ) (t : ℕ) (least : Option ℕ) → i < length pairs → p ≡ slice_index_or pairs i p
     → LeastAmong (take i pairs) t least → p.1 ≡ t → LeastAmong (take (i + 1) pairs) t (Some (min (unwrap_or least p.0) p.0))
 least_next pairs i p t least below is among e =

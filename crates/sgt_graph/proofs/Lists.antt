@@ -1,4 +1,4 @@
--- Nodes and pairs in lists: what one more adds, and what is left without one node.
+-- Nodes and edges in lists: what one more adds, and what remains without one node.
 use Rattle.std.specs.Prelude.{◌≡◌, ℕ, ◌<◌, Bool, true, false, not, ◌||◌, ◌&&◌, ◌⊎◌, nat_eq, List, [], ◌∷◌, ◌++◌, length, slice_index_or}
 use Rattle.std.specs.List.{filter}
 use Rattle.std.proofs.Common.{zero, suc, arith, refl, sym, ◌∙◌, ap, subst, inl, inr}
@@ -22,7 +22,7 @@ member_node t [] m = absurd m
 member_node t (u ∷ nodes) (inl e) = or_left (nat_eq t u) _ (eq-eqb t u e)
 member_node t (u ∷ nodes) (inr m) = or_right (nat_eq t u) _ (member_node t nodes m)
 
--- what stands at an index is a member
+-- the item at an index is a member
 pub at_member : (xs : List ℕ) (i d : ℕ) → i < length xs → Member (slice_index_or xs i d) xs
 at_member [] i d below = omega arith
 at_member (y ∷ xs) zero d below = inl refl
@@ -38,7 +38,7 @@ node_without nodes t u =
     any-filter_same (λ x. nat_eq u x) (λ x. not (nat_eq t x)) (not (nat_eq t u))
     (λ x same. ap (λ y. not (nat_eq t y)) (sym (eqb-true u x same))) nodes ∙ and_comm (not (nat_eq t u)) (is_node nodes u)
 
--- a pair of a list is its first, or one of the others
+-- an edge of a list is its first, or one of the others
 pub pair_cases : (p : ℕ × ℕ) (pairs : List (ℕ × ℕ)) (a b : ℕ) → is_link (p ∷ pairs) a b ≡ true
     → ((p.0 ≡ a) × (p.1 ≡ b)) ⊎ (is_link pairs a b ≡ true)
 pair_cases p pairs a b h = elim (or_cases (nat_eq p.0 a && nat_eq p.1 b) _ h) [
@@ -46,7 +46,7 @@ pair_cases p pairs a b h = elim (or_cases (nat_eq p.0 a && nat_eq p.1 b) _ h) [
   | inr there ↦ inr there
 ]
 
--- the first pair of a list is one of it
+-- the first edge of a list is one of it
 pub pair_here : (p : ℕ × ℕ) (pairs : List (ℕ × ℕ)) (a b : ℕ) → p.0 ≡ a → p.1 ≡ b → is_link (p ∷ pairs) a b ≡ true
 pair_here p pairs a b first second = or_left (nat_eq p.0 a && nat_eq p.1 b) _ (and_from _ _ (eq-eqb p.0 a first) (eq-eqb p.1 b second))
 
@@ -54,7 +54,7 @@ pair_here p pairs a b first second = or_left (nat_eq p.0 a && nat_eq p.1 b) _ (a
 pub pair_there : (p : ℕ × ℕ) (pairs : List (ℕ × ℕ)) (a b : ℕ) → is_link pairs a b ≡ true → is_link (p ∷ pairs) a b ≡ true
 pair_there p pairs a b h = or_right (nat_eq p.0 a && nat_eq p.1 b) _ h
 
--- a pair of a list with one more
+-- an edge of a list with one more
 pub pair_push : (pairs : List (ℕ × ℕ)) (u t a b : ℕ)
     → is_link (pairs ++ (u, t) ∷ []) a b ≡ (is_link pairs a b || (nat_eq u a && nat_eq t b))
 pair_push pairs u t a b = list_any-append (λ l. nat_eq l.0 a && nat_eq l.1 b) pairs ((u, t) ∷ [])
@@ -68,7 +68,7 @@ pushed_cases pairs u t a b h = elim (or_cases (is_link pairs a b) _ h) [
   | inr new ↦ let (first, second) = and_parts (nat_eq u a) (nat_eq t b) new in inr (sym (eqb-true u a first), sym (eqb-true t b second))
 ]
 
--- a pair that is there already adds nothing
+-- an edge that is there already adds nothing
 pub pair_again : (pairs : List (ℕ × ℕ)) (u t : ℕ) → is_link pairs u t ≡ true → (a b : ℕ)
     → is_link pairs a b ≡ (is_link pairs a b || (nat_eq u a && nat_eq t b))
 pair_again pairs u t there a b = go (nat_eq u a && nat_eq t b) refl
@@ -80,7 +80,7 @@ pair_again pairs u t there a b = go (nat_eq u a && nat_eq t b) refl
         here ∙ sym (or_right (is_link pairs a b) true refl)
     go false e = sym (or-false (is_link pairs a b))
 
--- a pair of a list without those of t
+-- an edge of a list without those of t
 pub pair_without : (pairs : List (ℕ × ℕ)) (t a b : ℕ)
     → is_link (filter (is_apart t) pairs) a b ≡ (is_link pairs a b && (not (nat_eq t a) && not (nat_eq t b)))
 pair_without pairs t a b =
@@ -93,7 +93,7 @@ pair_without pairs t a b =
         ap (λ x. not (nat_eq t x) && not (nat_eq t l.1)) (eqb-true l.0 a first)
         ∙ ap (λ y. not (nat_eq t a) && not (nat_eq t y)) (eqb-true l.1 b second)
 
--- the numbers of pairs of nodes are nodes
+-- the numbers of edges of nodes are nodes
 pub end_node : (nodes : ℕ → Bool) (pairs : List (ℕ × ℕ)) → OfNodes nodes (is_link pairs) → (t : ℕ) → is_end pairs t ≡ true → nodes t ≡ true
 end_node nodes [] of_nodes t h = cc
 end_node nodes (p ∷ pairs) of_nodes t h = elim (or_cases (nat_eq p.0 t || nat_eq p.1 t) _ h) [

@@ -91,7 +91,7 @@ module _ (taken : ℕ) (tids : List ℕ) where
     pair_from pairs u v i j a b = ap (λ x. is_bit pairs x (index_of taken tids v)) (index_is u i a)
         ∙ ap (λ x. is_bit pairs i x) (index_is v j b)
 
-    -- a pair is of two indices that are taken
+    -- an edge is of two indices that are taken
     pub pair_at : (pairs : List ℕ) → ((i j : ℕ) → is_bit pairs i j ≡ true → (is_set taken i ≡ true) × (is_set taken j ≡ true))
         → (u v : ℕ) → is_pair taken tids pairs u v ≡ true → (i j : ℕ) × (is_at taken tids u i ≡ true) × (is_at taken tids v j ≡ true)
         × (is_bit pairs i j ≡ true)
@@ -104,12 +104,12 @@ module _ (taken : ℕ) (tids : List ℕ) where
           h,
         )
 
--- the pairs of a graph of indices
+-- the edges of a graph of indices
 module _ (taken : ℕ) (tids pairs reached : List ℕ) (g : IsBitGraph taken tids pairs reached) where
   pub placed : Placed taken tids
   placed = record { apart = g.apart; low = g.low }
 
-  -- what is reached by steps stands in the rows reached
+  -- what is reached by steps is in the rows reached
   all_reached : (i k : ℕ) (path : List ℕ) → is_bit pairs i k ≡ true → PathOf (Holds (is_bit pairs)) k path
       → is_bit reached i (last_of k path) ≡ true
   all_reached i k [] step p = g.closure.each i k step
@@ -118,7 +118,7 @@ module _ (taken : ℕ) (tids pairs reached : List ℕ) (g : IsBitGraph taken tid
   pub leads_reached : (i j : ℕ) → Leads pairs i j → is_bit reached i j ≡ true
   leads_reached i j (k, step, (path, goes, ends)) = subst (λ x. is_bit reached i x ≡ true) ends (all_reached i k path step goes)
 
-  -- so does what a path along the pairs of transactions comes to
+  -- so does what a path along the edges of transactions comes to
   pub path_reached : (u v : ℕ) (rest : List ℕ) (i : ℕ) → is_at taken tids u i ≡ true
       → PathOf (Holds (is_pair taken tids pairs)) u (v ∷ rest)
       → (j : ℕ) × (is_at taken tids (last_of v rest) j ≡ true) × (is_bit reached i j ≡ true)
@@ -146,7 +146,7 @@ module _ (taken : ℕ) (tids pairs reached : List ℕ) (g : IsBitGraph taken tid
 
   module _ (t index targets : ℕ) (preds : List ℕ) (here : is_at taken tids t index ≡ true)
       (exact : (i : ℕ) → (is_set targets i ≡ true) ↔ ((is_set taken i ≡ true) × Member (slice_index tids i) preds)) where
-    -- nothing that is reached is a target, so no walk leads to one
+    -- nothing that is reached is a target, so no path leads to one
     pub accepted : ((u : ℕ) → Member u preds → u ≢ t) → ((j : ℕ) → is_set targets j ≡ true → is_bit reached index j ≡ false)
         → NoWalk (is_pair taken tids pairs) t preds
     accepted others free [] w = others t w.ends refl
@@ -155,7 +155,7 @@ module _ (taken : ℕ) (tids pairs reached : List ℕ) (g : IsBitGraph taken tid
         let parts = at_parts taken tids (last_of u rest) j at_last in
         both_ways _ (free j ((exact j).1 (parts.0, subst (λ x. Member x preds) (sym parts.1) w.ends))) back
 
-    -- a walk over indices is one of transactions
+    -- a path over indices is one of transactions
     steps_taken : (i : ℕ) (rest : List ℕ) → PathOf (Holds (is_bit pairs)) i rest → (x : ℕ) → Member x rest → is_set taken x ≡ true
     steps_taken i [] p x m = absurd m
     steps_taken i (j ∷ rest) p x (inl e) = subst (λ y. is_set taken y ≡ true) (sym e) (g.of_taken i j p.0).1
@@ -210,7 +210,7 @@ module _ (taken : ℕ) (tids pairs reached : List ℕ) (g : IsBitGraph taken tid
           },
         )
 
-    -- pairs from the targets to the index are pairs from the preds to the transaction
+    -- edges from the targets to the index are edges from the preds to the transaction
     pub inserted : (new : List ℕ) → ((i j : ℕ) → is_bit new i j ≡ (is_bit pairs i j || (is_set targets i && nat_eq j index)))
         → ((i j : ℕ) → is_bit new i j ≡ true → (is_set taken i ≡ true) × (is_set taken j ≡ true))
         → ((u : ℕ) → Member u preds → is_placed taken tids u ≡ true)

@@ -1,4 +1,4 @@
--- How many nodes and pairs there can be.
+-- How many nodes and edges there can be.
 use Rattle.std.specs.Prelude.{◌≡◌, ◌≢◌, ℕ, ◌≤◌, ◌+◌, true, ◌⊎◌, List, [], ◌∷◌, ◌++◌, length}
 use Rattle.std.proofs.Common.{zero, suc, refl, sym, ◌∙◌, ap, inl, inr, arith, length-append}
 use Rattle.std.proofs.lemmas.Bool.{both_ways}
@@ -7,7 +7,7 @@ use Rattle.sgt_cycle.specs.Links.{is_link}
 use Rattle.sgt_graph.specs.PairGraphs.{Once}
 use Rattle.sgt_graph.proofs.Lists.{pair_cases, pair_here, pair_there}
 
--- each pair is there once, and never the other way round
+-- each edge is there once, and never the other way round
 OneWay : List (ℕ × ℕ) → Type 0
 OneWay [] = Unit {0}
 OneWay (p ∷ pairs) = (is_link pairs p.0 p.1 ≡ true → ⊥) × (is_link pairs p.1 p.0 ≡ true → ⊥) × OneWay pairs
@@ -21,11 +21,11 @@ one_way (p ∷ pairs) once apart = (
   one_way pairs once.1 (λ a b there back. apart a b (pair_there p pairs a b there) (pair_there p pairs b a back)),
 )
 
--- the pair is there, or the other way round
+-- the edge is there, or the other way round
 Either : List (ℕ × ℕ) → ℕ → ℕ → Type 0
 Either pairs a b = (is_link pairs a b ≡ true) ⊎ (is_link pairs b a ≡ true)
 
--- pairs without one of them
+-- edges without one of them
 removed_pair : (x y : ℕ) (pairs : List (ℕ × ℕ)) → is_link pairs x y ≡ true
     → (left : List (ℕ × ℕ)) × (length pairs ≡ suc (length left))
     × ((a b : ℕ) → is_link pairs a b ≡ true → ((a ≡ x) × (b ≡ y) → ⊥) → is_link left a b ≡ true)
@@ -66,12 +66,12 @@ one_way_fits (p ∷ pairs) others o w = elim (w p.0 p.1 (pair_here p pairs p.0 p
         ]) in
         omega arith
 
--- a pair from x to each of the numbers
+-- an edge from x to each of the numbers
 pairs_from : ℕ → List ℕ → List (ℕ × ℕ)
 pairs_from x [] = []
 pairs_from x (y ∷ ys) = (x, y) ∷ pairs_from x ys
 
--- a pair of each two numbers
+-- an edge of each two numbers
 all_pairs : List ℕ → List (ℕ × ℕ)
 all_pairs [] = []
 all_pairs (x ∷ xs) = pairs_from x xs ++ all_pairs xs
@@ -126,7 +126,7 @@ length-all (x ∷ xs) =
     length-append (pairs_from x xs) (all_pairs xs) in
     omega (arith, length-from x xs, length-all xs)
 
--- 32 nodes have at most 496 pairs
+-- 32 nodes have at most 496 edges
 pub pairs_fit : (nodes : List ℕ) (pairs : List (ℕ × ℕ)) → length nodes ≤ 32 → Once pairs
     → ((a b : ℕ) → is_link pairs a b ≡ true → Member a nodes × Member b nodes × (a ≢ b))
     → ((a b : ℕ) → is_link pairs a b ≡ true → is_link pairs b a ≡ true → ⊥) → length pairs ≤ 496

@@ -22,7 +22,7 @@ pub none_in : (i : ℕ) → is_set 0 i ≡ false
 unfolding is_set
 none_in i = ap (λ x. nat_eq x 1) (bit_at-zero i)
 
--- there is no row behind the last
+-- there is no row after the last
 pub no_row : (rows : List ℕ) (i j : ℕ) → length rows ≤ i → is_bit rows i j ≡ false
 no_row rows i j high = ap (λ x. is_set x j) (beyond rows i high) ∙ none_in j
   where

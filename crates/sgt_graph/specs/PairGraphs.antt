@@ -1,4 +1,4 @@
--- A graph as two lists: its nodes, and its pairs.
+-- A graph as two lists: its nodes, and its edges.
 use Rattle.std.specs.Prelude.{◌≡◌, ℕ, ◌≤◌, Bool, false, not, ◌&&◌, nat_eq, List, [], ◌∷◌, length}
 use Rattle.std.specs.List.{list_any}
 use Rattle.sgt_model.specs.Walks.{Distinct}
@@ -9,7 +9,7 @@ use Rattle.sgt_graph.specs.Graphs.{NoCycle, OfNodes}
 abbrev pub is_node : List ℕ → ℕ → Bool
 is_node nodes t = list_any (λ u. nat_eq t u) nodes
 
--- no pair is listed twice
+-- no edge is listed twice
 abbrev pub Once : List (ℕ × ℕ) → Type 0
 Once [] = Unit {0}
 Once (p ∷ pairs) = (is_link pairs p.0 p.1 ≡ false) × Once pairs
@@ -22,6 +22,6 @@ pub record IsPairGraph (nodes : List ℕ) (pairs : List (ℕ × ℕ)) : Type 0 w
   pub of_nodes : OfNodes (is_node nodes) (is_link pairs)
   pub acyclic : NoCycle (is_link pairs)
 
--- whether the pair is of others than t
+-- whether neither end of the edge is t
 abbrev pub is_apart : ℕ → ℕ × ℕ → Bool
 is_apart t p = not (nat_eq t p.0) && not (nat_eq t p.1)

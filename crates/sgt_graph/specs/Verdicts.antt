@@ -8,17 +8,17 @@ use Rattle.sgt_graph.specs.declared.verdict.Link.{Link}
 use Rattle.sgt_graph.specs.declared.verdict.Plan.{Plan}
 use Rattle.sgt_graph.specs.declared.verdict.Plan.TheVariants as plan
 
--- Accepted where no walk leads from t to one of the targets, else one that does
+-- Accepted if no path leads from t to one of the targets, else such a path
 abbrev pub IsVerdict : (ℕ → ℕ → Bool) → ℕ → List ℕ → Verdict → Type 0
 IsVerdict pairs t targets Accepted = NoWalk pairs t targets
 IsVerdict pairs t targets (Closes walk) = IsWalk pairs t targets walk
 
--- with Accepted a pair from each pred to t is added, and no other; else nothing changes
+-- with Accepted, an edge from each pred to t is added, and no other; else nothing changes
 abbrev pub Inserts : (ℕ → ℕ → Bool) → (ℕ → ℕ → Bool) → ℕ → List ℕ → Verdict → Type 0
 Inserts old new t preds Accepted = (u v : ℕ) → (new u v ≡ true) ↔ ((old u v ≡ true) ⊎ ((v ≡ t) × Member u preds))
 Inserts old new t preds (Closes walk) = (u v : ℕ) → new u v ≡ old u v
 
--- a link that is planned where no walk leads from t to one of the targets, else a walk that does
+-- a planned link if no path leads from t to one of the targets, else such a path
 abbrev pub IsPlan : (ℕ → ℕ → Bool) → (Link → Type 0) → ℕ → List ℕ → Plan → Type 0
 IsPlan pairs planned t targets (plan.Free link) = NoWalk pairs t targets × planned link
 IsPlan pairs planned t targets (plan.Closes walk) = IsWalk pairs t targets walk

@@ -1,4 +1,4 @@
-//! A graph in bit sets, with what each node reaches: the one that the program uses.
+//! A graph in bit sets, with what each node reaches: the implementation that the program uses.
 ghost use Rattle.std.specs.Prelude.{◌≡◌, ℕ, ◌<◌, true, false, not, ◌||◌, ◌&&◌, nat_eq, IsTrue};
 ghost use Rattle.sgt_cycle.specs.Indices.{is_set, is_bit};
 ghost use Rattle.sgt_graph.specs.BitGraphs.{is_placed, is_pair, IsIndexVerdict, IsBitGraph, IsLinkOf};
@@ -12,8 +12,8 @@ use sgt_cycle::walk_rows;
 use sgt_model::{Tid, Tids};
 use std::marker::Model;
 
-/// A graph as 32 indices, each with a transaction or free. Beside the pairs it keeps what is reached along them, so that a
-/// verdict is read and not searched for. A walk is searched for only where there is one.
+/// A graph as 32 indices, each with a transaction or free. Beside the edges it stores what is reached along them, so that a
+/// verdict needs no search. Only if there is a cycle, a path is searched for.
 #[derive(Drop)]
 pub struct BitGraph {
     taken: u32,
@@ -88,13 +88,13 @@ impl Graph for BitGraph {
     }
 
     fn has_no_cycle(&self) {
-        // What is read is known to be a graph.
+        // Reading a field makes the invariant known: the fields are a graph.
         let _taken = self.taken;
     }
 }
 
 impl BitGraph {
-    /// Whether pairs from the indices of the set to this one would leave the graph without a cycle.
+    /// Whether edges from the indices of the set to this one would leave the graph without a cycle.
     fn verdict(&self, index: u8, from: u32) -> Verdict
         requires low { index < 32 }
         requires apart { is_set from index ≡ false }
@@ -109,7 +109,7 @@ impl BitGraph {
         }
     }
 
-    /// Whether no other index is taken. Then there is no pair.
+    /// Whether no other index is taken. Then there is no edge.
     fn is_alone(&self, index: u8) -> bool
         requires low { index < 32 }
         ensures { IsTrue result → (i : ℕ) → is_set self.now.0 i ≡ nat_eq i index }
@@ -117,7 +117,7 @@ impl BitGraph {
         self.taken == only(index)
     }
 
-    /// Adds pairs from the indices of the set to this one, and what is reached by them.
+    /// Adds edges from the indices of the set to this one, and what they reach.
     fn add_pairs(&mut self, from: u32, index: u8)
         requires low { index < 32 }
         requires taken { is_set self.old.0 index ≡ true }
@@ -137,7 +137,7 @@ impl BitGraph {
         add(&mut self.reached, before, after);
     }
 
-    /// Frees an index. What is reached stays for the others where no pair leads to it, and is else made anew from the pairs.
+    /// Frees an index. If no edge leads to it, the others keep what they reach; else that is computed anew from the edges.
     fn free(&mut self, index: u8)
         requires low { index < 32 }
         ensures taken { (i : ℕ) → is_set self.new.0 i ≡ (is_set self.old.0 i && not (nat_eq i index)) }

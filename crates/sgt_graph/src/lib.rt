@@ -1,10 +1,10 @@
-//! The serialization graph: its nodes are the live transactions, and a pair leads from one to another that has to commit after
-//! it, since both accessed the same key and one of them wrote it.
+//! The serialization graph. Its nodes are the live transactions. An edge leads from one to another that must commit after
+//! it, because both accessed the same key and at least one of them wrote it.
 //!
-//! [`Graph`] is what a scheduler asks of it, [`BitGraph`] the body that reads a verdict from rows of bits, and
-//! [`PairGraph`] the plain body, two lists. A graph never has a cycle: new pairs
-//! into a transaction are accepted where they close none, and else rejected with a walk that shows the cycle. No call takes
-//! memory. It knows no history, key or access: who conflicts with whom is told to it.
+//! [`Graph`] is the contract that a scheduler uses. [`BitGraph`] implements it with rows of bits, from which a verdict is read.
+//! [`PairGraph`] is the plain implementation, two lists. A graph never has a cycle: new edges
+//! to a transaction are accepted if they close none, and else rejected with a path that shows the cycle. No call allocates
+//! memory. The graph knows no history, key or access: its caller passes which transactions conflict.
 //!
 //! ```
 //! let mut graph = PairGraph::empty();

@@ -12,10 +12,10 @@ use sgt_cycle::walk;
 use sgt_model::{Bounded, Tid, Tids};
 use std::marker::Model;
 
-/// As many pairs as a graph of 32 nodes without a cycle can have.
+/// As many edges as a graph of 32 nodes without a cycle can have.
 type Pairs = Bounded<(Tid, Tid), 496>;
 
-/// A graph as a list of its nodes and a list of its pairs. A test looks at each pair at most three times for each node.
+/// A graph as a list of its nodes and a list of its edges. A test reads each edge at most three times for each node.
 #[derive(Drop)]
 pub struct PairGraph {
     nodes: Tids,
@@ -80,13 +80,13 @@ impl Graph for PairGraph {
     }
 
     fn has_no_cycle(&self) {
-        // What is read is known to be a graph.
+        // Reading a field makes the invariant known: the fields are a graph.
         let _nodes = &self.nodes;
     }
 }
 
 impl PairGraph {
-    /// Adds a pair from u to t, unless it is there.
+    /// Adds an edge from u to t, unless it is there.
     fn add_pair(&mut self, u: Tid, t: Tid)
         requires from { is_node self.old.0 u ≡ true }
         requires to { is_node self.old.0 t ≡ true }
@@ -111,7 +111,7 @@ pub fn smaller(least: Option<Tid>, t: Tid) -> Tid
     }
 }
 
-/// The nodes but t.
+/// The nodes without t.
 fn nodes_without(nodes: &[Tid], t: Tid) -> Tids
     requires few { length nodes.now ≤ 32 }
     ensures { result ≡ filter (λ u. not (nat_eq t u)) nodes.now }
@@ -125,7 +125,7 @@ fn nodes_without(nodes: &[Tid], t: Tid) -> Tids
     left
 }
 
-/// The pairs but those of t.
+/// The edges without those of t.
 fn pairs_without(pairs: &[(Tid, Tid)], t: Tid) -> Pairs
     requires few { length pairs.now ≤ 496 }
     ensures { result ≡ filter (is_apart t) pairs.now }

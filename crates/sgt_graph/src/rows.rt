@@ -8,7 +8,7 @@ use sgt_cycle::indices::{has, joined, meets, minus, only};
 /// A row for each of 32 indices.
 pub type Rows = [u32; 32];
 
-/// The indices whose rows have one of these.
+/// The indices whose rows have at least one of these.
 pub fn meeting(rows: &Rows, set: u32) -> u32
     ensures { (i : ℕ) → (is_set result i ≡ true) ↔ ((j : ℕ) × (is_bit rows.now i j ≡ true) × (is_set set j ≡ true)) }
 {
@@ -21,7 +21,7 @@ pub fn meeting(rows: &Rows, set: u32) -> u32
     found
 }
 
-/// Adds these indices to the rows of those.
+/// Adds the indices of `more` to the rows of the indices of `to`.
 pub fn add(rows: &mut Rows, to: u32, more: u32)
     ensures { (i j : ℕ) → is_bit rows.new i j ≡ (is_bit rows.old i j || (is_set to i && is_set more j)) }
 {
@@ -33,7 +33,7 @@ pub fn add(rows: &mut Rows, to: u32, more: u32)
     }
 }
 
-/// Takes an index out of all rows, and empties its own.
+/// Removes an index from all rows, and empties its own.
 pub fn take_out(rows: &mut Rows, index: u8)
     requires { index < 32 }
     ensures { (i j : ℕ) → is_bit rows.new i j ≡ (is_bit rows.old i j && (not (nat_eq i index) && not (nat_eq j index))) }
@@ -45,7 +45,7 @@ pub fn take_out(rows: &mut Rows, index: u8)
     rows[usize::from(index)] = 0;
 }
 
-/// What is reached along these rows, in a step or more.
+/// What is reached along these rows, in one step or more.
 ///
 /// Warshall, "A theorem on boolean matrices" (1962).
 pub fn closure(rows: &Rows) -> Rows

@@ -8,7 +8,7 @@ use crate::pair_graph::smaller;
 use sgt_cycle::indices::{has, joined, only};
 use sgt_model::{Tid, Tids};
 
-/// Where a transaction is.
+/// The index of a transaction, if it has one.
 pub fn index_of(taken: u32, tids: &[Tid; 32], t: Tid) -> Option<u8>
     ensures some { IfSome result (λ i. (i < 32) × (is_at taken tids.now t i ≡ true)) }
     ensures none { IsNone result → (i : ℕ) → is_at taken tids.now t i ≡ false }
@@ -21,7 +21,7 @@ pub fn index_of(taken: u32, tids: &[Tid; 32], t: Tid) -> Option<u8>
     None
 }
 
-/// The indices at which these transactions are.
+/// The indices of those of these transactions that have one.
 pub fn indices_of(taken: u32, tids: &[Tid; 32], among: &Tids) -> u32
     ensures { (i : ℕ) → (is_set result i ≡ true) ↔ ((is_set taken i ≡ true) × Member (slice_index tids.now i) among.now) }
 {

@@ -1,28 +1,28 @@
-//! What a graph answers where edges are to be added.
+//! The answers of a graph about new edges.
 use sgt_model::Tids;
 
-/// What the graph says of pairs that are to lead to a transaction.
+/// What the graph says of new edges to a transaction.
 #[derive(Debug, Drop, PartialEq, Eq)]
 pub enum Verdict {
-    /// No cycle would come.
+    /// They would close no cycle.
     Accepted,
-    /// A cycle would come: along these, from the transaction to one of its new predecessors, and back by the new pair.
+    /// They would close a cycle: these, from the transaction to one of its new predecessors, and back by the new edge.
     Closes(Tids),
 }
 
-/// Where a transaction and its new predecessors are in a graph, as a plan has found it, so that linking them looks for nothing.
-/// What it holds is for the graph that made it; a graph of lists needs none of it.
+/// The positions of a transaction and its new predecessors in a graph, as a plan found them, so that linking needs no search.
+/// Its content is for the graph that made it; a graph of lists needs none.
 #[derive(Clone, Copy, Debug, Default, PartialEq, Eq)]
 pub struct Link {
     pub to: u8,
     pub from: u32,
 }
 
-/// A verdict, where it accepts with what links the pairs.
+/// A verdict which, if it accepts, has the link that adds the edges.
 #[derive(Debug, Drop, PartialEq, Eq)]
 pub enum Plan {
-    /// No cycle would come.
+    /// They would close no cycle.
     Free(Link),
-    /// A cycle would come, along these.
+    /// They would close a cycle: these, as in [`Verdict::Closes`].
     Closes(Tids),
 }

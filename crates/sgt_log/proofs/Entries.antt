@@ -155,7 +155,7 @@ more-more xs ys zs one two = (one.0 ++ two.0, two.1 ∙ ap (λ l. l ++ two.0) on
 more-length : {X : Type 0} (xs ys : List X) → HasMore xs ys → length xs ≤ length ys
 more-length xs ys more = let long = ap length more.1 ∙ length-append xs more.0 in omega (arith, long)
 
--- an entry whose reply was made behind its event
+-- an entry whose reply was made after its event
 pub joined : (ms : List ℕ) (us ws : List ℤ) (e : ShortEvent) (r : ShortReply) → HasMore us ws → IsEvent (length us) e
     → IsReply (length ms) (length ws) r → IsEntry (length ms) (length ws) (record { event = e; reply = r })
 joined ms us ws e r more event reply = (event-more _ _ e (more-length us ws more) event, reply)

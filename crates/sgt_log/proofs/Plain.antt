@@ -1,4 +1,4 @@
--- Entries of kinds that have no lists: they stand for the same, whatever the lists of transactions and of values hold.
+-- Entries of kinds that have no lists: their full entry is the same, whatever the lists of transactions and of values hold.
 use Rattle.std.proofs.Common.{◌≡◌, ℕ, ℤ, Bool, true, false, ◌&&◌, List, refl, ap, ◌∙◌}
 use Rattle.sgt_log.specs.declared.short_reply.ShortReply.{ShortReply}
 use Rattle.sgt_log.specs.declared.short_reply.ShortReply.TheVariants as short_reply
@@ -62,7 +62,7 @@ both-second : (a b : Bool) → a && b ≡ true → b ≡ true
 both-second true b is = is
 both-second false b is = absurd cc
 
--- it stands for the same entry in every history
+-- its full entry is the same in every history
 pub entry-plain : (ns ms : List ℕ) (vs ws : List ℤ) (e : ShortEntry) → is_plain e ≡ true → entry_of ns vs e ≡ entry_of ms ws e
 entry-plain ns ms vs ws e is =
     ap (λ r. record { event = event_of vs e.event; reply = r }) (reply-plain ns ms vs ws e.reply (both-second _ _ is))

@@ -1,4 +1,4 @@
--- What the lists of an entry hold, and an entry without them.
+-- The items of an entry's lists, and an entry without its lists.
 use Rattle.std.specs.Prelude.{ℕ, ℤ, Bool, true, false, List, [], Option, Some, None}
 use Rattle.sgt_model.specs.declared.event.Event.{Event}
 use Rattle.sgt_model.specs.declared.event.Event.TheVariants as event
@@ -24,23 +24,23 @@ abbrev pub args_in : Event → List ℤ
 args_in (event.Start procedure args) = args
 args_in _ = []
 
--- the walk of a cause
+-- the path of a cause: the cycle that it names
 abbrev pub walk_of : Cause → List ℕ
 walk_of (cause.Cycle walk) = walk
 walk_of _ = []
 
--- the walk of a fate
+-- the path of a fate
 abbrev pub fate_walk : Fate → List ℕ
 fate_walk (fate.Aborted c) = walk_of c
 fate_walk _ = []
 
--- the walk that a reply tells of
+-- the path that a reply reports
 abbrev pub walk_in : Reply → List ℕ
 walk_in (reply.Over f) = fate_walk f
 walk_in (reply.Aborted c fell) = walk_of c
 walk_in _ = []
 
--- those that fall with the transaction that the reply ends
+-- those aborted in cascade with the transaction that the reply ends
 abbrev pub fell_in : Reply → List ℕ
 fell_in (reply.Aborted c fell) = fell
 fell_in (reply.Refused code fell) = fell
@@ -56,7 +56,7 @@ abbrev pub committed_in : Reply → Option (List ℤ)
 committed_in (reply.Committed answers) = Some answers
 committed_in _ = None
 
--- what else is asked of a reply
+-- other questions about a reply
 
 -- it aborts a transaction whose step would close a cycle
 abbrev pub is_by_cycle : Reply → Bool
@@ -64,23 +64,23 @@ is_by_cycle (reply.Aborted (cause.Cycle walk) fell) = true
 is_by_cycle (reply.Aborted (cause.Asked code) fell) = false
 is_by_cycle _ = false
 
--- the transaction ended by a fall
+-- the transaction was aborted in cascade
 abbrev pub is_fall : Fate → Bool
 is_fall (fate.Fell first) = true
 is_fall _ = false
 
--- it tells that the transaction has fallen
+-- it reports that the transaction was aborted in cascade
 abbrev pub tells_fall : Reply → Bool
 tells_fall (reply.Over f) = is_fall f
 tells_fall _ = false
 
--- it tells of a look or a store
+-- it reports a read or a write
 abbrev pub is_access : Reply → Bool
 is_access (reply.Looked k v) = true
 is_access (reply.Wrote k v) = true
 is_access _ = false
 
--- it tells that the procedure is at its end
+-- it reports that the procedure is at its end
 abbrev pub is_at_end : Reply → Bool
 is_at_end reply.Ended = true
 is_at_end _ = false

@@ -2,13 +2,13 @@
 use Rattle.std.specs.Prelude.{ℕ, List}
 use Rattle.sgt_model.specs.declared.entry.Entry.{Entry}
 
--- how many items its lists have memory for: entries, transactions, values
+-- the capacity of its lists in items: entries, transactions, values
 pub record Capacities : Type 0 where
   pub entries : ℕ
   pub tids : ℕ
   pub values : ℕ
 
--- the entries, oldest first; for how many more there is room; and the memory that it holds
+-- the entries, oldest first; the capacity for more entries (`room`); and the memory that it holds
 pub record HistoryView : Type 0 where
   pub entries : List Entry
   pub room : ℕ

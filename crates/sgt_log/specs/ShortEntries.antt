@@ -1,4 +1,4 @@
--- Which entries short ones stand for, by the lists of transactions and of values.
+-- The entries of short ones, by the lists of transactions and of values.
 use Rattle.std.specs.Prelude.{◌≤◌, ℕ, ℤ, List, [], ◌∷◌}
 use Rattle.sgt_model.specs.declared.entry.Entry.{Entry}
 use Rattle.sgt_model.specs.declared.event.Event.{Event}
@@ -58,7 +58,7 @@ event_of values (short_event.Quit t) = event.Quit t
 abbrev pub entry_of : List ℕ → List ℤ → ShortEntry → Entry
 entry_of tids values e = record { event = event_of values e.event; reply = reply_of tids values e.reply }
 
--- the parts that it names stand in lists that are so long: n transactions, v values
+-- the parts that it names are within lists of these lengths: n transactions, v values
 
 abbrev pub IsCause : ℕ → ShortCause → Type 0
 IsCause n (short_cause.Cycle walk) = IsWithin n walk
@@ -82,7 +82,7 @@ IsEvent v _ = Unit {0}
 abbrev pub IsEntry : ℕ → ℕ → ShortEntry → Type 0
 IsEntry n v e = IsEvent v e.event × IsReply n v e.reply
 
--- so it is with each of them
+-- each of them is within the lists
 abbrev pub AreEntries : ℕ → ℕ → List ShortEntry → Type 0
 AreEntries n v [] = Unit {0}
 AreEntries n v (e ∷ es) = IsEntry n v e × AreEntries n v es

@@ -6,10 +6,10 @@ use Rattle.sgt_log.specs.declared.span.Span.{Span}
 abbrev pub part_of : {X : Type 0} → List X → Span → List X
 part_of list s = take s.count (drop s.from list)
 
--- a part of a list that is so long
+-- a part of a list of this length
 abbrev pub IsWithin : ℕ → Span → Type 0
 IsWithin len s = (s.from + s.count ≤ len) × (s.count ≤ 32)
 
--- the same list, perhaps with more behind it
+-- the same list, perhaps with more items after it
 abbrev pub HasMore : {X : Type 0} → List X → List X → Type 0
 HasMore {X} before after = (more : List X) × (after ≡ before ++ more)

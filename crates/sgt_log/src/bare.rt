@@ -12,7 +12,7 @@ pub enum BareEvent {
     Quit(Tid),
 }
 
-/// Why a transaction was aborted, without the walk.
+/// Why a transaction was aborted, without the path of a cycle.
 #[derive(Clone, Copy, PartialEq, Eq)]
 pub enum BareCause {
     Cycle,
@@ -20,7 +20,7 @@ pub enum BareCause {
     Quit,
 }
 
-/// How a transaction ended, without the walk.
+/// How a transaction ended, without the path of a cycle.
 #[derive(Clone, Copy, PartialEq, Eq)]
 pub enum BareFate {
     Committed,

@@ -1,4 +1,4 @@
-//! An entry, read where it stands in the history.
+//! An entry, read in place in the history.
 ghost use Rattle.std.specs.Prelude.{◌≡◌, ◌↔◌, IsTrue};
 ghost use Rattle.sgt_model.specs.Fates.{is_start};
 ghost use Rattle.sgt_model.specs.Questions.{named_by, started_in, over_in};
@@ -12,10 +12,10 @@ use crate::short_reply::ShortReply;
 use sgt_model::{Answers, Entry, Event, Reply, Tid};
 use std::marker::Model;
 
-/// An entry of a history, read where it stands. Contracts see it as the entry.
+/// An entry of a history, read in place. Contracts see it as the entry.
 ///
-/// An [`Entry`] in full takes some 320 bytes, which are written each time that one is made. What is asked of an entry is mostly
-/// little, and answered here from its 72 bytes.
+/// An [`Entry`] in full takes some 320 bytes, which are written each time that one is made. Most questions about an entry
+/// are small, and answered here from its 72 bytes.
 #[derive(Drop)]
 pub struct EntryRef<'a> {
     pub(crate) short: &'a ShortEntry,
@@ -61,14 +61,14 @@ impl<'a> EntryRef<'a> {
         self.short.reply.in_full(self.tids, self.values)
     }
 
-    /// Whether both are the same entry, whichever histories they stand in.
+    /// Whether both are the same entry, even of different histories.
     pub fn is_same(&self, other: &EntryRef<'_>) -> bool
         ensures { IsTrue result ↔ (self.now ≡ other.now) }
     {
         self.is_surely_same(other) || self.copied().is_same_in_all(&other.copied())
     }
 
-    // The same once more. Where only a copy goes to a call, the other is never written to memory.
+    // A copy. If only a copy is passed to a call, the original is never written to memory.
     fn copied(&self) -> EntryRef<'a>
         ensures { result ≡ self.now }
     {
@@ -79,7 +79,7 @@ impl<'a> EntryRef<'a> {
         }
     }
 
-    // Whether both are the same entry, of a kind that is frequent. Of others it tells nothing.
+    // Whether both are the same entry, of a frequent kind. For other kinds the result means nothing.
     #[inline]
     fn is_surely_same(&self, other: &EntryRef<'_>) -> bool
         ensures { IsTrue result → self.now ≡ other.now }
@@ -87,7 +87,7 @@ impl<'a> EntryRef<'a> {
         self.has_surely_same_event(other) && self.has_surely_same_reply(other)
     }
 
-    // Whether the events are the same, of a kind that is frequent.
+    // Whether the events are the same, of a frequent kind.
     #[inline]
     fn has_surely_same_event(&self, other: &EntryRef<'_>) -> bool
         ensures { IsTrue result → self.now.event ≡ other.now.event }
@@ -109,7 +109,7 @@ impl<'a> EntryRef<'a> {
         }
     }
 
-    // Whether the replies are the same, of a kind that is frequent.
+    // Whether the replies are the same, of a frequent kind.
     #[inline]
     fn has_surely_same_reply(&self, other: &EntryRef<'_>) -> bool
         ensures { IsTrue result → self.now.reply ≡ other.now.reply }
@@ -139,7 +139,7 @@ impl<'a> EntryRef<'a> {
         }
     }
 
-    // Whether both are the same entry, of whatever kind.
+    // Whether both are the same entry, of any kind.
     #[inline(never)]
     fn is_same_in_all(&self, other: &EntryRef<'_>) -> bool
         ensures { IsTrue result ↔ (self.now ≡ other.now) }
@@ -150,7 +150,7 @@ impl<'a> EntryRef<'a> {
             && self.has_same_tids(other)
     }
 
-    // Whether the events are the same but for the arguments.
+    // Whether the events are the same, apart from the arguments.
     fn has_same_event(&self, other: &EntryRef<'_>) -> bool
         ensures { IsTrue result ↔ (bare_event self.now.event ≡ bare_event other.now.event) }
     {
@@ -160,7 +160,7 @@ impl<'a> EntryRef<'a> {
             .is_same(&other.short.event.without_args())
     }
 
-    // Whether the replies are the same but for what their lists hold.
+    // Whether the replies are the same, apart from the items of their lists.
     fn has_same_reply(&self, other: &EntryRef<'_>) -> bool
         ensures { IsTrue result ↔ (bare_reply self.now.reply ≡ bare_reply other.now.reply) }
     {
@@ -170,7 +170,7 @@ impl<'a> EntryRef<'a> {
             .is_same(&other.short.reply.without_lists())
     }
 
-    // Whether the lists of values hold the same.
+    // Whether the lists of values have the same items.
     fn has_same_values(&self, other: &EntryRef<'_>) -> bool
         ensures { IsTrue result
             ↔ ((args_in self.now.event ≡ args_in other.now.event) × (answers_in self.now.reply ≡ answers_in other.now.reply)) }
@@ -179,7 +179,7 @@ impl<'a> EntryRef<'a> {
             && are_same_values(self.answers(), other.answers())
     }
 
-    // Whether the lists of transactions hold the same.
+    // Whether the lists of transactions have the same items.
     fn has_same_tids(&self, other: &EntryRef<'_>) -> bool
         ensures { IsTrue result
             ↔ ((walk_in self.now.reply ≡ walk_in other.now.reply) × (fell_in self.now.reply ≡ fell_in other.now.reply)) }
@@ -187,7 +187,7 @@ impl<'a> EntryRef<'a> {
         are_same_tids(self.walk(), other.walk()) && are_same_tids(self.fell(), other.fell())
     }
 
-    /// The transaction that its event names; a start names none.
+    /// The transaction that its event names. A start names none.
     pub fn named(&self) -> Option<Tid>
         ensures { result ≡ named_by self.now.event }
     {
@@ -197,7 +197,7 @@ impl<'a> EntryRef<'a> {
         }
     }
 
-    /// The transaction that it starts, if it starts one.
+    /// The transaction that it starts, if any.
     pub fn started(&self) -> Option<Tid>
         ensures { result ≡ started_in self.now.event self.now.reply }
     {
@@ -207,8 +207,8 @@ impl<'a> EntryRef<'a> {
         }
     }
 
-    /// The transaction that it tells to be over, if it tells of one. It is not live any more: a quit's never is, whatever the
-    /// reply.
+    /// The transaction that it reports to be over, if any. It is not live any more. The transaction of a quit never is,
+    /// whatever the reply.
     pub fn over(&self) -> Option<Tid>
         ensures { result ≡ over_in self.now.event self.now.reply }
     {
@@ -219,7 +219,7 @@ impl<'a> EntryRef<'a> {
         }
     }
 
-    /// Whether its reply, as that to a step or a commit, tells that their transaction has ended, now or before.
+    /// Whether its reply, as that to a step or a commit, reports that the transaction has ended, now or before.
     fn tells_end(&self) -> bool
         ensures { result ≡ tells_end self.now.reply }
     {
@@ -239,7 +239,7 @@ impl<'a> EntryRef<'a> {
         matches!(self.short.reply, ShortReply::Started(_))
     }
 
-    /// Whether its reply is what a start is answered where nothing is started.
+    /// Whether its reply answers a start that starts nothing.
     pub fn refuses_start(&self) -> bool
         ensures { result ≡ refuses_start self.now.reply }
     {
@@ -249,7 +249,7 @@ impl<'a> EntryRef<'a> {
         )
     }
 
-    /// Whether its reply tells of a look or a store.
+    /// Whether its reply reports a read or a write.
     pub fn is_access(&self) -> bool
         ensures { result ≡ is_access self.now.reply }
     {
@@ -259,14 +259,14 @@ impl<'a> EntryRef<'a> {
         )
     }
 
-    /// Whether its reply tells that the procedure is at its end.
+    /// Whether its reply says that the procedure is at its end.
     pub fn is_at_end(&self) -> bool
         ensures { result ≡ is_at_end self.now.reply }
     {
         matches!(self.short.reply, ShortReply::Ended)
     }
 
-    /// Whether its reply tells a commit to wait.
+    /// Whether its reply says that a commit must wait.
     pub fn is_wait(&self) -> bool
         ensures { result ≡ is_wait self.now.reply }
     {
@@ -280,7 +280,7 @@ impl<'a> EntryRef<'a> {
         matches!(self.short.reply, ShortReply::Committed(_))
     }
 
-    /// Whether it aborts a transaction whose procedure asked a code, at the step or at the commit.
+    /// Whether it aborts a transaction whose procedure raised a code, at the step or at the commit.
     pub fn is_ask(&self) -> bool
         ensures { result ≡ is_ask self.now.reply }
     {
@@ -321,7 +321,7 @@ impl<'a> EntryRef<'a> {
         )
     }
 
-    /// Whether its reply tells that the transaction has fallen before.
+    /// Whether its reply reports that the transaction was aborted in cascade before.
     pub fn tells_fall(&self) -> bool
         ensures { result ≡ tells_fall self.now.reply }
     {
@@ -331,7 +331,7 @@ impl<'a> EntryRef<'a> {
         }
     }
 
-    /// Those that fall with the transaction that it aborts, rising; none where it aborts none.
+    /// `fell`: those aborted in cascade with the transaction that it aborts, rising. None if it aborts none.
     pub fn fell(&self) -> &'a [Tid]
         ensures { result.now ≡ fell_in self.now.reply }
     {
@@ -363,7 +363,7 @@ impl<'a> EntryRef<'a> {
         }
     }
 
-    // The walk that its reply tells of.
+    // The path of the cycle that its reply reports.
     fn walk(&self) -> &'a [Tid]
         ensures { result.now ≡ walk_in self.now.reply }
     {
@@ -390,14 +390,14 @@ impl<'a> EntryRef<'a> {
     }
 }
 
-// Whether both lists hold the same.
+// Whether both lists have the same items.
 fn are_same_values(values: &[i64], others: &[i64]) -> bool
     ensures { IsTrue result ↔ (values.now ≡ others.now) }
 {
     values == others
 }
 
-// Whether both lists hold the same.
+// Whether both lists have the same items.
 fn are_same_tids(tids: &[Tid], others: &[Tid]) -> bool
     ensures { IsTrue result ↔ (tids.now ≡ others.now) }
 {

@@ -1,4 +1,4 @@
-//! The history: entries in few bytes, with the lists that they name.
+//! The history: entries in few bytes, with the items of their lists.
 ghost use Rattle.std.specs.Prelude.{◌≡◌, ℕ, ℤ, true, List, ◌+◌, ◌≤◌, ◌<◌, ◌↔◌, [], ◌∷◌, ◌++◌, length, take, min, reverse, slice_get};
 ghost use Rattle.std.specs.Prelude.{IsTrue, Some, OnOk, OnErr, ◌*◌, ◌^◌, vec_len, vec_capacity};
 ghost use Rattle.std.specs.Result.{IsOk};
@@ -19,28 +19,28 @@ use sgt_model::{Entry, Event, NoMemory, Reply, Tid};
 use std::alloc::Global;
 use std::marker::Model;
 
-/// How many transactions the lists of one reply can hold: a walk of 32, and 32 that fell.
+/// The most transactions in the lists of one reply: a cycle of 32, and 32 that were aborted in cascade.
 const MOST_TIDS: usize = 64;
 
-/// How many values the lists of one entry can hold: 4 arguments, and 8 answers.
+/// The most values in the lists of one entry: 4 arguments, and 8 answers.
 const MOST_VALUES: usize = 12;
 
-/// For how many entries a growth makes room beyond those that were asked for, so that growths are rare.
+/// How many entries of capacity an allocation adds beyond those that were requested, so that allocations are rare.
 const AHEAD: usize = 64;
 
-/// For how many more entries room can be counted, in the list that takes the most for each.
+/// The most entries of capacity that can be counted, in the list that takes the most for each.
 const MOST_ROOM: usize = usize::MAX / MOST_TIDS - AHEAD;
 
-/// The entries of a history, oldest first. An entry takes 72 bytes, and what its lists hold: 4 for each transaction, 8 for each
-/// value.
+/// The entries of a history, oldest first. An entry takes 72 bytes, and the items of its lists: 4 bytes for each
+/// transaction, 8 for each value.
 ///
-/// It has room for some more entries, whatever they are: `reserve` makes it, and a `push` uses it up without taking memory.
+/// It has capacity for some more entries, of any kind. `reserve` adds capacity, and a `push` uses it without allocating.
 #[derive(Drop)]
 pub struct History {
     entries: Vec<ShortEntry>,
     tids: Vec<Tid>,
     values: Vec<i64>,
-    // For how many more entries there is room in each list.
+    // How many more entries there is capacity for, in each list.
     room: usize,
 }
 
@@ -66,7 +66,7 @@ impl Model for History {
 }
 
 impl History {
-    /// No entries, and no room. This takes no memory.
+    /// No entries, and no capacity. It allocates nothing.
     pub fn new(alloc: Global) -> Self
         ensures entries { result.entries ≡ [] }
         ensures room { result.room ≡ 0 }
@@ -93,16 +93,16 @@ impl History {
         self.entries.is_empty()
     }
 
-    /// For how many more entries there is room, whatever they are.
+    /// `room`: the capacity for more entries, of any kind.
     pub fn room(&self) -> usize
         ensures { result ≡ self.now.room }
     {
         self.room
     }
 
-    /// Makes room for so many more entries, whatever they are. It is not lessened where there was more. Entries stay.
+    /// Provides capacity for so many more entries, of any kind. A greater capacity is not reduced. The entries stay.
     ///
-    /// `NoMemory` where a growth was refused, or the room can't be counted; the room stays then.
+    /// `NoMemory` if an allocation failed or the capacity can't be counted; the capacity stays then.
     #[inline]
     pub fn reserve(&mut self, count: usize) -> Result<(), NoMemory>
         ensures entries { self.new.entries ≡ self.old.entries }
@@ -118,7 +118,7 @@ impl History {
         self.grow(count)
     }
 
-    // Makes more room than there is.
+    // Adds capacity.
     #[cold]
     #[inline(never)]
     fn grow(&mut self, count: usize) -> Result<(), NoMemory>
@@ -137,10 +137,10 @@ impl History {
         Ok(())
     }
 
-    /// Takes memory for so many more entries, but for what their lists will hold: then those that are there need not be moved
-    /// until then. Nothing else changes.
+    /// Allocates memory for so many more entries, but not for the items of their lists. Until these entries are used up, the
+    /// present ones need not be moved. Nothing else changes.
     ///
-    /// `NoMemory` where the growth was refused.
+    /// `NoMemory` if the allocation failed.
     pub fn reserve_entries(&mut self, count: usize) -> Result<(), NoMemory>
         ensures entries { self.new.entries ≡ self.old.entries }
         ensures room { self.new.room ≡ self.old.room }
@@ -149,7 +149,8 @@ impl History {
         Ok(())
     }
 
-    /// Touches the memory of the next entries, of so many at most, but for that of their lists, and tells up to which place it did.
+    /// `touch`: prefaults the memory of at most so many next entries, but not of their lists. It returns the index up to which
+    /// it did.
     pub fn touch(&mut self, most: usize) -> usize
         ensures same { self.new ≡ self.old }
         ensures touched { result ≡ min self.old.capacities.entries (length self.old.entries + most) }
@@ -161,7 +162,7 @@ impl History {
         touch_ahead(&mut self.entries, most, filler)
     }
 
-    /// Adds an entry, for which there is room. This takes no memory.
+    /// Adds an entry, for which there is capacity. It allocates nothing.
     #[inline]
     pub fn push(&mut self, event: &Event, reply: &Reply)
         requires { 0 < self.old.room }
@@ -169,7 +170,7 @@ impl History {
         ensures room { self.new.room + 1 ≡ self.old.room }
         ensures capacities { self.new.capacities ≡ self.old.capacities }
     {
-        // The frequent kinds are written straight to their place.
+        // The frequent kinds are written straight to their position.
         match (event, reply) {
             (Event::Step(t), Reply::Looked { key, value }) => self.push_plain(
                 ShortEvent::Step(*t),
@@ -200,7 +201,7 @@ impl History {
         }
     }
 
-    // Adds an entry of whatever kind.
+    // Adds an entry of any kind.
     #[inline(never)]
     fn push_any(&mut self, event: &Event, reply: &Reply)
         requires { 0 < self.old.room }
@@ -266,7 +267,7 @@ impl History {
         self.room -= 1;
     }
 
-    /// Adds an entry that another history holds, for which there is room here. This takes no memory.
+    /// Adds an entry of another history, for which there is capacity here. It allocates nothing.
     #[inline]
     pub fn push_entry(&mut self, entry: &EntryRef<'_>)
         requires { 0 < self.old.room }
@@ -282,7 +283,7 @@ impl History {
         }
     }
 
-    // Adds an entry that another history holds, with its lists.
+    // Adds an entry of another history, with its lists.
     fn push_lists(&mut self, entry: &EntryRef<'_>)
         requires { 0 < self.old.room }
         ensures entries { self.new.entries ≡ self.old.entries ++ entry.now ∷ [] }
@@ -300,7 +301,7 @@ impl History {
         }
     }
 
-    // The same, of whatever kind.
+    // The same, for any kind.
     #[inline(never)]
     fn push_moved(&mut self, entry: &EntryRef<'_>)
         requires { 0 < self.old.room }
@@ -315,7 +316,7 @@ impl History {
         self.room -= 1;
     }
 
-    /// The entry at a place, read where it stands.
+    /// The entry at this index, read in place.
     pub fn entry(&self, place: usize) -> EntryRef<'_>
         requires { place < length self.now.entries }
         ensures entry { slice_get self.now.entries place ≡ Some result }
@@ -328,7 +329,7 @@ impl History {
         }
     }
 
-    /// The entry at a place, if there is one, read where it stands.
+    /// The entry at this index, if any, read in place.
     pub fn get_entry(&self, place: usize) -> Option<EntryRef<'_>>
         ensures { result ≡ slice_get self.now.entries place }
     {
@@ -339,7 +340,7 @@ impl History {
         }
     }
 
-    /// The newest entry, if there is one, read where it stands.
+    /// The newest entry, if any, read in place.
     pub fn last_entry(&self) -> Option<EntryRef<'_>>
         ensures { result ≡ slice_get (reverse self.now.entries) 0 }
     {
@@ -350,7 +351,7 @@ impl History {
         }
     }
 
-    /// The entry at a place.
+    /// The entry at this index.
     pub fn at(&self, place: usize) -> Entry
         requires { place < length self.now.entries }
         ensures entry { slice_get self.now.entries place ≡ Some result }
@@ -359,7 +360,7 @@ impl History {
         self.entry(place).in_full()
     }
 
-    /// The entry at a place, if there is one.
+    /// The entry at this index, if any.
     pub fn get(&self, place: usize) -> Option<Entry>
         ensures { result ≡ slice_get self.now.entries place }
     {
@@ -369,7 +370,7 @@ impl History {
         }
     }
 
-    /// The newest entry, if there is one.
+    /// The newest entry, if any.
     pub fn last(&self) -> Option<Entry>
         ensures { result ≡ slice_get (reverse self.now.entries) 0 }
     {
@@ -379,7 +380,7 @@ impl History {
         }
     }
 
-    /// The reply of the entry at a place.
+    /// The reply of the entry at this index.
     pub fn reply_at(&self, place: usize) -> Reply
         requires { place < length self.now.entries }
         ensures { option_map (λ (e : Entry). e.reply) (slice_get self.now.entries place) ≡ Some result }
@@ -387,7 +388,7 @@ impl History {
         self.entry(place).reply()
     }
 
-    /// The reply of the newest entry, if there is one.
+    /// The reply of the newest entry, if any.
     pub fn last_reply(&self) -> Option<Reply>
         ensures { result ≡ option_map (λ (e : Entry). e.reply) (slice_get (reverse self.now.entries) 0) }
     {
@@ -398,7 +399,7 @@ impl History {
     }
 }
 
-// Makes room in the three lists for so many more entries. What they hold stays, and no list has less room afterwards.
+// Provides capacity in the three lists for so many more entries. Their items stay, and no list loses capacity.
 fn reserve_lists(
     entries: &mut Vec<ShortEntry>,
     tids: &mut Vec<Tid>,

@@ -1,16 +1,16 @@
-//! The entries of a history, kept short.
+//! The history of an engine, in few bytes for each entry.
 //!
-//! An [`Entry`](sgt_model::Entry) has room in itself for the longest lists that an event and its reply can hold, which are
-//! nearly always empty. A [`History`] keeps each entry in few bytes, and the items of all their lists, one after another, in
-//! two lists of its own: one of transactions, one of values. It takes entries apart and hands them out in full again, or to be
-//! read where they stand: an [`EntryRef`]. Contracts see it as the list of its entries.
+//! An [`Entry`](sgt_model::Entry) reserves space for the longest lists of an event and its reply, which are nearly always
+//! empty. A [`History`] stores each entry in few bytes. It stores the items of all lists, one after another, in
+//! two lists of its own: one of transactions, one of values. It returns entries in full, or lets them be read in place as
+//! an [`EntryRef`]. Contracts see it as the list of its entries.
 //!
-//! It judges no entry: whether a history is legal is for those who fill it. Nothing is ever changed in it or taken out.
+//! It does not check whether a history is legal: its caller answers for that. No entry is ever changed or removed.
 //!
 //! ```
 //! let mut history = History::new(alloc);
 //! history.reserve(1)?;
-//! history.push(&Event::Step(Tid(0)), &Reply::Wrote { key, value: 50 });   // takes no memory
+//! history.push(&Event::Step(Tid(0)), &Reply::Wrote { key, value: 50 });   // allocates nothing
 //! for place in 0..history.len() {
 //!     let entry = history.entry(place);
 //!     if entry.is_commit() {

@@ -1,4 +1,4 @@
-//! The cause of an abort and the end of a transaction in few bytes, as the history keeps them.
+//! The cause of an abort and the end of a transaction in few bytes, as the history stores them.
 ghost use Rattle.std.specs.Prelude.{◌≡◌, ◌+◌, ◌≤◌, ℕ, List, length, vec_len, vec_capacity};
 ghost use Rattle.sgt_log.specs.Spans.{HasMore};
 ghost use Rattle.sgt_log.specs.ShortEntries.{cause_of, fate_of, IsCause, IsFate};
@@ -8,7 +8,7 @@ use crate::bare::{BareCause, BareFate};
 use crate::span::Span;
 use sgt_model::{Cause, Fate, Tid};
 
-/// Why a transaction was aborted. The walk stands in the list of transactions.
+/// Why a transaction was aborted. The path of a cycle is in the list of transactions.
 #[derive(Clone, Copy)]
 pub enum ShortCause {
     Cycle(Span),
@@ -25,7 +25,7 @@ pub enum ShortFate {
 }
 
 impl ShortCause {
-    /// The cause in short. Its walk is added to the list of transactions, which has room for it.
+    /// The cause in short. Its path is added to the list of transactions, which has capacity for it.
     pub fn of(cause: &Cause, tids: &mut Vec<Tid>) -> Self
         requires { vec_len tids.old + 32 ≤ vec_capacity tids.old }
         ensures cause { cause_of tids.new.items result ≡ cause.now }
@@ -44,7 +44,8 @@ impl ShortCause {
         }
     }
 
-    /// The same cause of another history, whose transactions are `from`. Its walk is added to the list, which has room for it.
+    /// The same cause, from another history whose transactions are `from`. Its path is added to the list, which has capacity
+    /// for it.
     pub fn moved(&self, from: &[Tid], tids: &mut Vec<Tid>) -> Self
         requires within { IsCause (length from.now) self.now }
         requires room { vec_len tids.old + 32 ≤ vec_capacity tids.old }
@@ -61,7 +62,7 @@ impl ShortCause {
         }
     }
 
-    /// The cause without its walk.
+    /// The cause without its path.
     pub fn without_walk(&self) -> BareCause
         ensures { (tids : List ℕ) → result ≡ bare_cause (cause_of tids self.now) }
     {
@@ -86,7 +87,7 @@ impl ShortCause {
 }
 
 impl ShortFate {
-    /// The fate in short. The walk that it may have is added to the list of transactions, which has room for it.
+    /// The fate in short. Its path, if any, is added to the list of transactions, which has capacity for it.
     #[inline(never)]
     pub fn of(fate: &Fate, tids: &mut Vec<Tid>) -> Self
         requires { vec_len tids.old + 32 ≤ vec_capacity tids.old }
@@ -103,8 +104,8 @@ impl ShortFate {
         }
     }
 
-    /// The same fate in another history, whose transactions were `from`. The walk that it may have is added to the list, which has
-    /// room for it.
+    /// The same fate, from another history whose transactions are `from`. Its path, if any, is added to the list, which has
+    /// capacity for it.
     #[inline(never)]
     pub fn moved(&self, from: &[Tid], tids: &mut Vec<Tid>) -> Self
         requires within { IsFate (length from.now) self.now }
@@ -122,7 +123,7 @@ impl ShortFate {
         }
     }
 
-    /// The fate without the walk that it may have.
+    /// The fate without its path, if any.
     pub fn without_walk(&self) -> BareFate
         ensures { (tids : List ℕ) → result ≡ bare_fate (fate_of tids self.now) }
     {

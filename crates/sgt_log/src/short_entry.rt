@@ -1,4 +1,4 @@
-//! An event with its reply in few bytes, as the history keeps them.
+//! An event with its reply in few bytes, as the history stores them.
 ghost use Rattle.std.specs.Prelude.{◌≡◌, ◌+◌, ◌≤◌, length, vec_len, vec_capacity};
 ghost use Rattle.sgt_log.specs.Spans.{HasMore};
 ghost use Rattle.sgt_log.specs.ShortEntries.{entry_of, IsEntry};
@@ -8,7 +8,7 @@ use crate::short_event::ShortEvent;
 use crate::short_reply::ShortReply;
 use sgt_model::{Event, Reply, Tid};
 
-/// An entry whose lists stand elsewhere.
+/// An entry whose lists are stored elsewhere.
 #[derive(Clone, Copy)]
 pub struct ShortEntry {
     pub event: ShortEvent,
@@ -16,8 +16,8 @@ pub struct ShortEntry {
 }
 
 impl ShortEntry {
-    /// The entry of this event and reply in short. Their lists are added to those of transactions and of values, which have room
-    /// for them.
+    /// The entry of this event and reply in short. Their lists are added to those of transactions and of values, which have
+    /// capacity for them.
     #[inline]
     pub fn of(event: &Event, reply: &Reply, tids: &mut Vec<Tid>, values: &mut Vec<i64>) -> Self
         requires tids { vec_len tids.old + 64 ≤ vec_capacity tids.old }
@@ -36,8 +36,8 @@ impl ShortEntry {
         ShortEntry { event, reply }
     }
 
-    /// The same entry of another history, whose transactions and values are `from_tids` and `from_values`. Its lists are added to
-    /// those of transactions and of values, which have room for them.
+    /// The same entry, from another history whose transactions and values are `from_tids` and `from_values`. Its lists are added
+    /// to those of transactions and of values, which have capacity for them.
     pub fn moved(
         &self,
         from_tids: &[Tid],

@@ -1,4 +1,4 @@
-//! An event in few bytes, as the history keeps it.
+//! An event in few bytes, as the history stores it.
 ghost use Rattle.std.specs.Prelude.{◌≡◌, ◌+◌, ◌≤◌, ℤ, List, length, vec_len, vec_capacity};
 ghost use Rattle.sgt_log.specs.Spans.{HasMore};
 ghost use Rattle.sgt_log.specs.ShortEntries.{event_of, IsEvent};
@@ -9,7 +9,7 @@ use crate::bare::BareEvent;
 use crate::span::Span;
 use sgt_model::{Event, Tid};
 
-/// An event. The arguments stand in the list of values.
+/// An event. Its arguments are in the list of values.
 #[derive(Clone, Copy)]
 pub enum ShortEvent {
     Start { procedure: u16, args: Span },
@@ -19,7 +19,7 @@ pub enum ShortEvent {
 }
 
 impl ShortEvent {
-    /// The event in short. Its arguments are added to the list of values, which has room for them.
+    /// The event in short. Its arguments are added to the list of values, which has capacity for them.
     pub fn of(event: &Event, values: &mut Vec<i64>) -> Self
         requires { vec_len values.old + 4 ≤ vec_capacity values.old }
         ensures event { event_of values.new.items result ≡ event.now }
@@ -42,7 +42,8 @@ impl ShortEvent {
         }
     }
 
-    /// The same event of another history, whose values are `from`. Its arguments are added to the list, which has room for them.
+    /// The same event, from another history whose values are `from`. Its arguments are added to the list, which has capacity for
+    /// them.
     pub fn moved(&self, from: &[i64], values: &mut Vec<i64>) -> Self
         requires within { IsEvent (length from.now) self.now }
         requires room { vec_len values.old + 4 ≤ vec_capacity values.old }

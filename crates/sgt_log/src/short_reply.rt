@@ -1,4 +1,4 @@
-//! A reply in few bytes, as the history keeps it.
+//! A reply in few bytes, as the history stores it.
 ghost use Rattle.std.specs.Prelude.{◌≡◌, ◌+◌, ◌≤◌, ℕ, ℤ, List, length, vec_len, vec_capacity};
 ghost use Rattle.sgt_model.specs.declared.reply.Reply.TheVariants.{Aborted};
 ghost use Rattle.sgt_log.specs.Spans.{part_of, HasMore, IsWithin};
@@ -11,7 +11,7 @@ use crate::short_cause::{ShortCause, ShortFate};
 use crate::span::Span;
 use sgt_model::{Cause, Key, Reply, Tid, Tids};
 
-/// A reply. Answers stand in the list of values, walks and those that fell in the list of transactions.
+/// A reply. Answers are in the list of values; paths and those aborted in cascade are in the list of transactions.
 #[derive(Clone, Copy)]
 pub enum ShortReply {
     Started(Tid),
@@ -32,7 +32,7 @@ pub enum ShortReply {
 }
 
 impl ShortReply {
-    /// The reply in short. Its lists are added to those of transactions and of values, which have room for them.
+    /// The reply in short. Its lists are added to those of transactions and of values, which have capacity for them.
     pub fn of(reply: &Reply, tids: &mut Vec<Tid>, values: &mut Vec<i64>) -> Self
         requires tids { vec_len tids.old + 64 ≤ vec_capacity tids.old }
         requires values { vec_len values.old + 8 ≤ vec_capacity values.old }
@@ -95,8 +95,8 @@ impl ShortReply {
         ShortReply::Aborted { cause, fell }
     }
 
-    /// The same reply of another history, whose transactions and values are `from_tids` and `from_values`. Its lists are added to
-    /// those of transactions and of values, which have room for them.
+    /// The same reply, from another history whose transactions and values are `from_tids` and `from_values`. Its lists are added
+    /// to those of transactions and of values, which have capacity for them.
     pub fn moved(
         &self,
         from_tids: &[Tid],
@@ -132,7 +132,7 @@ impl ShortReply {
         }
     }
 
-    // The same abort of another history.
+    // The same abort, from another history.
     #[inline(never)]
     fn moved_abort(cause: &ShortCause, fell: Span, from: &[Tid], tids: &mut Vec<Tid>) -> Self
         requires within { IsCause (length from.now) cause.now × IsWithin (length from.now) fell }

@@ -4,7 +4,7 @@ ghost use Rattle.sgt_log.specs.Spans.{part_of, IsWithin};
 
 use sgt_model::{Bounded, Tid, Tids};
 
-/// A part of a list: where it begins, and how many items it has.
+/// A part of a list: its first index, and its number of items.
 #[derive(Clone, Copy)]
 pub struct Span {
     pub from: usize,
@@ -12,9 +12,9 @@ pub struct Span {
 }
 
 impl Span {
-    /// Adds the items at the end of a list that has room for them, and tells where they stand. This takes no memory.
+    /// Adds the items at the end of a list that has capacity for them, and returns their span. It allocates nothing.
     ///
-    /// Most entries have no lists, and pay nothing for this where it stands apart.
+    /// It is not inlined: most entries have no lists, and so pay nothing for it.
     #[inline(never)]
     pub fn append<T: Copy>(list: &mut Vec<T>, items: &[T]) -> Self
         requires room { vec_len list.old + length items.now ≤ vec_capacity list.old }
@@ -36,7 +36,7 @@ impl Span {
         }
     }
 
-    /// The items that stand there.
+    /// The items of the span.
     pub fn items<T>(self, list: &[T]) -> &[T]
         requires { IsWithin (length list.now) self }
         ensures items { result.now ≡ part_of list.now self }
@@ -46,7 +46,7 @@ impl Span {
         &list[self.from..self.from + self.count as usize]
     }
 
-    /// The transactions that stand there.
+    /// The transactions of the span.
     pub fn tids(self, list: &[Tid]) -> Tids
         requires { IsWithin (length list.now) self }
         ensures { result ≡ part_of list.now self }
@@ -57,7 +57,7 @@ impl Span {
         }
     }
 
-    /// The values that stand there.
+    /// The values of the span.
     pub fn values<const N: usize>(self, list: &[i64]) -> Bounded<i64, N>
         requires within { IsWithin (length list.now) self }
         requires few { self.count ≤ N }

@@ -1,10 +1,10 @@
-//! Writing to a list's memory before it is used, so that the system gives it the pages.
+//! Prefaulting: writing to a list's memory before it is used, so that the system provides the pages.
 ghost use Rattle.std.specs.Prelude.{◌≡◌, ◌+◌, min, vec_len, vec_capacity};
 
-/// Writes once to the memory behind a list, that of so many items at most, so far as the list has it, and tells up to which
-/// place it did. The list stays.
+/// Writes once to the unused memory after a list's items, for at most so many items, as far as the capacity goes.
+/// It returns the index up to which it did. The list stays.
 ///
-/// The system gives a page its memory when it is first written to. So a list that is to grow where others wait for it can have
+/// The system provides a page of memory at the first write to it. So a list that grows while others wait for it can have
 /// its memory before.
 #[inline(never)]
 pub fn touch_ahead<T: Copy>(list: &mut Vec<T>, most: usize, filler: T) -> usize

@@ -8,16 +8,16 @@ use Rattle.sgt_model.specs.Accesses.{Access, is_store}
 use Rattle.sgt_model.specs.Progress.{values_read, made}
 use Rattle.sgt_model.proofs.Effects.{Fits}
 
--- what the run asks for, by the values looked at and the number of accesses made
+-- what the run wants next, by the values read and the number of accesses made
 abbrev pub asks_of : Run → List (Option ℤ) → ℕ → Next
 asks_of r vs made = next_at (trace r vs) made
 
--- each access is what is asked for after those before it
+-- each access is what the run wants after those before it
 abbrev pub AsAsked : (List (Option ℤ) → ℕ → Next) → List Access → Type 0
 AsAsked asked [] = Unit {0}
 AsAsked asked (a ∷ before) = AsAsked asked before × Fits (asked (values_read before) (length before)) a
 
--- contents with the last store of each key over them
+-- contents with the last write of each key over them
 abbrev pub stored : Access → Key → Option ℤ → Option ℤ
 stored a k before = cond (is_store a.kind && key_eq a.key k) a.value before
 
@@ -25,7 +25,7 @@ abbrev pub over : Contents → List Access → Contents
 over m [] k = m k
 over m (a ∷ before) k = stored a k (over m before k)
 
--- each look found what the contents give after the stores before it
+-- each read returned what the contents give after the writes before it
 abbrev pub FindsIn : Contents → List Access → Type 0
 FindsIn m [] = Unit {0}
 FindsIn m (a ∷ before) = FindsIn m before × (a.kind ≡ Look → a.value ≡ over m before a.key)

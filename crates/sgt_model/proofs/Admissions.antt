@@ -1,4 +1,4 @@
--- Who was started was admitted: there is such a procedure, it takes so many arguments, and each of them is a value.
+-- Each started transaction was admitted: its procedure exists, takes as many arguments, and each of them is a value.
 use Rattle.std.specs.Prelude.{◌≡◌, ℕ, ◌+◌, ◌<◌, ◌≤◌, ℤ, true, false, cond, ◌⊎◌, nat_eq, List, [], ◌∷◌, ◌++◌, length, Some, None, All}
 use Rattle.std.specs.List.{list_all}
 use Rattle.std.specs.Option.{unwrap_or}

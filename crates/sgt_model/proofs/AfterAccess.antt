@@ -1,4 +1,4 @@
--- The state after a look or a store is the state after the longer history.
+-- The state after a read or a write is the state after the longer history.
 use Rattle.std.proofs.Common.{◌≡◌, ◌≢◌, ℕ, suc, ℤ, Bool, true, false, cond, ◌&&◌, ◌⊎◌, List, [], ◌∷◌, ◌++◌, Option, Some, None, refl, sym, ap, ap₂, inl, inr, ◌∙◌}
 use Rattle.std.specs.Prelude.{◌↔◌}
 use Rattle.std.proofs.lemmas.Bool.{cases_eq}
@@ -32,11 +32,11 @@ use Rattle.sgt_model.proofs.Plays.{act_own, act_other}
 use Rattle.sgt_model.proofs.LiveLeft.{left_by, left_looked, left_stored}
 use Rattle.sgt_model.proofs.Verdict.{source_from, source_live, source_to, listed_in-state, listed_live}
 
--- the entry of a look that was made
+-- the entry of a read that was made
 abbrev pub look_entry : ℕ → Key → Option ℤ → Entry
 look_entry t k v = record { event = Step t; reply = reply.Looked k v }
 
--- the entry of a store that was made
+-- the entry of a write that was made
 abbrev pub store_entry : ℕ → Key → ℤ → Entry
 store_entry t k v = record { event = Step t; reply = reply.Wrote k v }
 
@@ -50,7 +50,7 @@ acts_own a u l e = act_own (Some a) a u l refl (sym e)
 
 module _ (s : Setting) (past : List Entry) (h : Legal s past) (before after : State) (i : IsStateAfter s past before) (t : ℕ)
     (k : Key) (alive : live past t ≡ true) where
-  -- the pairs, after an access
+  -- the edges, after an access
   pairs_after : (kind : Kind) (e : Entry) → ((u : ℕ) → live (e ∷ past) u ≡ live past u)
       → ((u : ℕ) → aborted (e ∷ past) u ≡ aborted past u)
       → ((u v : ℕ) → FollowsIn past (access_of e) u v ↔ ((t ≡ v) × (has_conflicting past u k kind ≡ true)))

@@ -266,11 +266,11 @@ of_step t = record { concerns = λ u. refl; subject = refl }
 pub of_quit : (t : ℕ) → Of (Quit t) t
 of_quit t = record { concerns = λ u. refl; subject = refl }
 
--- t and those that fall with it
+-- t and those aborted in cascade with it
 abbrev pub gone_with : ℕ → List ℕ → ℕ → Bool
 gone_with t fell u = nat_eq t u || list_any (λ v. nat_eq v u) fell
 
--- the event with its reply undoes t for this cause, with those that fall, and does nothing else
+-- the event with its reply undoes t for this cause, with those aborted in cascade, and does nothing else
 pub record UndoneBy (event : Event) (r : Reply) (t : ℕ) (why : Cause) (fell : List ℕ) : Type 0 where
   pub no_start : is_start r ≡ false
   pub no_access : access_in event r ≡ None

@@ -1,4 +1,4 @@
--- What a transaction that may commit found at each look: its own newest store, or else the committed value.
+-- What a transaction that may commit got at each read: its own newest write, or else the committed value.
 use Rattle.std.specs.Prelude.{◌≡◌, ◌≢◌, ℕ, Bool, true, false, not, nat_eq, List, [], ◌∷◌, ◌++◌, Option, Some, None}
 use Rattle.std.proofs.Common.{refl, sym, ap, ◌∙◌, subst, inl, inr, ⊎_elim, arith}
 use Rattle.std.proofs.lemmas.Bool.{or_left, both_ways, false_from_ne_true, not-true, not_from_false}
@@ -27,7 +27,7 @@ pub precedes_append : (newer older : List Entry) (t u : ℕ) → Precedes older 
 precedes_append [] older t u h = h
 precedes_append (e ∷ newer) older t u h = inr (precedes_append newer older t u h)
 
--- a walk of two closes
+-- a cycle of two closes
 closes_two : (past : List Entry) (t u : ℕ) (k : Key) (kind : Kind) → Pair past t u → has_conflicting past u k kind ≡ true
     → Closes past t k kind (u ∷ [])
 closes_two past t u k kind pair access_list = record {
@@ -64,7 +64,7 @@ module _ (s : Setting) (newer older : List Entry) (e : Entry) (a : Access) (lega
       (false_from_ne_true (aborted older u) (λ g. both_ways _ (committed-stands (newer ++ e ∷ older) u h)
       (aborts-stay s newer (e ∷ older) u legal (aborted-stays s e older legal_here u g))))
 
-  -- one whose store the look found is committed, if it is another
+  -- one whose write the read returned is committed, if it is another
   others : (b : Access) → newest_store (λ u. not (aborted older u)) a.key older ≡ Some b → b.by ≢ a.by
       → committed (newer ++ e ∷ older) b.by ≡ true
   others b h n =
@@ -85,7 +85,7 @@ module _ (s : Setting) (newer older : List Entry) (e : Entry) (a : Access) (lega
       (f.access_list Store))) in
       committed_else (newer ++ e ∷ older) b.by was_started (λ l. none_live b.by (record { is_live = l; pair = pair })) source_stands
 
-  -- where the look found another's store, the transaction has none of its own
+  -- where the read returned another's write, the transaction has none of its own
   first : (b : Access) → newest_store (λ u. not (aborted older u)) a.key older ≡ Some b → b.by ≢ a.by → Precedes older a.by b.by → ⊥
   first b h n before =
       let f = found (λ u. not (aborted older u)) a.key older b h in
@@ -99,7 +99,7 @@ module _ (s : Setting) (newer older : List Entry) (e : Entry) (a : Access) (lega
       access-free s older e.event e.reply legal_here.1 a is (b.by ∷ []) (closes_two older a.by b.by a.key a.kind pair
       (f.access_list a.kind))
 
-  -- no committed one stored the key since
+  -- no committed one wrote the key since
   none_newer : (x : Option Access) → newest_store (committed (newer ++ e ∷ older)) a.key newer ≡ x → x ≡ None
   none_newer None h = refl
   none_newer (Some c) h =
@@ -126,7 +126,7 @@ module _ (s : Setting) (newer older : List Entry) (e : Entry) (a : Access) (lega
       ∙ newest_skip (committed (newer ++ e ∷ older)) a.key e older (look_no_store (committed (newer ++ e ∷ older)) a.key
       (access_of e) a is is_look)
 
-  -- each look of a transaction that may commit found its own newest store, or else the value that is committed by then
+  -- each read of a transaction that may commit returned its own newest write, or else the value that is committed by then
   pub finds : a.value ≡ value_or (newest_store (λ u. nat_eq u a.by) a.key older) (settled s.opening (newer ++ e ∷ older) a.key)
   finds =
       look-found s older e.event e.reply legal_here.1 a is is_look

@@ -1,4 +1,4 @@
--- A chain stands in the order of the pairs: who has a value before another's precedes that one.
+-- A chain is in the order of the edges: a transaction whose value is before another's precedes that one.
 use Rattle.std.proofs.Common.{◌≡◌, ◌≢◌, ℕ, ℤ, Bool, true, false, cond, not, ◌⊎◌, List, [], ◌∷◌, ◌++◌, Option, Some, None, nat_eq, refl, sym, ap, subst, inl, inr, ◌∙◌}
 use Rattle.std.specs.Prelude.{pos}
 use Rattle.std.proofs.lemmas.Bool.{or_cases, eqb-true, eq-eqb, both_ways, cases_eq, or_left, or_right}
@@ -130,7 +130,7 @@ chain_without-apart t u (w ∷ c) h = go (nat_eq w.0 u) refl (chain_without-apar
           | inr later ↦ ih later
         ]
 
--- who has a value in a chain counts, and stored the key
+-- a transaction with a value in a chain counts, and wrote the key
 pub record Wrote (p : ℕ → Bool) (k : Key) (past : List Entry) (t : ℕ) : Type 0 where
   pub counts : p t ≡ true
   pub stored : has_conflicting past t k Store ≡ true

@@ -1,4 +1,4 @@
--- The chains of a history against its newest stores.
+-- The chains of a history against its newest writes.
 use Rattle.std.proofs.Common.{◌≡◌, ◌≢◌, ℕ, ℤ, Bool, true, false, cond, not, ◌&&◌, ◌||◌, ◌⊎◌, List, [], ◌∷◌, ◌++◌, Option, Some, None, nat_eq, refl, sym, ap, ap₂, subst, inl, inr, ◌∙◌}
 use Rattle.std.specs.Prelude.{pos}
 use Rattle.std.proofs.lemmas.Bool.{eqb-true, eq-eqb, ne_eqb, cases_eq}
@@ -19,7 +19,7 @@ use Rattle.sgt_model.specs.Chains.{chain_of, store_into, value_in, chain_without
 use Rattle.sgt_model.proofs.Facts.{none_unless, option_or-cases, some_is}
 use Rattle.sgt_model.proofs.Stores.{key_eq-true, Stored, stores-some, newest-counts, found}
 
--- the newest store of two kinds of transactions, where none of the first kind precedes one of the second
+-- the newest write of two kinds of transactions, where none of the first kind precedes one of the second
 split-step : (p q : ℕ → Bool) (k : Key) (o : Option Access) (nr np nq : Option Access) → nr ≡ option_or np nq
     → ((a : Access) → stores q k o ≡ Some a → np ≡ None) → option_or (stores (λ t. p t || q t) k o) nr ≡ option_or
     (option_or (stores p k o) np) (option_or (stores q k o) nq)
@@ -51,9 +51,9 @@ newest-split p q k (e ∷ past) h = split-step p q k (access_of e) _ _ _ (newest
         at_kind Look z = absurd (cc)
         at_kind Store z = access_list
 
--- the last of a chain is the newest store
+-- the last of a chain is the newest write
 
--- a store as it stands in a chain
+-- a write as it stands in a chain
 abbrev pub entry_of : Option Access → Option (ℕ × ℤ)
 entry_of None = None
 entry_of (Some a) = Some (a.by, unwrap_or a.value (pos 0))
@@ -71,7 +71,7 @@ pub chain-last : (p : ℕ → Bool) (k : Key) (past : List Entry) → last_or No
 chain-last p k [] = refl
 chain-last p k (e ∷ past) = last-step (stores p k (access_of e)) (chain_of p k past) (newest_store p k past) (chain-last p k past)
 
--- a store has a value
+-- a write has a value
 
 pub access-value : (event : Event) (r : Reply) (a : Access) → access_in event r ≡ Some a → is_store a.kind ≡ true
     → a.value ≡ Some (unwrap_or a.value (pos 0))
@@ -91,7 +91,7 @@ newest-value p k (e ∷ past) a h =
       | inr before ↦ newest-value p k past a before.1
     ]
 
--- t's value in a chain is its newest store
+-- t's value in a chain is its newest write
 
 value_in-append : (t : ℕ) (xs ys : List (ℕ × ℤ)) → value_in t (xs ++ ys) ≡ option_or (value_in t xs) (value_in t ys)
 value_in-append t [] ys = refl
@@ -120,7 +120,7 @@ value_in-other t u (w ∷ c) n = go (nat_eq w.0 u) refl (value_in-other t u c n)
     go true e h = h ∙ sym (ap (λ b. cond b (Some w.1) (value_in t c)) (ne_eqb w.0 t (λ z. n (sym (eqb-true w.0 u e) ∙ z))))
     go false e h = ap (λ z. cond (nat_eq w.0 t) (Some w.1) z) h
 
--- the value that is stored, if there is a store
+-- the value that is stored, if there is a write
 abbrev pub stored_value : Option Access → Option ℤ
 stored_value None = None
 stored_value (Some a) = Some (unwrap_or a.value (pos 0))

@@ -1,6 +1,6 @@
 -- The definitions as tests that compute, so that a written-out history is proved legal by computing. Each test says that its
--- definition holds; where the definition speaks of all walks or all transactions, the test is given a set that has them.
--- The tests of pairs, and of who read from whom, hold exactly where the definitions do.
+-- definition holds; where the definition speaks of all paths or all transactions, the test is given a set that has them.
+-- The tests of edges, and of who read from whom, hold exactly where the definitions do.
 use Rattle.std.specs.Prelude.{◌≡◌, ◌≢◌, ℕ, ◌≤◌, ℤ, Bool, true, false, not, ◌&&◌, ◌||◌, nat_eq, nat_lt, List, [], ◌∷◌, length, Option, Some, None}
 use Rattle.std.specs.List.{list_any, list_all}
 use Rattle.std.proofs.Common.{refl, sym, ap, subst, inl, inr, arith}
@@ -83,9 +83,9 @@ has_conflicting-actor (e ∷ past) t k kind h = elim (or_cases _ _ h) [
   | inr before ↦ actor-later (access_of e) (actors past) t (has_conflicting-actor past t k kind before)
 ]
 
--- pairs
+-- edges
 
--- the pairs, as tests: FollowsIn, Precedes and Pair
+-- the edges, as tests: FollowsIn, Precedes and Pair
 abbrev pub follows : List Entry → Option Access → ℕ → ℕ → Bool
 follows past None t u = false
 follows past (Some a) t u = nat_eq a.by u && has_conflicting past t a.key a.kind
@@ -142,9 +142,9 @@ pub so-pair : (past : List Entry) (t u : ℕ) → Pair past t u → pair past t 
 so-pair past t u p = and_from _ _ (not_from_false _ (ne_eqb t u p.apart)) (and_from _ _ (not_from_false _ p.first_stands)
     (and_from _ _ (not_from_false _ p.second_stands) (so-precedes past t u p.precedes)))
 
--- an access closes no walk
+-- an access closes no cycle
 
--- the set has t, and all that pairs lead to from it; no other member has a conflicting access
+-- the set has t, and all that edges lead to from it; no other member has a conflicting access
 abbrev pub free_test : List Entry → ℕ → Key → Kind → List ℕ → Bool
 free_test past t k kind set =
     has set t
@@ -177,7 +177,7 @@ pub made_by : {past : List Entry} {t : ℕ} {k : Key} {kind : Kind} {r : Reply} 
     → Makes past t k kind r r
 made_by {past} {t} {k} {kind} {r} set h = record { free = free-so past t k kind set h; is = refl }
 
--- an access would close a walk
+-- an access would close a cycle
 
 -- PathOf
 abbrev pub is_path : (ℕ → ℕ → Bool) → ℕ → List ℕ → Bool
@@ -217,7 +217,7 @@ closes-so past t k kind rest h =
       conflict = r.1;
     }
 
--- who falls
+-- which transactions are aborted in cascade
 
 -- who read from whom, as tests: IsBy, LooksFrom and ReadFrom
 abbrev pub is_by_test : Option Access → ℕ → Bool
@@ -289,7 +289,7 @@ rising-so (t ∷ u ∷ l) h = let p = and_parts _ _ h in (ltb-true t u p.0, risi
 abbrev pub feeds : List Entry → ℕ → ℕ → Bool
 feeds past v w = read_from past w v
 
--- each of the fallen is live, another, and at the end of one of these paths
+-- each of those aborted in cascade is live, another, and at the end of one of these paths
 abbrev pub each_test : List Entry → ℕ → List ℕ → List (List ℕ) → Bool
 each_test past t [] paths = true
 each_test past t (u ∷ fell) [] = false
@@ -311,7 +311,7 @@ each-so past t (v ∷ fell) (path ∷ paths) h u (inl e) =
     )
 each-so past t (v ∷ fell) (path ∷ paths) h u (inr m) = each-so past t fell paths (and_parts _ _ h).1 u m
 
--- the set has t, and all that read from a member; the other live members are among the fallen
+-- the set has t, and all that read from a member; the other live members are among those aborted in cascade
 abbrev pub all_test : List Entry → ℕ → List ℕ → List ℕ → Bool
 all_test past t fell set =
     has set t
@@ -332,7 +332,7 @@ all-so past t fell set h u alive apart (path, goes, at) =
       | inr falls ↦ has-member fell u (implies-at _ _ falls alive)
     ]
 
--- exactly these fall
+-- exactly these are aborted in cascade
 pub falls-so : (past : List Entry) (t : ℕ) (fell : List ℕ) (paths : List (List ℕ)) (set : List ℕ) → rising fell ≡ true
     → each_test past t fell paths ≡ true → all_test past t fell set ≡ true → Falls past t fell
 falls-so past t fell paths set r e a = record {
@@ -341,13 +341,13 @@ falls-so past t fell paths set r e a = record {
   all = all-so past t fell set a;
 }
 
--- t is aborted with those that fall
+-- t is aborted, and those that read from it in cascade
 pub aborts_by : {past : List Entry} {t : ℕ} {why : Cause} (fell : List ℕ) (paths : List (List ℕ)) (set : List ℕ)
     → rising fell ≡ true → each_test past t fell paths ≡ true → all_test past t fell set ≡ true
     → AbortReply past t why (reply.Aborted why fell)
 aborts_by {past} {t} {why} fell paths set r e a = record { fell = fell; falls = falls-so past t fell paths set r e a; is = refl }
 
--- an access is rejected, with a walk that it would close
+-- an access is rejected, with a cycle that it would close
 pub refused_by : {past : List Entry} {t : ℕ} {k : Key} {kind : Kind} (rest fell : List ℕ) (paths : List (List ℕ)) (set : List ℕ)
     → closes_test past t k kind rest ≡ true → rising fell ≡ true → each_test past t fell paths ≡ true
     → all_test past t fell set ≡ true → CycleAbortReply past t k kind (reply.Aborted (cause.Cycle (t ∷ rest)) fell)
@@ -357,7 +357,7 @@ refused_by {past} {t} {k} {kind} rest fell paths set c r e a = record {
   aborts = aborts_by fell paths set r e a;
 }
 
--- who has to wait
+-- which transactions must wait
 
 -- HasNoLivePredecessor
 abbrev pub none_live_test : List Entry → ℕ → Bool
@@ -372,7 +372,7 @@ pub commits_by : {past : List Entry} {t : ℕ} {answers : List ℤ} → none_liv
     (reply.Committed answers)
 commits_by {past} {t} {answers} h = record { none_live = none_live-so past t h; is = refl }
 
--- t is refused, with those that fall
+-- t is refused, with those aborted in cascade
 pub refuses_by : {past : List Entry} {t code : ℕ} (fell : List ℕ) (paths : List (List ℕ)) (set : List ℕ)
     → none_live_test past t ≡ true → rising fell ≡ true → each_test past t fell paths ≡ true → all_test past t fell set ≡ true
     → MayRefuse past t code (reply.Refused code fell)
@@ -394,7 +394,7 @@ not_below u v h = elim (cases_lt u v) [
   | inr le ↦ elim (cases_lt v u) [ inl less ↦ absurd (both_ways _ (not-true _ h) (lt-ltb v u less)) | inr ge ↦ ge ]
 ]
 
--- t has to wait for the least
+-- t must wait for the least
 pub waits_by : {past : List Entry} {t u : ℕ} → least_test past t u ≡ true → MustWait past t (reply.Waits u)
 waits_by {past} {t} {u} h =
     let p = and_parts _ _ h in

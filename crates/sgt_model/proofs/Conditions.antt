@@ -67,7 +67,7 @@ chain_fits R apart (x ∷ c) ys h w =
         ]
 
 module _ (most : ℕ) (c : State) (sound : Sound most c) where
-  -- of `write`: a chain without t's value has room
+  -- of `write`: a chain without t's value has capacity
   pub chain_room : (t : ℕ) (k : Key) → c.nodes t ≡ true → writes_in t (c.chain k) ≡ false → length (c.chain k) < most
   chain_room t k node out =
       let (zs, long, keep) = removed t c.live ((sound.listed t).0 node) in

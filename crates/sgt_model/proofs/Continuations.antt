@@ -49,7 +49,7 @@ index_of k (r ∷ rows) = both (index_of k rows) (key_lt r.0 k) refl where
   both (n, rest) true e = (suc n, (e, rest))
   both rest false e = (zero, e)
 
--- a value put into rows
+-- a value written to rows
 put_rows : (k : Key) (v : ℤ) (rows : List Row) → IsByKey rows → HasRows (put_in (contents_of rows) k v)
 put_rows k v rows rising = at (slice_get rows n) refl where
   n : ℕ
@@ -85,7 +85,7 @@ by_key (r ∷ rows) = on (by_key rows) where
       let put = put_rows r.0 r.1 before rising in
       (put.0, put.1, λ k. put.2 k ∙ ap (λ m. cond (key_eq r.0 k) (Some r.1) m) (same k))
 
--- what is left by those that count, over rows
+-- what those that count leave, over rows
 abbrev Left : (ℕ → Bool) → List Row → List Entry → Contents
 Left counts rows past k = value_or (newest_store counts k past) (contents_of rows k)
 

@@ -192,7 +192,7 @@ counts-one p t k kind None h = absurd (cc)
 counts-one p t k kind (Some a) h = let x : ListedAccess = record { by = a.by; key = a.key; kind = a.kind } in
     let q = and_parts _ _ (sym (is_conflicting-one (p a.by) t k kind x) ∙ h) in ap p (sym (eqb-true a.by t (and_parts _ _ q.1).0)) ∙ q.0
 
--- who has a listed access counts
+-- a transaction with a listed access counts
 pub lists_conflicting-counts : (p : ℕ → Bool) (t : ℕ) (k : Key) (kind : Kind) (past : List Entry) → lists_conflicting
     (access_list p past) t k kind ≡ true → p t ≡ true
 lists_conflicting-counts p t k kind [] h = absurd (cc)

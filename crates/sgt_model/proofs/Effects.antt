@@ -94,7 +94,7 @@ Fits (Puts k v) a = (a.key ≡ k) × (a.kind ≡ Store) × (a.value ≡ Some v)
 Fits (Ends answers) a = ⊥
 Fits (Raises code) a = ⊥
 
--- a live transaction made its next access, which closes no cycle; a look found what was visible
+-- a live transaction made its next access, which closes no cycle; a read returned what was visible
 pub record Accesses (s : Setting) (past : List Entry) (event : Event) (r : Reply) : Type 0 where
   pub access : Access
   pub event_is : event ≡ Step access.by
@@ -116,7 +116,7 @@ pub record Commits (s : Setting) (past : List Entry) (event : Event) (r : Reply)
   pub none_live : HasNoLivePredecessor past t
   pub next : next_of s past t ≡ Ends answers
 
--- a live transaction ended by an abort, with those that fell
+-- a live transaction ended by an abort, with those aborted in cascade
 pub record Undoing (past : List Entry) (event : Event) (r : Reply) : Type 0 where
   pub t : ℕ
   pub why : Cause
@@ -133,7 +133,7 @@ pub record Undoes (s : Setting) (past : List Entry) (event : Event) (r : Reply) 
   pub reply_is : r ≡ reply.Aborted undoing.why undoing.fell
   pub has_cause : CauseHolds s past event undoing.why
 
--- or by a Refused reply at its commit, where it waits for nobody and asks the code
+-- or by a Refused reply at its commit, where it waits for none and raises the code
 pub record Refusal (s : Setting) (past : List Entry) (event : Event) (r : Reply) : Type 0 where
   pub undoing : Undoing past event r
   pub code : ℕ
@@ -240,7 +240,7 @@ refuse_at s past t k kind r alive wants h = abort_at s past t (cause.Cycle (t �
       no_order = refused_has_no_order past t k kind h.rest h.closes;
     }) h.aborts
 
--- an ask
+-- a code that is raised
 
 asked_step : (s : Setting) (past : List Entry) (t code : ℕ) (r : Reply) → next_of s past t ≡ Raises code → live past t ≡ true
     → (asks : Asks) → RaisedStep asks past t code r → Effect s past (Step t) r

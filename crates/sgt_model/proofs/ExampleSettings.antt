@@ -1,4 +1,4 @@
--- A small bank to try the definitions on: five procedures, without the refusals of a real bank, and some others.
+-- A small bank as a configuration for the examples: five procedures, without the refusals of a real bank, and some others.
 use Rattle.std.specs.Prelude.{ℕ, ℤ, pos, cond, List, [], ◌∷◌, ◌++◌, Some, None}
 use Rattle.sgt_model.specs.declared.event.Event.{Event}
 use Rattle.sgt_model.specs.declared.reply.Reply.{Reply}
@@ -68,7 +68,7 @@ amalgamate = record {
       empty))))))));
 }
 
--- an amount less in the checking, and 100 less still where both balances together are smaller than it
+-- an amount less in the checking, and 100 less still if both balances together are smaller than it
 abbrev pub write_check : ProcedureText
 write_check = record {
   args = 2;
@@ -85,31 +85,31 @@ write_check = record {
 
 -- what the other procedures of the examples do
 
--- store the argument
+-- write the argument
 abbrev pub put_arg : ProcedureText
 put_arg = record { args = 1; body = put 3 (num (pos 7)) (arg 0) empty }
 
--- look at one checking and store what it found into another
+-- read one checking and write its value to another
 abbrev pub copy : ProcedureText
 copy = record { args = 2; body = look 0 2 (arg 0) 5 (put 2 (arg 1) (reg 0) empty) }
 
--- store twice
+-- write twice
 abbrev pub put_twice : ProcedureText
 put_twice = record { args = 0; body = put 3 (num (pos 7)) (num (pos 1)) (put 3 (num (pos 7)) (num (pos 2)) empty) }
 
--- answer what is stored there
+-- answer the value there
 abbrev pub tell : ProcedureText
 tell = record { args = 0; body = look 0 3 (num (pos 7)) 6 (answer (reg 0) empty) }
 
--- look twice
+-- read twice
 abbrev pub look_twice : ProcedureText
 look_twice = record { args = 0; body = look 0 2 (num (pos 101)) 5 (look 1 2 (num (pos 101)) 5 empty) }
 
--- store, and answer what is found then
+-- write, and answer what is read then
 abbrev pub put_and_tell : ProcedureText
 put_and_tell = record { args = 0; body = put 3 (num (pos 7)) (num (pos 4)) (look 0 3 (num (pos 7)) 6 (answer (reg 0) empty)) }
 
--- the opened database, with no third customer
+-- the initial database, without a third customer
 abbrev pub opening : Contents
 opening = found_in (((0, pos 1), pos 101) ∷ ((0, pos 2), pos 102) ∷ ((1, pos 101), pos 500) ∷ ((1, pos 102), pos 0)
     ∷ ((2, pos 101), pos 1000) ∷ ((2, pos 102), pos 200) ∷ [])

@@ -1,4 +1,4 @@
--- Worked examples of aborts: over two levels, by cycles of three and of two, by one of several walks, and asked for.
+-- Worked examples of aborts: over two levels, by cycles of three and of two, by one of several cycles, and by a code.
 use Rattle.std.specs.Prelude.{◌≡◌, pos, List, [], ◌∷◌, Some, None, refl}
 use Rattle.std.proofs.Common.{inl, inr}
 use Rattle.sgt_model.specs.declared.event.Event.TheVariants.{Start, Step, Commit, Quit}
@@ -33,7 +33,7 @@ two_levels =
     ∷ entry (Start 1 (pos 1 ∷ pos 10 ∷ [])) (reply.Started 0)
     ∷ []
 
--- a reader of a reader falls too
+-- a reader of a reader is aborted in cascade too
 abbrev pub two_level_cascade : List Entry
 two_level_cascade =
     entry (Quit 1) (reply.Over (fate.Fell 0))
@@ -66,7 +66,7 @@ ring =
     ∷ entry (Start 5 (pos 101 ∷ pos 102 ∷ [])) (reply.Started 0)
     ∷ []
 
--- three that look at each other's records in a ring: the last to store would close a cycle
+-- three that read each other's records in a ring: the last to write would close a cycle
 abbrev pub ring_of_three : List Entry
 ring_of_three =
     entry (Commit 0) (reply.Committed ([]))
@@ -91,7 +91,7 @@ ring_of_three-second = refl
 ring_of_three-third : settled small_bank_copy.opening ring_of_three (2, pos 103) ≡ Some (pos 200)
 ring_of_three-third = refl
 
--- a store over what another has read would close a cycle, and the reader falls
+-- a write over what another has read would close a cycle, and the reader is aborted in cascade
 abbrev pub cycle_and_cascade : List Entry
 cycle_and_cascade =
     entry (Step 0) (reply.Over (fate.Aborted (cause.Cycle (0 ∷ 1 ∷ []))))
@@ -111,7 +111,7 @@ cycle_and_cascade-legal =
 cycle_and_cascade-record : settled small_bank_twice.opening cycle_and_cascade (3, pos 7) ≡ None
 cycle_and_cascade-record = refl
 
--- a procedure asks a code where a look finds nothing
+-- a procedure raises a code if a read finds no record
 abbrev pub asked : List Entry
 asked =
     entry (Commit 0) (reply.Over (fate.Aborted (cause.Asked 1)))
@@ -124,7 +124,7 @@ asked-legal : Legal (small_bank 8 100) asked
 asked-legal =
     tt ▸ refl ▸ inr (made_by (0 ∷ []) refl) ▸ aborts_by ([]) ([]) (0 ∷ []) refl refl refl ▸ refl
 
--- who is to ask cannot commit, and can be quit
+-- a transaction that is to raise a code cannot commit, and can be quit
 abbrev pub asking_is_no_end : List Entry
 asking_is_no_end =
     entry (Quit 1) (reply.Unknown)
@@ -140,7 +140,7 @@ asking_is_no_end-legal : Legal (small_bank 8 100) asking_is_no_end
 asking_is_no_end-legal =
     tt ▸ refl ▸ inr (made_by (0 ∷ []) refl) ▸ refl ▸ aborts_by ([]) ([]) (0 ∷ []) refl refl refl ▸ refl ▸ refl ▸ refl
 
--- a store that three walks would close: the reply may name any of them, and is else the same
+-- a write that would close three cycles: the reply may name any of them, and is otherwise the same
 abbrev pub several_walks : List Entry
 several_walks =
     entry (Step 1) (reply.Wrote (2, pos 103) (pos 1000))

@@ -1,4 +1,4 @@
--- Worked examples of cascades over three levels, with four and five live: a reader of a reader of a reader falls too.
+-- Worked examples of cascades over three levels, with four and five live: a reader of a reader of a reader is aborted too.
 use Rattle.std.specs.Prelude.{◌≡◌, pos, List, [], ◌∷◌, Some, refl}
 use Rattle.std.proofs.Common.{inl, inr}
 use Rattle.sgt_model.specs.declared.event.Event.TheVariants.{Start, Step, Commit, Quit}
@@ -11,7 +11,7 @@ use Rattle.sgt_model.specs.Legality.{Legal}
 use Rattle.sgt_model.proofs.Computed.{◌▸◌, made_by, aborts_by, refused_by, commits_by, waits_by}
 use Rattle.sgt_model.proofs.ExampleSettings.{entry, small_bank_copy}
 
--- each of 1, 2 and 3 has looked at what the one before it stored; 4 has stored over what 0 stored, and read from nobody
+-- each of 1, 2 and 3 has read what the one before it wrote; 4 has written over what 0 wrote, and has read from none
 abbrev pub three_levels : List Entry
 three_levels =
     entry (Step 4) (reply.Wrote (2, pos 101) (pos 300))
@@ -33,7 +33,7 @@ three_levels =
     ∷ entry (Start 1 (pos 1 ∷ pos 10 ∷ [])) (reply.Started 0)
     ∷ []
 
--- the first is quit: its readers fall, and the one that stored over its value commits
+-- the first is quit: its readers are aborted in cascade, and the one that wrote over its value commits
 abbrev pub three_level_cascade : List Entry
 three_level_cascade =
     entry (Commit 4) (reply.Committed [])
@@ -61,7 +61,7 @@ three_level_cascade-second = refl
 three_level_cascade-third : settled small_bank_copy.opening three_level_cascade (2, pos 103) ≡ Some (pos 300)
 three_level_cascade-third = refl
 
--- the first looks at what the third stored, which would close a cycle, and three levels of readers fall
+-- the first reads what the third wrote, which would close a cycle, and three levels of readers are aborted in cascade
 abbrev pub three_level_cycle : List Entry
 three_level_cycle =
     entry (Step 0) (reply.Over (fate.Aborted (cause.Cycle (0 ∷ 1 ∷ 2 ∷ []))))

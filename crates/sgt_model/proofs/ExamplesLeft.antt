@@ -1,4 +1,4 @@
--- Worked examples of what is left of a procedure.
+-- Worked examples of the remainder of a procedure.
 use Rattle.std.specs.Prelude.{◌≡◌, pos, [], ◌∷◌, Some, None, replicate, refl}
 use Rattle.sgt_model.specs.Syntax as text
 use Rattle.sgt_model.specs.Syntax.{ProcedureText, num, arg, reg, sum, diff, at_most}
@@ -6,8 +6,8 @@ use Rattle.sgt_model.specs.Traces.{Puts, Ends}
 use Rattle.sgt_model.specs.Left.{ToRun, ToAsk, left, left_at_start, next_left}
 use Rattle.sgt_model.proofs.ExamplesTexts.{draw, count}
 
--- tell what record 7 holds where the argument is at most 5, and store it into record 8 in every case: the If has statements
--- behind its look, and more stand behind the If
+-- answer what record 7 holds if the argument is at most 5, and write it to record 8 in every case: the If has statements
+-- after its read, and more come after the If
 abbrev pub tell_and_store : ProcedureText
 tell_and_store = record {
   args = 1;
@@ -18,7 +18,7 @@ tell_and_store = record {
       text.empty));
 }
 
--- behind the look of the branch: the rest of the branch, and then what stands behind the If
+-- after the read of the branch: the rest of the branch, and then what comes after the If
 in_branch-left : left tell_and_store (pos 5 ∷ []) (Some (pos 70) ∷ []) 1 ≡ ToRun (record {
   statements = text.answer (reg 0) (text.put 3 (num (pos 8)) (arg 0) (text.answer (arg 0) text.empty));
   args = pos 5 ∷ [];
@@ -30,7 +30,7 @@ in_branch-left = refl
 in_branch-next : next_left (left tell_and_store (pos 5 ∷ []) (Some (pos 70) ∷ []) 1) ≡ Puts (3, pos 8) (pos 5)
 in_branch-next = refl
 
--- the answer that stood before the store is given
+-- the answer that came before the write is given
 in_branch-stored : left tell_and_store (pos 5 ∷ []) (Some (pos 70) ∷ []) 2 ≡ ToRun (record {
   statements = text.answer (arg 0) text.empty;
   args = pos 5 ∷ [];
@@ -42,15 +42,15 @@ in_branch-stored = refl
 in_branch-ends : next_left (left tell_and_store (pos 5 ∷ []) (Some (pos 70) ∷ []) 2) ≡ Ends (pos 70 ∷ pos 5 ∷ [])
 in_branch-ends = refl
 
--- the look of the branch found no record
+-- the read of the branch found no record
 in_branch-absent : left tell_and_store (pos 5 ∷ []) (None ∷ []) 1 ≡ ToAsk 6
 in_branch-absent = refl
 
--- the other branch is empty: the store is the first access
+-- the other branch is empty: the write is the first access
 past_branch-next : next_left (left_at_start tell_and_store (pos 6 ∷ [])) ≡ Puts (3, pos 8) (pos 6)
 past_branch-next = refl
 
--- behind a find the procedure goes on, whether there was a record or not
+-- after a Find the procedure continues, whether there was a record or not
 finds-left : left count (pos 40 ∷ []) (Some (pos 8) ∷ []) 1 ≡ ToRun (record {
   statements = text.put 3 (num (pos 7)) (sum (reg 0) (num (pos 1))) (text.answer (sum (reg 0) (num (pos 1))) text.empty);
   args = pos 40 ∷ [];
@@ -62,7 +62,7 @@ finds-left = refl
 finds_none-next : next_left (left count (pos 40 ∷ []) (None ∷ []) 1) ≡ Puts (3, pos 7) (pos 41)
 finds_none-next = refl
 
--- an If that stands behind the look is not entered yet
+-- an If that comes after the read is not entered yet
 draws-left : left draw (pos 101 ∷ pos 1000 ∷ []) (Some (pos 1000) ∷ []) 1 ≡ ToRun (record {
   statements =
       text.choose (at_most (arg 1) (reg 0)) (text.save 1 (diff (reg 0) (arg 1)) text.empty) (text.save 1 (reg 0) text.empty)

@@ -1,4 +1,4 @@
--- Worked examples of looks: what is not committed, the own value, also over another's, and a value that changed in between.
+-- Worked examples of reads: of uncommitted values, of the own value, also over another's, and of a value that changed between.
 use Rattle.std.specs.Prelude.{◌≡◌, pos, List, [], ◌∷◌, Some, None, refl}
 use Rattle.std.proofs.Common.{inl, inr}
 use Rattle.sgt_model.specs.declared.event.Event.TheVariants.{Start, Step, Commit, Quit}
@@ -23,7 +23,7 @@ dirty_reader =
     ∷ entry (Start 1 (pos 1 ∷ pos 100 ∷ [])) (reply.Started 0)
     ∷ []
 
--- 1 reads three records. It finds in the last what 0 has written and not committed
+-- 1 reads three records. In the last it reads what 0 has written and not committed
 abbrev pub dirty_read : List Entry
 dirty_read =
     entry (Step 1) (reply.Looked (2, pos 101) (Some (pos 1100)))
@@ -34,7 +34,7 @@ dirty_read-legal =
     tt ▸ refl ▸ inr (made_by (0 ∷ []) refl) ▸ inr (made_by (0 ∷ []) refl) ▸ inr (made_by (0 ∷ []) refl) ▸ refl
     ▸ inr (made_by (1 ∷ []) refl) ▸ inr (made_by (1 ∷ []) refl) ▸ inr (made_by (1 ∷ []) refl)
 
--- a look finds what is not committed, and its transaction waits for the source
+-- a read returns what is not committed, and its transaction waits for the source
 abbrev pub dirty_read_waits : List Entry
 dirty_read_waits =
     entry (Commit 1) (reply.Committed (pos 1600 ∷ []))
@@ -48,7 +48,7 @@ dirty_read_waits-legal = dirty_read-legal ▸ inl (waits_by refl) ▸ inr (commi
 dirty_read_waits-checking : settled (small_bank 8 100).opening dirty_read_waits (2, pos 101) ≡ Some (pos 1100)
 dirty_read_waits-checking = refl
 
--- the reader falls with its source
+-- the reader is aborted in cascade with its source
 abbrev pub quit_takes_reader : List Entry
 quit_takes_reader =
     entry (Step 1) (reply.Over (fate.Fell 0))
@@ -61,7 +61,7 @@ quit_takes_reader-legal = dirty_read-legal ▸ aborts_by (1 ∷ []) ((1 ∷ []) 
 quit_takes_reader-checking : settled (small_bank 8 100).opening quit_takes_reader (2, pos 101) ≡ Some (pos 1000)
 quit_takes_reader-checking = refl
 
--- a look finds the own value
+-- a read returns the own value
 abbrev pub own_write_read_back : List Entry
 own_write_read_back =
     entry (Commit 0) (reply.Committed (pos 4 ∷ []))
@@ -89,7 +89,7 @@ looked_before =
     ∷ entry (Start 5 ([])) (reply.Started 0)
     ∷ []
 
--- a second look at what another stored in between would close a cycle
+-- a second read of what another wrote in between would close a cycle
 abbrev pub repeated_read : List Entry
 repeated_read =
     entry (Commit 1) (reply.Committed (pos 1001 ∷ []))
@@ -105,7 +105,7 @@ repeated_read-legal =
 repeated_read-checking : settled small_bank_look_twice.opening repeated_read (2, pos 101) ≡ Some (pos 1001)
 repeated_read-checking = refl
 
--- a look past an aborted store finds the one before, and falls with that one
+-- a read past an aborted write returns the one before, and is aborted in cascade with that one
 abbrev pub read_past_aborted : List Entry
 read_past_aborted =
     entry (Quit 0) (reply.Aborted cause.Quit (2 ∷ []))
@@ -137,7 +137,7 @@ stored_over =
     ∷ entry (Start 5 (pos 1 ∷ [])) (reply.Started 0)
     ∷ []
 
--- who stored over another's value before looking has read from nobody: it stays when the other quits
+-- a transaction that wrote over another's value before reading has read from none: it stays when the other quits
 abbrev pub own_store_over_anothers : List Entry
 own_store_over_anothers =
     entry (Commit 1) (reply.Committed (pos 4 ∷ []))

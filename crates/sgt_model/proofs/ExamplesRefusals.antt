@@ -1,5 +1,5 @@
--- Worked examples of asks that are answered at the commit: a refusal takes its readers along and its stores back, waits for who
--- was read from, and is told in its turn.
+-- Worked examples of codes that are reported at commit. A refusal aborts its readers in cascade and undoes its writes, waits
+-- for those that were read from, and is reported in its turn.
 use Rattle.std.specs.Prelude.{◌≡◌, pos, List, [], ◌∷◌, Some, None, refl}
 use Rattle.std.proofs.Common.{inl, inr}
 use Rattle.sgt_model.specs.declared.event.Event.TheVariants.{Start, Step, Commit, Quit}
@@ -17,11 +17,11 @@ use Rattle.sgt_model.specs.Replay.{GaveAnswers, AskedCode, folded, told}
 use Rattle.sgt_model.proofs.Computed.{◌▸◌, made_by, aborts_by, commits_by, waits_by, refuses_by}
 use Rattle.sgt_model.proofs.ExampleSettings.{opening, entry, tell}
 
--- store, and ask
+-- write, and raise a code
 abbrev pub put_and_ask : ProcedureText
 put_and_ask = record { args = 0; body = text.put 3 (num (pos 7)) (num (pos 4)) (text.ask 9 text.empty) }
 
--- spend an amount from one checking; ask where it has less
+-- spend an amount from one checking; raise a code if it has less
 abbrev pub spend : ProcedureText
 spend = record {
   args = 1;
@@ -31,11 +31,11 @@ spend = record {
       text.empty);
 }
 
--- these, and one that tells what is stored, where asks are answered at the commit
+-- these, and one that answers what is stored, with codes reported at commit
 abbrev pub refusing : Setting
 refusing = setting opening (put_and_ask ∷ tell ∷ spend ∷ []) (record { live = 8; begins = 100; asks = AtCommit })
 
--- a refused transaction takes its reader along
+-- a refused transaction aborts its reader in cascade
 abbrev pub refusal_takes_reader : List Entry
 refusal_takes_reader =
     entry (Commit 0) (reply.Over (fate.Aborted (cause.Asked 9)))
@@ -53,7 +53,7 @@ refusal_takes_reader-legal =
     tt ▸ refl ▸ refl ▸ inr (made_by (0 ∷ []) refl) ▸ inr (made_by (1 ∷ []) refl) ▸ refl
     ▸ inr (refuses_by (1 ∷ []) ((1 ∷ []) ∷ []) (0 ∷ 1 ∷ []) refl refl refl refl) ▸ refl ▸ refl
 
--- what it stored is no more, and alone it asks the same
+-- what it wrote is undone, and alone it raises the same code
 refusal_takes_reader-settled : settled refusing.opening refusal_takes_reader (3, pos 7) ≡ None
 refusal_takes_reader-settled = refl
 
@@ -70,7 +70,7 @@ spent_by_another =
     ∷ entry (Start 2 (pos 600 ∷ [])) (reply.Started 0)
     ∷ []
 
--- who read what is undone is not refused: it falls, and the same call may commit later
+-- a transaction that read what is undone is not refused: it is aborted in cascade, and the same call may commit later
 abbrev pub falls_and_tries_again : List Entry
 falls_and_tries_again =
     entry (Commit 2) (reply.Committed [])
@@ -91,7 +91,7 @@ falls_and_tries_again-legal =
 falls_and_tries_again-results : (folded refusing falls_and_tries_again).results ≡ GaveAnswers [] ∷ []
 falls_and_tries_again-results = refl
 
--- who read what was committed then is refused in its turn, and in the order of the replies it asks just that code
+-- a transaction that read what was committed then is refused in its turn; in the order of the replies it raises just that code
 abbrev pub refused_in_turn : List Entry
 refused_in_turn =
     entry (Commit 1) (reply.Refused 3 [])

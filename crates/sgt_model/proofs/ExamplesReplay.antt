@@ -42,7 +42,7 @@ two_deposits-legal =
     ▸ inr (made_by (2 ∷ []) refl) ▸ inr (made_by (2 ∷ []) refl) ▸ inl (waits_by refl) ▸ inr (commits_by refl)
     ▸ inr (commits_by refl)
 
--- the check is none of the committed calls; of the deposits the one that committed last stands first
+-- the check is none of the committed calls; of the deposits, the one that committed last comes first
 abbrev pub the_deposits : List Call
 the_deposits =
     record { procedure = 1; args = pos 1 ∷ pos 50 ∷ [] }
@@ -56,7 +56,7 @@ two_deposits-committed = refl
 two_deposits-results : (folded (small_bank 8 100) two_deposits).results ≡ GaveAnswers (pos 1150 ∷ []) ∷ GaveAnswers (pos 1100 ∷ []) ∷ []
 two_deposits-results = refl
 
--- and these are the answers that they were told
+-- and these are the answers that were reported
 two_deposits-told : told two_deposits ≡ GaveAnswers (pos 1150 ∷ []) ∷ GaveAnswers (pos 1100 ∷ []) ∷ []
 two_deposits-told = refl
 

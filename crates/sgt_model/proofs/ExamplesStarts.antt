@@ -30,7 +30,7 @@ limits_and_fates-legal =
     tt ▸ refl ▸ refl ▸ refl ▸ inr (made_by (0 ∷ []) refl) ▸ inr (made_by (0 ∷ []) refl) ▸ inr (made_by (0 ∷ []) refl)
     ▸ inr (commits_by refl) ▸ refl ▸ refl ▸ refl ▸ refl
 
--- where all numbers are spent and as many as may be are live, the arguments are tested first
+-- if the most starts are used up and as many as may be are live, the arguments are tested first
 abbrev pub tests_in_order : List Entry
 tests_in_order =
     entry (Start 0 (pos 1 ∷ [])) (reply.Spent)

@@ -18,8 +18,8 @@ use Rattle.sgt_model.specs.Legality.{Legal}
 use Rattle.sgt_model.proofs.Computed.{◌▸◌, made_by, commits_by, waits_by}
 use Rattle.sgt_model.proofs.ExampleSettings.{opening, entry}
 
--- draw the amount, the second argument, from the checking of a customer, the first: where it is at most what is there, and
--- else nothing; answer what was drawn. The store and the answer stand behind the If
+-- draw the amount, the second argument, from the checking of a customer, the first: if it is at most what is there, and
+-- else nothing; answer what was drawn. The write and the answer come after the If
 abbrev pub draw : ProcedureText
 draw = record {
   args = 2;
@@ -42,7 +42,7 @@ draws_all-serial = refl
 draws_all-execution : execution draw (pos 101 ∷ pos 1000 ∷ []) opening ≡ Done (pos 1000 ∷ []) (put_in opening (2, pos 101) (pos 0))
 draws_all-execution = refl
 
--- of more than is there nothing is drawn
+-- if the amount is more than is there, nothing is drawn
 draws_nothing-trace : trace (run_with draw (pos 101 ∷ pos 1001 ∷ [])) (Some (pos 1000) ∷ [])
     ≡ record { accesses = look (2, pos 101) ∷ put (2, pos 101) (pos 1000) ∷ []; ending = ended (pos 0 ∷ []) }
 draws_nothing-trace = refl
@@ -53,11 +53,11 @@ draws_nothing-serial = refl
 draws_nothing-execution : execution draw (pos 101 ∷ pos 1001 ∷ []) opening ≡ Done (pos 0 ∷ []) (put_in opening (2, pos 101) (pos 1000))
 draws_nothing-execution = refl
 
--- where there is no checking, nothing behind the look is done
+-- if there is no checking, nothing after the read is done
 draws_nowhere-execution : execution draw (pos 103 ∷ pos 1 ∷ []) opening ≡ Asked 5
 draws_nowhere-execution = refl
 
--- count: one more than what a record holds, or than the argument where it is not there, is stored and answered
+-- count: write and answer one more than what a record holds, or one more than the argument if the record does not exist
 abbrev pub count : ProcedureText
 count = record {
   args = 1;
@@ -68,7 +68,7 @@ count = record {
       text.empty));
 }
 
--- where there is none, a look is made and no code is asked
+-- if there is none, a read is made and no code is raised
 counts_none-trace : trace (run_with count (pos 40 ∷ [])) (None ∷ [])
     ≡ record { accesses = look (3, pos 7) ∷ put (3, pos 7) (pos 41) ∷ []; ending = ended (pos 41 ∷ []) }
 counts_none-trace = refl
@@ -76,12 +76,12 @@ counts_none-trace = refl
 counts_none-execution : execution count (pos 40 ∷ []) opening ≡ Done (pos 41 ∷ []) (put_in opening (3, pos 7) (pos 41))
 counts_none-execution = refl
 
--- where there is one, it counts, and the argument does not
+-- if there is one, it counts, and the argument does not
 counts_on-execution : execution count (pos 40 ∷ []) (put_in opening (3, pos 7) (pos 8))
     ≡ Done (pos 9 ∷ []) (put_in (put_in opening (3, pos 7) (pos 8)) (3, pos 7) (pos 9))
 counts_on-execution = refl
 
--- a store is looked at by the procedure itself, before anyone else sees it
+-- a write is read by the procedure itself, before any other transaction sees it
 abbrev pub put_and_look : ProcedureText
 put_and_look = record {
   args = 0;
@@ -94,11 +94,11 @@ put_and_look-serial = refl
 put_and_look-execution : execution put_and_look [] opening ≡ Done (pos 4 ∷ []) (put_in opening (3, pos 7) (pos 4))
 put_and_look-execution = refl
 
--- the setting of this one procedure
+-- the configuration of this one procedure
 abbrev pub drawing : Setting
 drawing = setting opening (draw ∷ []) (record { live = 8; begins = 100; asks = AtStep })
 
--- two draw from one checking: the second finds what the first has left, and waits for it
+-- two draw from one checking: the second reads what the first has left, and waits for it
 abbrev pub two_draw : List Entry
 two_draw =
     entry (Commit 1) (reply.Committed (pos 0 ∷ []))

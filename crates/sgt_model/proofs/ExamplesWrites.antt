@@ -1,4 +1,4 @@
--- Worked examples of stores: after a look, by two that looked, past an aborted one, and over an aborted one.
+-- Worked examples of writes: after a read, by two that read, past an aborted one, and over an aborted one.
 use Rattle.std.specs.Prelude.{◌≡◌, pos, List, [], ◌∷◌, Some, refl}
 use Rattle.std.proofs.Common.{inl, inr}
 use Rattle.sgt_model.specs.declared.event.Event.TheVariants.{Start, Step, Commit, Quit}
@@ -29,7 +29,7 @@ early_writer =
     ∷ entry (Step 0) (reply.Ended)
     ∷ at_its_end
 
--- who looked first commits first
+-- the transaction that read first commits first
 abbrev pub reader_before_writer : List Entry
 reader_before_writer =
     entry (Commit 1) (reply.Committed (pos 1050 ∷ []))
@@ -46,7 +46,7 @@ reader_before_writer-legal =
 reader_before_writer-checking : settled (small_bank 8 100).opening reader_before_writer (2, pos 101) ≡ Some (pos 1050)
 reader_before_writer-checking = refl
 
--- of two that looked at a record the second to store would close a cycle
+-- of two that read a record, the second to write would close a cycle
 abbrev pub lost_update : List Entry
 lost_update =
     entry (Commit 0) (reply.Committed (pos 900 ∷ []))
@@ -84,7 +84,7 @@ three_writers =
     ∷ entry (Start 5 (pos 1 ∷ [])) (reply.Started 0)
     ∷ []
 
--- a pair holds past an aborted store in between
+-- an edge holds past an aborted write in between
 abbrev pub pair_past_aborted : List Entry
 pair_past_aborted =
     entry (Commit 2) (reply.Committed ([]))
@@ -110,7 +110,7 @@ overwritten =
     ∷ entry (Start 5 (pos 1 ∷ [])) (reply.Started 0)
     ∷ []
 
--- an abort takes out its own value alone
+-- an abort removes its own value alone
 abbrev pub undo_beneath_overwriter : List Entry
 undo_beneath_overwriter =
     entry (Commit 1) (reply.Committed ([]))

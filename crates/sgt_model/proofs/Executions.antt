@@ -1,4 +1,4 @@
--- The run of a procedure does what its statements mean: by induction on the statements, for whatever comes behind them.
+-- The run of a procedure does what its statements mean: by induction on the statements, for whatever comes after them.
 use Rattle.std.specs.Prelude.{◌≡◌, ℕ, ℤ, ◌+ℤ◌, ◌-ℤ◌, ◌*ℤ◌, pos, int_div, int_lt, int_le, Bool, true, false, cond, nat_lt, List, length, Option, Some, None, Ok, Err, ok_or, slice_get, slice_index_or}
 use Rattle.std.specs.Ordering.{int_eq}
 use Rattle.std.proofs.Common.{refl, ◌∙◌}
@@ -77,7 +77,7 @@ test_is (at_most a b) args w = rw (value_is a args w, value_is b args w) (compar
 test_is (equal a b) args w = rw (value_is a args w, value_is b args w) (compared_are int_eq (value_of a args w.registers)
     (value_of b args w.registers))
 
--- what comes after a part: its result goes on, and a code is asked
+-- what comes after a part: its result goes on, and a code is raised
 abbrev after : {A : Type 0} → OrCode A → (A → Outcome) → Outcome
 after (Ok a) go = go a
 after (Err code) go = Asked code
@@ -119,7 +119,7 @@ test_step unknown r ys ns m next rest e yes_same no_same = rw e refl
 abbrev along : List ℤ → Way → Workspace → Outcome
 along args behind w = serial (run args behind w.registers w.answers) w.working
 
--- what the first statement does, and then what is behind it
+-- what the first statement does, and then what is after it
 behind_first : (args : List ℤ) (b : Block) (behind : Way) (r : OrCode Workspace) (first : Outcome)
     → ((w : Workspace) → along args (onto b behind) w ≡ after (execute args b w) (along args behind))
     → first ≡ after r (along args (onto b behind)) → first ≡ after (and_then r (λ next. execute args b next)) (along args behind)

@@ -1,4 +1,4 @@
--- Basic facts of legal histories: who is live at an entry, fates stay, and only started transactions act.
+-- Basic facts of legal histories: which transactions are live at an entry; fates stay; only started transactions act.
 -- on options
 use Rattle.std.proofs.Common.{◌++◌, ◌≡◌, ◌≢◌, ℕ, ◌+◌, ◌<◌, ◌≤◌, Bool, true, false, cond, ◌⊎◌, List, [], ◌∷◌, Option, Some, None, is_none, nat_eq, refl, sym, ap, ap₂, subst, inl, inr, ◌∙◌, arith, lt_of_lt_of_le, le_refl}
 use Rattle.std.proofs.lemmas.Bool.{and_from, and_parts, or_cases, ltb-true, lt-ltb, eqb-true, eq-eqb, ne_eqb, both_ways, or_left, or_right}
@@ -90,7 +90,7 @@ pub access-live : (s : Setting) (past : List Entry) (event : Event) (r : Reply) 
 access-live s past event r h a e = let x = access_case (effect s past event r h) a e in
     subst (λ (b : Access). live past b.by ≡ true) x.1 x.0.is_live
 
--- and closes no walk
+-- and closes no cycle
 pub access-free : (s : Setting) (past : List Entry) (event : Event) (r : Reply) → LegalReply s past event r → (a : Access)
     → access_in event r ≡ Some a → (rest : List ℕ) → Closes past a.by a.key a.kind rest → ⊥
 access-free s past event r h a e = let x = access_case (effect s past event r h) a e in
@@ -102,7 +102,7 @@ pub access-fits : (s : Setting) (past : List Entry) (event : Event) (r : Reply) 
 access-fits s past event r h a e = let x = access_case (effect s past event r h) a e in
     subst (λ (b : Access). Fits (next_of s past b.by) b) x.1 x.0.fits
 
--- and where it is a look, found what was visible
+-- and where it is a read, returned what was visible
 pub look-found : (s : Setting) (past : List Entry) (event : Event) (r : Reply) → LegalReply s past event r → (a : Access)
     → access_in event r ≡ Some a → a.kind ≡ Look → a.value ≡ visible s.opening past a.key
 look-found s past event r h a e = let x = access_case (effect s past event r h) a e in
@@ -343,7 +343,7 @@ pub follows-access : (past : List Entry) (o : Option Access) (t u : ℕ) → Fol
 follows-access past None t u h = absurd h
 follows-access past (Some a) t u h = record { access = a; is = refl; by = h.0; access_list = h.1 }
 
--- who has an access was started, and so unstarted transactions have none
+-- a transaction with an access was started, so unstarted transactions have none
 pub has_conflicting-started : (s : Setting) (past : List Entry) → Legal s past → (t : ℕ) (k : Key) (kind : Kind)
     → has_conflicting past t k kind ≡ true → t < start_count past
 has_conflicting-started s [] h t k kind q = absurd (cc)
@@ -365,7 +365,7 @@ precedes-started s (e ∷ past) h t u (inl now) = let f = follows-access past (a
 precedes-started s (e ∷ past) h t u (inr before) = let p = precedes-started s past h.0 t u before in
     (started-stays e past t p.0, started-stays e past u p.1)
 
--- an entry that commits and refuses nobody
+-- an entry that commits and refuses no transaction
 pub record Uncommitted (s : Setting) (past : List Entry) (event : Event) (r : Reply) : Type 0 where
   pub no_call : told_call_in past event r ≡ []
   pub tells_none : told_in r ≡ []

@@ -1,4 +1,4 @@
--- What is left of a procedure is a run that is still to be done, and goes on as that does.
+-- The remainder of a procedure is a run that is still to be done, and goes on as that does.
 use Rattle.std.specs.Prelude.{◌≡◌, ℕ, zero, suc, ◌+◌, ℤ, Bool, true, false, cond, nat_lt, List, [], ◌∷◌, ◌++◌, length, Option, Some, None, Ok, Err, slice_set}
 use Rattle.std.proofs.Common.{refl, sym, ap, ◌∙◌, arith}
 use Rattle.sgt_model.specs.Numbers.{is_value}
@@ -24,7 +24,7 @@ onto_followed (ask code b) more behind = refl
 onto_followed (choose test ys ns b) more behind = ap (λ w. way.fork test (onto ys w) (onto ns w)) (onto_followed b more behind)
 onto_followed (answer value b) more behind = ap (way.answer value) (onto_followed b more behind)
 
--- the run from where statements came to, with a way behind them
+-- the run from where statements came to, with a way after them
 abbrev run_reached : List ℤ → Way → OrCode Reached → Run
 run_reached args behind (Ok (AtLook key to absent r)) =
     looks key (λ found. if_found absent found (λ v. run r.args (onto r.statements behind) (slice_set r.registers to (Some v)) r.answers))
@@ -60,7 +60,7 @@ test_step args behind (holds false) ys ns next yes_same no_same = no_same
 test_step args behind too_far ys ns next yes_same no_same = refl
 test_step args behind unknown ys ns next yes_same no_same = refl
 
--- what is behind an If: with the branch's end its run goes on
+-- what is after an If: with the branch's end its run goes on
 if_step : (args : List ℤ) (b : Block) (behind : Way) (o : OrCode Reached) → ((registers : Registers) (answers : List ℤ)
     → run args (onto b behind) registers answers ≡ run_reached args behind (reach b args registers answers))
     → run_reached args (onto b behind) o ≡ run_reached args behind
@@ -192,7 +192,7 @@ store_first : (l : Left) (key : Key) (v : ℤ) (values : List (Option ℤ)) (mad
     (suc made) ≡ left_after (after_store l) values made
 store_first l key v values made next = ap (λ n. after_next n l values (λ then values_then. left_after then values_then made)) next
 
--- the laws, for what is left that a run is of
+-- the laws, for the remainder that a run is of
 
 pub next_after : (made : ℕ) (r : Run) (l : Left) (values : List (Option ℤ)) → run_left l ≡ r → Used r values made
     → next_left (left_after l values made) ≡ next_at (trace r values) made

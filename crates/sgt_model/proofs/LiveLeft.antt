@@ -1,4 +1,4 @@
--- In a legal history what is left of a transaction is what its call's run has still to do.
+-- In a legal history the remainder of a transaction is what its call's run has still to do.
 use Rattle.std.specs.Prelude.{◌≡◌, ℕ, suc, ℤ, List, [], ◌∷◌, ◌++◌, length, Option, Some, None}
 use Rattle.std.proofs.Common.{refl, sym, ◌∙◌, subst, append-nil}
 use Rattle.sgt_model.specs.declared.entry.Entry.{Entry}
@@ -18,11 +18,11 @@ use Rattle.sgt_model.proofs.Uses.{used_look-suc, used_store-suc}
 use Rattle.sgt_model.proofs.Plays.{plays}
 use Rattle.sgt_model.proofs.LeftRuns.{run_left, next_after, look_after, store_after}
 
--- what is left of a call after these accesses, newest first
+-- the remainder of a call after these accesses, newest first
 abbrev pub left_by : Setting → Call → List Access → Left
 left_by s c all = left_after (left_of_call s.rules c) (values_read all) (length all)
 
--- accesses that were asked for use the values that they looked at
+-- accesses that the run wanted use the values that they read
 
 one_used : (r : Run) (done : List Access) (a : Access) (n : Next) → next_at (trace r (values_read done)) (length done) ≡ n → Fits n a
     → Used r (values_read done) (length done) → Used r (values_read done ++ if_look a.kind a.value) (suc (length done))
@@ -38,13 +38,13 @@ all_used : (r : Run) (done : List Access) → AsAsked (asks_of r) done → Used 
 all_used r [] h = tt
 all_used r (a ∷ done) h = one_used r done a (next_at (trace r (values_read done)) (length done)) refl h.1 (all_used r done h.0)
 
--- what is left at the start is the whole run
+-- the remainder at the start is the whole run
 
 run_at_start : (p : Option ProcedureText) (args : List ℤ) → run_left (left_if p args) ≡ run_if p args
 run_at_start None args = refl
 run_at_start (Some p) args = refl
 
--- what is left of a procedure goes on as its run does
+-- the remainder of a procedure goes on as its run does
 module _ (p : Option ProcedureText) (args : List ℤ) (values : List (Option ℤ)) (made : ℕ) (used : Used (run_if p args) values made) where
   pub next_if : next_left (left_after (left_if p args) values made) ≡ next_at (trace (run_if p args) values) made
   next_if = next_after made (run_if p args) (left_if p args) values (run_at_start p args) used

@@ -9,7 +9,7 @@ use Rattle.sgt_model.specs.Databases.{Row, contents_of, key_lt, IsByKey, HasValu
 use Rattle.sgt_model.proofs.Rows.{below_at, by_key_at, key_eq-below, key_lt-trans}
 use Rattle.sgt_model.proofs.Stores.{key_eq-true}
 
--- a row more puts its value
+-- one more row writes its value
 one_row_more : (rows : List Row) (i : ℕ) (r : Row) → IsByKey rows → slice_get rows i ≡ Some r → (k : Key)
     → contents_of (take (suc i) rows) k ≡ put_in (contents_of (take i rows)) r.0 r.1 k
 one_row_more [] i r ordered at k = absurd (cc)
@@ -76,7 +76,7 @@ older_more rows newer at j r ordered is none k =
     go true e = ap (λ o. option_or o (Some r.1)) (sym (ap (contents_of (take j newer)) (sym (key_eq-true r.0 k e)) ∙ none))
     go false e = refl
 
--- and the rows behind it are apart from one more newer row, which comes before them
+-- and the rows after it are apart from one more newer row, which comes before them
 pub apart_more : (rows newer : List Row) (at j : ℕ) (q : Row) → IsByKey rows → IsByKey newer → slice_get newer j ≡ Some q
     → ((r : Row) → slice_get rows at ≡ Some r → key_lt q.0 r.0 ≡ true) → AreApart rows at (take j newer)
     → AreApart rows at (take (j + 1) newer)

@@ -1,4 +1,4 @@
--- The conflict pairs of a legal history have no cycle.
+-- The edges of a legal history have no cycle.
 use Rattle.std.specs.Prelude.{◌≡◌, ◌≢◌, ℕ, ◌<◌, true, false, ◌⊎◌, List, [], ◌∷◌, length, Option, Some, None}
 use Rattle.std.proofs.Common.{refl, sym, ◌∙◌, inl, inr, arith}
 use Rattle.sgt_model.specs.declared.entry.Entry.{Entry}
@@ -14,7 +14,7 @@ use Rattle.sgt_model.specs.Legality.{LegalReply, Legal}
 use Rattle.sgt_model.proofs.Paths.{Simple, simple, simple_some, acyclic_grows, acyclic_map}
 use Rattle.sgt_model.proofs.Facts.{access-free, stood-before}
 
--- where t reaches another transaction that the access conflicts with, there is a walk that it closes
+-- where t reaches another transaction that the access conflicts with, there is a cycle that it closes
 pub closes_from_reach : (past : List Entry) (t : ℕ) (k : Key) (kind : Kind) (y : ℕ) → Reaches (Pair past) t y → y ≢ t
     → has_conflicting past y k kind ≡ true
     → (rest : List ℕ) × Closes past t k kind rest
@@ -29,7 +29,7 @@ closes_from_reach past t k kind y (path, goes, ends) apart conflict =
       },
     )
 
--- an access closes no walk
+-- an access closes no cycle
 abbrev pub Granted : List Entry → Option Access → Type 0
 Granted past None = Unit {0}
 Granted past (Some a) = (rest : List ℕ) → Closes past a.by a.key a.kind rest → ⊥
@@ -39,7 +39,7 @@ granted : (s : Setting) (e : Entry) (past : List Entry) → LegalReply s past e.
 granted s e past l None is = tt
 granted s e past l (Some a) is = access-free s past e.event e.reply l a is
 
--- what an entry that may be an access does to the pairs
+-- what an entry that may be an access does to the edges
 abbrev pub Earlier : List Entry → Option Access → ℕ → ℕ → Type 0
 Earlier past access a b = (a ≢ b) × (aborted past a ≡ false) × (aborted past b ≡ false) × (FollowsIn past access a b ⊎ Precedes past a b)
 
@@ -66,7 +66,7 @@ no_cycle_grows past (Some x) later free before acyclic =
     go a b (apart, first, second, inl (by, access_list)) = inr (((λ e. apart (e ∙ by)), access_list), sym by)
     go a b (apart, first, second, inr old) = inl (record { apart = apart; first_stands = first; second_stands = second; precedes = old })
 
--- the pairs of a legal history have no cycle
+-- the edges of a legal history have no cycle
 pub no_cycle : (s : Setting) (past : List Entry) → Legal s past → Acyclic (Pair past)
 no_cycle s [] l = go
   where

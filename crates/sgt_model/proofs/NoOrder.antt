@@ -1,4 +1,4 @@
--- A rejected access, added all the same, would leave the members of its walk with no order.
+-- A rejected access, added all the same, would leave the members of its path with no order.
 -- an access ends no transaction
 use Rattle.std.specs.Prelude.{◌≡◌, ◌≢◌, ℕ, ◌<◌, ◌≤◌, true, false, cond, nat_eq, List, [], ◌∷◌, Option, Some, None}
 use Rattle.std.specs.Option.{option_or}
@@ -40,7 +40,7 @@ pair_stays e past t k kind is a b p = record {
   precedes = inr p.precedes;
 }
 
--- the pair that the access makes with an earlier one
+-- the edge that the access makes with an earlier one
 pub pair_made : (e : Entry) (past : List Entry) (t : ℕ) (k : Key) (kind : Kind) → IsAccessBy (access_of e) t k kind
     → (a : ℕ) → a ≢ t → aborted past a ≡ false → aborted past t ≡ false → has_conflicting past a k kind ≡ true → Pair (e ∷ past) a t
 pair_made e past t k kind is a apart first second access_list = record {
@@ -64,12 +64,12 @@ rank_rises step rank members up t (u ∷ rest) w p =
     let there : rank u ≤ rank (last_of u rest) = rank_rises step rank members up u rest (λ x m. w x (inr m)) p.1 in
     omega arith
 
--- the last member of a walk of pairs stands
+-- the last member of a path of edges stands
 last_stands : (past : List Entry) (t u : ℕ) (rest : List ℕ) → PathOf (Pair past) t (u ∷ rest) → aborted past (last_of u rest) ≡ false
 last_stands past t u [] p = p.0.second_stands
 last_stands past t u (v ∷ rest) p = last_stands past u v rest p.1
 
--- with the rejected access added no numbers for the walk's members rise along each pair among them
+-- with the rejected access added no numbers for the path's members rise along each edge among them
 pub refused_has_no_rank : (past : List Entry) (t : ℕ) (k : Key) (kind : Kind) (rest : List ℕ) → Closes past t k kind rest
     → (e : Entry) → IsAccessBy (access_of e) t k kind
     → (rank : ℕ → ℕ) → ((a b : ℕ) → Member a (t ∷ rest) → Member b (t ∷ rest) → Pair (e ∷ past) a b → rank a < rank b) → ⊥
@@ -110,7 +110,7 @@ index_rises a b (c ∷ rest) d (inr s) =
     let (ma, mb) = before_member a b rest s in
     omega (arith, index_rises a b rest d.1 s, index-other c rest a d.0 ma, index-other c rest b d.0 mb)
 
--- with the rejected access added as an entry, the members of its walk have no order in which the first of each pair
+-- with the rejected access added as an entry, the members of its path have no order in which the first of each edge
 -- among them comes first
 pub refused_has_no_order : (past : List Entry) (t : ℕ) (k : Key) (kind : Kind) (rest : List ℕ) → Closes past t k kind rest
     → (e : Entry) → IsAccessBy (access_of e) t k kind → (order : List ℕ) → Orders (Pair (e ∷ past)) (t ∷ rest) order → ⊥

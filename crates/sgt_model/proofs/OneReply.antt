@@ -1,4 +1,4 @@
--- Two legal replies to one event are the same, but for the walk of a rejected access.
+-- Two legal replies to one event are the same, but for the path of a rejected access.
 use Rattle.std.specs.Prelude.{◌≡◌, ℕ, ◌<◌, Bool, true, false, ◌⊎◌, nat_lt, List, [], ◌∷◌, Option, Some, None, ℤ}
 use Rattle.std.proofs.Common.{refl, sym, ◌∙◌, ap, ap₂, inl, inr, arith}
 use Rattle.sgt_model.specs.declared.event.Event.TheVariants.{Start, Step, Commit, Quit}

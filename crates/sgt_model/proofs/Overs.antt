@@ -1,4 +1,4 @@
--- A map with a transaction's stores over it is what the transaction finds.
+-- A map with a transaction's writes over it is what the transaction finds.
 use Rattle.std.specs.Option.{option_or}
 use Rattle.std.specs.Prelude.{◌≡◌, ℕ, ℤ, Bool, true, false, nat_eq, List, [], ◌∷◌, ◌++◌, Option, Some, None}
 use Rattle.std.proofs.Common.{refl, sym, ap, ◌∙◌, subst, subst₂, ⊎_elim, append_assoc}
@@ -35,7 +35,7 @@ over_access m t k rest (Some a) = by_tests (nat_eq a.by t) a.kind (key_eq a.key 
     by_tests false Store true h g f = simp (h, g, f)
     by_tests false Store false h g f = simp (h, g, f)
 
--- the value of t's own newest store, or else the map's, is what the map has with t's stores over it
+-- the value of t's own newest write, or else the map's, is what the map has with t's writes over it
 pub over-acts : (m : Contents) (past : List Entry) (t : ℕ) (k : Key) → over m (acts past t) k ≡ value_or
     (newest_store (λ u. nat_eq u t) k past) (m k)
 over-acts m [] t k = refl
@@ -54,7 +54,7 @@ finds_at s newer older past e a t split by legal is is_look is_live none_live =
     let at : At (newer ++ e ∷ older) a.by = λ g l n. finds s newer older e a g is is_look l n in
     (subst₂ At split by at) legal is_live none_live
 
--- each look of a transaction that may commit agrees with what is committed by then
+-- each read of a transaction that may commit agrees with what is committed by then
 pub looks_agree : (s : Setting) (newer older past : List Entry) (t : ℕ) → newer ++ older ≡ past → Legal s past → live past t ≡ true
     → HasNoLivePredecessor past t → LooksAgree (settled s.opening past) t older
 looks_agree s newer [] past t split legal is_live none_live = tt
@@ -67,7 +67,7 @@ looks_agree s newer (e ∷ older) past t split legal is_live none_live = (
     by_access None is = tt
     by_access (Some a) is = λ z is_look. finds_at s newer older past e a t split z legal is is_look is_live none_live
 
--- and so found what that map has with its own stores over it
+-- and so found what that map has with its own writes over it
 pub finds_in : (m now : Contents) (l : List Entry) (t : ℕ) → ((k : Key) → m k ≡ now k) → LooksAgree now t l → FindsIn m (acts l t)
 finds_in m now [] t same agree = tt
 finds_in m now (e ∷ older) t same agree = by_access (finds_in m now older t same agree.0) (access_of e) refl

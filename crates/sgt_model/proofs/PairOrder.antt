@@ -1,4 +1,4 @@
--- No pair leads from a live to a committed transaction, and pairs of committed ones agree with the order of commits.
+-- No edge leads from a live to a committed transaction, and edges of committed ones agree with the order of commits.
 use Rattle.std.proofs.Common.{◌≡◌, ◌≢◌, ℕ, true, List, [], ◌∷◌, Some, sym, subst, inl, inr, ◌∙◌}
 use Rattle.sgt_model.specs.declared.reply.Fate.TheVariants as fate
 use Rattle.sgt_model.specs.declared.entry.Entry.{Entry}
@@ -18,7 +18,7 @@ follows-not_committed s e past h t u now c =
     let alive = subst (λ v. live past v ≡ true) f.by (access-live s past e.event e.reply h.1 f.access f.is) in
     cc (sym (committed-fate (e ∷ past) u c) ∙ (access-same_fate s e past h f.access f.is u ∙ live-no_fate past u alive))
 
--- at the entry in which u commits, no live transaction has a pair into it
+-- at the entry in which u commits, no live transaction has an edge into it
 at_commit : (s : Setting) (e : Entry) (past : List Entry) → Legal s (e ∷ past) → (t u : ℕ) → t ≢ u → live past t ≡ true
     → Precedes past t u → ending_in e.event e.reply u ≡ Some fate.Committed → ⊥
 at_commit s e past h t u apart alive p now =
@@ -45,7 +45,7 @@ live_precedes s (e ∷ past) h t u apart alive c (inr p) =
       | inr before ↦ live_precedes s past h.0 t u apart alive_before before.1 p
     ]
 
--- no pair leads from a live to a committed transaction
+-- no edge leads from a live to a committed transaction
 pub no_pair_from_live : (s : Setting) (past : List Entry) → Legal s past → (t u : ℕ) → live past t ≡ true → committed past u ≡ true
     → Pair past t u → ⊥
 no_pair_from_live s past h t u alive c p = live_precedes s past h t u p.apart alive c p.precedes
@@ -68,7 +68,7 @@ committed_precedes s (e ∷ past) h t u apart ct cu (inr p) =
       ]
     ]
 
--- of two committed transactions with a pair the first committed first
+-- of two committed transactions with an edge the first committed first
 pub pair_commits_before : (s : Setting) (past : List Entry) → Legal s past → (t u : ℕ) → committed past t ≡ true
     → committed past u ≡ true → Pair past t u → CommitsBefore past t u
 pair_commits_before s past h t u ct cu p = committed_precedes s past h t u p.apart ct cu p.precedes

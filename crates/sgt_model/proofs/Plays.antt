@@ -1,4 +1,4 @@
--- A transaction's accesses in a legal history are what its procedure asked for.
+-- A transaction's accesses in a legal history are what its procedure wanted.
 use Rattle.std.specs.Prelude.{◌≡◌, ◌≢◌, ℕ, ◌<◌, ◌≤◌, ◌⊎◌, nat_eq, List, [], ◌∷◌, Option, Some, None}
 use Rattle.std.proofs.Common.{refl, sym, ap, ◌∙◌, subst, inl, inr, ⊎_elim, arith}
 use Rattle.std.proofs.lemmas.Bool.{cases_eq, cases_lt, eq-eqb, ne_eqb, cond-true, cond-false}
@@ -22,7 +22,7 @@ act_other x a t rest h g = subst (λ y. act_in y t rest ≡ rest) (sym h) (cond-
 pub act_none : (x : Option Access) (t : ℕ) (rest : List Access) → x ≡ None → act_in x t rest ≡ rest
 act_none x t rest h = ap (λ y. act_in y t rest) h
 
--- who was not started does not act
+-- a transaction that was not started does not act
 skip_unstarted : (s : Setting) (past : List Entry) (e : Entry) (t : ℕ) → LegalReply s past e.event e.reply → start_count past ≤ t
     → acts (e ∷ past) t ≡ acts past t
 skip_unstarted s past e t h unstarted = by_access (access_of e) refl
@@ -41,7 +41,7 @@ acts_unstarted s (e ∷ past) t h unstarted =
     let before : start_count past ≤ t = omega arith in
     skip_unstarted s past e t h.1 before ∙ acts_unstarted s past t h.0 before
 
--- these accesses are what the call's run asks for
+-- these accesses are what the call's run wants
 abbrev pub PlaysCall : Setting → Call → List Access → Type 0
 PlaysCall s c all = AsAsked (asks_of (run_of s.rules c)) all
 
@@ -60,7 +60,7 @@ plays_on s past e t h ih = by_access (access_of e) refl
         ⊎_elim (λ z. own a is z) (λ z. subst (λ l. PlaysCall s (call_of past t) l)
         (sym (act_other (access_of e) a t (acts past t) is z)) ih) (cases_eq a.by t)
 
--- what a transaction did is what its procedure asked for
+-- what a transaction did is what its procedure wanted
 pub plays : (s : Setting) (past : List Entry) (t : ℕ) → Legal s past → PlaysCall s (call_of past t) (acts past t)
 plays s [] t h = tt
 plays s (e ∷ past) t h = by_start (plays s past t h.0) (cases_lt t (start_count past))

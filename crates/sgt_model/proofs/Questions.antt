@@ -1,4 +1,4 @@
--- What an event and its reply tell of a transaction is so.
+-- What an event and its reply report of a transaction is true.
 use Rattle.std.proofs.Common.{◌≡◌, ℕ, ◌+◌, Bool, true, false, ◌&&◌, cond, List, ◌∷◌, Option, Some, None, is_none, nat_eq, nat_lt, refl, sym, ap, subst, inl, inr, ◌∙◌, arith, le_refl}
 use Rattle.std.proofs.lemmas.Bool.{eq-eqb}
 use Rattle.std.specs.List.{list_any}
@@ -25,7 +25,7 @@ use Rattle.sgt_model.specs.Laws.{StartedAreLive, OverAreNotLive, EndingsEndOne, 
 use Rattle.sgt_model.proofs.Effects.{EndsNone, ends_none-no_end, Effect, idle, begins, accesses, commits, undoes, refuses, effect}
 use Rattle.sgt_model.proofs.Facts.{live-started, live-no_fate, live_from, option_or-at_none, some_is, started-stays, unstarted-no_fate}
 
--- who has a fate is not live
+-- a transaction with a fate is not live
 
 and_false : (b : Bool) → (b && false) ≡ false
 and_false true = refl
@@ -55,7 +55,7 @@ ends_named event (reply.Refused code fell) t own e = (
 )
 ends_named event _ t own e = absurd (cc)
 
--- no reply to a live transaction is Over, so the one that tells its end ends it
+-- no reply to a live transaction is Over, so a reply that reports its end ends it
 
 ending_of : (r answer : Reply) → r ≡ answer → (tells_end answer ≡ true → is_ending answer ≡ true) → tells_end r ≡ true → is_ending r ≡ true
 ending_of r answer is so e = subst (λ x. tells_end x ≡ true → is_ending x ≡ true) (sym is) so e
@@ -105,7 +105,7 @@ over past e t P ends h = over_at past e t P ends (nat_lt t (start_count past)) (
 named_own : (u t : ℕ) → Some u ≡ Some t → nat_eq u t ≡ true
 named_own u t e = eq-eqb u t (some_is u t e)
 
--- where a test holds, so many are told
+-- where a test holds, so many are reported
 told : (b : Bool) (u t : ℕ) → cond b (Some u) None ≡ Some t → (b ≡ true) × (Some u ≡ Some t)
 told true u t e = (refl, e)
 told false u t e = absurd (cc)

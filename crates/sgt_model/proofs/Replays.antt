@@ -1,4 +1,4 @@
--- The replay in commit order: each commit's looks agree with what is committed, and so the replay gives what was told.
+-- The replay in commit order: each commit's reads agree with what is committed, and so the replay gives what was reported.
 use Rattle.std.specs.Prelude.{◌≡◌, ◌≢◌, ℕ, ℤ, Bool, true, cond, ◌⊎◌, nat_eq, List, [], ◌∷◌, ◌++◌, Some, None}
 use Rattle.std.specs.Option.{option_or}
 use Rattle.std.proofs.Common.{refl, sym, ap, ap₂, ◌∙◌, subst, subst₂, inl, inr, ⊎_elim}
@@ -97,7 +97,7 @@ refusal_agrees : (s : Setting) (past : List Entry) (event : Event) (r : Reply) �
     → LooksAgree (settled s.opening past) x.undoing.t past
 refusal_agrees s past event r h x = looks_agree s [] past past x.undoing.t refl h x.undoing.is_live x.none_live
 
--- at each commit and refusal, each look of its transaction found its own newest store or the committed value
+-- at each commit and refusal, each read of its transaction found its own newest write or the committed value
 pub commits_agree : (s : Setting) (past : List Entry) → Legal s past → CommitsAgree s past
 commits_agree s [] h = tt
 commits_agree s (e ∷ past) h = (commits_agree s past h.0, now (commits_or_not (effect s past e.event e.reply h.1)))
@@ -136,7 +136,7 @@ at_quiet s e past h quiet ih = record {
       ∙ (ih.database k ∙ sym (settled_quiet s past e k h quiet.no_commit));
 }
 
--- the run of a transaction that is refused asks its code
+-- the run of a transaction that is refused raises its code
 run_asked : (s : Setting) (past : List Entry) (event : Event) (r : Reply) → Legal s past → (x : Refusal s past event r)
     → ReplayAgrees s past → serial (run_of s.rules (call_of past x.undoing.t)) (folded s past).last ≡ Asked x.code
 run_asked s past event r h x ih =

@@ -1,4 +1,4 @@
--- A legal reply names no more transactions than may be live at once: its walk and those that fall are of live ones.
+-- A legal reply names no more transactions than may be live at once: its path and those aborted in cascade are of live ones.
 use Rattle.std.specs.Prelude.{◌≡◌, ℕ, suc, ◌<◌, ◌≤◌, Bool, true, false, cond, ◌⊎◌, nat_eq, nat_lt, List, [], ◌∷◌, length, Option, Some, None, ℤ}
 use Rattle.std.specs.List.{list_any}
 use Rattle.std.specs.Option.{is_none}
@@ -94,13 +94,13 @@ module _ (s : Setting) (past : List Entry) (h : Legal s past) where
       let kept : length (live_ones past) ≤ s.rules.limits.live = (limits_are_kept s past h).1 in
       omega arith
 
-  -- all on a walk from a live one are live
+  -- all on a path from a live one are live
   walk_live : (t : ℕ) (rest : List ℕ) → live past t ≡ true → PathOf (Pair past) t rest → (u : ℕ) → Member u (t ∷ rest) → live past u ≡ true
   walk_live t rest alive p u (inl e) = subst (λ x. live past x ≡ true) (sym e) alive
   walk_live t [] alive p u (inr m) = absurd m
   walk_live t (v ∷ rest) alive p u (inr m) = walk_live v rest (pair_live s past h t v alive p.0) p.1 u m
 
-  -- with t, those that fall with it are no more than may be live at once
+  -- with t, those aborted in cascade with it are no more than may be live at once
   few_fall : (t : ℕ) → live past t ≡ true → (fell : List ℕ) → Falls past t fell → length fell < s.rules.limits.live
   few_fall t alive fell falls =
       let all : suc (length fell) ≤ s.rules.limits.live =

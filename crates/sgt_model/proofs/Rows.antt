@@ -1,4 +1,4 @@
--- Rows by key: the index of a key among them, and what a row put there changes.
+-- Rows by key: the index of a key among them, and what a row written there changes.
 use Rattle.std.proofs.Common.{◌≡◌, ℕ, zero, suc, ℤ, ◌<◌, ◌≤◌, ◌+◌, ◌<ℤ◌, arith, Bool, true, false, cond, nat_eq, List, [], ◌∷◌, length, Option, Some, None, Ordering, Less, Equal, Greater, refl, sym, ap, ◌∙◌, subst, slice_get, slice_set, insert, get_or, Ok, Err}
 use Rattle.std.specs.Ordering.{nat_cmp, int_cmp, ordering_reverse, ordering_then, partial_ordering_then, is_some_and, is_lt, MatchOrdering}
 use Rattle.std.specs.Cmp.{IsTotalOrder, Some-then, ranks, int_ranks}
@@ -98,7 +98,7 @@ low_moves rows m q k rising at less i r h at' = within (nat_eq i m) refl where
       (same_Some _ _ (sym at ∙ (ap (slice_get rows) (sym (eqb-true i m e)) ∙ at'))) less
   within false e = key_lt-trans r.0 q.0 k (by_key_at rows i m r q rising (omega (arith, eqb-false i m e)) at' at) less
 
--- and none behind it where it does not come first
+-- and none after it where it does not come first
 pub high_moves : (rows : List Row) (m : ℕ) (q : Row) (k : Key) → IsByKey rows → slice_get rows m ≡ Some q → key_lt q.0 k ≡ false
     → (i : ℕ) (r : Row) → m ≤ i → slice_get rows i ≡ Some r → key_lt r.0 k ≡ false
 high_moves rows m q k rising at more i r h at' = within (nat_eq i m) refl where
@@ -127,7 +127,7 @@ index_from k (x ∷ rows) (suc n) h below above = (
 pub read_at : (rows seen : List Row) (m : ℕ) (r : Row) → rows ≡ seen → m < length seen → r ≡ get_or rows m r → slice_get seen m ≡ Some r
 read_at rows seen m r same within read = slice_get_read seen (length seen) m r refl within (subst (λ l. r ≡ get_or l m r) same read)
 
--- what the index of a key tells
+-- what the index of a key says
 
 -- what a row says of a key
 abbrev pub value_if : Option Row → Key → Option ℤ
@@ -155,7 +155,7 @@ contents_at k (r ∷ rows) zero rising index = both (key_eq r.0 k) refl where
 contents_at k (r ∷ rows) (suc n) rising index = ap (λ b. cond b (Some r.1) (contents_of rows k)) (key_eq-below r.0 k index.0)
     ∙ contents_at k rows n rising.1 index.1
 
--- what a row that is put at the key's index changes
+-- what a row that is written at the key's index changes
 
 under : (k : Key) (v : ℤ) (x : Row) (rows new : List Row) → key_lt x.0 k ≡ true → (j : Key) → contents_of new j ≡ put_in
     (contents_of rows) k v j → contents_of (x ∷ new) j ≡ put_in (contents_of (x ∷ rows)) k v j

@@ -1,5 +1,5 @@
--- Some reply to each event is legal: whether an access closes a walk, who falls and who has to be waited for are found
--- among the finitely many transactions of the entries.
+-- Some reply to each event is legal. Whether an access closes a cycle, which transactions are aborted in cascade and which must
+-- be waited for are found among the finitely many transactions of the entries.
 use Rattle.std.specs.Prelude.{◌≡◌, ◌≢◌, ℕ, ℤ, ◌<◌, ◌≤◌, ◌+◌, Bool, true, false, cond, not, ◌&&◌, ◌⊎◌, nat_eq, nat_lt, List, [], ◌∷◌, ◌++◌, length, Option, Some, None}
 use Rattle.std.specs.List.{filter}
 use Rattle.std.proofs.Common.{refl, sym, ◌∙◌, subst, inl, inr, arith}
@@ -82,7 +82,7 @@ least_or_none test (t ∷ l) = elim (cases_Bool (test t)) [
   ]
 ]
 
--- who was started is listed
+-- a started transaction is listed
 pub begun_has : (past : List Entry) (t : ℕ) → t < start_count past → Member t (started_ones past)
 begun_has [] t less = absurd (omega arith)
 begun_has (e ∷ past) t less = go (begun_has past t) (is_start e.reply) less
@@ -94,7 +94,7 @@ begun_has (e ∷ past) t less = go (begun_has past t) (is_start e.reply) less
     go before false less = before less
 
 module _ (past : List Entry) (t : ℕ) where
-  -- who falls
+  -- which transactions are aborted in cascade
 
   abbrev falls : ℕ → Bool
   falls u = live past u && (not (nat_eq u t) && leads (feeds past) (actors past) t u)
@@ -123,10 +123,10 @@ module _ (past : List Entry) (t : ℕ) where
   some_abort : (why : Cause) → (r : Reply) × AbortReply past t why r
   some_abort why = (reply.Aborted why some_fall.0, record { fell = some_fall.0; falls = some_fall.1; is = refl })
 
-  -- whether an access closes a walk
+  -- whether an access closes a cycle
 
   module _ (k : Key) (kind : Kind) where
-    -- another with a conflicting access, to which pairs lead from t
+    -- another with a conflicting access, to which edges lead from t
     abbrev closing : ℕ → Bool
     closing u = not (nat_eq t u) && (has_conflicting past u k kind && leads (pair past) (actors past) t u)
 
@@ -172,7 +172,7 @@ module _ (past : List Entry) (t : ℕ) where
       )
     ]
 
-  -- who has to be waited for
+  -- which transaction must be waited for
 
   abbrev before : ℕ → Bool
   before u = live past u && pair past u t

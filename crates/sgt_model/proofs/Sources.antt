@@ -46,7 +46,7 @@ read-apart [] t u h = absurd h
 read-apart (e ∷ past) t u (inl h) = h.0
 read-apart (e ∷ past) t u (inr h) = read-apart past t u h
 
--- a store precedes the look that found it
+-- a write precedes the read that returned it
 pub read-precedes : (past : List Entry) (t u : ℕ) → ReadFrom past t u → Precedes past u t
 read-precedes [] t u h = absurd h
 read-precedes (e ∷ past) t u (inl h) = let l = looks-access past _ t u h.1 in
@@ -88,7 +88,7 @@ abort_wins : (o p : Option Fate) → has_aborted o ≡ true → has_aborted (opt
 abort_wins None p h = absurd (cc)
 abort_wins (Some f) p h = h
 
--- a live transaction falls with what it has read from
+-- a live transaction is aborted in cascade with what it has read from
 pub falls_with : (s : Setting) (e : Entry) (past : List Entry) → Legal s (e ∷ past) → (t u : ℕ) → live past t ≡ true
     → ReadFrom past t u → (f : Fate) → ending_in e.event e.reply u ≡ Some f → has_aborted (Some f) ≡ true → aborted (e ∷ past) t ≡ true
 falls_with s e past h t u alive reads f now is =
@@ -111,7 +111,7 @@ record Sound (past : List Entry) : Type 0 where
 source_stands : (past : List Entry) (u : ℕ) (k : Key) → IsBy (newest_store (λ v. not (aborted past v)) k past) u → aborted past u ≡ false
 source_stands past u k h = not-true _ (newest-by (λ v. not (aborted past v)) k past u h).0
 
--- a source of one that stands after an entry did not fall at it
+-- a source of one that stands after an entry was not aborted in cascade at it
 no_fall : (s : Setting) (e : Entry) (past : List Entry) → Legal s (e ∷ past) → Sound past → (t u : ℕ) → aborted (e ∷ past) t ≡ false
     → ReadFrom past t u → (f : Fate) → ending_in e.event e.reply u ≡ Some f → has_aborted (Some f) ≡ true → ⊥
 no_fall s e past h sound t u stands reads f now is = go (status past t (precedes-started s past h.0 u t (read-precedes past t u reads)).1)
@@ -135,7 +135,7 @@ stands_after s e past h sound t u stands (inr reads) = go (aborted (e ∷ past) 
       | inr before ↦ both_ways _ (sound.stands t u (stood-before s e past h t stands) reads) before
     ])
 
--- what a live transaction that waits for nobody has read from has committed
+-- what a live transaction that waits for none has read from has committed
 source_committed : (s : Setting) (past : List Entry) → Legal s past → Sound past → (t u : ℕ) → live past t ≡ true
     → HasNoLivePredecessor past t → ReadFrom past t u → committed past u ≡ true
 source_committed s past h sound t u t_alive none_live reads = go (status past u (precedes-started s past h u t precedes).0)
@@ -194,7 +194,7 @@ pub source_commits_before : (s : Setting) (past : List Entry) → Legal s past �
     → ReadFrom past t u → (committed past u ≡ true) × CommitsBefore past u t
 source_commits_before s past h = (sound s past h).commits
 
--- at each reply that tells answers or a code, what its transaction has read from is committed
+-- at each reply that reports answers or a code, what its transaction has read from is committed
 pub sources_are_committed : (s : Setting) (past : List Entry) → Legal s past → AllSourcesAreCommitted s past
 sources_are_committed s [] h = tt
 sources_are_committed s (e ∷ past) h = (sources_are_committed s past h.0, now (effect s past e.event e.reply h.1))

@@ -1,4 +1,4 @@
--- A procedure's run stores values only, so the contents of a replay hold values.
+-- A procedure's run writes values only, so the contents of a replay hold values.
 use Rattle.std.proofs.Common.{◌≡◌, refl, sym, subst, T, ℕ, ℤ, pos, negsuc, Bool, true, false, cond, List, [], ◌∷◌, length, Option, Some, None, nat_lt, slice_set}
 use Rattle.std.specs.Prelude.{int_le, IfSome, slice_get}
 use Rattle.std.proofs.lemmas.Bool.{and_parts}
@@ -20,12 +20,12 @@ is_value-fact v e =
     let parts = and_parts (int_le (negsuc 999999999999998) v) (int_le v (pos 999999999999999)) e in
     (record { le = subst T (sym parts.0) tt }, record { le = subst T (sym parts.1) tt })
 
--- a test that has to hold, or else a code is asked
+-- a test that has to hold, or else a code is raised
 stores_where : (test : Bool) (r : Run) → (test ≡ true → StoresValues r) → StoresValues (cond test r wrong)
 stores_where true r h = h refl
 stores_where false r h = tt
 
--- a number that has to be a value, or else a code is asked
+-- a number that has to be a value, or else a code is raised
 stores_with : (g : Got) (go : ℤ → Run) → ((v : ℤ) → StoresValues (go v)) → StoresValues (with_value g go)
 stores_with (is v) go h = h v
 stores_with over go h = tt
@@ -82,7 +82,7 @@ pub value_put : (test : Bool) (v : ℤ) (before : Option ℤ) → IsValue v → 
 value_put true v before fits stood = fits
 value_put false v before fits stood = stood
 
--- a run that stores values leaves values
+-- a run that writes values leaves values
 hold_after : (r : Run) (m before : Contents) → StoresValues r → HoldValues m → HoldValues before
     → HoldValues (contents_after (serial r m) before)
 hold_after (looks k go) m before stores now left = hold_after (go (m k)) m before (stores (m k)) now left

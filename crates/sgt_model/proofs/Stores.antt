@@ -1,4 +1,4 @@
--- Stores of a key, the newest one under a test of who counts, and what comes before it.
+-- Writes of a key, the newest one under a test of who counts, and what comes before it.
 use Rattle.std.specs.Option.{option_or}
 use Rattle.std.specs.Prelude.{◌≡◌, ◌≢◌, ℕ, ℤ, Bool, true, false, ◌&&◌, cond, ◌⊎◌, nat_eq, List, [], ◌∷◌, ◌++◌, Option, Some, None}
 use Rattle.std.specs.Ordering.{int_eq}
@@ -28,7 +28,7 @@ key_eq-true a b h =
 pub key_eq-refl : (a : Key) → key_eq a a ≡ true
 key_eq-refl a = and_from (nat_eq a.0 a.0) (int_eq a.1 a.1) (eq-eqb a.0 a.0 refl) ((Decides-int_eq a.1 a.1).1 refl)
 
--- on one store
+-- on one write
 
 pub record Stored (counts : ℕ → Bool) (k : Key) (o : Option Access) (a : Access) : Type 0 where
   pub is : o ≡ Some a
@@ -70,7 +70,7 @@ conflicts_any None t k kind h = absurd (cc)
 conflicts_any (Some a) t k kind h = let p = and_parts _ _ h in let q = and_parts _ _ p.1 in
     and_from _ _ p.0 (and_from _ _ q.0 (one_stores_any a.kind kind q.1))
 
--- who has stored the key has an access that conflicts with any of it
+-- a transaction that has written the key has an access that conflicts with any of it
 pub stored-has_conflicting : (past : List Entry) (t : ℕ) (k : Key) (kind : Kind) → has_conflicting past t k Look ≡ true
     → has_conflicting past t k kind ≡ true
 stored-has_conflicting [] t k kind h = absurd (cc)
@@ -84,9 +84,9 @@ pub follows_from : (past : List Entry) (o : Option Access) (a : Access) (t u : �
     → has_conflicting past t a.key a.kind ≡ true → FollowsIn past o t u
 follows_from past o a t u is by access_list = subst (λ x. FollowsIn past x t u) (sym is) (by, access_list)
 
--- on the newest store that counts
+-- on the newest write that counts
 
--- the newest store that counts is one that counts, and its transaction stored the key
+-- the newest write that counts is one that counts, and its transaction wrote the key
 pub newest-counts : (counts : ℕ → Bool) (k : Key) (past : List Entry) (a : Access) → newest_store counts k past ≡ Some a
     → (counts a.by ≡ true) × (has_conflicting past a.by k Look ≡ true)
 newest-counts counts k [] a e = absurd (cc)
@@ -108,14 +108,14 @@ pub newest-by : (counts : ℕ → Bool) (k : Key) (past : List Entry) (u : ℕ) 
 newest-by counts k past u h = let b = is_by _ u h in let p = newest-counts counts k past b.0 b.1 in
     (subst (λ v. counts v ≡ true) b.2 p.0, subst (λ v. has_conflicting past v k Look ≡ true) b.2 p.1)
 
--- a store follows the earlier stores of its key
+-- a write follows the earlier writes of its key
 pub store_follows : (counts : ℕ → Bool) (past : List Entry) (k : Key) (o : Option Access) (a : Access) (t u : ℕ)
     → Stored counts k o a → a.by ≡ u → has_conflicting past t k Look ≡ true → FollowsIn past o t u
 store_follows counts past k o a t u st by h =
     follows_from past o a t u st.is by (subst (λ (x : Key). has_conflicting past t x a.kind ≡ true)
     (sym (key_eq-true a.key k st.same_key)) (stored-has_conflicting past t k a.kind h))
 
--- the newest store that counts comes after those of the others that count
+-- the newest write that counts comes after those of the others that count
 pub newest-precedes : (counts : ℕ → Bool) (k : Key) (past : List Entry) (t u : ℕ) → t ≢ u → counts t ≡ true
     → has_conflicting past t k Look ≡ true → IsBy (newest_store counts k past) u → Precedes past t u
 newest-precedes counts k [] t u apart counted h newest = newest
@@ -153,7 +153,7 @@ newest-precedes counts k (e ∷ past) t u apart counted h newest =
           ]
         ]
 
--- the newest store that counts is by one that counts, and conflicts with each access of its key
+-- the newest write that counts is by one that counts, and conflicts with each access of its key
 pub record Found (q : ℕ → Bool) (k : Key) (l : List Entry) (a : Access) : Type 0 where
   pub counts : q a.by ≡ true
   pub access_list : (kind : Kind) → has_conflicting l a.by k kind ≡ true
@@ -161,9 +161,9 @@ pub record Found (q : ℕ → Bool) (k : Key) (l : List Entry) (a : Access) : Ty
 pub found : (q : ℕ → Bool) (k : Key) (l : List Entry) (a : Access) → newest_store q k l ≡ Some a → Found q k l a
 found q k l a h = let p = newest-counts q k l a h in record { counts = p.0; access_list = λ kind. stored-has_conflicting l a.by k kind p.1 }
 
--- whether an access is a store does not depend on who counts
+-- whether an access is a write does not depend on who counts
 
--- an access is a store of the key
+-- an access is a write of the key
 pub record StoreOf (k : Key) (x : Option Access) : Type 0 where
   pub a : Access
   pub is : x ≡ Some a
@@ -177,7 +177,7 @@ stores_by k a Look h b g = inr (λ p. simp h)
 stores_by k a Store h true g = inl (record { a = a; is = refl; kind = h; key = key_eq-true a.key k g; gives = λ p. simp (h, g) })
 stores_by k a Store h false g = inr (λ p. simp (h, g))
 
--- whether an access is a store of the key does not depend on who counts
+-- whether an access is a write of the key does not depend on who counts
 pub store_or_not : (k : Key) (x : Option Access) → StoreOf k x ⊎ ((q : ℕ → Bool) → stores q k x ≡ None)
 store_or_not k None = inr (λ q. refl)
 store_or_not k (Some a) = stores_by k a a.kind refl (key_eq a.key k) refl
@@ -192,7 +192,7 @@ pub newest_here : (q : ℕ → Bool) (k : Key) (e : Entry) (l : List Entry) (a :
     → newest_store q k (e ∷ l) ≡ Some a
 newest_here q k e l a h = ap (λ x. option_or x (newest_store q k l)) h
 
--- a store by one that does not count
+-- a write by one that does not count
 pub not_counted : (q : ℕ → Bool) (k : Key) (x : Option Access) (v : StoreOf k x) → q v.a.by ≡ false → stores q k x ≡ None
 not_counted q k x v h = v.gives q ∙ cond-false (q v.a.by) (Some v.a) None h
 
@@ -227,7 +227,7 @@ newest_agree p q k (e ∷ l) below here = at_entry (newest_agree p q k l below) 
     at_entry ih (inl v) = by_count v ih (cases_Bool (q v.a.by))
     at_entry ih (inr none) = skips (none p) (none q) ih
 
--- where an append's newer part has no store that counts, the older part alone has
+-- where an append's newer part has no write that counts, the older part alone has
 pub newest_append : (q : ℕ → Bool) (k : Key) (newer older : List Entry) → newest_store q k newer ≡ None
     → newest_store q k (newer ++ older) ≡ newest_store q k older
 newest_append q k [] older h = refl
@@ -250,7 +250,7 @@ one_stores_with : (kind : Kind) → one_stores kind Store ≡ true
 one_stores_with Look = refl
 one_stores_with Store = refl
 
--- an access of the key conflicts with a store of it
+-- an access of the key conflicts with a write of it
 pub conflicts_store : (x : Option Access) (a : Access) (k : Key) → x ≡ Some a → a.key ≡ k → conflicts x a.by k Store ≡ true
 conflicts_store x a k h g = subst (λ y. conflicts y a.by k Store ≡ true) (sym h)
     (subst (λ z. conflicts (Some a) a.by z Store ≡ true) g
@@ -263,13 +263,13 @@ lists_conflicting_append [] older t k kind h = h
 lists_conflicting_append (e ∷ newer) older t k kind h = or_right (conflicts (access_of e) t k kind)
     (has_conflicting (newer ++ older) t k kind) (lists_conflicting_append newer older t k kind h)
 
--- a store follows each access of its key
+-- a write follows each access of its key
 pub access_follows : (past : List Entry) (k : Key) (x : Option Access) (v : StoreOf k x) (t : ℕ)
     → has_conflicting past t k Store ≡ true → FollowsIn past x t v.a.by
 access_follows past k x v t h = subst (λ y. FollowsIn past y t v.a.by) (sym v.is)
     (refl, subst₂ (λ z kind. has_conflicting past t z kind ≡ true) (sym v.key) (sym v.kind) h)
 
--- a store that counts, in the newer part, follows each access of its key in the older part
+-- a write that counts, in the newer part, follows each access of its key in the older part
 pub precedes_newest : (q : ℕ → Bool) (k : Key) (newer older : List Entry) (a : Access) (t : ℕ) → newest_store q k newer ≡ Some a
     → has_conflicting older t k Store ≡ true → Precedes (newer ++ older) t a.by
 precedes_newest q k [] older a t h g = absurd (none-some a h)
@@ -284,7 +284,7 @@ precedes_newest q k (e ∷ newer) older a t h g = at_entry (precedes_newest q k 
         (λ no_q. inr (ih (sym (newest_skip q k e newer (not_counted q k (access_of e) v no_q)) ∙ h) g)) (cases_Bool (q v.a.by))
     at_entry ih (inr none) = inr (ih (sym (newest_skip q k e newer (none q)) ∙ h) g)
 
--- t has a store of the key, and the newest one that counts is another's: t's precedes it
+-- t has a write of the key, and the newest one that counts is another's: t's precedes it
 precedes_behind : (q : ℕ → Bool) (k : Key) (l : List Entry) (t : ℕ) (a b : Access) → newest_store q k l ≡ Some a
     → newest_store (λ u. nat_eq u t) k l ≡ Some b → q t ≡ true → a.by ≢ t → Precedes l t a.by
 precedes_behind q k l t a b h g mine other =
@@ -292,7 +292,7 @@ precedes_behind q k l t a b h g mine other =
     let access_list : has_conflicting l t k Look ≡ true = subst (λ u. has_conflicting l u k Look ≡ true) (eqb-true b.by t own.0) own.1 in
     newest-precedes q k l t a.by (λ z. other (sym z)) mine access_list (subst (λ x. IsBy x a.by) (sym h) refl)
 
--- the value of the newest store that counts is t's own newest store's, or where t has none, the value under a test
+-- the value of the newest write that counts is t's own newest write's, or where t has none, the value under a test
 -- that agrees but for t
 pub own_or : (p q : ℕ → Bool) (k : Key) (l : List Entry) (t : ℕ) (d : Option ℤ) → ((u : ℕ) → p u ≡ true → q u ≡ true) → q t ≡ true
     → ((a : Access) → newest_store q k l ≡ Some a → a.by ≢ t → p a.by ≡ true) → ((a : Access) → newest_store q k l ≡ Some a

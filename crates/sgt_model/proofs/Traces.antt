@@ -88,7 +88,7 @@ next_left r done e =
     ∙ (ap (λ t. next_at t (length (olds done))) e
     ∙ (next_behind (olds done) (trace (left r done) []) ∙ first_next (left r done)))
 
--- the trace over what the acts looked at begins with the acts
+-- the trace over what the acts read begins with the acts
 trace_left : (r : Run) (done : List Access) → AsAsked (asks_of r) done → (ws : List (Option ℤ))
     → trace r (values_read done ++ ws) ≡ behind (olds done) (trace (left r done) ws)
 trace_left r [] h ws = refl
@@ -99,7 +99,7 @@ trace_left r (a ∷ done) h ws =
     (trace_by (left r done) a ws (subst (λ n. Fits n a) (next_left r done (trace_left r done h.0 [])) h.1))
     ∙ behind_append (olds done) (as_act a) (trace (left_by (left r done) a) ws)))
 
--- a look, or a store of a value
+-- a read, or a write of a value
 abbrev Shape : Access → Type 0
 Shape a = (a.kind ≡ Look) ⊎ ((v : ℤ) × (a.kind ≡ Store) × (a.value ≡ Some v))
 

@@ -4,7 +4,7 @@ use Rattle.sgt_model.specs.Contents.{Key}
 use Rattle.sgt_model.specs.Runs.{Run, looks, puts, ends, raises}
 use Rattle.sgt_model.specs.Traces.{Looks, Puts, trace, next_at, Used}
 
--- where a look is next, its value is used next
+-- where a read is next, its value is used next
 pub used_look-suc : (r : Run) (vs : List (Option ℤ)) (made : ℕ) (k : Key) (v : Option ℤ) → Used r vs made
     → next_at (trace r vs) made ≡ Looks k → Used r (vs ++ v ∷ []) (suc made)
 used_look-suc (looks j go) [] zero k v u e = tt
@@ -18,7 +18,7 @@ used_look-suc (puts j x rest) vs (suc made) k v u e = used_look-suc rest vs made
 used_look-suc (ends answers) vs (suc made) k v u e = absurd u
 used_look-suc (raises code) vs (suc made) k v u e = absurd u
 
--- where a store is next, it is made
+-- where a write is next, it is made
 pub used_store-suc : (r : Run) (vs : List (Option ℤ)) (made : ℕ) (k : Key) (x : ℤ) → Used r vs made
     → next_at (trace r vs) made ≡ Puts k x → Used r vs (suc made)
 used_store-suc (looks j go) [] zero k x u e = absurd (cc)

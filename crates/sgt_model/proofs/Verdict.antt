@@ -1,4 +1,5 @@
--- The state tells what the definitions say: the verdict, the value found and its writer, who falls.
+-- The state agrees with the definitions: the verdict, the value read and its writer, and which transactions are aborted in
+-- cascade.
 use Rattle.std.proofs.Common.{◌≡◌, ◌≢◌, ℕ, ◌<◌, true, false, not, ◌||◌, List, [], ◌∷◌, Option, Some, None, refl, sym, ap, ap₂, subst, inl, inr, ◌∙◌, arith}
 use Rattle.std.specs.Prelude.{length}
 use Rattle.std.proofs.lemmas.Bool.{both_ways, or_cases, or_left, or_right, not-true}
@@ -33,7 +34,7 @@ use Rattle.sgt_model.proofs.Counted.{lists_conflicting-counts, lists_conflicting
 use Rattle.sgt_model.proofs.Chains.{chain-last, entry_of, newest-split, newest-value}
 
 module _ (s : Setting) (past : List Entry) (h : Legal s past) where
-  -- a pair out of a live transaction leads to a live one
+  -- an edge out of a live transaction leads to a live one
   pub pair_live : (t u : ℕ) → live past t ≡ true → Pair past t u → live past u ≡ true
   pair_live t u alive p = elim (status past u (precedes-started s past h t u p.precedes).1) [
     | inl l ↦ l
@@ -168,7 +169,7 @@ module _ (s : Setting) (past : List Entry) (h : Legal s past) where
     pub none_from : (t : ℕ) → live past t ≡ true → HasNoPredecessor (PairIn c) t → HasNoLivePredecessor past t
     none_from t t_alive none v p = none v ((i.pairs v t).1 (record { first_live = p.is_live; second_live = t_alive; pair = p.pair }))
 
-    -- who falls
+    -- which transactions are aborted in cascade
 
     -- what a standing transaction read from through others stands
     stands_back : (t : ℕ) (path : List ℕ) → PathOf (Feeds past) t path → aborted past (last_of t path) ≡ false → aborted past t ≡ false

@@ -1,4 +1,4 @@
--- Of two committed writers of a key the one whose last store of it came first committed first.
+-- Of two committed writers of a key the one whose last write of it came first committed first.
 use Rattle.std.proofs.Common.{◌≡◌, ℕ, ◌<◌, true, ◌⊎◌, List, [], ◌∷◌, length, Option, Some, None, nat_eq, refl, sym, ap, subst, inl, inr, ◌∙◌, arith}
 use Rattle.std.proofs.lemmas.Bool.{or_left, or_right, eqb-true}
 use Rattle.std.specs.Option.{option_map}
@@ -60,7 +60,7 @@ last-precedes (e ∷ past) k t u p q ht hu less =
       ]
     ]
 
--- of two committed writers of a key, the one whose last store of it came first committed first
+-- of two committed writers of a key, the one whose last write of it came first committed first
 pub last_store_commits_before : (s : Setting) (past : List Entry) → Legal s past → (k : Key) (t u p q : ℕ) → committed past t ≡ true
     → committed past u ≡ true → last_store past k t ≡ Some p → last_store past k u ≡ Some q → p < q → CommitsBefore past t u
 last_store_commits_before s past h k t u p q ct cu ht hu less =

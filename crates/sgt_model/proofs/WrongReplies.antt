@@ -1,4 +1,4 @@
--- Replies of engines that are wrong, at the worked examples: none of them is legal.
+-- Replies of wrong engines (mutants), at the worked examples: none of them is legal.
 use Rattle.std.specs.Prelude.{◌≡◌, ℕ, ◌<◌, ◌≤◌, ℤ, pos, Bool, true, false, ◌&&◌, ◌⊎◌, List, [], ◌∷◌, Option, Some, None, refl}
 use Rattle.std.proofs.Common.{inl, inr, arith, sym, ap, subst}
 use Rattle.std.specs.Ordering.{int_eq}
@@ -25,24 +25,24 @@ use Rattle.sgt_model.proofs.ExamplesDeepCascades.{three_levels}
 use Rattle.sgt_model.proofs.ExamplesStarts.{half_done}
 use Rattle.sgt_model.proofs.ExamplesRefusals.{refusing, spent_by_another}
 
--- where an access closes no walk it is not rejected
+-- an access that closes no cycle is not rejected
 not_refused : {past : List Entry} {t : ℕ} {k : Key} {kind : Kind} {why : Cause} {fell : List ℕ} (given : Reply) (set : List ℕ)
     → free_test past t k kind set ≡ true → (given ≡ reply.Aborted why fell → ⊥) → CycleAbortReply past t k kind
     (reply.Aborted why fell) ⊎ Makes past t k kind given (reply.Aborted why fell) → ⊥
 not_refused {past} {t} {k} {kind} given set free apart (inl h) = free-so past t k kind set free h.rest h.closes
 not_refused {past} {t} {k} {kind} given set free apart (inr h) = apart (sym h.is)
 
--- where a live transaction has a pair into it, a transaction does not commit
+-- a transaction with an edge from a live one does not commit
 not_committed : {past : List Entry} {t : ℕ} {answers committed_runs : List ℤ} (u : ℕ) → (live past u && pair past u t) ≡ true
     → MustWait past t (reply.Committed committed_runs) ⊎ MayCommit past t answers (reply.Committed committed_runs) → ⊥
 not_committed u h (inl w) = cc w.is
 not_committed {past} {t} u h (inr c) = let p = and_parts _ _ h in c.none_live u (record { is_live = p.0; pair = pair-so past u t p.1 })
 
--- `aborts-on-conflict`: the look at what is not committed closes no walk
+-- `aborts-on-conflict`: the read of what is not committed closes no cycle
 aborts_on_conflict : LegalReply (small_bank 8 100) dirty_reader (Step 1) (reply.Aborted (cause.Cycle (1 ∷ 0 ∷ [])) []) → ⊥
 aborts_on_conflict h = not_refused (reply.Looked (2, pos 101) (Some (pos 1100))) (1 ∷ []) refl (λ e. cc e) h
 
--- `reads-committed`: the look finds the newest value
+-- `reads-committed`: the read returns the newest value
 abbrev tells : Reply → ℤ → Bool
 tells (reply.Looked k (Some v)) w = int_eq v w
 tells _ w = false
@@ -59,12 +59,12 @@ commits_at_once h = not_committed 0 refl h
 last_writer_only : LegalReply small_bank_put three_writers (Commit 2) (reply.Committed []) → ⊥
 last_writer_only h = not_committed 0 refl h
 
--- and it is the first that has to be waited for
+-- and it is the first that must be waited for
 waits_for_another : LegalReply small_bank_put three_writers (Commit 2) (reply.Waits 1) → ⊥
 waits_for_another (inl h) = let b : h.predecessor ≡ 1 = cc h.is in cc (subst (λ u. live three_writers u ≡ true) b h.least.pair.is_live)
 waits_for_another (inr h) = cc h.is
 
--- `before-image`: after the first of two writers quits, a look finds what the second stored
+-- `before-image`: after the first of two writers quits, a read returns what the second wrote
 abbrev undone_beneath : List Entry
 undone_beneath =
     entry (Start 6 []) (reply.Started 2)
@@ -75,14 +75,14 @@ before_image : LegalReply small_bank_tell undone_beneath (Step 2) (reply.Looked 
 before_image (inl h) = cc h.aborts.is
 before_image (inr h) = cc h.is
 
--- `overwriters-fall`: who only stored over the value does not fall
+-- `overwriters-fall`: a transaction that only wrote over the value is not aborted in cascade
 overwriters_fall : LegalReply small_bank_put overwritten (Quit 0) (reply.Aborted cause.Quit (1 ∷ [])) → ⊥
 overwriters_fall h =
     let named : h.fell ≡ 1 ∷ [] = cc h.is in
     let fallen = h.falls.each 1 (subst (λ l. Member 1 l) (sym named) (inl refl)) in
     all-so overwritten 0 [] (0 ∷ []) refl 1 fallen.0 fallen.1 fallen.2
 
--- `direct-readers-only`: who read from a reader falls too
+-- `direct-readers-only`: a transaction that read from a reader is aborted in cascade too
 one_of_two : Member 2 (1 ∷ []) → ⊥
 one_of_two (inl e) = omega arith
 one_of_two (inr m) = m
@@ -93,12 +93,12 @@ direct_readers_only h =
     let fallen = each-so two_levels 0 (1 ∷ 2 ∷ []) ((1 ∷ []) ∷ (1 ∷ 2 ∷ []) ∷ []) refl 2 (inr (inl refl)) in
     one_of_two (subst (λ l. Member 2 l) named (h.falls.all 2 fallen.0 fallen.1 fallen.2))
 
--- `cached-read`: the second look would close a cycle, whatever it gave
+-- `cached-read`: the second read would close a cycle, whatever it returned
 cached_read : (v : Option ℤ) → LegalReply small_bank_look_twice looked_before (Step 0) (reply.Looked (2, pos 101) v) → ⊥
 cached_read v (inl h) = cc h.aborts.is
 cached_read v (inr h) = h.free (1 ∷ []) (closes-so looked_before 0 (2, pos 101) Look (1 ∷ []) refl)
 
--- `keeps-committed-places`: one that has committed takes no place
+-- `keeps-committed-places`: a committed transaction does not count as live
 abbrev one_committed : List Entry
 one_committed =
     entry (Commit 0) (reply.Committed (pos 1500 ∷ []))
@@ -111,14 +111,14 @@ keeps_committed_places h = cc h
 starts_too_many : LegalReply (small_bank 1 1) one_committed (Start 0 (pos 2 ∷ [])) (reply.Started 1) → ⊥
 starts_too_many h = cc h
 
--- who looked at its own store has read from nobody, whose value it ever stored over
+-- a transaction that read its own write has read from none, whatever value it wrote over
 own_readers_fall : LegalReply small_bank_put_over stored_over (Quit 0) (reply.Aborted cause.Quit (1 ∷ [])) → ⊥
 own_readers_fall h =
     let named : h.fell ≡ 1 ∷ [] = cc h.is in
     let fallen = h.falls.each 1 (subst (λ l. Member 1 l) (sym named) (inl refl)) in
     all-so stored_over 0 [] (0 ∷ []) refl 1 fallen.0 fallen.1 fallen.2
 
--- the fallen are listed rising
+-- those aborted in cascade are listed rising
 falls_out_of_order : LegalReply (small_bank 8 100) two_levels (Quit 0) (reply.Aborted cause.Quit (2 ∷ 1 ∷ [])) → ⊥
 falls_out_of_order h =
     let named : h.fell ≡ 2 ∷ 1 ∷ [] = cc h.is in
@@ -134,7 +134,7 @@ waits_for_the_greater (inl h) =
     omega arith
 waits_for_the_greater (inr h) = cc h.is
 
--- who is not at its end does not wait, though another stored before it
+-- a transaction that is not at its end does not wait, though another wrote before it
 waits_before_its_end : LegalReply small_bank_twice half_done (Commit 1) (reply.Waits 0) → ⊥
 waits_before_its_end h = cc h
 
@@ -151,7 +151,7 @@ no_answers : LegalReply (small_bank 8 100) at_its_end (Commit 0) (reply.Committe
 no_answers (inl h) = cc h.is
 no_answers (inr h) = cc h.is
 
--- a walk follows pairs, and begins with the one that is rejected. Here it is 2, 1, 0
+-- a cycle follows edges, and begins with the transaction that is rejected. Here it is 2, 1, 0
 leaves_one_out : LegalReply small_bank_copy ring (Step 2) (reply.Aborted (cause.Cycle (2 ∷ 0 ∷ [])) []) → ⊥
 leaves_one_out (inl h) =
     let named : h.rest ≡ 0 ∷ [] = cc h.aborts.is in
@@ -169,7 +169,7 @@ begins_with_another : LegalReply small_bank_copy ring (Step 2) (reply.Aborted (c
 begins_with_another (inl h) = cc h.aborts.is
 begins_with_another (inr h) = cc h.is
 
--- of three levels of readers all fall, and no other
+-- all of three levels of readers are aborted in cascade, and no other
 
 -- the readers' readers, and theirs
 three_levels_falls : (u : ℕ) → Member u (1 ∷ 2 ∷ 3 ∷ []) → (fell : List ℕ) → LegalReply small_bank_copy three_levels (Quit 0)
@@ -217,7 +217,7 @@ three_levels_out_of_order h =
     let less : 3 < 2 = rises.1.0 in
     omega arith
 
--- a refusal is told in its turn, and undoes what was stored
+-- a refusal is reported in its turn, and undoes what was written
 
 -- a live transaction has spent, and another has found too little to spend
 refuses_before_its_turn : LegalReply refusing spent_by_another (Commit 1) (reply.Refused 3 []) → ⊥
@@ -232,7 +232,7 @@ commits_though_it_asks : LegalReply refusing spent_by_another (Commit 0) (reply.
 commits_though_it_asks (inl h) = cc h.is
 commits_though_it_asks (inr h) = cc h.is
 
--- `leaves-refused-writes`: what a refused transaction stored is found by nobody
+-- `leaves-refused-writes`: what a refused transaction wrote is read by none
 abbrev refused_writer : List Entry
 refused_writer =
     entry (Start 1 []) (reply.Started 1)

@@ -32,8 +32,8 @@ abbrev pub IsAccessBy : Option Access → ℕ → Key → Kind → Type 0
 IsAccessBy None t k kind = ⊥
 IsAccessBy (Some a) t k kind = (a.by ≡ t) × (a.key ≡ k) × (a.kind ≡ kind)
 
--- t's next access would close this walk; and with that access added as an entry, the members of the walk have no order in
--- which the first of each pair among them comes first
+-- t's next access would close this path (`walk`) to a cycle; and with that access added as an entry, no serial order of the
+-- path's members agrees with all edges among them
 pub record ClosesCycle (s : Setting) (past : List Entry) (t : ℕ) (walk : List ℕ) : Type 0 where
   pub rest : List ℕ
   pub is : walk ≡ t ∷ rest
@@ -43,21 +43,21 @@ pub record ClosesCycle (s : Setting) (past : List Entry) (t : ℕ) (walk : List 
   pub closes : Closes past t key kind rest
   pub no_order : (e : Entry) → IsAccessBy (access_of e) t key kind → (order : List ℕ) → Orders (Pair (e ∷ past)) walk order → ⊥
 
--- the cause that a reply names is so: the step would close that walk, the procedure asks that code, or the caller quits
+-- the cause that a reply names is true: the step would close that cycle, the procedure raises that code, or the caller quits
 abbrev pub CauseHolds : Setting → List Entry → Event → Cause → Type 0
 CauseHolds s past (Step t) (cause.Cycle walk) = ClosesCycle s past t walk
 CauseHolds s past (Step t) (cause.Asked code) = next_of s past t ≡ Raises code
 CauseHolds s past (Quit t) cause.Quit = Unit {0}
 CauseHolds s past _ _ = ⊥
 
--- an abort has its cause, and so has a refusal: the procedure asks that code. Those that fall are exactly those that read
--- from it
+-- an abort has its cause, and so has a refusal: the procedure raises that code. Exactly those that read from the aborted
+-- transaction are aborted in cascade
 abbrev pub ReplyIsJustified : Setting → List Entry → Event → Reply → Type 0
 ReplyIsJustified s past event (reply.Aborted why fell) = CauseHolds s past event why × Falls past (subject event) fell
 ReplyIsJustified s past event (reply.Refused code fell) = (next_of s past (subject event) ≡ Raises code) × Falls past (subject event) fell
 ReplyIsJustified s past event _ = Unit {0}
 
--- so has each abort of a history
+-- each abort of a history has its cause
 abbrev pub AbortsHaveCause : Setting → List Entry → Type 0
 AbortsHaveCause s [] = Unit {0}
 AbortsHaveCause s (e ∷ past) = AbortsHaveCause s past × ReplyIsJustified s past e.event e.reply

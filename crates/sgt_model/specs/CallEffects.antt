@@ -1,4 +1,4 @@
--- What a call answers and does, as a relation of the states before and after.
+-- What a call replies and does, as a relation of the states before and after.
 use Rattle.std.specs.Prelude.{◌≡◌, ℕ, ℤ, Bool, true, false, ◌⊎◌, nat_lt, List, ◌∷◌, length, Option, Some, None}
 use Rattle.sgt_model.specs.declared.event.Event.{Event}
 use Rattle.sgt_model.specs.declared.event.Event.TheVariants.{Start, Step, Commit, Quit}
@@ -25,12 +25,12 @@ use Rattle.sgt_model.specs.Found.{found}
 use Rattle.sgt_model.specs.FallsIn.{FallsIn}
 use Rattle.sgt_model.specs.Changes.{LooksAt, StoresInto, Starts, Settles, Drops}
 
--- nothing but the reply
+-- nothing changes; there is only the reply
 pub record Stays (answer : Reply) (before : State) (r : Reply) (after : State) : Type 0 where
   pub reply : r ≡ answer
   pub same : after ≡ before
 
--- what the calls on a transaction share: nothing where it was not started or has ended, or else what is done to a live one
+-- what the calls on a transaction share: nothing happens if it was not started or has ended; else the effect on a live one
 abbrev pub IfOpen : Bool → Option Fate → State → Reply → State → Type 0 → Type 0
 IfOpen false ended before r after if_live = Stays reply.Unknown before r after
 IfOpen true (Some f) before r after if_live = Stays (reply.Over f) before r after
@@ -38,36 +38,36 @@ IfOpen true None before r after if_live = if_live
 
 -- a step
 
--- t is undone for this cause, with those that fall, whatever is told of it
+-- t and those aborted in cascade are undone for this cause, whatever is reported
 pub record Undo (t : ℕ) (why : Cause) (fell : List ℕ) (before after : State) : Type 0 where
   pub falls : FallsIn before t fell
   pub drops : Drops t why fell before after
 
--- t is aborted, with those that fall
+-- t is aborted, with those aborted in cascade
 pub record AbortEffect (t : ℕ) (why : Cause) (before : State) (r : Reply) (after : State) : Type 0 where
   pub fell : List ℕ
   pub undo : Undo t why fell before after
   pub reply : r ≡ reply.Aborted why fell
 
--- an access that is blocked is rejected: t is aborted, and the reply names the walk
+-- an access that is blocked is rejected: t is aborted, and the reply names the cycle
 pub record CycleAbortEffect (t : ℕ) (k : Key) (kind : Kind) (before : State) (r : Reply) (after : State) : Type 0 where
   pub rest : List ℕ
   pub blocks : Blocks before t k kind rest
   pub aborts : AbortEffect t (cause.Cycle (t ∷ rest)) before r after
 
--- a look that nothing blocks is made
+-- a read that nothing blocks is made
 pub record MakesLook (t : ℕ) (k : Key) (before : State) (r : Reply) (after : State) : Type 0 where
   pub free : (rest : List ℕ) → Blocks before t k Look rest → ⊥
   pub reply : r ≡ reply.Looked k (found before k)
   pub looks : LooksAt t k before after
 
--- a store that nothing blocks is made
+-- a write that nothing blocks is made
 pub record MakesStore (t : ℕ) (k : Key) (v : ℤ) (before : State) (r : Reply) (after : State) : Type 0 where
   pub free : (rest : List ℕ) → Blocks before t k Store rest → ⊥
   pub reply : r ≡ reply.Wrote k v
   pub stores : StoresInto t k v before after
 
--- a step that asks is answered at once, or left to the commit
+-- a step that raises a code is answered at once, or left to the commit
 abbrev pub RaisedStepOn : Asks → ℕ → ℕ → State → Reply → State → Type 0
 RaisedStepOn AtStep t code before r after = AbortEffect t (cause.Asked code) before r after
 RaisedStepOn AtCommit t code before r after = Stays reply.Ended before r after
@@ -85,7 +85,7 @@ StepEffect asks t before r after = IfOpen (nat_lt t before.start_count) (before.
 
 -- a commit
 
--- t has to wait for its least predecessor
+-- t must wait for its least predecessor
 pub record WaitsOn (t : ℕ) (before : State) (r : Reply) (after : State) : Type 0 where
   pub on : ℕ
   pub least : IsLeastPredecessor (PairIn before) t on
@@ -104,7 +104,8 @@ pub record RefusesIn (t code : ℕ) (before : State) (r : Reply) (after : State)
   pub undo : Undo t (cause.Asked code) fell before after
   pub reply : r ≡ reply.Refused code fell
 
--- a commit of one that asks: its step was answered already, or it is answered now, and waits as every commit does
+-- a commit of a transaction that raises a code: the code was reported at its step, or it is reported now, and the commit
+-- waits as every commit does
 abbrev pub RaisedCommitOn : Asks → ℕ → ℕ → State → Reply → State → Type 0
 RaisedCommitOn AtStep t code before r after = Stays reply.NotEnded before r after
 RaisedCommitOn AtCommit t code before r after = WaitsOn t before r after ⊎ RefusesIn t code before r after
@@ -142,7 +143,7 @@ pub record StartEffect (rules : Rules) (p : ℕ) (args : List ℤ) (before : Sta
   pub reply : r ≡ start_answer rules before p args
   pub does : StartOn (rules.procedures p) args before r after
 
--- what the call of an event answers and does
+-- what the call of an event replies and does
 abbrev pub CallEffect : Rules → Event → State → Reply → State → Type 0
 CallEffect rules (Start p args) before r after = StartEffect rules p args before r after
 CallEffect rules (Step t) before r after = StepEffect rules.limits.asks t before r after

@@ -1,4 +1,4 @@
--- The chain of a key: of each live writer its last value, in the order of these writes, oldest first.
+-- The chain of a key: the last value of each live writer, in the order of these writes, oldest first.
 use Rattle.std.specs.Prelude.{ℕ, ℤ, pos, Bool, not, cond, nat_eq, List, [], ◌∷◌, ◌++◌, Option, Some, None}
 use Rattle.std.specs.List.{list_any, filter}
 use Rattle.std.specs.Option.{unwrap_or}
@@ -11,11 +11,11 @@ use Rattle.sgt_model.specs.Values.{stores}
 abbrev pub chain_without : ℕ → List (ℕ × ℤ) → List (ℕ × ℤ)
 chain_without t chain = filter (λ w. not (nat_eq w.0 t)) chain
 
--- t's value is replaced, or added, and is the last one then
+-- t's value is replaced or added, and becomes the last one
 abbrev pub write_last : ℕ → ℤ → List (ℕ × ℤ) → List (ℕ × ℤ)
 write_last t v chain = chain_without t chain ++ (t, v) ∷ []
 
--- a store, if there is one, goes into the chain
+-- a write, if there is one, enters the chain
 abbrev pub store_into : Option Access → List (ℕ × ℤ) → List (ℕ × ℤ)
 store_into None chain = chain
 store_into (Some a) chain = write_last a.by (unwrap_or a.value (pos 0)) chain

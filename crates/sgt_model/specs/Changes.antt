@@ -13,7 +13,7 @@ use Rattle.sgt_model.specs.State.{State, Has}
 use Rattle.sgt_model.specs.Blocks.{IsRival}
 use Rattle.sgt_model.specs.Found.{SourceIs, top, found}
 
--- an access of t is noted, which its procedure wanted and the verdict allowed
+-- an access of t is recorded, which its procedure wanted and the verdict allowed
 pub record Notes (t : ℕ) (k : Key) (kind : Kind) (before after : State) : Type 0 where
   pub live : after.live ≡ before.live
   pub nodes : (u : ℕ) → after.nodes u ≡ before.nodes u
@@ -24,21 +24,21 @@ pub record Notes (t : ℕ) (k : Key) (kind : Kind) (before after : State) : Type
   pub start_count : after.start_count ≡ before.start_count
   pub left : (u : ℕ) → u ≢ t → after.left u ≡ before.left u
 
--- t looks at the key
+-- t reads the key
 pub record LooksAt (t : ℕ) (k : Key) (before after : State) : Type 0 where
   pub notes : Notes t k Look before after
   pub chain : (j : Key) → after.chain j ≡ before.chain j
   pub read_from : (u v : ℕ) → Has after.read_from u v ↔ (Has before.read_from u v ⊎ ((v ≡ t) × (u ≢ t) × SourceIs (top before k) u))
   pub own_left : after.left t ≡ after_look (found before k) (before.left t)
 
--- t stores a value
+-- t writes a value
 pub record StoresInto (t : ℕ) (k : Key) (v : ℤ) (before after : State) : Type 0 where
   pub notes : Notes t k Store before after
   pub chain : (j : Key) → after.chain j ≡ cond (key_eq k j) (write_last t v (before.chain j)) (before.chain j)
   pub read_from : (u w : ℕ) → Has after.read_from u w ↔ Has before.read_from u w
   pub own_left : after.left t ≡ after_store (before.left t)
 
--- a transaction is started, with the next number; all that it has to do is left of it
+-- a transaction is started, with the next number; its remainder is its whole procedure
 pub record Starts (at_start : Left) (before after : State) : Type 0 where
   pub live : after.live ≡ before.live ++ before.start_count ∷ []
   pub nodes : (u : ℕ) → after.nodes u ≡ (before.nodes u || nat_eq u before.start_count)
@@ -63,13 +63,13 @@ pub record Removes (gone : ℕ → Bool) (before after : State) : Type 0 where
   pub start_count : after.start_count ≡ before.start_count
   pub left : (u : ℕ) → gone u ≡ false → after.left u ≡ before.left u
 
--- t commits: its values become the committed ones
+-- `Settles`: t commits, and its values become the committed ones
 pub record Settles (t : ℕ) (before after : State) : Type 0 where
   pub removes : Removes (λ u. nat_eq t u) before after
   pub settled : (k : Key) → after.settled k ≡ option_or (value_in t (before.chain k)) (before.settled k)
   pub fates : (u : ℕ) → after.fates u ≡ cond (nat_eq t u) (Some fate.Committed) (before.fates u)
 
--- t is aborted, with those that fall: their values are dropped
+-- t is aborted, with those aborted in cascade: their values are dropped
 pub record Drops (t : ℕ) (why : Cause) (fell : List ℕ) (before after : State) : Type 0 where
   pub removes : Removes (λ u. nat_eq t u || list_any (λ v. nat_eq v u) fell) before after
   pub settled : (k : Key) → after.settled k ≡ before.settled k

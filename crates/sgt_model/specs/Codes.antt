@@ -18,7 +18,7 @@ int_in (gcons (gnum (suc zero)) (gnum n)) = negsuc n
 int_in (gcons _ (gnum n)) = pos n
 int_in _ = pos 0
 
--- it is read back
+-- the same number is read back
 pub int_back : (n : ℤ) → int_in (int_tree n) ≡ n
 int_back (pos n) = refl
 int_back (negsuc n) = refl
@@ -49,7 +49,7 @@ expr_in (gcons (gnum (suc (suc (suc (suc (suc zero)))))) (gcons a b)) = product 
 expr_in (gcons (gnum (suc (suc (suc (suc (suc (suc zero))))))) (gcons a b)) = quotient (expr_in a) (expr_in b)
 expr_in _ = reg 0
 
--- it is read back
+-- the same expression is read back
 pub expr_back : (t : ExprText) → expr_in (expr_tree t) ≡ t
 expr_back (num n) = λ i. num (int_back n i)
 expr_back (arg n) = refl
@@ -72,13 +72,13 @@ cond_in (gcons (gnum (suc zero)) (gcons a b)) = at_most (expr_in a) (expr_in b)
 cond_in (gcons (gnum (suc (suc zero))) (gcons a b)) = equal (expr_in a) (expr_in b)
 cond_in _ = less (reg 0) (reg 0)
 
--- it is read back
+-- the same condition is read back
 pub cond_back : (t : CondText) → cond_in (cond_tree t) ≡ t
 cond_back (less a b) = λ i. less (expr_back a i) (expr_back b i)
 cond_back (at_most a b) = λ i. at_most (expr_back a i) (expr_back b i)
 cond_back (equal a b) = λ i. equal (expr_back a i) (expr_back b i)
 
--- statements in a row: the number of the first one's form with its parts, and those behind it
+-- statements in a row: the number of the first one's form with its parts, and the statements after it
 abbrev pub block_tree : Block → Gv
 block_tree empty = gnil
 block_tree (look to table id absent b) = gcons (gnum 0) (gcons (gcons (gcons (gnum to) (gnum table)) (gcons (expr_tree id) (gnum absent))) (block_tree b))
@@ -100,7 +100,7 @@ block_in (gcons (gnum (suc (suc (suc (suc (suc zero)))))) (gcons value b)) = ans
 block_in (gcons (gnum (suc (suc (suc (suc (suc (suc zero))))))) (gcons (gcons (gcons (gnum to) (gnum table)) (gcons id absent)) b)) = find to table (expr_in id) (expr_in absent) (block_in b)
 block_in _ = empty
 
--- they are read back
+-- the same statements are read back
 pub block_back : (b : Block) → block_in (block_tree b) ≡ b
 block_back empty = refl
 block_back (look to table id absent b) = λ i. look to table (expr_back id i) absent (block_back b i)

@@ -16,13 +16,13 @@ abbrev pub CommitsBefore : List Entry → ℕ → ℕ → Type 0
 CommitsBefore [] t u = ⊥
 CommitsBefore (e ∷ past) t u = ((ending_in e.event e.reply u ≡ Some fate.Committed) × (committed past t ≡ true)) ⊎ CommitsBefore past t u
 
--- the number of t's last store of the key: how many entries stand before it
+-- the index of t's last write of the key: how many entries are before it
 abbrev pub last_store : List Entry → Key → ℕ → Option ℕ
 last_store [] k t = None
 last_store (e ∷ past) k t = option_or (option_map (λ (a : Access). length past) (stores (λ u. nat_eq u t) k (access_of e))) (last_store past k t)
 
--- of two committed transactions with a pair the first committed first, and a committed transaction committed after each
--- other one that it read from
+-- if an edge leads from one committed transaction to another, the first committed first; and a committed transaction
+-- committed after each other transaction that it read from
 pub record CommitsInOrder (past : List Entry) : Type 0 where
   pub pairs : (t u : ℕ) → committed past t ≡ true → committed past u ≡ true → Pair past t u → CommitsBefore past t u
   pub sources : (t u : ℕ) → committed past t ≡ true → ReadFrom past t u → CommitsBefore past u t

@@ -1,5 +1,6 @@
--- The replay in the plain meaning of the language: the committed and refused procedures of a history are executed one after
--- another, in reply order, each on the database that the ones before it left. It knows no runs: that it is the replay of runs is a law.
+-- The replay in the plain meaning of the language. The committed and refused procedures of a history are executed one after
+-- another, in reply order, each on the database that the ones before it left. It uses no runs: a law says that it is the
+-- replay of runs.
 use Rattle.std.specs.Prelude.{◌≡◌, ℤ, List, [], ◌∷◌, Option, Some, None, slice_get}
 use Rattle.sgt_model.specs.declared.limits.Limits.{Limits}
 use Rattle.sgt_model.specs.declared.entry.Entry.{Entry}
@@ -22,21 +23,21 @@ execution_if (Some p) args database = execution p args database
 abbrev pub execution_of : List ProcedureText → Call → Contents → Outcome
 execution_of programs c database = execution_if (slice_get programs c.procedure) c.args database
 
--- these calls, the last one first, were executed one after another on the opening
+-- these calls, the last one first, executed one after another on the initial database
 abbrev pub execute_in_turn : Contents → List ProcedureText → List Call → Folded
 execute_in_turn opening programs [] = record { results = []; last = opening }
 execute_in_turn opening programs (c ∷ before) = with_outcome (execution_of programs c (execute_in_turn opening programs before).last) (execute_in_turn opening programs before)
 
--- the committed and refused transactions, executed one after another in reply order on the opening
+-- the committed and refused transactions, executed one after another in reply order on the initial database
 abbrev pub executed : Contents → List ProcedureText → List Entry → Folded
 executed opening programs past = execute_in_turn opening programs (told_calls past)
 
--- executed one after another, the committed and refused transactions' procedures give each the answers or the code that it
--- was told, and leave the committed values
+-- executed one after another, the procedures of the committed and refused transactions give the answers or codes that were
+-- reported, and leave the committed values
 pub record IsExecuted (opening : Contents) (programs : List ProcedureText) (past : List Entry) : Type 0 where
   pub answers : (executed opening programs past).results ≡ told past
   pub database : (k : Key) → (executed opening programs past).last k ≡ settled opening past k
 
--- so it is in every legal history of these procedures
+-- every legal history of these procedures is executed
 abbrev pub HistoriesAreExecuted : Type 0
 HistoriesAreExecuted = (opening : Contents) (programs : List ProcedureText) (limits : Limits) (past : List Entry) → Legal (setting opening programs limits) past → IsExecuted opening programs past

@@ -1,6 +1,6 @@
--- The meaning of the procedure language, statement by statement: a procedure is executed at once and alone, over a working
+-- The meaning of the procedure language, statement by statement. A procedure is executed at once and alone, over a working
 -- copy of the database. This is a denotational semantics of a small language whose statements may end it early, by recursion
--- on its text. It knows no accesses, no runs and no histories; the law at the end joins it to the runs that these are read from.
+-- on its text. It uses no accesses, runs or histories; the law at the end connects it to the runs that these are read from.
 use Rattle.std.specs.Prelude.{◌≡◌, ℕ, ℤ, ◌+ℤ◌, ◌-ℤ◌, ◌*ℤ◌, pos, int_div, int_lt, int_le, Bool, ◌&&◌, cond, nat_le, nat_lt, List, [], ◌∷◌, ◌++◌, length, Option, Some, None, Result, Ok, Err, ok_or, slice_get, slice_index_or, slice_set, replicate}
 use Rattle.std.specs.Ordering.{int_eq}
 use Rattle.sgt_model.specs.Numbers.{is_value}
@@ -11,16 +11,16 @@ use Rattle.sgt_model.specs.Meaning.{found_or, run_with}
 
 -- codes, which end a procedure
 
--- what a part of a procedure gives, or the code that is asked there and ends the whole procedure
+-- what a part of a procedure gives, or the code that is raised there and ends the whole procedure
 abbrev pub OrCode : Type 0 → Type 0
 OrCode A = Result A ℕ
 
--- one part, and then the next, which is told what the first one gave; a code ends both
+-- one part, and then the next, which gets the result of the first; a code ends both
 abbrev pub and_then : {A B : Type 0} → OrCode A → (A → OrCode B) → OrCode B
 and_then (Ok a) next = next a
 and_then (Err code) next = Err code
 
--- this, provided that the condition holds, or else the code
+-- this, if the condition holds, or else the code
 abbrev pub provided : {A : Type 0} → Bool → A → ℕ → OrCode A
 provided condition a code = cond condition (Ok a) (Err code)
 
@@ -28,12 +28,12 @@ provided condition a code = cond condition (Ok a) (Err code)
 abbrev pub overflow : ℕ
 overflow = 1000
 
--- the code of all that no checked procedure does: to use a register that is not set or an argument that is not there, to look
--- at or store into what is no key, to store what is no value, to give a ninth answer
+-- the code of what no checked procedure does: use a register that is not set or an argument that does not exist, read
+-- or write a record that has no key, write what is no value, give a ninth answer
 abbrev pub stuck : ℕ
 stuck = 0
 
--- where an execution stands
+-- the state of an execution
 
 -- sixteen registers, each with its value or not set; the working map; the answers so far
 pub record Workspace : Type 0 where
@@ -45,29 +45,29 @@ pub record Workspace : Type 0 where
 abbrev pub workspace_of : Contents → Workspace
 workspace_of database = record { registers = replicate 16 None; working = database; answers = [] }
 
--- a value goes into a register; a number over 15 names none, and nothing is set
+-- a value is set in a register; a number over 15 names none, and nothing is set
 abbrev pub into_register : ℕ → ℤ → Workspace → Workspace
 into_register to v w = record { registers = slice_set w.registers to (Some v); working = w.working; answers = w.answers }
 
--- a value goes into a record of the working map
+-- a value is written to a record of the working map
 abbrev pub into_record : Key → ℤ → Workspace → Workspace
 into_record key v w = record { registers = w.registers; working = put_in w.working key v; answers = w.answers }
 
--- a value goes behind the answers
+-- a value is added after the answers
 abbrev pub into_answers : ℤ → Workspace → Workspace
 into_answers v w = record { registers = w.registers; working = w.working; answers = w.answers ++ v ∷ [] }
 
 -- expressions and conditions
 
--- the left part first, then the right one, and then what their values make
+-- the left part first, then the right one, and then the result of both values
 abbrev pub in_turn : {A : Type 0} → OrCode ℤ → OrCode ℤ → (ℤ → ℤ → OrCode A) → OrCode A
 in_turn left right make = and_then left (λ x. and_then right (λ y. make x y))
 
--- what arithmetic gives, where it is a value
+-- the result of arithmetic, if it is a value
 abbrev pub value_or_overflow : ℤ → OrCode ℤ
 value_or_overflow v = provided (is_value v) v overflow
 
--- the quotient, rounded towards zero, where it is a value; there is none by 0
+-- the quotient, rounded towards zero, if it is a value; a quotient by 0 is none
 abbrev pub quotient_or_overflow : ℤ → ℤ → OrCode ℤ
 quotient_or_overflow x y = cond (int_eq y (pos 0)) (Err overflow) (value_or_overflow (int_div x y))
 
@@ -93,7 +93,7 @@ decide (equal a b) args w = in_turn (evaluate a args w) (evaluate b args w) (λ 
 abbrev pub key_of : ℕ → ℤ → OrCode Key
 key_of table id = provided (nat_le table 7 && is_value id) (table, id) stuck
 
--- Look: the value of the record in the working map goes into the register; where there is no record `absent` is asked
+-- Look: the register gets the value of the record in the working map; if there is no record, `absent` is raised
 abbrev pub look_at_record : List ℤ → (to table : ℕ) → (id : ExprText) → (absent : ℕ) → Workspace → OrCode Workspace
 look_at_record args to table id absent w =
     and_then (evaluate id args w) (λ n.
@@ -101,7 +101,7 @@ look_at_record args to table id absent w =
     and_then (ok_or (w.working key) absent) (λ v.
     Ok (into_register to v w))))
 
--- Find: the value of the record in the working map goes into the register, or `absent` where there is no record
+-- Find: the register gets the value of the record in the working map, or `absent` if there is no record
 abbrev pub find_record : List ℤ → (to table : ℕ) → (id absent : ExprText) → Workspace → OrCode Workspace
 find_record args to table id absent w =
     and_then (evaluate id args w) (λ n.
@@ -109,7 +109,7 @@ find_record args to table id absent w =
     and_then (key_of table n) (λ key.
     Ok (into_register to (found_or v (w.working key)) w))))
 
--- Put: the value goes into the record
+-- Put: the value is written to the record
 abbrev pub put_record : List ℤ → (table : ℕ) → (id value : ExprText) → Workspace → OrCode Workspace
 put_record args table id value w =
     and_then (evaluate id args w) (λ n.
@@ -117,16 +117,16 @@ put_record args table id value w =
     and_then (key_of table n) (λ key.
     provided (is_value v) (into_record key v w) stuck)))
 
--- Let: the value goes into the register
+-- Let: the register gets the value
 abbrev pub let_register : List ℤ → (to : ℕ) → (value : ExprText) → Workspace → OrCode Workspace
 let_register args to value w = and_then (evaluate value args w) (λ v. Ok (into_register to v w))
 
--- Answer: the value is one answer more, of at most eight
+-- Answer: the value is added to the answers, at most eight
 abbrev pub give_answer : List ℤ → (value : ExprText) → Workspace → OrCode Workspace
 give_answer args value w = and_then (evaluate value args w) (λ v. provided (nat_lt (length w.answers) 8) (into_answers v w) stuck)
 
--- statements in a row: the first one, and then the rest. An Ask ends the procedure with its code; an If is the branch that its
--- condition chooses, and then the rest
+-- statements in a row: the first one, and then the rest. An Ask ends the procedure with its code. An If is the branch that
+-- its condition chooses, and then the rest
 abbrev pub execute : List ℤ → Block → Workspace → OrCode Workspace
 execute args empty w = Ok w
 execute args (look to table id absent rest) w = and_then (look_at_record args to table id absent w) (λ next. execute args rest next)
@@ -142,7 +142,7 @@ execute args (answer value rest) w = and_then (give_answer args value w) (λ nex
 
 -- procedures
 
--- at its end a procedure is done, with its answers and the working map; where it asked, its working map is dropped
+-- at its end a procedure gives its answers and the working map; if it raised a code, its working map is dropped
 abbrev pub outcome_of : OrCode Workspace → Outcome
 outcome_of (Ok w) = Done w.answers w.working
 outcome_of (Err code) = Asked code

@@ -1,4 +1,4 @@
--- Who falls with an abort: the cascading abort (Bernstein, Hadzilacos and Goodman (1987), chapter 1).
+-- Which transactions are aborted in cascade (Bernstein, Hadzilacos and Goodman (1987), chapter 1).
 use Rattle.std.specs.Prelude.{◌≡◌, ◌≢◌, ℕ, true, List}
 use Rattle.sgt_model.specs.declared.entry.Entry.{Entry}
 use Rattle.sgt_model.specs.Walks.{Member, Rising, Reaches}
@@ -9,7 +9,8 @@ use Rattle.sgt_model.specs.ReadFrom.{ReadFrom}
 abbrev pub Feeds : List Entry → ℕ → ℕ → Type 0
 Feeds past v w = ReadFrom past w v
 
--- those that fall with t: exactly the live ones other than t that read from it, directly or through others, rising
+-- `Falls`: those aborted in cascade with t. Exactly the live ones other than t that read from it, directly or through
+-- others, rising
 pub record Falls (past : List Entry) (t : ℕ) (fell : List ℕ) : Type 0 where
   pub rising : Rising fell
   pub each : (u : ℕ) → Member u fell → (live past u ≡ true) × (u ≢ t) × Reaches (Feeds past) t u

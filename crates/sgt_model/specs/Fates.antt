@@ -1,5 +1,5 @@
--- Who was started, how transactions end, and who is live (Bernstein, Hadzilacos and Goodman (1987), chapter 1: commit,
--- abort and active).
+-- Which transactions were started, how they end, and which are live (Bernstein, Hadzilacos and Goodman (1987), chapter 1:
+-- commit, abort and active).
 use Rattle.std.specs.Prelude.{ℕ, ◌+◌, Bool, true, false, ◌&&◌, cond, nat_eq, nat_lt, List, [], ◌∷◌, ◌++◌, Option, Some, None}
 use Rattle.std.specs.List.{list_any, filter}
 use Rattle.std.specs.Option.{option_or, is_none}
@@ -37,12 +37,13 @@ subject (Step u) = u
 subject (Commit u) = u
 subject (Quit u) = u
 
--- how an abort of the event's transaction for this cause ends transaction t, if it does: t is that one, or falls with it
+-- how an abort of the event's transaction for this cause ends transaction t, if it does: t is that one, or is aborted in
+-- cascade
 abbrev pub undone_in : Event → Cause → List ℕ → ℕ → Option Fate
 undone_in event why fell t = cond (concerns event t) (Some (fate.Aborted why)) (cond (list_any (λ u. nat_eq u t) fell) (Some (fate.Fell (subject event))) None)
 
--- how an event with this reply ends transaction t, if it does: t commits, or is aborted, or falls with one that is aborted. One
--- that is refused at its commit is aborted, since it asked
+-- how an event with this reply ends transaction t, if it does: t commits, is aborted, or is aborted in cascade. A
+-- transaction that is refused at its commit is aborted, because it raised a code
 abbrev pub ending_in : Event → Reply → ℕ → Option Fate
 ending_in event (reply.Committed answers) t = cond (concerns event t) (Some fate.Committed) None
 ending_in event (reply.Aborted why fell) t = undone_in event why fell t
@@ -61,14 +62,14 @@ has_committed (Some fate.Committed) = true
 has_committed (Some (fate.Aborted cause)) = false
 has_committed (Some (fate.Fell u)) = false
 
--- it ended by an abort, its own or another's
+-- it ended by an abort, its own or a cascading one
 abbrev pub has_aborted : Option Fate → Bool
 has_aborted None = false
 has_aborted (Some fate.Committed) = false
 has_aborted (Some (fate.Aborted cause)) = true
 has_aborted (Some (fate.Fell u)) = true
 
--- it had an Aborted or a Refused reply, or stands among those that fell with one
+-- it had an Aborted or a Refused reply, or was aborted in cascade with one
 abbrev pub aborted : List Entry → ℕ → Bool
 aborted past t = has_aborted (fate_of past t)
 

@@ -8,11 +8,11 @@ use Rattle.sgt_model.specs.Replay.{ReplayAgrees}
 use Rattle.sgt_model.specs.Aborts.{AbortsHaveCause}
 use Rattle.sgt_model.specs.CommitOrder.{CommitsInOrder}
 
--- running the committed and refused transactions' procedures one after another in reply order on the opening database, as a
--- plain map, gives each the answers or the code it was told and ends in the committed database (where asks are answered at the
--- step none is refused, and the order is that of commits); the conflict pairs have no cycle; a transaction is aborted only where
--- its step would close one, it read from an aborted one, or its procedure or caller asked; and commit order agrees with the
--- conflict pairs and with who read from whom
+-- Run the procedures of the committed and refused transactions one after another, in reply order, on the initial database
+-- as a plain map. This gives each transaction the answers or the code that was reported, and ends in the committed database.
+-- (If codes are reported at the step, none is refused, and the order is commit order.) The serialization graph has no
+-- cycle. A transaction is aborted only if its step would close a cycle, it read from an aborted one, its procedure raised
+-- a code, or its caller quit. Commit order agrees with the edges and with who read from whom
 pub record Headline (s : Setting) (past : List Entry) : Type 0 where
   pub replay : ReplayAgrees s past
   pub no_cycle : Acyclic (Pair past)

@@ -1,6 +1,6 @@
--- What a procedure has still to do just after one of its accesses: data, from which alone follow what it does next and what
--- is left after one more access. It is a list of statements with what they work on. Nothing is kept of the values that were
--- looked at, but what became of them: registers, answers, and the branches that were chosen.
+-- `Left`: the remainder of a procedure just after one of its accesses. It is data, and determines what the procedure does
+-- next and the remainder after one more access. It is a list of statements with what they work on. It stores no values that
+-- were read, only their results: registers, answers, and the branches that were chosen.
 use Rattle.std.specs.Prelude.{◌≡◌, ℕ, zero, suc, ◌+◌, ℤ, Bool, cond, nat_lt, List, [], ◌∷◌, ◌++◌, length, Option, Some, None, Ok, Err, slice_set}
 use Rattle.sgt_model.specs.Numbers.{is_value}
 use Rattle.sgt_model.specs.Contents.{Key}
@@ -9,16 +9,16 @@ use Rattle.sgt_model.specs.Traces.{Used, Next, Looks, Puts, Ends, Raises, trace,
 use Rattle.sgt_model.specs.Meaning.{Got, is, over, missing, Truth, holds, too_far, unknown, Registers, fresh, value_of, truth_of, found_or, run_with}
 use Rattle.sgt_model.specs.Executions.{OrCode, and_then, provided, overflow, stuck, key_of}
 
--- what is left
+-- the remainder
 
--- the statements to come in their order, the arguments, the registers, each with its value or not set, and the answers so far
+-- the statements to come in order, the arguments, the registers, each with its value or not set, and the answers so far
 pub record Rest : Type 0 where
   pub statements : Block
   pub args : List ℤ
   pub registers : Registers
   pub answers : List ℤ
 
--- what is left of a procedure: to run on, or to ask a code, as its last look found no record
+-- the remainder of a procedure: to run on, or to raise a code because its last read found no record
 pub data Left : Type 0 where
   ToRun : Rest → Left
   ToAsk : ℕ → Left
@@ -29,7 +29,7 @@ left_at_start p args = ToRun (record { statements = p.body; args = args; registe
 
 -- up to the next access
 
--- a block, and behind its last statement those of another
+-- a block, and after its last statement those of another
 abbrev pub followed_by : Block → Block → Block
 followed_by empty more = more
 followed_by (look to table id absent rest) more = look to table id absent (followed_by rest more)
@@ -40,34 +40,34 @@ followed_by (ask code rest) more = ask code (followed_by rest more)
 followed_by (choose test ys ns rest) more = choose test ys ns (followed_by rest more)
 followed_by (answer value rest) more = answer value (followed_by rest more)
 
--- where statements come to by themselves: to a look, with the register for its value and the code that is asked where there
--- is no record; to a find, with the number for the register there; or to a store, each with what is left behind it; or to their
--- end, with the registers and the answers
+-- where statements arrive without an access: at a Look, with its register and the code that it raises if there is no record;
+-- at a Find, with its register and the number that replaces a missing record; at a write; each with the remainder after it;
+-- or at their end, with the registers and the answers
 pub data Reached : Type 0 where
   AtLook : Key → (to absent : ℕ) → Rest → Reached
   AtFind : Key → (to : ℕ) → (absent : ℤ) → Rest → Reached
   AtStore : Key → ℤ → Rest → Reached
   AtEnd : Registers → List ℤ → Reached
 
--- with more statements behind
+-- with more statements after it
 abbrev pub with_more : Block → Rest → Rest
 with_more more r = record { statements = followed_by r.statements more; args = r.args; registers = r.registers; answers = r.answers }
 
--- a branch that was entered comes to an access, and the statements behind the If are still to come; or it comes to its end,
--- and these go on
+-- a branch that was entered arrives at an access, and the statements after the If are still to come; or it arrives at its
+-- end, and these go on
 abbrev pub then_behind : Block → (Registers → List ℤ → OrCode Reached) → Reached → OrCode Reached
 then_behind behind go_on (AtLook key to absent r) = Ok (AtLook key to absent (with_more behind r))
 then_behind behind go_on (AtFind key to absent r) = Ok (AtFind key to absent (with_more behind r))
 then_behind behind go_on (AtStore key v r) = Ok (AtStore key v (with_more behind r))
 then_behind behind go_on (AtEnd registers answers) = go_on registers answers
 
--- the value of an expression, or the code that it asks
+-- the value of an expression, or the code that it raises
 abbrev pub number_or_code : Got → OrCode ℤ
 number_or_code (is v) = Ok v
 number_or_code over = Err overflow
 number_or_code missing = Err stuck
 
--- whether a condition holds, or the code that it asks
+-- whether a condition holds, or the code that it raises
 abbrev pub choice_or_code : Truth → OrCode Bool
 choice_or_code (holds chosen) = Ok chosen
 choice_or_code too_far = Err overflow
@@ -104,7 +104,7 @@ reach (answer value rest) args registers answers =
     and_then (provided (nat_lt (length answers) 8) (answers ++ v ∷ []) stuck) (λ more.
     reach rest args registers more))
 
--- where what is left comes to
+-- where the remainder arrives
 abbrev pub reached : Left → OrCode Reached
 reached (ToRun r) = reach r.statements r.args r.registers r.answers
 reached (ToAsk code) = Err code
@@ -125,37 +125,37 @@ next_left l = next_of_reached (reached l)
 
 -- one more access
 
--- a value goes into a register
+-- a value is set in a register
 abbrev pub with_register : (to : ℕ) → ℤ → Rest → Rest
 with_register to v r = record { statements = r.statements; args = r.args; registers = slice_set r.registers to (Some v); answers = r.answers }
 
--- the value of a look goes into its register; where there was no record its code is to be asked
+-- the value of a read is set in its register; if there was no record, its code is to be raised
 abbrev pub with_found : Option ℤ → (to absent : ℕ) → Rest → Left
 with_found None to absent r = ToAsk absent
 with_found (Some v) to absent r = ToRun (with_register to v r)
 
--- behind a look that found this; where no look is next, what was left
+-- after a read that returned this; if no read is next, the same remainder
 abbrev pub behind_look : Option ℤ → OrCode Reached → Left → Left
 behind_look found (Ok (AtLook key to absent r)) l = with_found found to absent r
 behind_look found (Ok (AtFind key to absent r)) l = ToRun (with_register to (found_or absent found) r)
 behind_look found _ l = l
 
--- what is left after the look that is next, if that finds this
+-- the remainder after the read that is next, if that returns this
 abbrev pub after_look : Option ℤ → Left → Left
 after_look found l = behind_look found (reached l) l
 
--- behind a store; where no store is next, what was left
+-- after a write; if no write is next, the same remainder
 abbrev pub behind_store : OrCode Reached → Left → Left
 behind_store (Ok (AtStore key v r)) l = ToRun r
 behind_store _ l = l
 
--- what is left after the store that is next
+-- the remainder after the write that is next
 abbrev pub after_store : Left → Left
 after_store l = behind_store (reached l) l
 
--- so many accesses
+-- a number of accesses
 
--- one access by what is next: a look finds the first of the values, and a store leaves them; and then the others
+-- one access, by what is next, and then the others: a read takes the first of the values, and a write takes none
 abbrev pub after_next : Next → Left → List (Option ℤ) → (Left → List (Option ℤ) → Left) → Left
 after_next (Looks key) l (found ∷ values) others = others (after_look found l) values
 after_next (Looks key) l [] others = l
@@ -163,29 +163,29 @@ after_next (Puts key v) l values others = others (after_store l) values
 after_next (Ends answers) l values others = l
 after_next (Raises code) l values others = l
 
--- what is left after so many accesses, of which the looks find these values
+-- the remainder after so many accesses, whose reads return these values
 abbrev pub left_after : Left → List (Option ℤ) → ℕ → Left
 left_after l values zero = l
 left_after l values (suc made) = after_next (next_left l) l values (λ then values_then. left_after then values_then made)
 
--- what is left of a procedure with these arguments just after its first `made` accesses, of which the looks found these values
+-- the remainder of a procedure with these arguments just after its first `made` accesses, whose reads returned these values
 abbrev pub left : ProcedureText → List ℤ → List (Option ℤ) → ℕ → Left
 left p args values made = left_after (left_at_start p args) values made
 
--- the laws, each for a procedure that has made so many accesses, of which the looks found just these values
+-- the laws, each for a procedure that has made so many accesses, whose reads returned exactly these values
 
 -- what holds of each such procedure
 abbrev pub OfEachUsed : (ProcedureText → List ℤ → List (Option ℤ) → ℕ → Type 0) → Type 0
 OfEachUsed P = (p : ProcedureText) (args : List ℤ) (values : List (Option ℤ)) (made : ℕ) → Used (run_with p args) values made → P p args values made
 
--- what it does next is a function of what is left of it
+-- what it does next is a function of its remainder
 abbrev pub NextIsOfLeft : Type 0
 NextIsOfLeft = OfEachUsed (λ p args values made. next_left (left p args values made) ≡ next_at (trace (run_with p args) values) made)
 
--- where a look is next: so is what is left after it, with the value that it finds
+-- if a read is next, so is the remainder after it, with the value that it returns
 abbrev pub LeftAfterLook : Type 0
 LeftAfterLook = OfEachUsed (λ p args values made. (key : Key) (found : Option ℤ) → next_left (left p args values made) ≡ Looks key → left p args (values ++ found ∷ []) (made + 1) ≡ after_look found (left p args values made))
 
--- where a store is next: so is what is left after it
+-- if a write is next, so is the remainder after it
 abbrev pub LeftAfterStore : Type 0
 LeftAfterStore = OfEachUsed (λ p args values made. (key : Key) (v : ℤ) → next_left (left p args values made) ≡ Puts key v → left p args values (made + 1) ≡ after_store (left p args values made))

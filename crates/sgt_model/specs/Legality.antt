@@ -1,4 +1,4 @@
--- Which reply an event may get after a history, and which histories are legal. A step is served by basic serialization
+-- Which reply an event may get after a history, and which histories are legal. A step follows basic serialization
 -- graph testing (Bernstein, Hadzilacos and Goodman (1987), chapter 4); a commit waits for live predecessors (Durner and
 -- Neumann, ICDE 2019).
 use Rattle.std.specs.Prelude.{◌≡◌, ℕ, ℤ, Bool, true, false, ◌⊎◌, nat_lt, List, [], ◌∷◌, length, Option, Some, None}
@@ -28,13 +28,13 @@ use Rattle.sgt_model.specs.StartReply.{start_reply}
 
 -- a step
 
--- t is aborted, with those that fall
+-- t is aborted, with those aborted in cascade
 pub record AbortReply (past : List Entry) (t : ℕ) (why : Cause) (r : Reply) : Type 0 where
   pub fell : List ℕ
   pub falls : Falls past t fell
   pub is : r ≡ reply.Aborted why fell
 
--- an access that would close a cycle is rejected: t is aborted, and the reply names some walk
+-- an access that would close a cycle is rejected: t is aborted, and the reply names such a cycle
 pub record CycleAbortReply (past : List Entry) (t : ℕ) (k : Key) (kind : Kind) (r : Reply) : Type 0 where
   pub rest : List ℕ
   pub closes : Closes past t k kind rest
@@ -45,7 +45,7 @@ pub record Makes (past : List Entry) (t : ℕ) (k : Key) (kind : Kind) (made_rep
   pub free : (rest : List ℕ) → Closes past t k kind rest → ⊥
   pub is : r ≡ made_reply
 
--- a step that asks is answered at once, or left to the commit
+-- a step that raises a code is answered at once, or left to the commit
 abbrev pub RaisedStep : Asks → List Entry → ℕ → ℕ → Reply → Type 0
 RaisedStep AtStep past t code r = AbortReply past t (cause.Asked code) r
 RaisedStep AtCommit past t code r = r ≡ reply.Ended
@@ -59,16 +59,16 @@ StepReply s past t (Raises code) r = RaisedStep s.rules.limits.asks past t code 
 
 -- a commit
 
--- t is a live predecessor of u: it is live, and has a pair into u
+-- t is a live predecessor of u: it is live, and has an edge to u
 pub record LivePredecessor (past : List Entry) (t u : ℕ) : Type 0 where
   pub is_live : live past t ≡ true
   pub pair : Pair past t u
 
--- no live transaction has a pair into t
+-- no live transaction has an edge to t
 abbrev pub HasNoLivePredecessor : List Entry → ℕ → Type 0
 HasNoLivePredecessor past t = HasNoPredecessor (LivePredecessor past) t
 
--- t has to wait for its least live predecessor
+-- t must wait for its least live predecessor
 pub record MustWait (past : List Entry) (t : ℕ) (r : Reply) : Type 0 where
   pub predecessor : ℕ
   pub least : IsLeastPredecessor (LivePredecessor past) t predecessor
@@ -86,7 +86,8 @@ pub record MayRefuse (past : List Entry) (t code : ℕ) (r : Reply) : Type 0 whe
   pub falls : Falls past t fell
   pub is : r ≡ reply.Refused code fell
 
--- a commit of one that asks: its step was answered already, or it is answered now, and waits as every commit does
+-- a commit of a transaction that raises a code: the code was reported at its step, or it is reported now, and the commit
+-- waits as every commit does
 abbrev pub RaisedCommit : Asks → List Entry → ℕ → ℕ → Reply → Type 0
 RaisedCommit AtStep past t code r = r ≡ reply.NotEnded
 RaisedCommit AtCommit past t code r = MustWait past t r ⊎ MayRefuse past t code r
@@ -100,17 +101,17 @@ CommitReply s past t (Raises code) r = RaisedCommit s.rules.limits.asks past t c
 
 -- every event
 
--- what an event of a started transaction is answered, by how it ended
+-- the reply to an event of a started transaction, by how that ended
 abbrev pub OfEnded : Option Fate → Reply → Type 0 → Type 0
 OfEnded None r if_live = if_live
 OfEnded (Some f) r if_live = r ≡ reply.Over f
 
--- what an event of a transaction is answered, by whether it was started
+-- the reply to an event of a transaction, by whether that was started
 abbrev pub OfStarted : Bool → Option Fate → Reply → Type 0 → Type 0
 OfStarted true ended r if_live = OfEnded ended r if_live
 OfStarted false ended r if_live = r ≡ reply.Unknown
 
--- what the events of a transaction share: Unknown where it was not started, Over with its fate where it ended, or else the
+-- what the events of a transaction share: Unknown if it was not started, Over with its fate if it has ended, or else the
 -- reply to a live one
 abbrev pub OfLive : List Entry → ℕ → Reply → Type 0 → Type 0
 OfLive past t r if_live = OfStarted (nat_lt t (start_count past)) (fate_of past t) r if_live

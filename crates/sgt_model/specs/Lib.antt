@@ -1,5 +1,5 @@
--- ---- Part 1, what a reader has to trust: the definitions that `Legal` and `Headline` rest on, and no others. Who has read
--- these 23 files knows what the headline says.
+-- ---- Part 1, what a reader must trust: the definitions that `Legal` and `Headline` rest on, and no others. These 23 files
+-- say what the headline means.
 -- numbers and keys
 pub mod Numbers
 pub mod Contents
@@ -28,15 +28,15 @@ pub mod Replay
 pub mod Aborts
 pub mod CommitOrder
 pub mod Headline
--- ---- Part 2, words of single contracts: what types and functions say of themselves beside these.
+-- ---- Part 2, terms of single contracts: what types and functions say of themselves beside part 1.
 pub mod Bounds
 pub mod Databases
 pub mod ProcedureTexts
 pub mod Codes
 pub mod Histories
 pub mod Questions
--- ---- Part 3, laws: what is proved of the definitions of part 1. None has to be trusted. The plain meaning of the language
--- (`Executions`) stands here, as a law joins it to runs.
+-- ---- Part 3, laws: what is proved from the definitions of part 1. None has to be trusted. The plain meaning of the language
+-- (`Executions`) is here, because a law connects it to runs.
 pub mod Admissions
 pub mod Laws
 pub mod OneReply
@@ -45,8 +45,8 @@ pub mod ReplySizes
 pub mod StoredValues
 pub mod Executions
 pub mod ExecutedReplay
--- ---- Part 4, the scheduler's room: the state that a scheduler keeps in place of the history, what its calls do to it, and
--- why that is legal. It is proved of the definitions of part 1, so none of it has to be trusted.
+-- ---- Part 4, the scheduler's state, which it stores in place of the history, what its calls do to it, and why that is
+-- legal. It is proved from the definitions of part 1, so none of it has to be trusted.
 -- the state, and the one that belongs to a history
 pub mod Left
 pub mod AccessList

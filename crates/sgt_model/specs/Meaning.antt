@@ -8,14 +8,14 @@ use Rattle.sgt_model.specs.Ways.{Way, onto}
 use Rattle.sgt_model.specs.Ways as way
 use Rattle.sgt_model.specs.Runs.{Run, looks, puts, ends, raises}
 
--- what an expression gives: a number, or what arithmetic gives is no value, or nothing, as it names a register that is not set
--- or an argument that is not there
+-- what an expression gives: a number; or arithmetic that gives no value; or nothing, because it names a register that is not
+-- set or an argument that does not exist
 pub data Got : Type 0 where
   is : ℤ → Got
   over : Got
   missing : Got
 
--- a number, if it is there
+-- a number, if present
 abbrev pub got : Option ℤ → Got
 got None = missing
 got (Some v) = is v
@@ -24,11 +24,11 @@ got (Some v) = is v
 abbrev pub bounded : ℤ → Got
 bounded v = cond (is_value v) (is v) over
 
--- the quotient, rounded towards zero, if it is a value; there is none by 0
+-- the quotient, rounded towards zero, if it is a value; a quotient by 0 is none
 abbrev pub divided : ℤ → ℤ → Got
 divided x y = cond (int_eq y (pos 0)) over (bounded (int_div x y))
 
--- what two parts give together: the left part is evaluated first
+-- the result of two parts; the left part is evaluated first
 abbrev pub both : (ℤ → ℤ → Got) → Got → Got → Got
 both f (is a) (is b) = f a b
 both f (is a) over = over
@@ -36,11 +36,11 @@ both f (is a) missing = missing
 both f over _ = over
 both f missing _ = missing
 
--- the registers, each with its value, or None where it is not set
+-- the registers, each with its value, or None if it is not set
 abbrev pub Registers : Type 0
 Registers = List (Option ℤ)
 
--- sixteen, of which none is set
+-- sixteen registers, none set
 abbrev pub fresh : Registers
 fresh = replicate 16 None
 
@@ -54,13 +54,13 @@ value_of (diff a b) args regs = both (λ x y. bounded (x -ℤ y)) (value_of a ar
 value_of (product a b) args regs = both (λ x y. bounded (x *ℤ y)) (value_of a args regs) (value_of b args regs)
 value_of (quotient a b) args regs = both (λ x y. divided x y) (value_of a args regs) (value_of b args regs)
 
--- what a condition gives: it holds or not, or a part of it is over or missing
+-- what a condition gives: it holds or not, or one of its parts overflows or is missing
 pub data Truth : Type 0 where
   holds : Bool → Truth
   too_far : Truth
   unknown : Truth
 
--- two numbers compared, if they are there
+-- two numbers compared, if present
 abbrev pub compared : (ℤ → ℤ → Bool) → Got → Got → Truth
 compared f (is a) (is b) = holds (f a b)
 compared f (is a) over = too_far
@@ -74,11 +74,11 @@ truth_of (less a b) args regs = compared int_lt (value_of a args regs) (value_of
 truth_of (at_most a b) args regs = compared int_le (value_of a args regs) (value_of b args regs)
 truth_of (equal a b) args regs = compared int_eq (value_of a args regs) (value_of b args regs)
 
--- what no procedure that passed the check does: it asks code 0
+-- what no procedure that passed the check does: it raises code 0
 abbrev pub wrong : Run
 wrong = raises 0
 
--- a number that is over asks code 1000
+-- arithmetic that gives no value raises code 1000
 abbrev pub with_value : Got → (ℤ → Run) → Run
 with_value (is v) go = go v
 with_value over go = raises 1000
@@ -98,16 +98,16 @@ is_key table id = nat_le table 7 && is_value id
 abbrev pub with_key : ℕ → ℤ → (Key → Run) → Run
 with_key table id go = cond (is_key table id) (go (table, id)) wrong
 
--- what is stored is a value
+-- what is written is a value
 abbrev pub with_stored : ℤ → Run → Run
 with_stored v go = cond (is_value v) go wrong
 
--- a look that finds no record asks its code
+-- a read that finds no record raises its code
 abbrev pub if_found : ℕ → Option ℤ → (ℤ → Run) → Run
 if_found absent None go = raises absent
 if_found absent (Some v) go = go v
 
--- what was found, or a number in its place where there is no record
+-- the value that was read, or this number if there is no record
 abbrev pub found_or : ℤ → Option ℤ → ℤ
 found_or absent None = absent
 found_or absent (Some v) = v

@@ -1,4 +1,4 @@
--- How many replies are legal for an event: there always is one and, but for the walk that a rejected access names, no other.
+-- How many replies are legal for an event: always one and, except for the cycle that a rejected access names, no other.
 use Rattle.std.specs.Prelude.{◌≡◌, ℕ, ◌⊎◌, List}
 use Rattle.sgt_model.specs.declared.event.Event.{Event}
 use Rattle.sgt_model.specs.declared.reply.Reply.{Reply}
@@ -8,7 +8,7 @@ use Rattle.sgt_model.specs.declared.entry.Entry.{Entry}
 use Rattle.sgt_model.specs.Settings.{Setting}
 use Rattle.sgt_model.specs.Legality.{LegalReply}
 
--- both abort for a cycle, each by a walk of its own, and the same transactions fall
+-- both abort for a cycle, each with its own, and the same transactions are aborted in cascade
 pub record DifferInWalk (r q : Reply) : Type 0 where
   pub walk : List ℕ
   pub other_walk : List ℕ
@@ -16,11 +16,11 @@ pub record DifferInWalk (r q : Reply) : Type 0 where
   pub one : r ≡ reply.Aborted (cause.Cycle walk) fell
   pub other : q ≡ reply.Aborted (cause.Cycle other_walk) fell
 
--- the same reply or, where both abort for a cycle, the same but for the walk
+-- the same reply; or, if both abort for a cycle, the same except for the cycle
 abbrev pub SameButWalk : Reply → Reply → Type 0
 SameButWalk r q = (r ≡ q) ⊎ DifferInWalk r q
 
--- after any entries, two replies that are legal for one event are the same but for the walk
+-- after any entries, two replies that are legal for one event are the same except for the cycle
 abbrev pub RepliesAreUnique : Type 0
 RepliesAreUnique = (s : Setting) (past : List Entry) (event : Event) (r q : Reply) → LegalReply s past event r → LegalReply s past event q → SameButWalk r q
 

@@ -1,4 +1,4 @@
--- The text that a stored procedure is.
+-- The text of a stored procedure.
 use Rattle.std.specs.Prelude.{List, [], ◌∷◌}
 use Rattle.sgt_model.specs.declared.procedure.Expr.{Expr}
 use Rattle.sgt_model.specs.declared.procedure.Expr.TheVariants.{Num, Arg, Reg, Sum', Diff', Product', Quotient'}

@@ -18,7 +18,7 @@ pub record Call : Type 0 where
   pub procedure : ℕ
   pub args : List ℤ
 
--- what a start asks for
+-- the call that a start requests
 abbrev pub call_at : Event → Option Call
 call_at (Start p args) = Some (record { procedure = p; args = args })
 call_at _ = None
@@ -28,7 +28,7 @@ abbrev pub call_in : Event → Reply → ℕ → Option Call
 call_in event (reply.Started u) t = cond (nat_eq u t) (call_at event) None
 call_in event _ t = None
 
--- the procedure and arguments of the start that was answered Started(t); where there is none it is never asked for
+-- the procedure and arguments of the start that was answered Started(t); if there is none, it is never used
 abbrev pub call_of : List Entry → ℕ → Call
 call_of [] t = record { procedure = 0; args = [] }
 call_of (e ∷ past) t = unwrap_or (call_in e.event e.reply t) (call_of past t)
@@ -37,17 +37,17 @@ call_of (e ∷ past) t = unwrap_or (call_in e.event e.reply t) (call_of past t)
 abbrev pub run_of : Rules → Call → Run
 run_of r c = run_if (r.procedures c.procedure) c.args
 
--- a look's value, and nothing of a store
+-- the value of a read, and nothing for a write
 abbrev pub if_look : Kind → Option ℤ → List (Option ℤ)
 if_look Look v = v ∷ []
 if_look Store v = []
 
--- the values that accesses, newest first, have looked at, oldest first
+-- the values that accesses, newest first, have read, oldest first
 abbrev pub values_read : List Access → List (Option ℤ)
 values_read [] = []
 values_read (a ∷ before) = values_read before ++ if_look a.kind a.value
 
--- the values that t looked at, oldest first
+-- the values that t read, oldest first
 abbrev pub reads : List Entry → ℕ → List (Option ℤ)
 reads past t = values_read (acts past t)
 

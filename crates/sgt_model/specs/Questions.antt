@@ -1,4 +1,4 @@
--- What an event and its reply say by themselves, before one looks at the history.
+-- What an event and its reply say by themselves, without the history.
 use Rattle.std.specs.Prelude.{ℕ, Bool, true, false, cond, Option, Some, None}
 use Rattle.sgt_model.specs.declared.event.Event.{Event}
 use Rattle.sgt_model.specs.declared.event.Event.TheVariants.{Start, Step, Commit, Quit}
@@ -17,12 +17,12 @@ named_by (Quit t) = Some t
 
 -- a reply
 
--- the number of the transaction that it starts, if it starts one
+-- the number of the transaction that it starts, if any
 abbrev pub started_number : Reply → Option ℕ
 started_number (reply.Started t) = Some t
 started_number _ = None
 
--- it is what a start is answered where nothing is started
+-- it answers a start that starts nothing
 abbrev pub refuses_start : Reply → Bool
 refuses_start reply.NoProcedure = true
 refuses_start reply.BadArgs = true
@@ -30,7 +30,7 @@ refuses_start reply.Spent = true
 refuses_start reply.Full = true
 refuses_start _ = false
 
--- it tells a commit to wait
+-- it says that a commit must wait
 abbrev pub is_wait : Reply → Bool
 is_wait (reply.Waits u) = true
 is_wait _ = false
@@ -40,13 +40,13 @@ abbrev pub is_commit : Reply → Bool
 is_commit (reply.Committed answers) = true
 is_commit _ = false
 
--- it aborts one whose procedure asked a code, at the step or at the commit
+-- it aborts a transaction whose procedure raised a code, at the step or at the commit
 abbrev pub is_ask : Reply → Bool
 is_ask (reply.Aborted (cause.Asked code) fell) = true
 is_ask (reply.Refused code fell) = true
 is_ask _ = false
 
--- it aborts one that its caller quit
+-- it aborts a transaction that its caller quit
 abbrev pub is_quit : Reply → Bool
 is_quit (reply.Aborted cause.Quit fell) = true
 is_quit _ = false
@@ -58,7 +58,7 @@ is_ending (reply.Aborted why fell) = true
 is_ending (reply.Refused code fell) = true
 is_ending _ = false
 
--- as the reply to a step or a commit, it tells that their transaction has ended, now or before
+-- as the reply to a step or a commit, it reports that the transaction has ended, now or before
 abbrev pub tells_end : Reply → Bool
 tells_end (reply.Over fate) = true
 tells_end (reply.Committed answers) = true
@@ -68,15 +68,15 @@ tells_end _ = false
 
 -- an event with its reply
 
--- the transaction that they start, if they start one
+-- the transaction that they start, if any
 abbrev pub started_in : Event → Reply → Option ℕ
 started_in (Start p args) r = started_number r
 started_in (Step t) r = None
 started_in (Commit t) r = None
 started_in (Quit t) r = None
 
--- the transaction that they tell to be over, if they tell of one: it is not live after them. Whatever a quit is answered, its
--- transaction is over
+-- the transaction that they report to be over, if any: it is not live after them. The transaction of a quit is over,
+-- whatever the reply
 abbrev pub over_in : Event → Reply → Option ℕ
 over_in (Start p args) r = None
 over_in (Step t) r = cond (tells_end r) (Some t) None

@@ -27,7 +27,7 @@ InEachState P = InEach (λ s past. (c : State) → IsStateAfter s past c → P s
 abbrev pub Continues : Setting → List Entry → Event → Reply → State → Type 0
 Continues s past event r after = LegalReply s past event r × IsStateAfter s (record { event = event; reply = r } ∷ past) after
 
--- a call that does what its contract says answers legally, and leaves the state after the longer history
+-- a call that does what its contract says gives a legal reply, and leaves the state after the longer history
 abbrev pub CallsSimulate : Type 0
 CallsSimulate = InEachState (λ s past before. (event : Event) (r : Reply) (after : State) → CallEffect s.rules event before r after → Continues s past event r after)
 
@@ -35,11 +35,11 @@ CallsSimulate = InEachState (λ s past before. (event : Event) (r : Reply) (afte
 abbrev pub NewIsEmpty : Type 0
 NewIsEmpty = (s : Setting) (c : State) → IsNew s.opening c → IsStateAfter s [] c
 
--- the verdict on an access of a live transaction is the closing walk's: the same lists
+-- the paths that block an access of a live transaction are exactly those that it would close to a cycle
 abbrev pub VerdictsAgree : Type 0
 VerdictsAgree = InEachState (λ s past c. (t : ℕ) (k : Key) (kind : Kind) (rest : List ℕ) → live past t ≡ true → Blocks c t k kind rest ↔ Closes past t k kind rest)
 
--- what a live transaction does next is what the state says of what is left of it
+-- what a live transaction does next is determined by its remainder in the state
 abbrev pub NextsAgree : Type 0
 NextsAgree = InEachState (λ s past c. (t : ℕ) → live past t ≡ true → next_left (c.left t) ≡ next_of s past t)
 

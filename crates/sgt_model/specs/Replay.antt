@@ -1,7 +1,7 @@
--- The committed and the refused transactions run one after another in the order of their replies, as if each had been alone:
--- the serial history that a serializable one is equivalent to (Bernstein, Hadzilacos and Goodman (1987), chapter 2), here by
--- the answers or the code told and the values left. Where asks are answered at the step none is refused, and the order is that
--- of commits.
+-- The committed and the refused transactions run one after another in the order of their replies, each as if alone. A
+-- serializable history is equivalent to this serial one (Bernstein, Hadzilacos and Goodman (1987), chapter 2). Here that is
+-- said of the answers or codes reported and the values left. If codes are reported at the step, none is refused, and the
+-- order is commit order.
 use Rattle.std.specs.Prelude.{◌≡◌, ℕ, ℤ, List, [], ◌∷◌, ◌++◌}
 use Rattle.sgt_model.specs.declared.event.Event.{Event}
 use Rattle.sgt_model.specs.declared.reply.Reply.{Reply}
@@ -16,12 +16,12 @@ use Rattle.sgt_model.specs.Progress.{Call, call_of, run_of}
 
 -- ---- the serial run
 
--- what a procedure's caller is told at its end: the answers, or the code that it asked
+-- what a procedure reports to its caller at its end: the answers, or the code that it raised
 pub data RunResult : Type 0 where
   GaveAnswers : List ℤ → RunResult
   AskedCode : ℕ → RunResult
 
--- so much of an outcome
+-- the result of an outcome
 abbrev pub result_of : Outcome → RunResult
 result_of (Done answers last) = GaveAnswers answers
 result_of (Asked code) = AskedCode code
@@ -35,7 +35,7 @@ pub record Folded : Type 0 where
 abbrev pub with_outcome : Outcome → Folded → Folded
 with_outcome o before = record { results = result_of o ∷ before.results; last = contents_after o before.last }
 
--- these calls, the last one first, ran one after another on the opening
+-- these calls, the last one first, run one after another on the initial database
 abbrev pub run_in_turn : Setting → List Call → Folded
 run_in_turn s [] = record { results = []; last = s.opening }
 run_in_turn s (c ∷ before) = with_outcome (serial (run_of s.rules c) (run_in_turn s before).last) (run_in_turn s before)
@@ -53,24 +53,24 @@ abbrev pub told_calls : List Entry → List Call
 told_calls [] = []
 told_calls (e ∷ past) = told_call_in past e.event e.reply ++ told_calls past
 
--- the committed and refused transactions, run one after another in reply order on the opening. Of the history only the
--- Committed and Refused entries and the starts of their transactions are looked at
+-- the committed and refused transactions, run one after another in reply order on the initial database. Of the history, only
+-- the Committed and Refused entries and the starts of their transactions are used
 abbrev pub folded : Setting → List Entry → Folded
 folded s past = run_in_turn s (told_calls past)
 
--- what an entry tells a transaction that commits or is refused, if one does or is
+-- what an entry reports to a transaction that commits or is refused, if any
 abbrev pub told_in : Reply → List RunResult
 told_in (reply.Committed answers) = GaveAnswers answers ∷ []
 told_in (reply.Refused code fell) = AskedCode code ∷ []
 told_in _ = []
 
--- what the committed and refused transactions were told, the last reply first
+-- what was reported to the committed and refused transactions, the last reply first
 abbrev pub told : List Entry → List RunResult
 told [] = []
 told (e ∷ past) = told_in e.reply ++ told past
 
--- serializable, in reply order: run one after another, the committed and refused transactions' procedures give each the
--- answers or the code that it was told, and leave the committed values
+-- serializable, in reply order: run one after another, the procedures of the committed and refused transactions give
+-- the answers or codes that were reported, and leave the committed values
 pub record ReplayAgrees (s : Setting) (past : List Entry) : Type 0 where
   pub answers : (folded s past).results ≡ told past
   pub database : (k : Key) → (folded s past).last k ≡ settled s.opening past k

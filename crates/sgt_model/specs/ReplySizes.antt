@@ -1,4 +1,4 @@
--- How many transactions a reply names: no more than may be live at once, so a list with room for that many holds them.
+-- How many transactions a reply names: at most as many as may be live at once, so a list of that capacity holds them.
 use Rattle.std.specs.Prelude.{ℕ, ◌<◌, ◌≤◌, length}
 use Rattle.sgt_model.specs.declared.event.Event.{Event}
 use Rattle.sgt_model.specs.declared.reply.Reply.{Reply}
@@ -10,19 +10,19 @@ use Rattle.sgt_model.specs.declared.reply.Fate.TheVariants as fate
 use Rattle.sgt_model.specs.Legality.{LegalReply}
 use Rattle.sgt_model.specs.Laws.{InEach}
 
--- the walk of a cycle has at most so many members
+-- the path of a cycle has at most so many members
 abbrev pub CauseNamesAtMost : ℕ → Cause → Type 0
 CauseNamesAtMost most (cause.Cycle walk) = length walk ≤ most
 CauseNamesAtMost most (cause.Asked code) = Unit {0}
 CauseNamesAtMost most cause.Quit = Unit {0}
 
--- so it is with the walk of a fate
+-- the path of a fate has at most so many members
 abbrev pub FateNamesAtMost : ℕ → Fate → Type 0
 FateNamesAtMost most (fate.Aborted why) = CauseNamesAtMost most why
 FateNamesAtMost most fate.Committed = Unit {0}
 FateNamesAtMost most (fate.Fell u) = Unit {0}
 
--- a reply names at most so many: in a walk, or as an aborted one and those that fall with it
+-- a reply names at most so many: in a path, or as the aborted transaction and those aborted in cascade
 abbrev pub ReplyNamesAtMost : ℕ → Reply → Type 0
 ReplyNamesAtMost most (reply.Aborted why fell) = CauseNamesAtMost most why × (length fell < most)
 ReplyNamesAtMost most (reply.Refused code fell) = length fell < most

@@ -1,4 +1,4 @@
--- What an engine is made of.
+-- What an engine is made of: its configuration (`Setting`).
 use Rattle.std.specs.Prelude.{ℕ, ℤ, List, Option, Some, None, slice_get}
 use Rattle.std.specs.Option.{option_map}
 use Rattle.sgt_model.specs.declared.limits.Limits.{Limits}
@@ -7,12 +7,12 @@ use Rattle.sgt_model.specs.Syntax.{ProcedureText}
 use Rattle.sgt_model.specs.Runs.{Run}
 use Rattle.sgt_model.specs.Meaning.{wrong, run_with}
 
--- the rules by which events are answered: by its number each procedure, or that there is none, and the limits
+-- the rules by which events are answered: the procedure of each number, or none, and the limits
 pub record Rules : Type 0 where
   pub procedures : ℕ → Option ProcedureText
   pub limits : Limits
 
--- the opening contents, and the rules
+-- the initial contents, and the rules
 pub record Setting : Type 0 where
   pub opening : Contents
   pub rules : Rules
@@ -34,6 +34,6 @@ runs_in programs n = run_if (slice_get programs n)
 abbrev pub rules_from : List ProcedureText → Limits → Rules
 rules_from programs limits = record { procedures = slice_get programs; limits = limits }
 
--- the setting of these opening contents, procedures and limits
+-- the configuration of these initial contents, procedures and limits
 abbrev pub setting : Contents → List ProcedureText → Limits → Setting
 setting opening programs limits = record { opening = opening; rules = rules_from programs limits }

@@ -1,4 +1,4 @@
--- What holds of a state at every moment, whatever the history: the layers' calls ask for it.
+-- What holds of a state at every moment, whatever the history. The layers' calls require it.
 use Rattle.std.specs.Prelude.{◌≡◌, ◌≢◌, ℕ, ◌<◌, ◌≤◌, true, ◌↔◌, length}
 use Rattle.sgt_model.specs.declared.kind.Kind.{Kind}
 use Rattle.sgt_model.specs.declared.kind.Kind.TheVariants.{Store}
@@ -9,8 +9,8 @@ use Rattle.sgt_model.specs.Chains.{writes_in}
 use Rattle.sgt_model.specs.ChainOrder.{InOrder}
 use Rattle.sgt_model.specs.State.{State, Has, PairIn}
 
--- nodes were started, are listed, and are not too many; pairs, accesses, reads and chains are of nodes; who has a value in
--- a chain has a listed store of its key, and chains stand in the order of pairs
+-- nodes were started, are listed, and are not too many; edges, accesses, reads and chains are of nodes; a writer with a
+-- value in a chain has a listed write of its key, and chains are in the order of edges
 pub record Sound (most : ℕ) (c : State) : Type 0 where
   pub begun : (t : ℕ) → c.nodes t ≡ true → t < c.start_count
   pub listed : (t : ℕ) → (c.nodes t ≡ true) ↔ Member t c.live

@@ -1,4 +1,4 @@
--- What a start is answered, by the rules, how many transactions were started and how many are live.
+-- The reply to a start, by the rules, the number of starts and the number of live transactions.
 use Rattle.std.specs.Prelude.{ℕ, ℤ, Bool, ◌&&◌, cond, nat_eq, List, length, Option, Some, None}
 use Rattle.std.specs.List.{list_all}
 use Rattle.sgt_model.specs.declared.reply.Reply.{Reply}
@@ -11,15 +11,15 @@ use Rattle.sgt_model.specs.Settings.{Rules, takes}
 abbrev pub args_fit : ℕ → List ℤ → Bool
 args_fit count args = nat_eq (length args) count && list_all is_value args
 
--- where the limits allow one more
+-- the reply by the limits: whether they allow one more
 abbrev pub room_reply : Limits → ℕ → ℕ → Reply
 room_reply limits started living = cond (nat_eq started limits.begins) reply.Spent (cond (nat_eq living limits.live) reply.Full (reply.Started started))
 
--- where the procedure takes so many arguments
+-- the reply if the procedure takes so many arguments
 abbrev pub taken_reply : Limits → ℕ → ℕ → Option ℕ → List ℤ → Reply
 taken_reply limits started living None args = reply.NoProcedure
 taken_reply limits started living (Some count) args = cond (args_fit count args) (room_reply limits started living) reply.BadArgs
 
--- the one reply to a start: no such procedure, bad arguments, all numbers spent, full, or started with the next number
+-- the one reply to a start: no such procedure, bad arguments, the most starts used up, full, or started with the next number
 abbrev pub start_reply : Rules → ℕ → ℕ → ℕ → List ℤ → Reply
 start_reply rules started living p args = taken_reply rules.limits started living (takes rules p) args

@@ -1,12 +1,12 @@
--- The state of a scheduler: what it and its layers hold, as functions and lists.
+-- The state of a scheduler and its layers, as functions and lists.
 use Rattle.std.specs.Prelude.{◌≡◌, ℕ, ℤ, Bool, true, ◌⊎◌, List, [], ◌∷◌, Option}
 use Rattle.sgt_model.specs.declared.reply.Fate.{Fate}
 use Rattle.sgt_model.specs.Contents.{Key}
 use Rattle.sgt_model.specs.AccessList.{ListedAccess}
 use Rattle.sgt_model.specs.Left.{Left}
 
--- the live ones, the graph's nodes and pairs, the access list, the chain and the committed value of each key, who read
--- from whom (source and reader), the fates, how many were started, and what is left of each
+-- the live transactions, the graph's nodes and edges, the access list, the chain and the committed value of each key, who
+-- read from whom (source and reader), the fates, the number of starts, and the remainder of each
 pub record State : Type 0 where
   pub live : List ℕ
   pub nodes : ℕ → Bool
@@ -24,6 +24,6 @@ abbrev pub Has : List (ℕ × ℕ) → ℕ → ℕ → Type 0
 Has [] a b = ⊥
 Has (p ∷ rest) a b = ((p.0 ≡ a) × (p.1 ≡ b)) ⊎ Has rest a b
 
--- the graph has a pair from t to u
+-- the graph has an edge from t to u
 abbrev pub PairIn : State → ℕ → ℕ → Type 0
 PairIn c t u = c.pairs t u ≡ true

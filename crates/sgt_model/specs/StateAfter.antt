@@ -1,4 +1,4 @@
--- The state after a history: the relation between the two that every call keeps.
+-- The state after a history: the relation between the two that every call preserves.
 use Rattle.std.specs.Prelude.{◌≡◌, ℕ, true, ◌↔◌, List}
 use Rattle.sgt_model.specs.declared.entry.Entry.{Entry}
 use Rattle.sgt_model.specs.Contents.{Key}
@@ -12,7 +12,7 @@ use Rattle.sgt_model.specs.Chains.{chain_of}
 use Rattle.sgt_model.specs.LiveLeft.{left_of}
 use Rattle.sgt_model.specs.State.{State, Has}
 
--- a conflict pair of two live transactions
+-- an edge between two live transactions
 pub record LivePair (past : List Entry) (t u : ℕ) : Type 0 where
   pub first_live : live past t ≡ true
   pub second_live : live past u ≡ true

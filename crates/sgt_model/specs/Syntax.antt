@@ -1,4 +1,4 @@
--- What the text of a procedure says, with nothing of how it is stored: two procedures are equal here where their texts are.
+-- The text of a procedure, without how it is stored: two procedures are equal here if their texts are.
 use Rattle.std.specs.Prelude.{ℕ, ℤ}
 
 -- an expression: a literal, an argument, a register, a sum, a difference, a product or a quotient
@@ -17,7 +17,7 @@ pub data CondText : Type 0 where
   at_most : ExprText → ExprText → CondText
   equal : ExprText → ExprText → CondText
 
--- statements in a row: `empty` is none, and each other constructor is one statement, whose last part is those behind it
+-- statements in a row: `empty` is none; each other constructor is one statement, whose last part is the statements after it
 pub data Block : Type 0 where
   empty : Block
   look : (to table : ℕ) → (id : ExprText) → (absent : ℕ) → Block → Block

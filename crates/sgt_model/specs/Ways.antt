@@ -1,9 +1,9 @@
--- The ways through a procedure: what stands behind an If stands at the end of either branch.
+-- The ways through a procedure: the statements after an If come at the end of either branch.
 use Rattle.std.specs.Prelude.{ℕ}
 use Rattle.sgt_model.specs.Syntax as text
 use Rattle.sgt_model.specs.Syntax.{ExprText, CondText, Block}
 
--- the statements to come; an Ask ends the way, and a fork shows the two ways behind an If
+-- the statements to come; an Ask ends the way, and a fork shows the two ways after an If
 pub data Way : Type 0 where
   end : Way
   look : (to table : ℕ) → (id : ExprText) → (absent : ℕ) → Way → Way
@@ -14,7 +14,7 @@ pub data Way : Type 0 where
   fork : CondText → (ys ns : Way) → Way
   answer : ExprText → Way → Way
 
--- the statements of a block, and what comes behind them
+-- the statements of a block, and what comes after them
 abbrev pub onto : Block → Way → Way
 onto text.empty rest = rest
 onto (text.look to table id absent b) rest = look to table id absent (onto b rest)

@@ -5,7 +5,7 @@ ghost use Rattle.std.specs.Cmp.Lexicographic.{pointwise, lists_per, lists_equiv}
 use arrayvec::ArrayVec;
 use std::marker::Model;
 
-/// A list of at most N items, kept in place: it never takes memory. It is copied by `copied`, item by item.
+/// A list of at most N items, stored inline: it never allocates. `copied` copies it item by item.
 #[derive(Debug, Drop)]
 pub struct Bounded<T: Copy + Default, const N: usize> {
     list: ArrayVec<T, N>,
@@ -69,7 +69,7 @@ impl<T: Copy + Default, const N: usize> Bounded<T, N> {
         self.list.as_slice()
     }
 
-    /// A list of these items, unless they are too many.
+    /// A list of these items, or `None` if there are more than N.
     pub fn from_slice(items: &[T]) -> Option<Self>
         ensures some { IsSome result ↔ (length items.now ≤ N) }
         ensures items { IfSome result (λ list. list ≡ items.now) }
@@ -80,7 +80,7 @@ impl<T: Copy + Default, const N: usize> Bounded<T, N> {
         }
     }
 
-    /// A copy, which takes no memory.
+    /// A copy. It allocates nothing.
     pub fn copied(&self) -> Self
         ensures { result ≡ self.now }
     {

@@ -10,9 +10,10 @@ use crate::key::Key;
 use std::alloc::Global;
 use std::marker::Model;
 
-/// A finite map from keys to values, kept as rows in the order of their keys. It finds a row by halving and adds one by
-/// moving those behind it; one that comes after all others is added at once. It serves openings and snapshots, and is no engine's
-/// store.
+/// A finite map from keys to values, stored as rows sorted by key. It finds a row by binary search.
+///
+/// Adding a row moves the rows after it; a row with the greatest key is appended at once.
+/// It serves initial databases and snapshots. No engine uses it as its store.
 #[derive(Debug, Drop)]
 pub struct Database {
     rows: Vec<(Key, i64)>,
@@ -30,7 +31,7 @@ impl Model for Database {
 }
 
 impl Database {
-    /// No rows. This takes no memory.
+    /// No rows. It allocates nothing.
     pub fn empty(alloc: Global) -> Self
         ensures { result ≡ [] }
     {
@@ -49,8 +50,9 @@ impl Database {
         }
     }
 
-    /// Puts the value, from `LEAST` to `MOST`, in place of the key's, or adds a row. Only that row takes
-    /// memory: where it is refused, nothing changes.
+    /// Replaces the key's value, or adds a row. The value is from `LEAST` to `MOST`.
+    ///
+    /// Only a new row allocates. If that fails, nothing changes.
     pub fn put(&mut self, key: Key, value: i64) -> Result<(), NoMemory>
         requires { IsValue value }
         ensures put { OnOk result ((k : Key) → contents_of self.new k ≡ put_in (contents_of self.old) key value k) }
@@ -65,8 +67,9 @@ impl Database {
         Ok(())
     }
 
-    /// Adds a row where the key has none, and returns whether it did; where the key has a value, nothing changes. The value is from
-    /// `LEAST` to `MOST`. One search finds both. Only the row takes memory: where that is refused, nothing changes.
+    /// Adds a row if the key has none, and returns whether it did. If the key has a value, nothing changes.
+    ///
+    /// The value is from `LEAST` to `MOST`. The call searches once. Only the new row allocates; if that fails, nothing changes.
     pub fn put_new(&mut self, key: Key, value: i64) -> Result<bool, NoMemory>
         requires { IsValue value }
         ensures put { IfOk result (λ new. new ≡ true → (k : Key) →
@@ -86,7 +89,7 @@ impl Database {
         }
     }
 
-    // The index of the key's row, or else the one where it would stand.
+    // The index of the key's row, or else the index at which it would be inserted.
     fn find(&self, key: Key) -> Result<usize, usize>
         ensures { IsFound key self.now result }
     {
@@ -99,7 +102,7 @@ impl Database {
         Err(at)
     }
 
-    // How many rows come before the key: all of them, or else by halving.
+    // How many rows come before the key. If not all do, it is a binary search.
     fn index(&self, key: Key) -> usize
         ensures { IsRowIndex key self.now result }
     {
@@ -131,9 +134,9 @@ impl Database {
         self.rows[count - 1].0 < key
     }
 
-    /// These rows with those of `newer`: where both have a key, with the value of `newer`. It goes once through both.
+    /// These rows merged with those of `newer`. If both have a key, the value of `newer` wins. It reads both once.
     ///
-    /// `NoMemory` where a growth was refused.
+    /// `NoMemory` if an allocation failed.
     pub fn updated(&self, alloc: Global, newer: &Database) -> Result<Database, NoMemory>
         ensures values { IfOk result (λ d. (k : Key) →
             contents_of d k ≡ option_or (contents_of newer.now k) (contents_of self.now k)) }
@@ -158,7 +161,7 @@ impl Database {
         Ok(both)
     }
 
-    /// The rows, by table and then by number, each key once.
+    /// The rows, sorted by table and then by number. Each key occurs once.
     pub fn rows(&self) -> &[(Key, i64)]
         ensures rows { result.now ≡ self.now }
         ensures by_key { IsByKey result.now }
@@ -168,7 +171,7 @@ impl Database {
     }
 }
 
-// Whether there is a newer row at its index, and it comes before the row at the other index, if there is one.
+// Whether the newer row at its index exists and comes before the row at the other index, if that exists.
 #[inline(always)]
 fn is_newer_next(rows: &[(Key, i64)], at: usize, newer: &[(Key, i64)], at_newer: usize) -> bool
     ensures is_there { result ≡ true → at_newer < length newer.now }

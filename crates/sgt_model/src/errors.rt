@@ -4,7 +4,7 @@ ghost use Rattle.std.specs.Prelude.{◌≡◌};
 use std::alloc::{AllocError, AllocFailed};
 use thiserror::Error;
 
-/// The memory for a growth was refused. Nothing that a caller can see has changed, and no history has an entry of it.
+/// An allocation failed. Nothing visible to a caller has changed, and no history has an entry for the call.
 #[derive(Clone, Copy, Debug, PartialEq, Eq, Error)]
 #[error("no memory")]
 pub struct NoMemory;
@@ -24,10 +24,10 @@ impl<T: Drop> From<AllocFailed<T>> for NoMemory {
 /// Why an engine could not be made.
 #[derive(Clone, Copy, Debug, PartialEq, Eq, Error)]
 pub enum MakeError {
-    /// A limit is out of its range, as `Limits::are_in_range` tells.
+    /// A limit is out of its range: `Limits::are_in_range` returns false.
     #[error("a limit is out of its range")]
     BadLimits,
-    /// The memory for it was refused.
+    /// An allocation failed.
     #[error("no memory")]
     NoMemory,
 }

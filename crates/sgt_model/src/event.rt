@@ -6,27 +6,27 @@ use crate::bounded::Bounded;
 use crate::reply::Reply;
 use crate::tid::Tid;
 
-/// The arguments of a procedure, at most 4, in order. An engine takes values alone.
+/// The arguments of a procedure, at most 4, in order. An engine accepts only values.
 pub type Args = Bounded<i64, 4>;
 
 /// The answers of a procedure, at most 8 values, in order.
 pub type Answers = Bounded<i64, 8>;
 
-/// What a caller asks of an engine: one atomic step, answered by one reply. Step, Commit and Quit name their transaction.
+/// A request to an engine: one atomic step, answered by one reply. Step, Commit and Quit name their transaction.
 #[derive(Debug, Drop, PartialEq, Eq)]
 pub enum Event {
-    /// Start a transaction that runs the procedure of this number with these arguments.
+    /// Start a transaction. It runs the procedure of this number with these arguments.
     Start { procedure: u16, args: Args },
-    /// Let the transaction's procedure make its next access: one look or one store.
+    /// Let the transaction's procedure make its next access: one read or one write.
     Step(Tid),
-    /// Commit the transaction, whose procedure is at its end.
+    /// Commit the transaction. Its procedure must be at its end.
     Commit(Tid),
-    /// Abort the transaction, as its caller wants it.
+    /// `Quit`: abort the transaction at its caller's request.
     Quit(Tid),
 }
 
 impl Event {
-    /// A copy, which takes no memory.
+    /// A copy. It allocates nothing.
     pub fn copied(&self) -> Self
         ensures { result ≡ self.now }
     {
@@ -48,7 +48,7 @@ impl Event {
         self == other
     }
 
-    /// The transaction that it names; a start names none.
+    /// The transaction that the event names. A start names none.
     pub fn named(&self) -> Option<Tid>
         ensures { result ≡ named_by self.now }
     {
@@ -58,7 +58,7 @@ impl Event {
         }
     }
 
-    /// The transaction that it starts where this is its reply, if it starts one.
+    /// The transaction that the event starts if this is its reply, if any.
     pub fn started(&self, reply: &Reply) -> Option<Tid>
         ensures { result ≡ started_in self.now reply.now }
     {
@@ -68,8 +68,8 @@ impl Event {
         }
     }
 
-    /// The transaction that it and this reply to it tell to be over, if they tell of one. It is not live any more: a quit's
-    /// never is, whatever the reply.
+    /// The transaction that the event and this reply report to be over, if any. It is not live any more.
+    /// The transaction of a quit never is, whatever the reply.
     pub fn over(&self, reply: &Reply) -> Option<Tid>
         ensures { result ≡ over_in self.now reply.now }
     {

@@ -10,7 +10,7 @@ pub const LAST_TABLE: u8 = 7;
 /// The least value: minus fifteen nines.
 pub const LEAST: i64 = -999_999_999_999_999;
 
-/// The greatest value: fifteen nines, so that a sum of two values fits an `i64` with room to spare.
+/// The greatest value: fifteen nines. A sum of two values always fits an `i64`.
 pub const MOST: i64 = 999_999_999_999_999;
 
 /// Whether a number is a value, from `LEAST` to `MOST`. Record numbers, balances, arguments and literals are values.
@@ -21,7 +21,7 @@ pub fn is_value(number: i64) -> bool
     LEAST <= number && number <= MOST
 }
 
-/// What names a record: its table, from 0 to 7, and its number there, a value. Keys are ordered by table, then by number.
+/// The name of a record: its table, from 0 to 7, and its number there, a value. Keys are ordered by table, then by number.
 #[derive(Clone, Copy, Debug, PartialEq, Eq, PartialOrd, Ord)]
 pub struct Key {
     table: u8,
@@ -42,7 +42,7 @@ impl Model for Key {
 }
 
 impl Key {
-    /// The key, or none where the table is over 7 or the number is no value.
+    /// The key, or none if the table is over 7 or the number is no value.
     pub fn new(table: u8, id: i64) -> Option<Key>
         ensures made { IfSome result (λ key. key ≡ (table, id)) }
         ensures some { IsSome result ↔ ((table ≤ 7) × IsValue id) }

@@ -1,29 +1,29 @@
-//! The ground that every crate of `sgt` stands on: what procedures, transactions, events, replies and databases are, which
-//! histories are legal, and what is true of every legal history. `sgt` is an in-memory transaction engine that schedules by
-//! serialization graph testing.
+//! The base of every crate of `sgt`, an in-memory transaction engine that schedules by serialization graph testing.
+//! It says what procedures, transactions, events, replies and databases are, which histories are legal, and what is true of
+//! every legal history.
 //!
 //! A transaction runs one procedure, one access at a time. An [`Event`] starts it, lets it make its next access, commits
-//! it or quits it, and is answered by a [`Reply`]. The two are an [`Entry`], and the entries in their order are the
-//! history. A history is legal where each reply is one that its event may get after the entries before it, by the rules
-//! of `specs/Legality.antt`. From these alone follows [`headline_holds`]: a legal history is serializable in commit
+//! it or quits it, and is answered by a [`Reply`]. The two are an [`Entry`]; the entries in order are the history.
+//! In a legal history, each reply is one that its event may get after the entries before it, by the rules
+//! of `specs/Legality.antt`. [`headline_holds`] follows from these rules alone: a legal history is serializable in commit
 //! order, and each of its aborts has its cause.
 //!
-//! It is no engine: nothing here schedules, keeps transactions, or checks and runs procedures. What runs here makes,
-//! compares and copies plain values. The functions of `laws`, `left` and `refinement` do nothing at all: each
-//! is a law, which its contract says and any caller may use.
+//! It is no engine: nothing here schedules, stores transactions, or checks and runs procedures. Its code makes,
+//! compares and copies plain values. The functions of `laws`, `left` and `refinement` do nothing:
+//! the contract of each is a law that any caller may use.
 //!
-//! The definitions that contracts cite stand in `specs/`, in four parts, to be read in the order of `specs/Lib.antt`:
+//! `specs/` holds the definitions that contracts cite, in four parts. Read them in the order of `specs/Lib.antt`:
 //!
 //! 1. What a reader has to trust: the 23 files that `Legal` and `Headline` rest on, from `Numbers` to `Headline`.
-//! 2. Words of single contracts: `Bounds`, `Databases`, `Programs`, `Codes`, `Histories`, `Questions`.
-//! 3. Laws, which are proved of the definitions of part 1: from `Admissions` to `ExecutedReplay`.
-//! 4. The scheduler's room: the state that a scheduler keeps in place of the history, what its calls do to it, and why that
-//!    is legal, which is proved of part 1 too: from `Left` to `Refinement`.
+//! 2. Terms of single contracts: `Bounds`, `Databases`, `Programs`, `Codes`, `Histories`, `Questions`.
+//! 3. Laws, proved from the definitions of part 1: from `Admissions` to `ExecutedReplay`.
+//! 4. The state that a scheduler stores in place of the history, what its calls do to it, and why that is legal. This is
+//!    proved from part 1 too: from `Left` to `Refinement`.
 //!
-//! A history is read there with its newest entry first. The definitions follow Bernstein, Hadzilacos and Goodman,
-//! *Concurrency Control and Recovery in Database Systems* (1987), chapters 1, 2 and 4, and for the order of commits Durner
-//! and Neumann, *No False Negatives: Accepting All Useful Schedules in a Fast Serializable Many-Core System* (ICDE 2019).
-//! Worked histories, proved legal, and wrong replies, proved not legal, stand in `proofs/` under `Examples..` and
+//! The definitions read a history with its newest entry first. They follow Bernstein, Hadzilacos and Goodman,
+//! *Concurrency Control and Recovery in Database Systems* (1987), chapters 1, 2 and 4. For the order of commits they follow
+//! Durner and Neumann, *No False Negatives: Accepting All Useful Schedules in a Fast Serializable Many-Core System* (ICDE 2019).
+//! `proofs/` has worked histories, proved legal, under `Examples..`, and wrong replies, proved not legal, under
 //! `WrongReplies`.
 //!
 //! ```
@@ -32,7 +32,7 @@
 //! let key = Key::new(2, 101).unwrap();
 //! opening.put(key, 1_000)?;
 //!
-//! // Transaction 0 runs procedure 1 on it, and its first step looks at the record.
+//! // Transaction 0 runs procedure 1 on it, and its first step reads the record.
 //! let args = Args::from_slice([101, 50].as_slice()).unwrap();
 //! let started = Entry {
 //!     event: Event::Start { procedure: 1, args },

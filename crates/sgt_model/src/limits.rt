@@ -5,27 +5,27 @@ ghost use Rattle.sgt_model.specs.Bounds.{AreInRange};
 /// The most transactions that may be live at once.
 pub const MOST_LIVE: u32 = 32;
 
-/// The most transactions that may be started.
+/// The most transactions that may be started: the most starts.
 pub const MOST_BEGINS: u32 = 4_000_000_000;
 
-/// When a transaction is told that its procedure asked a code.
+/// `Asks`: when a code that a procedure raises is reported.
 #[derive(Clone, Copy, Debug, PartialEq, Eq)]
 pub enum Asks {
-    /// At the step that finds it, by an abort. What the procedure looked at then may be undone later: the code is no
-    /// more than a sign that the transaction could not go on.
+    /// At the step that finds it, by an abort. What the procedure read may be undone later: the code then says only
+    /// that the transaction could not continue.
     AtStep,
-    /// At its commit, which waits for live predecessors as every commit does: the code is then true in the serial order.
+    /// At its commit, which waits for live predecessors as every commit does. The code is then true in the serial order.
     AtCommit,
 }
 
-/// How many transactions an engine may hold, and when it answers an ask.
+/// The capacity of an engine in transactions, and when it reports codes.
 #[derive(Clone, Copy, Debug, PartialEq, Eq)]
 pub struct Limits {
     /// How many may be live at once, from 1 to `MOST_LIVE`.
     pub live: u32,
-    /// How many may be started in all, from 1 to `MOST_BEGINS`.
+    /// `begins`: the most starts in all, from 1 to `MOST_BEGINS`.
     pub begins: u32,
-    /// When a transaction whose procedure asks a code is told so.
+    /// When a code that a procedure raises is reported.
     pub asks: Asks,
 }
 

@@ -1,7 +1,7 @@
-//! A procedure as its text has it: statements, expressions and conditions.
+//! The text of a procedure as a tree: statements, expressions and conditions.
 
-/// A procedure, as it is written. Its text is to be checked before it runs: the ranges below are what a check asks for. It
-/// has no loops and calls no other, so it always comes to its end or asks a code.
+/// A procedure, as it is written. Check its text before it runs: a check requires the ranges below.
+/// It has no loops and calls no other procedure, so it always comes to its end or raises a code.
 #[derive(Drop)]
 pub struct Procedure {
     /// How many arguments it takes, from 0 to 4.
@@ -10,27 +10,27 @@ pub struct Procedure {
     pub body: Vec<Statement>,
 }
 
-/// One statement. Registers, from 0 to 15, hold values, and none is set at the start. Tables are from 0 to 7, codes from
-/// 1 to 999. Numbers of records and what is stored or answered are values.
+/// One statement. Registers, from 0 to 15, hold values; none is set at the start. Tables are from 0 to 7, codes from
+/// 1 to 999. Numbers of records and what is written or answered are values.
 #[derive(Drop)]
 pub enum Statement {
-    /// Looks at the record of the table whose number is `id`, and sets the register to its value. Where there is no
-    /// such record, the procedure ends and asks the code `absent`.
+    /// Reads the record of the table whose number is `id`, and sets the register to its value. If the record does not
+    /// exist, the procedure ends and raises the code `absent`.
     Look {
         reg: u8,
         table: u8,
         id: Expr,
         absent: u16,
     },
-    /// Looks at the record of the table whose number is `id`, and sets the register to its value, or to `absent`, which is
-    /// evaluated before the look, where there is no such record. So it asks no code for want of a record.
+    /// Reads the record of the table whose number is `id`, and sets the register to its value. If the record does not
+    /// exist, it sets the register to `absent` and raises no code. `absent` is evaluated before the read.
     Find {
         reg: u8,
         table: u8,
         id: Expr,
         absent: Expr,
     },
-    /// Stores the value in the record of the table whose number is `id`. A record that is not there is made.
+    /// Writes the value to the record of the table whose number is `id`. If the record does not exist, it is created.
     Put {
         table: u8,
         id: Expr,
@@ -41,24 +41,24 @@ pub enum Statement {
         reg: u8,
         value: Expr,
     },
-    /// Ends the procedure, which asks the code.
+    /// Ends the procedure and raises the code.
     Ask {
         code: u16,
     },
-    /// Goes on with `yes` where the condition holds, and else with `no`.
+    /// Continues with `yes` if the condition holds, and else with `no`.
     If {
         cond: Cond,
         yes: Vec<Statement>,
         no: Vec<Statement>,
     },
-    /// Adds the value to the answers, of which there are at most 8.
+    /// Adds the value to the answers, which are at most 8.
     Answer {
         value: Expr,
     },
 }
 
-/// An expression, of which the left part is evaluated first. A sum, difference, product or quotient that is no value ends the
-/// procedure, which asks code 1000; so does a quotient by 0.
+/// An expression; its left part is evaluated first. If a sum, difference, product or quotient is no value, the procedure
+/// ends and raises code 1000. So does a quotient by 0.
 #[derive(Drop)]
 pub enum Expr {
     /// A literal, which is a value.
@@ -67,7 +67,7 @@ pub enum Expr {
     Arg(u8),
     /// The register of this number.
     Reg(u8),
-    /// The left part and the right part together.
+    /// The left part plus the right part.
     Sum(Box<Expr>, Box<Expr>),
     /// The left part less the right part.
     Diff(Box<Expr>, Box<Expr>),
@@ -77,7 +77,7 @@ pub enum Expr {
     Quotient(Box<Expr>, Box<Expr>),
 }
 
-/// A condition between two expressions, of which the left one is evaluated first.
+/// A condition on two expressions; the left one is evaluated first.
 #[derive(Drop)]
 pub enum Cond {
     /// The left one is smaller.

@@ -10,28 +10,28 @@ use crate::tids::Tids;
 /// Why a transaction was aborted.
 #[derive(Debug, Drop, PartialEq, Eq)]
 pub enum Cause {
-    /// Its step would close a cycle of conflicts. The walk begins with the transaction itself, follows conflict pairs, and
-    /// ends with one that has an earlier access that conflicts with the step's. It names none twice.
+    /// Its step would close a cycle in the serialization graph. The path begins with the transaction itself, follows edges, and
+    /// ends with one whose earlier access conflicts with the step's. It names none twice.
     Cycle(Tids),
-    /// Its procedure asked this code: 1 to 999 by its text, 1000 by arithmetic that gives no value.
+    /// Its procedure raised this code: 1 to 999 from its text, 1000 from arithmetic that gives no value.
     Asked(u16),
-    /// Its caller quit it.
+    /// Its caller quit it: an abort on request.
     Quit,
 }
 
 /// How a transaction ended.
 #[derive(Debug, Drop, PartialEq, Eq)]
 pub enum Fate {
-    /// By its commit.
+    /// Its commit.
     Committed,
-    /// By an abort of its own, for this cause.
+    /// An abort of its own, for this cause.
     Aborted(Cause),
-    /// By a cascading abort: it had read from an aborted one, directly or through others. The number is that of the
-    /// transaction whose abort started the cascade.
+    /// `Fell`: aborted in cascade. It had read from an aborted transaction, directly or through others. The number is
+    /// that of the transaction whose abort started the cascade.
     Fell(Tid),
 }
 
-/// What an event is answered. NoProcedure, BadArgs, Spent, Full, Unknown, Over, NotEnded and Waits change nothing but the
+/// The answer to an event. NoProcedure, BadArgs, Spent, Full, Unknown, Over, NotEnded and Waits change nothing but the
 /// history.
 #[derive(Debug, Drop, PartialEq, Eq)]
 pub enum Reply {
@@ -39,39 +39,39 @@ pub enum Reply {
     Started(Tid),
     /// No procedure has that number.
     NoProcedure,
-    /// The arguments are not as many as the procedure takes, or one of them is no value.
+    /// The number of arguments is not the procedure's, or one of them is no value.
     BadArgs,
-    /// As many transactions were started as the limits allow.
+    /// `Spent`: the most starts are used up.
     Spent,
-    /// As many transactions are live as the limits allow.
+    /// `Full`: as many transactions are live as the limits allow.
     Full,
     /// No transaction of that number was started.
     Unknown,
     /// The transaction has ended, in this way.
     Over(Fate),
-    /// The step looked at the record, and found this value, which may not be committed yet, or none.
+    /// `Looked`: the step read this value of the record, or none. The value may not be committed yet.
     Looked { key: Key, value: Option<i64> },
-    /// The step stored this value in the record.
+    /// `Wrote`: the step wrote this value to the record.
     Wrote { key: Key, value: i64 },
-    /// The procedure is at its end, and nothing was done. Where asks are answered at the commit, one that asks is at its end
-    /// too.
+    /// The procedure is at its end, and nothing was done. If codes are reported at commit, a procedure that raises one is
+    /// at its end too.
     Ended,
     /// The procedure is not at its end, so the transaction can't be committed yet.
     NotEnded,
-    /// The commit has to wait: this is the least live transaction with a conflict pair into the one that would commit.
+    /// The commit must wait. This is the least live transaction with an edge to the one that would commit.
     Waits(Tid),
     /// The transaction is committed, with these answers.
     Committed(Answers),
-    /// The transaction is aborted for this cause, and with it the live ones that had read from it, directly or through
-    /// others: `fell`, rising.
+    /// The transaction is aborted for this cause. The live ones that had read from it, directly or through others, are
+    /// aborted in cascade: `fell`, rising.
     Aborted { cause: Cause, fell: Tids },
-    /// The transaction is aborted at its commit, since its procedure asks this code, where asks are answered at the commit;
-    /// and with it the live ones that had read from it, directly or through others: `fell`, rising.
+    /// The transaction is aborted at its commit, because its procedure raises this code and codes are reported at commit.
+    /// The live ones that had read from it, directly or through others, are aborted in cascade: `fell`, rising.
     Refused { code: u16, fell: Tids },
 }
 
 impl Cause {
-    /// A copy, which takes no memory.
+    /// A copy. It allocates nothing.
     pub fn copied(&self) -> Self
         ensures { result ≡ self.now }
     {
@@ -84,7 +84,7 @@ impl Cause {
 }
 
 impl Fate {
-    /// A copy, which takes no memory.
+    /// A copy. It allocates nothing.
     pub fn copied(&self) -> Self
         ensures { result ≡ self.now }
     {
@@ -97,7 +97,7 @@ impl Fate {
 }
 
 impl Reply {
-    /// A copy, which takes no memory.
+    /// A copy. It allocates nothing.
     pub fn copied(&self) -> Self
         ensures { result ≡ self.now }
     {
@@ -139,7 +139,7 @@ impl Reply {
         self == other
     }
 
-    /// The transaction that it starts, if it starts one.
+    /// The transaction that the reply starts, if any.
     pub fn started(&self) -> Option<Tid>
         ensures { result ≡ started_number self.now }
     {
@@ -149,7 +149,7 @@ impl Reply {
         }
     }
 
-    /// Whether it is what a start is answered where nothing is started.
+    /// Whether it answers a start that starts nothing.
     pub fn refuses_start(&self) -> bool
         ensures { result ≡ refuses_start self.now }
     {
@@ -159,7 +159,7 @@ impl Reply {
         )
     }
 
-    /// Whether it tells a commit to wait.
+    /// Whether it says that a commit must wait.
     pub fn is_wait(&self) -> bool
         ensures { result ≡ is_wait self.now }
     {
@@ -173,7 +173,7 @@ impl Reply {
         matches!(self, Reply::Committed(_))
     }
 
-    /// Whether it aborts a transaction whose procedure asked a code, at the step or at the commit.
+    /// Whether it aborts a transaction whose procedure raised a code, at the step or at the commit.
     pub fn is_ask(&self) -> bool
         ensures { result ≡ is_ask self.now }
     {
@@ -204,7 +204,7 @@ impl Reply {
         )
     }
 
-    /// Whether, as the reply to a step or a commit, it tells that their transaction has ended, now or before.
+    /// Whether, as the reply to a step or a commit, it reports that the transaction has ended, now or before.
     pub fn tells_end(&self) -> bool
         ensures { result ≡ tells_end self.now }
     {

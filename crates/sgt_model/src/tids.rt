@@ -7,8 +7,8 @@ use crate::tid::Tid;
 use std::fmt;
 use std::marker::Model;
 
-/// At most 32 transactions, kept in place: they never take memory. They are a `Bounded` in fewer bytes, as a history keeps
-/// two of them for each reply. They are copied by `copied`.
+/// At most 32 transactions, stored inline: the list never allocates. It is a `Bounded` in fewer bytes, because a history
+/// stores two for each reply. `copied` copies it.
 #[derive(Drop)]
 pub struct Tids {
     items: [Tid; 32],
@@ -76,7 +76,7 @@ impl Tids {
         &self.items[..self.count as usize]
     }
 
-    /// A list of these transactions, unless they are too many.
+    /// A list of these transactions, or `None` if there are more than 32.
     pub fn from_slice(items: &[Tid]) -> Option<Self>
         ensures some { IsSome result ↔ (length items.now ≤ 32) }
         ensures items { IfSome result (λ list. list ≡ items.now) }
@@ -92,7 +92,7 @@ impl Tids {
         })
     }
 
-    /// A copy, which takes no memory.
+    /// A copy. It allocates nothing.
     pub fn copied(&self) -> Self
         ensures { result ≡ self.now }
     {

@@ -1,4 +1,4 @@
--- Where a writer stands in a chain, and what is left without it.
+-- The index of a writer in a chain, and what remains without it.
 use Rattle.std.proofs.Common.{◌≡◌, ℕ, zero, suc, ◌+◌, ◌<◌, ◌≤◌, ℤ, Bool, true, false, cond, not, ◌||◌, nat_eq, List, [], ◌∷◌, length, slice_index_or, slice_get, ◌-◌, Option, Some, None, refl, sym, ap, ◌∙◌, subst, arith}
 use Rattle.std.proofs.lemmas.Bool.{true≢false}
 use Rattle.std.specs.List.{filter, remove, position_from, last_or}
@@ -35,7 +35,7 @@ has_value t (w ∷ c) = go (nat_eq w.0 t) (has_value t c)
     go true rest = refl
     go false rest = rest
 
--- t stands at this index, and nowhere before it
+-- t is at this index, and nowhere before it
 abbrev pub IsFirstAt : ℕ → List (ℕ × ℤ) → ℕ → Type 0
 IsFirstAt t [] n = ⊥
 IsFirstAt t (w ∷ c) zero = nat_eq w.0 t ≡ true
@@ -106,7 +106,7 @@ taken_out t (w ∷ c) (suc n) h once = go (nat_eq w.0 t) h.0 once (taken_out t c
     go true h once rest = absurd (true≢false h)
     go false h once rest = ap (λ l. w ∷ l) (rest once)
 
--- once t's value is out, there is room for another
+-- once t's value is out, there is capacity for another
 pub room_left : (t : ℕ) (c : List (ℕ × ℤ)) → length c ≤ 32 → (writes_in t c ≡ false → length c < 32) → length (chain_without t c) < 32
 room_left t c few room = go (writes_in t c) refl
   where

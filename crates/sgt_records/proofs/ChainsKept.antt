@@ -54,7 +54,7 @@ last_value : (c : List (ℕ × ℤ)) (d : Option (ℕ × ℤ)) → All HasValue 
 last_value [] d all here = here
 last_value (w ∷ c) d all here = last_value c (Some w) (All-tail HasValue w c all) (All-head HasValue w c all)
 
--- what a look finds is a value
+-- what a read finds is a value
 pub top_value : (c : List (ℕ × ℤ)) (committed : Option ℤ) → IsChain c → IfSome committed IsValue
     → IfSome (value_of_top (top_of c committed)) IsValue
 top_value c committed chain value = go (last_or None c) committed (last_value c None chain.values tt) value

@@ -49,13 +49,13 @@ module _ {R : Type 0} (value : R → Option ℤ) where
         go true false is = refl
         go false false is = refl
 
-    -- an entry with a value puts it
+    -- an entry with a value writes it
     pub value_more : (entries : List (Key × R)) (key : Key) (r : R) (v : ℤ) → get key_cmp m key ≡ Some r → value r ≡ Some v → (k : Key)
         → given_so_far (entries ++ (key, r) ∷ []) k ≡ put_in (given_so_far entries) key v k
     value_more entries key r v found is k = entry_more entries (key, r) found k
         ∙ ap (λ o. cond (key_eq key k) o (given_so_far entries k)) is
 
-    -- one with none puts none
+    -- one with none writes none
     pub blank_more : (entries : List (Key × R)) (key : Key) (r : R) → get key_cmp m key ≡ Some r → value r ≡ None → (k : Key)
         → given_so_far (entries ++ (key, r) ∷ []) k ≡ given_so_far entries k
     blank_more entries key r found none k = entry_more entries (key, r) found k

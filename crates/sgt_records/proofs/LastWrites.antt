@@ -16,7 +16,7 @@ written_by w = (w.by, w.value)
 abbrev pub is_of : Key → Write → Bool
 is_of k w = key_eq w.key k
 
--- the last of a chain, or what stood before it
+-- the last of a chain, or what came before it
 last_or_found : (d : Option (ℕ × ℤ)) (writes : List Write) (k : Key)
     → last_or d (chain_in writes k) ≡ option_or (option_map written_by (find (is_of k) (reverse writes))) d
 last_or_found d [] k = refl

@@ -1,4 +1,4 @@
--- The live writes, read one by one, and what is left of them.
+-- The live writes, read one by one, and what remains of them.
 use Rattle.std.proofs.Common.{◌≡◌, ◌≢◌, ℕ, ◌+◌, ◌<◌, ℤ, Bool, true, false, cond, not, ◌&&◌, ◌||◌, nat_eq, List, [], ◌∷◌, ◌++◌, length, take, get_or, Option, Some, refl, sym, ap, ◌∙◌, subst, add-one}
 use Rattle.std.proofs.lemmas.Bool.{true≢false, eq-eqb, ne_eqb, eqb-true}
 use Rattle.std.proofs.lemmas.List.Elements.{All-filter, All-push}
@@ -23,7 +23,7 @@ or_assoc false b c = refl
 
 -- on one chain
 
--- who writes in what is left
+-- which transactions write in what remains
 pub writers_left : (t u : ℕ) (c : List (ℕ × ℤ)) → writes_in u (chain_without t c) ≡ (not (nat_eq u t) && writes_in u c)
 writers_left t u [] = go (nat_eq u t)
   where
@@ -42,7 +42,7 @@ writers_left t u (w ∷ c) = go (nat_eq w.0 t) refl (nat_eq w.0 u) refl (nat_eq 
     go false e true f false g h = rw f refl
     go false e false f d g h = rw f h
 
--- nobody writes in a chain without them
+-- no transaction writes in a chain without them
 pub not_left : (t : ℕ) (c : List (ℕ × ℤ)) → writes_in t (chain_without t c) ≡ false
 not_left t c = writers_left t t c ∙ ap (λ b. not b && writes_in t c) (eq-eqb t t refl)
 
@@ -164,7 +164,7 @@ pub undone : (t : ℕ) (b : Bool) (opening after : List (ℕ × ℤ)) → b ≡ 
 undone t true opening after is left = left
 undone t false opening after is left = left ∙ sym (left_whole t opening (sym is))
 
--- and has no value to settle
+-- and has no value to commit
 pub settled_once : (t : ℕ) (b : Bool) (opening : List (ℕ × ℤ)) (committed after : Option ℤ) → b ≡ writes_in t opening
     → after ≡ cond b (option_or (value_in t opening) committed) committed → after ≡ option_or (value_in t opening) committed
 settled_once t true opening committed after is left = left
@@ -172,7 +172,7 @@ settled_once t false opening committed after is left = left ∙ sym (ap (λ o. o
 
 -- on the whole list
 
--- once t's are gone from the list and from the chain, they tell the same
+-- once t's are gone from the list and from the chain, they say the same
 pub live_ended : (t u : ℕ) (k : Key) (writes left : List LiveWrite) (opening after : List (ℕ × ℤ))
     → is_live u k writes ≡ writes_in u opening → left ≡ filter (not_by t) writes → after ≡ chain_without t opening
     → is_live u k left ≡ writes_in u after
@@ -215,9 +215,9 @@ live_again t u key k v writes chains after again are put = are
     go true e false f h = sym (h ∙ or_false (writes_in u (chains k)))
     go false e b f h = refl
 
--- on the indices that they tell
+-- on the indices that they have
 
--- each tells that of its key
+-- each has that of its key
 pub tell_at : (indices : Key → Option ℕ) (writes : List LiveWrite) (i : ℕ) (w : LiveWrite) → i < length writes → w ≡ get_or writes i w
     → TellIndices indices writes → indices w.key ≡ Some w.index
 tell_at indices writes i w short is all = subst (λ x. indices x.key ≡ Some x.index) (sym is) (all i w short)

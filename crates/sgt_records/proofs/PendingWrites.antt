@@ -1,4 +1,4 @@
--- The pending writes: what is left of them, and what one more changes.
+-- The pending writes: what remains of them, and what one more changes.
 use Rattle.std.proofs.Common.{◌≡◌, ◌≢◌, ℕ, suc, ◌+◌, ◌<◌, ◌≤◌, ℤ, Bool, true, false, cond, not, ◌||◌, nat_eq, List, [], ◌∷◌, ◌++◌, length, length-append, ◌⊎◌, take, drop, get_or, Option, Some, None, refl, sym, ap, ap₂, ◌∙◌, subst, inl, inr, arith, add-one, append_assoc}
 use Rattle.std.proofs.lemmas.Bool.{true≢false, eq-eqb, ne_eqb, cases_eq}
 use Rattle.std.proofs.lemmas.List.{append-nil, take-append-drop}
@@ -54,7 +54,7 @@ once_written t v u c h = subst (λ l. length l ≤ 1) (sym (filter-append (λ w.
     go (inl e) = rw (eq-eqb t u e, subst (λ z. filter (λ w. nat_eq w.0 u) (chain_without z c) ≡ []) (sym e) (none_left u c)) (omega arith)
     go (inr n) = rw (ne_eqb t u n, append-nil) (once_without t u c h)
 
--- what is left is no longer
+-- the remainder is no longer
 pub few_filtered : (f : ℕ × ℤ → Bool) (c : List (ℕ × ℤ)) → length (filter f c) ≤ length c
 few_filtered f [] = omega arith
 few_filtered f (w ∷ c) = go (f w) (few_filtered f c)
@@ -63,7 +63,7 @@ few_filtered f (w ∷ c) = go (f w) (few_filtered f c)
     go true h = omega (arith, h)
     go false h = omega (arith, h)
 
--- and where t had a value there is room
+-- and where t had a value there is capacity
 pub fewer_left : (t : ℕ) (c : List (ℕ × ℤ)) → writes_in t c ≡ true → length (chain_without t c) < length c
 fewer_left t [] h = absurd (true≢false (sym h))
 fewer_left t (w ∷ c) h = go (nat_eq w.0 t) (few_filtered (λ w. not (nat_eq w.0 t)) c) (fewer_left t c) h
@@ -95,7 +95,7 @@ not_by t w = not (nat_eq w.by t)
 abbrev pub not_this : ℕ → Key → Write → Bool
 not_this t k w = not (nat_eq w.by t) || not (key_eq w.key k)
 
--- the chain of what is left without t's writes
+-- the chain of the remainder without t's writes
 pub chain_left : (t : ℕ) (writes : List Write) (k : Key) → chain_in (filter (not_by t) writes) k ≡ chain_without t (chain_in writes k)
 chain_left t [] k = refl
 chain_left t (w ∷ writes) k = go (key_eq w.key k) (nat_eq w.by t) refl refl (chain_left t writes k)
@@ -154,11 +154,11 @@ other_chain t key (w ∷ writes) k other = go (key_eq w.key k) (key_eq w.key key
     go false false true e f h = rw e h
     go false false false e f h = rw e h
 
--- the writes after one more, which takes the place of t's earlier one
+-- the writes after one more, which replaces t's earlier one
 abbrev pub written : ℕ → Key → ℤ → List Write → List Write
 written t key v writes = filter (not_this t key) writes ++ record { by = t; key = key; value = v } ∷ []
 
--- what is left, with the write at the end
+-- the remainder, with the write at the end
 pub after_write : (t : ℕ) (key : Key) (v : ℤ) (writes left new : List Write) (w : ℤ) → left ≡ filter (not_this t key) writes → w ≡ v
     → new ≡ left ++ record { by = t; key = key; value = w } ∷ [] → new ≡ written t key v writes
 after_write t key v writes left new w is same added = added
@@ -186,7 +186,7 @@ module _ (records : BTreeMap Key (Option ℤ)) (writes : List Write) (are : AreP
   abbrev HasValue : Write → Type 0
   HasValue w = IsValue w.value
 
-  -- what is left without t's is pending
+  -- the remainder without t's is pending
   pub pending_left : (t : ℕ) → ArePending records (filter (not_by t) writes)
   pending_left t = record {
     once = λ u k. subst (λ c. IsOnceIn u c) (sym (chain_left t writes k)) (once_without t u (chain_in writes k) (are.once u k));

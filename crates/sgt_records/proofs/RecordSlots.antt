@@ -83,7 +83,7 @@ module _ (m : Key → Option Record) (a : Slab Chain) (none : (k : Key) → writ
     in_range = values;
   }
 
--- what a record that is found tells of its key
+-- what a record that is found says of its key
 module _ (m : Key → Option Record) (a : Slab Chain) (key : Key) (r : Record) (is : m key ≡ Some r) (index : IsIndex m a) where
   pub written_is : written_by (m key) ≡ r.written
   written_is = ap written_by is
@@ -215,7 +215,7 @@ module _ (m n : Key → Option Record) (key : Key) (r : Record) (told : (k : Key
         full k p false e at = subst (λ o. 0 < length (writes_of o)) (sym (moves.others p (not_from k p e at) (not_to k p e at)))
             (index.filled k p at)
 
-        -- a slot that is no key's was none's before, or was given back
+        -- a slot that is no key's was none's before, or was freed
         not_here : (p : ℕ) → ((k : Key) → slot_of n k ≢ Some p) → slot_in r.written ≢ Some p
         not_here p none at = none key (slot_told key ∙ (ap (λ e. cond e (slot_in r.written) (slot_of m key)) (key_eq-refl key) ∙ at))
 

@@ -47,12 +47,12 @@ module _ (m : BTreeMap Key (Option ℤ)) where
       go true false is = refl
       go false false is = refl
 
-  -- a record with a value puts it
+  -- a record with a value writes it
   pub value_more : (entries : List (Key × Option ℤ)) (key : Key) (v : ℤ) → get key_cmp m key ≡ Some (Some v) → (k : Key)
       → read_so_far (entries ++ (key, Some v) ∷ []) k ≡ put_in (read_so_far entries) key v k
   value_more entries key v found k = entry_more entries (key, Some v) found k
 
-  -- an empty one puts none
+  -- an empty one writes none
   pub blank_more : (entries : List (Key × Option ℤ)) (key : Key) → get key_cmp m key ≡ Some None → (k : Key)
       → read_so_far (entries ++ (key, None) ∷ []) k ≡ read_so_far entries k
   blank_more entries key found k = entry_more entries (key, None) found k

@@ -1,4 +1,4 @@
--- What a value put in a key's record, or an empty record, changes.
+-- What a value written to a key's record, or an empty record, changes.
 use Rattle.std.proofs.Common.{◌≡◌, ℤ, Bool, true, false, cond, Equal, Option, Some, None, Result, Ok, Err, OnOk, OnErr, IfSome, refl, sym, ap, ◌∙◌, subst}
 use Rattle.std.proofs.lemmas.Bool.{true≢false}
 use Rattle.std.proofs.lemmas.Cmp.{tied_itself}
@@ -28,7 +28,7 @@ same_key a b = go (is_eq (key_cmp a b)) refl (key_eq a b) refl
         absurd (true≢false (sym ((Equal-is (key_cmp a b)).1
         (subst (λ c. key_cmp a c ≡ Equal) (key_eq-true a b i) (tied_itself key_order a))) ∙ h))
 
--- the same, told of the other key
+-- the same for the other key
 pub key_back : (a b : Key) → is_eq (key_cmp a b) ≡ key_eq b a
 key_back a b = same_key a b ∙ go (key_eq a b) refl (key_eq b a) refl
   where
@@ -57,7 +57,7 @@ module _ (m n : BTreeMap Key (Option ℤ)) (key : Key) (content : Option ℤ) (t
       go true = refl
       go false = h
 
--- a value that is put
+-- a value that is written
 pub value_put : (m n : BTreeMap Key (Option ℤ)) (key : Key) (v : ℤ) → Updates key_cmp m n key (Some (Some v)) → (k : Key)
     → settled_in n k ≡ put_in (settled_in m) key v k
 value_put m n key v told = value_told m n key (Some v) told

@@ -14,10 +14,10 @@ abbrev pub is_live : ℕ → Key → List LiveWrite → Bool
 is_live t k [] = false
 is_live t k (w ∷ writes) = (nat_eq w.by t && key_eq w.key k) || is_live t k writes
 
--- they tell just who stands in the chains
+-- they name exactly the writers in the chains
 abbrev pub AreLive : (Key → Option Record) → Slab Chain → List LiveWrite → Type 0
 AreLive records chains writes = (t : ℕ) (k : Key) → is_live t k writes ≡ writes_in t (key_chain records chains k)
 
--- each tells the index of its key's record
+-- each has the index of its key's record
 abbrev pub TellIndices : (Key → Option ℕ) → List LiveWrite → Type 0
 TellIndices indices writes = All (λ (w : LiveWrite). indices w.key ≡ Some w.index) writes

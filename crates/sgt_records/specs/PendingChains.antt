@@ -1,4 +1,4 @@
--- What is pending of each key is a chain: the proof of a law of the records.
+-- The pending writes of each key are a chain: the proof of a law of the records.
 use Rattle.std.specs.Prelude.{ℕ, ℤ, Bool, true, false, cond, List, [], ◌∷◌, Option}
 use Rattle.std.specs.BTreeMap.{BTreeMap}
 use Rattle.std.specs.List.{All}
@@ -9,7 +9,7 @@ use Rattle.sgt_records.specs.declared.write.Write.{Write}
 use Rattle.sgt_records.specs.Pendings.{chain_in, ArePending}
 use Rattle.sgt_records.specs.Validity.{IsChain}
 
--- the chain of writes of values is of values
+-- if all writes are of values, so is a chain of them
 chain_values : (writes : List Write) → All (λ (w : Write). IsValue w.value) writes → (k : Key) → All (λ (w : ℕ × ℤ). IsValue w.1) (chain_in writes k)
 chain_values [] values k = All-nil (λ (x : ℕ × ℤ). IsValue x.1)
 chain_values (w ∷ writes) values k = go (key_eq w.key k) (All-head (λ (x : Write). IsValue x.value) w writes values) (chain_values writes (All-tail (λ (x : Write). IsValue x.value) w writes values) k)
@@ -18,6 +18,6 @@ chain_values (w ∷ writes) values k = go (key_eq w.key k) (All-head (λ (x : Wr
     go true here rest = All-cons (λ (x : ℕ × ℤ). IsValue x.1) (w.by, w.value) (chain_in writes k) here rest
     go false here rest = rest
 
--- what is pending of a key is a chain
+-- the pending writes of a key are a chain
 pub pending_chains : (records : BTreeMap Key (Option ℤ)) (writes : List Write) → ArePending records writes → (k : Key) → IsChain (chain_in writes k)
 pending_chains records writes are k = record { once = λ t. are.once t k; few = are.few k; values = chain_values writes are.in_range k }

@@ -10,17 +10,17 @@ use Rattle.sgt_records.specs.declared.write.Write.{Write}
 use Rattle.sgt_records.specs.Settleds.{has_record}
 use Rattle.sgt_records.specs.Validity.{IsOnceIn}
 
--- a key's chain: who has written it, and what, oldest first
+-- a key's chain: each writer and its value, oldest first
 abbrev pub chain_in : List Write → Key → List (ℕ × ℤ)
 chain_in [] k = []
 chain_in (w ∷ writes) k = cond (key_eq w.key k) ((w.by, w.value) ∷ chain_in writes k) (chain_in writes k)
 
--- these values once t's are settled
+-- these values once t's are committed
 abbrev pub settled_with : ℕ → List Write → Contents → Contents
 settled_with t writes settled k = option_or (value_in t (chain_in writes k)) (settled k)
 
--- each transaction's last write of a key alone is pending, at most 32 are of one key, each is of a value, and a record waits
--- for it
+-- only each transaction's last write of a key is pending; at most 32 are of one key; each is of a value; and there is a
+-- record for it
 pub record ArePending (records : BTreeMap Key (Option ℤ)) (writes : List Write) : Type 0 where
   pub once : (t : ℕ) (k : Key) → IsOnceIn t (chain_in writes k)
   pub few : (k : Key) → length (chain_in writes k) ≤ 32

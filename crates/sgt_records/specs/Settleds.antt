@@ -5,7 +5,7 @@ use Rattle.std.specs.BTreeMap.{BTreeMap, get}
 use Rattle.sgt_model.specs.Contents.{Key, Contents}
 use Rattle.sgt_model.specs.Databases.{key_cmp}
 
--- the committed value of each key: one whose record is empty, or not there, has none
+-- the committed value of each key; a key whose record is empty or missing has none
 abbrev pub settled_in : BTreeMap Key (Option ℤ) → Contents
 settled_in records k = option_flatten (get key_cmp records k)
 

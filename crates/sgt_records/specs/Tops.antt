@@ -1,4 +1,4 @@
--- What a look at a key finds: the last value of its chain, else the committed one.
+-- What a read of a key returns: the last value of its chain, else the committed one.
 use Rattle.std.specs.Prelude.{◌≡◌, ℕ, ℤ, List, Option, Some, None}
 use Rattle.std.specs.List.{last_or}
 use Rattle.sgt_records.specs.declared.top.Top.{Top}
@@ -14,13 +14,13 @@ top_from None None = Nothing
 abbrev pub top_of : List (ℕ × ℤ) → Option ℤ → Top
 top_of chain settled = top_from (last_or None chain) settled
 
--- what each answer says of the last of the chain and of the committed value
+-- what each result says of the last of the chain and of the committed value
 abbrev pub IsTop : Top → Option (ℕ × ℤ) → Option ℤ → Type 0
 IsTop (Pending t v) last settled = last ≡ Some (t, v)
 IsTop (Settled v) last settled = (last ≡ None) × (settled ≡ Some v)
 IsTop Nothing last settled = (last ≡ None) × (settled ≡ None)
 
--- the value found, if there is one
+-- the value read, if there is one
 abbrev pub value_of_top : Top → Option ℤ
 value_of_top (Pending t v) = Some v
 value_of_top (Settled v) = Some v

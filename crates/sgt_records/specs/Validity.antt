@@ -7,7 +7,7 @@ use Rattle.sgt_model.specs.Numbers.{IsValue}
 abbrev pub IsOnceIn : ℕ → List (ℕ × ℤ) → Type 0
 IsOnceIn t chain = length (filter (λ w. nat_eq w.0 t) chain) ≤ 1
 
--- each writer stands in the chain once, at most 32 do, and what each has written is a value
+-- each writer occurs in the chain once, at most 32 do, and what each has written is a value
 pub record IsChain (chain : List (ℕ × ℤ)) : Type 0 where
   pub once : (t : ℕ) → IsOnceIn t chain
   pub few : length chain ≤ 32

@@ -7,14 +7,14 @@ ghost use Rattle.sgt_records.specs.Validity.{IsChain};
 use arrayvec::ArrayVec;
 use sgt_model::Tid;
 
-/// The values that live transactions have written at one key, each writer's last one, in the order of these writes.
+/// The values that live transactions have written to one key: the last one of each writer, in the order of these writes.
 #[derive(Drop)]
 pub struct Chain {
     pub writes: ArrayVec<(Tid, i64), 32>,
 }
 
 impl Chain {
-    /// Two writes.
+    /// A chain of two writes.
     pub fn of(first: (Tid, i64), second: (Tid, i64)) -> Chain
         ensures { result.writes.items ≡ first ∷ second ∷ [] }
     {
@@ -34,7 +34,7 @@ impl Chain {
         }
     }
 
-    /// Puts t's value last, and answers whether it takes the place of an earlier one.
+    /// Adds t's value as the last, and returns whether it replaces an earlier one of t.
     pub fn write(&mut self, t: Tid, value: i64) -> bool
         requires chain { IsChain self.old.writes.items }
         requires room { writes_in t self.old.writes.items ≡ false → length self.old.writes.items < 32 }
@@ -46,7 +46,7 @@ impl Chain {
         earlier.is_some()
     }
 
-    /// Takes t's value out, if there is one.
+    /// Removes t's value and returns it, if there is one.
     pub fn take_out(&mut self, t: Tid) -> Option<i64>
         requires chain { IsChain self.old.writes.items }
         ensures value { result ≡ value_in t self.old.writes.items }
@@ -57,7 +57,7 @@ impl Chain {
         Some(value)
     }
 
-    // Where t's value stands.
+    // The index of t's value.
     fn index_of(&self, t: Tid) -> Option<usize>
         ensures { result ≡ position_from (λ w. nat_eq w.0 t) 0 self.now.writes.items }
     {

@@ -13,8 +13,8 @@ use sgt_model::{Database, Key, NoMemory, Tid};
 use std::alloc::Global;
 use std::collections::BTreeMap;
 
-/// The committed values by key. A record that is empty counts as none: it is there so that a value can be put without
-/// memory.
+/// The committed values by key. An empty record counts as none: it is there so that a value can be written without an
+/// allocation.
 #[derive(Drop)]
 pub struct Committed {
     pub records: BTreeMap<Key, Option<i64>>,
@@ -44,7 +44,7 @@ impl Committed {
         }
     }
 
-    /// Makes sure that the key has a record.
+    /// Ensures that the key has a record.
     pub fn reserve(&mut self, key: Key) -> Result<(), NoMemory>
         ensures same { (k : Key) → settled_in self.new.records k ≡ settled_in self.old.records k }
         ensures kept { KeepsRecords self.old.records self.new.records }
@@ -56,7 +56,7 @@ impl Committed {
         Ok(())
     }
 
-    /// Puts the value in the key's record. This takes no memory.
+    /// Writes the value to the key's record. It allocates nothing.
     pub fn put(&mut self, key: Key, value: i64)
         requires ready { has_record self.old.records key ≡ true }
         requires in_range { IsValue value }
@@ -69,7 +69,7 @@ impl Committed {
         }
     }
 
-    /// Puts t's values among the pending writes in their records. This takes no memory.
+    /// `settle`: commits t's values among the pending writes to their records. It allocates nothing.
     pub fn settle(&mut self, writes: &[Write], t: Tid)
         requires pending { ArePending self.old.records writes.now }
         ensures settled { (k : Key) → settled_in self.new.records k

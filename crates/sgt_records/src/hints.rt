@@ -1,14 +1,14 @@
-//! Guesses of where the record of a key stands.
+//! Guesses of the index of a key's record.
 use sgt_model::{Key, LEAST, NoMemory};
 use std::alloc::Global;
 
-/// The fewest pairs of guesses, where there are any.
+/// The fewest pairs of guesses, if there are any.
 const FEWEST: usize = 64;
 
 /// Guesses of the indices of records by their keys: two for each hash of a key, the newer first.
 ///
-/// Nothing is promised of a guess, which may be another key's, or of no record. Whoever takes one looks whether the record there
-/// is the key's, and else asks the map of indices. So a wrong guess costs time, and never an answer.
+/// Nothing is promised of a guess: it may be another key's, or of no record. The caller must check whether the record there
+/// is the key's, and else search the map of indices. So a wrong guess costs time, and never changes an answer.
 #[derive(Drop)]
 pub struct Hints {
     // Their number is a power of two, or zero.
@@ -16,14 +16,14 @@ pub struct Hints {
 }
 
 impl Hints {
-    /// No guesses. This takes no memory.
+    /// No guesses. It allocates nothing.
     pub fn new(alloc: Global) -> Hints {
         Hints {
             pairs: Vec::new(alloc),
         }
     }
 
-    /// Two indices at which the record of the key may stand.
+    /// Two indices that the record of the key may have.
     #[inline(always)]
     pub fn guesses(&self, key: Key) -> (usize, usize) {
         let spot = spot_of(key, self.pairs.len());
@@ -34,7 +34,7 @@ impl Hints {
         (0, 0)
     }
 
-    /// Notes the index of the record of a key.
+    /// Stores the index of the record of a key.
     #[inline(always)]
     pub fn note(&mut self, key: Key, index: usize) {
         let spot = spot_of(key, self.pairs.len());
@@ -44,7 +44,7 @@ impl Hints {
         }
     }
 
-    /// Makes room for the guess of one more record than there are, whose keys are these in the order of their indices.
+    /// Provides capacity for the guess of one more record. The keys of the records are these, in the order of their indices.
     ///
     /// `NoMemory` if the allocation failed.
     #[inline(always)]
@@ -55,7 +55,7 @@ impl Hints {
         self.grow(keys)
     }
 
-    // Makes twice as many, and notes the records anew.
+    // Doubles the capacity, and stores the guesses of the records anew.
     #[inline(never)]
     fn grow(&mut self, keys: &[Key]) -> Result<(), NoMemory> {
         let count = (self.pairs.len() * 2).max(FEWEST);
@@ -67,7 +67,7 @@ impl Hints {
     }
 }
 
-// The index of a key's pair among so many.
+// The index of a key's pair among this number of pairs.
 #[inline(always)]
 fn spot_of(key: Key, count: usize) -> usize {
     let number = (key.id() - LEAST) as u64 * 8 + u64::from(key.table());

@@ -21,7 +21,7 @@ use sgt_model::{Database, Key, NoMemory, Tid};
 use slab::Slab;
 use std::alloc::Global;
 
-/// The records by key, and the chains of those that several live transactions have written. A chain that is empty is dropped,
+/// The records by key, and the chains of those that several live transactions have written. An empty chain is dropped,
 /// and its slot in the slab is used again.
 #[derive(Drop)]
 pub struct Index {
@@ -46,7 +46,7 @@ impl Index {
         })
     }
 
-    /// What a look at the key finds.
+    /// What a read of the key returns.
     #[inline(always)]
     pub fn top(&self, key: Key) -> Top
         ensures top { result ≡ top_of (key_chain (record_in self.now.table) self.now.chains key) (committed_of (record_in self.now.table) key) }
@@ -69,7 +69,7 @@ impl Index {
         }
     }
 
-    /// Makes sure that the key has a record, takes room for one more chain, and tells the record's index.
+    /// Ensures that the key has a record, provides capacity for one more chain, and returns the record's index.
     pub fn reserve(&mut self, key: Key) -> Result<usize, NoMemory>
         ensures chain { (k : Key) → key_chain (record_in self.new.table) self.new.chains k
             ≡ key_chain (record_in self.old.table) self.old.chains k }
@@ -85,8 +85,8 @@ impl Index {
         }
     }
 
-    /// Puts t's value last in the chain of a key whose record has this index, and answers whether it takes the place of an
-    /// earlier one. This takes no memory.
+    /// Adds t's value as the last in the chain of a key whose record has this index. It returns whether the value replaces an
+    /// earlier one of t. It allocates nothing.
     #[inline(always)]
     pub fn write(&mut self, t: Tid, key: Key, index: usize, value: i64) -> bool
         requires index { index_in self.old.table key ≡ Some index }
@@ -107,7 +107,7 @@ impl Index {
         again
     }
 
-    /// Takes t's value out of the chain of a key whose record has this index.
+    /// Removes t's value from the chain of a key whose record has this index.
     #[inline(always)]
     pub fn undo(&mut self, t: Tid, key: Key, index: usize)
         requires index { index_in self.old.table key ≡ Some index }
@@ -122,7 +122,7 @@ impl Index {
         self.table.put(key, index, Record { committed, written });
     }
 
-    /// Takes t's value out of the chain of a key whose record has this index, and makes it the committed one.
+    /// Removes t's value from the chain of a key whose record has this index, and makes it the committed one.
     #[inline(always)]
     pub fn settle(&mut self, t: Tid, key: Key, index: usize)
         requires index { index_in self.old.table key ≡ Some index }
@@ -141,7 +141,7 @@ impl Index {
         self.table.put(key, index, Record { committed, written });
     }
 
-    /// Takes t's values out of the chains of the keys that it has written.
+    /// Removes t's values from the chains of the keys that it has written.
     pub fn undo_all(&mut self, writes: &[LiveWrite], t: Tid)
         requires indices { TellIndices (index_in self.old.table) writes.now }
         ensures chain { (k : Key) → key_chain (record_in self.new.table) self.new.chains k
@@ -157,7 +157,7 @@ impl Index {
         }
     }
 
-    /// Takes t's values out of the chains of the keys that it has written, and makes them the committed ones.
+    /// Removes t's values from the chains of the keys that it has written, and makes them the committed ones.
     pub fn settle_all(&mut self, writes: &[LiveWrite], t: Tid)
         requires indices { TellIndices (index_in self.old.table) writes.now }
         ensures chain { (k : Key) → key_chain (record_in self.new.table) self.new.chains k

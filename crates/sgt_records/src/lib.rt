@@ -1,10 +1,10 @@
-//! The records: of each key the committed value, and above it the values that live transactions have written, in the
+//! The records: the committed value of each key, and above it the values that live transactions have written, in the
 //! order of these writes.
 //!
-//! A look finds the last write that is not undone, committed or not. An abort takes out the transaction's own writes
-//! alone: no value from before them is written back, so the writes above stay. Nothing here decides who may read, write
-//! or commit. `Records` is the contract. `ListRecords` is its plain body, with all pending writes in one list; in `SlabRecords`
-//! each key that has been written has a list of its own, so that a call goes through what concerns its key alone.
+//! A read returns the last write that is not undone, committed or not. An abort removes only the transaction's own writes:
+//! no before image is written back, so later writes stay. Nothing here decides which transaction may read, write
+//! or commit. `Records` is the contract. `ListRecords` is the plain implementation, with all pending writes in one list. In
+//! `SlabRecords`, each key that has been written has a list of its own, so that a call reads only what concerns its key.
 //!
 //! ```
 //! let mut records = ListRecords::build(alloc, &opening)?;

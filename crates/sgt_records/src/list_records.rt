@@ -9,7 +9,7 @@ use sgt_model::{Database, Key, NoMemory, Tid};
 use std::alloc::Global;
 
 /// The committed values in an ordered map, and the pending writes of all keys in one list, oldest first. A call goes at
-/// most once through the list and down the map; `build` and `all` go once through the map.
+/// most once through the list and searches the map once; `build` and `all` go once through the map.
 #[derive(Drop)]
 pub struct ListRecords {
     committed: Committed,
@@ -23,7 +23,7 @@ impl ListRecords {
     ghost use Rattle.sgt_model.specs.Numbers.{IsValue};
     ghost use Rattle.sgt_records.specs.Pendings.{chain_in};
 
-    // Who wrote the key last, and what.
+    // The last write of the key: its writer and value.
     fn last_write(&self, key: Key) -> Option<(Tid, i64)>
         ensures last { result ≡ last_or None (chain_in self.now.pending.items key) }
         ensures in_range { IfSome result (λ w. IsValue w.1) }

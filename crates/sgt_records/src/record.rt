@@ -1,4 +1,4 @@
-//! What is kept of one key.
+//! The record of one key.
 ghost use Rattle.std.specs.Prelude.{◌≡◌};
 ghost use Rattle.sgt_records.specs.Slots.{chain_at};
 ghost use Rattle.sgt_records.specs.Tops.{top_of};
@@ -8,7 +8,7 @@ use crate::top::Top;
 use crate::written::Written;
 use slab::Slab;
 
-/// What is kept of a key: its committed value, or none, and what live transactions have written there.
+/// The record of a key: its committed value, or none, and what live transactions have written to it.
 #[derive(Clone, Copy)]
 pub struct Record {
     pub committed: Option<i64>,
@@ -16,7 +16,7 @@ pub struct Record {
 }
 
 impl Record {
-    /// What a look finds.
+    /// What a read returns.
     #[inline(always)]
     pub fn top(&self, chains: &Slab<Chain>) -> Top
         ensures { result ≡ top_of (chain_at chains.now self.now.written) self.now.committed }

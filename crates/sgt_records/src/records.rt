@@ -1,4 +1,4 @@
-//! The calls of a store of records, and what each says of its committed and pending values.
+//! The calls of a store of records, and their contracts on its committed and pending values.
 ghost use Rattle.std.specs.Prelude.{◌≡◌, ℕ, ℤ, ◌<◌, false, cond, length, List, [], Option, IfSome, IfOk, OnOk};
 ghost use Rattle.std.specs.List.{last_or};
 ghost use Rattle.std.specs.Option.{option_or};
@@ -17,34 +17,34 @@ use std::alloc::Global;
 
 /// The committed values, and above them the writes of the live transactions.
 pub trait Records: Drop + Send {
-    /// The values that live transactions have written at a key, each writer's last one, in the order of these writes.
+    /// The values that live transactions have written to a key: the last one of each writer, in the order of these writes.
     ghost chain: { Self → Key → List (ℕ × ℤ) };
 
-    /// The committed value of a key, or none.
+    /// `settled`: the committed value of a key, or none.
     ghost settled: { Self → Key → Option ℤ };
 
-    /// A write of the key takes no memory.
+    /// A write of the key allocates nothing.
     ghost is_ready: { Self → Key → Type 0 };
 
-    /// The records of a database, with no write pending. `NoMemory` where a growth was refused.
+    /// The records of a database, with no write pending. `NoMemory` if an allocation failed.
     fn build(alloc: Global, opening: &Database) -> Result<Self, NoMemory>
         ensures chain { IfOk result (λ r. (k : Key) → chain r k ≡ []) }
         ensures settled { IfOk result (λ r. (k : Key) → settled r k ≡ contents_of opening.now k) };
 
-    /// What a look at the key finds: the last write that is not undone, committed or not.
+    /// What a read of the key returns: the last write that is not undone, committed or not.
     fn top(&self, key: Key) -> Top
         ensures top { result ≡ top_of (chain self.now key) (settled self.now key) }
         ensures cases { IsTop result (last_or None (chain self.now key)) (settled self.now key) }
         ensures in_range { IfSome (value_of_top result) IsValue };
 
-    /// Takes the room that the next write of the key needs. `NoMemory` where a growth was refused.
+    /// Provides the capacity that the next write of the key needs. `NoMemory` if an allocation failed.
     fn reserve(&mut self, key: Key) -> Result<(), NoMemory>
         ensures chain { (k : Key) → chain self.new k ≡ chain self.old k }
         ensures settled { (k : Key) → settled self.new k ≡ settled self.old k }
         ensures ready { OnOk result (is_ready self.new key) };
 
-    /// Writes t's value, from `LEAST` to `MOST`, above all others of the key. It replaces t's earlier one, which nobody
-    /// may have written over. This takes no memory.
+    /// Writes t's value, from `LEAST` to `MOST`, above all others of the key. It replaces t's earlier one, over which no
+    /// other transaction may have written. It allocates nothing.
     fn write(&mut self, t: Tid, key: Key, value: i64)
         requires ready { is_ready self.old key }
         requires in_range { IsValue value }
@@ -55,14 +55,14 @@ pub trait Records: Drop + Send {
             ≡ cond (key_eq key k) (write_last t value (chain self.old k)) (chain self.old k) }
         ensures settled { (k : Key) → settled self.new k ≡ settled self.old k };
 
-    /// Makes the values of t, each the first of its chain, the committed ones. This takes no memory.
+    /// `settle`: commits the values of t, each the first of its chain. It allocates nothing.
     fn settle(&mut self, t: Tid)
         requires first { (k : Key) → IsFirstIn t (chain self.old k) }
         ensures chain { (k : Key) → chain self.new k ≡ chain_without t (chain self.old k) }
         ensures settled { (k : Key) → settled self.new k
             ≡ option_or (value_in t (chain self.old k)) (settled self.old k) };
 
-    /// Takes the values of t out of every chain. All else stays, also what was written over them. This takes no memory.
+    /// Removes the values of t from every chain. Everything else stays, later writes included. It allocates nothing.
     fn undo(&mut self, t: Tid)
         ensures chain { (k : Key) → chain self.new k ≡ chain_without t (chain self.old k) }
         ensures settled { (k : Key) → settled self.new k ≡ settled self.old k };
@@ -72,12 +72,12 @@ pub trait Records: Drop + Send {
         ensures value { result ≡ settled self.now key }
         ensures in_range { IfSome result IsValue };
 
-    /// The committed values, by key. `NoMemory` where a growth was refused.
+    /// The committed values, by key. `NoMemory` if an allocation failed.
     fn all(&self, alloc: Global) -> Result<Database, NoMemory>
         ensures values { IfOk result (λ d. (k : Key) → contents_of d k ≡ settled self.now k) }
         ensures by_key { IfOk result IsByKey };
 
-    /// In a chain each writer stands once, at most 32 do, and what each wrote is a value.
+    /// In a chain each writer occurs once, at most 32 do, and what each wrote is a value.
     ghost are_chains: { (r : Self) (k : Key) → IsChain (chain r k) };
 
     /// The committed values are values.

@@ -9,21 +9,28 @@ use crate::top::Top;
 use sgt_model::{Database, Key, NoMemory, Tid};
 use std::alloc::Global;
 
-/// The records in a list, the index of each in it by its key, the chains of the keys that several live transactions have written in a slab,
-/// and one list of who has written which key.
+/// Records with chains in a slab. There are four parts:
 ///
-/// `top`, `reserve` and `committed` go down the map of indices once, twice where `reserve` finds no record; `write`, which comes
-/// behind `reserve`, does not. All go along that key's chain alone. `settle` and `undo` go once through the list of who has
-/// written, which tells the indices of the records; `build` and `all` go once through the map.
+/// - the records in a list;
+/// - the index of each by its key;
+/// - a slab with the chains of the keys that several live transactions have written;
+/// - one list of which transaction has written which key.
 ///
-/// A chain holds 32 writes, which takes 520 bytes, so a record has one only where a second live transaction has written it, until
-/// none is left that has. Its slot in the slab then serves the next chain, so there are never more chains than live transactions
-/// have written keys.
+/// Costs:
+///
+/// - `top`, `reserve` and `committed` search the map of indices once, and twice if `reserve` finds no record. `write`, which
+///   comes after `reserve`, does not. All read only that key's chain.
+/// - `settle` and `undo` go once through the list of live writes, which has the indices of the records.
+/// - `build` and `all` go once through the map.
+///
+/// A chain holds 32 writes, which takes 520 bytes. So a record has one only after a second live transaction has written it,
+/// until none of its writers is left. Its slot in the slab then serves the next chain. So there are never more chains than
+/// keys written by live transactions.
 #[derive(Drop)]
 pub struct SlabRecords {
     index: Index,
     live: Vec<LiveWrite>,
-    // The index of the record for which room was made last.
+    // The index of the record for which capacity was provided last.
     reserved: usize,
     ghost are_live: { AreLive (record_in index.table) index.chains live.items },
     ghost tell_indices: { TellIndices (index_in index.table) live.items },

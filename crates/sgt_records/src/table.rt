@@ -10,9 +10,9 @@ use crate::record::Record;
 use sgt_model::Key;
 use std::collections::BTreeMap;
 
-/// The records, and the index of each by its key. A record keeps its index, so who has found it once need not search again.
+/// The records, and the index of each by its key. A record keeps its index, so a caller that has it need not search again.
 ///
-/// Most searches end at a guess of `hints`, which is believed only where the key there is the one that is looked for.
+/// Most searches end at a guess of `hints`, which is used only if the key there is the one searched for.
 #[derive(Drop)]
 pub struct Table {
     pub indices: BTreeMap<Key, usize>,

@@ -1,22 +1,22 @@
-//! The newest value of a key, as a read finds it.
+//! The newest value of a key, as a read returns it.
 ghost use Rattle.std.specs.Prelude.{◌≡◌};
 ghost use Rattle.sgt_records.specs.Tops.{value_of_top};
 
 use sgt_model::Tid;
 
-/// What a look at a key finds.
+/// What a read of a key returns.
 #[derive(Clone, Copy, Debug, PartialEq, Eq)]
 pub enum Top {
     /// The last value that a live transaction has written.
     Pending(Tid, i64),
-    /// The committed value, where no live transaction has written one.
+    /// `Settled`: the committed value, if no live transaction has written one.
     Settled(i64),
     /// Neither.
     Nothing,
 }
 
 impl Top {
-    /// The value that the look finds, if there is one.
+    /// The value that the read returns, if there is one.
     pub fn value(self) -> Option<i64>
         ensures { result ≡ value_of_top self }
     {

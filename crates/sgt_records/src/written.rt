@@ -1,13 +1,13 @@
-//! What live transactions have written at one key.
+//! What live transactions have written to one key.
 use sgt_model::Tid;
 
 mod by_writer;
 
-/// What live transactions have written at a key. Mostly it is one at most, whose write stands in place.
+/// What live transactions have written to a key. Mostly there is at most one writer, whose write is stored inline.
 #[derive(Clone, Copy)]
 pub enum Written {
     Nothing,
-    /// By one transaction, this value.
+    /// One transaction wrote this value.
     Once(Tid, i64),
     /// The chain in this slot.
     InSlot(usize),

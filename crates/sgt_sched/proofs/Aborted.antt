@@ -1,4 +1,4 @@
--- What an abort does to the state: the one that aborts and those that fall leave, one after the other.
+-- What an abort does to the state: the one that aborts and those aborted in cascade leave, one after the other.
 use Rattle.std.proofs.Common.{◌≡◌, ◌≢◌, ℕ, zero, suc, ◌+◌, ◌<◌, ◌≤◌, arith, Bool, true, false, not, ◌||◌, ◌&&◌, cond, nat_eq, inl, inr, List, [], ◌∷◌, ◌++◌, length, take, get_or, Some, refl, sym, ap, ◌∙◌, subst, subst₂}
 use Rattle.std.specs.Prelude.{◌↔◌}
 use Rattle.std.specs.List.{list_any}
@@ -24,7 +24,7 @@ use Rattle.sgt_model.proofs.Removals.{removes_then}
 use Rattle.sgt_sched.specs.Endings.{EndsAborted}
 use Rattle.sgt_sched.proofs.Lists.{rising-distinct}
 
--- those that are reached along the reads fall
+-- those that are reached along the reads are aborted in cascade
 pub falls_in : (most : ℕ) (c : State) (t : ℕ) (fell : List ℕ) → Sound most c → Rising fell
     → ((u : ℕ) → Member u fell ↔ (Member u c.live × (u ≢ t) × Reaches (Has c.read_from) t u)) → FallsIn c t fell
 falls_in most c t fell sound rising exact = record {
@@ -41,7 +41,7 @@ falls_listed most c t fell live read_from sound lives reads rising exact =
     falls_in most c t fell sound rising (subst₂ (λ (l : List ℕ) (r : List (ℕ × ℕ)). (u : ℕ)
     → Member u fell ↔ (Member u l × (u ≢ t) × Reaches (Has r) t u)) lives reads exact)
 
--- the end of t alone is an abort with nobody that falls yet
+-- the end of t alone is an abort with none aborted in cascade yet
 or_false : (b : Bool) → b ≡ (b || false)
 or_false true = refl
 or_false false = refl
@@ -53,7 +53,7 @@ drops_first t why before after e = record {
   fates = e.fates;
 }
 
--- one more falls
+-- one more is aborted in cascade
 group : (a b c : Bool) → ((a || b) || c) ≡ (a || (b || (c || false)))
 group true b c = refl
 group false true c = refl
@@ -85,7 +85,7 @@ drops_more t why fell u before now after apart d e = record {
   same w = group (nat_eq t w) (list_any (λ v. nat_eq v w) fell) (nat_eq u w)
       ∙ ap (λ b. nat_eq t w || b) (sym (list_any-append (λ v. nat_eq v w) fell (u ∷ [])))
 
--- who has not left yet is a node still
+-- a transaction that has not left yet is a node still
 pub still_node : (t : ℕ) (why : Cause) (fell : List ℕ) (u : ℕ) (before now : State) → Drops t why fell before now → before.nodes u ≡ true
     → u ≢ t → (Member u fell → ⊥) → now.nodes u ≡ true
 still_node t why fell u before now d node apart stays =
@@ -111,12 +111,12 @@ not_before (x ∷ l) (suc i) u d within at (inr m) = not_before l i u d.1 (omega
 
 module _ (t : ℕ) (why : Cause) (fell : List ℕ) (before now : State) (falls : FallsIn before t fell) (i u : ℕ) (within : i < length fell)
     (at : u ≡ get_or fell i u) (drops : Drops t why (take i fell) before now) where
-  -- the next that falls is a node still
+  -- the next that is aborted in cascade is a node still
   pub next_node : now.nodes u ≡ true
   next_node = let e = falls.each u (got fell i u within at) in still_node t why (take i fell) u before now drops e.0 e.1
       (not_before fell i u (rising-distinct fell falls.rising) within at)
 
-  -- and falls
+  -- and is aborted in cascade
   pub next_falls : (after : State) → EndsAborted u (fate.Fell t) now after → Drops t why (take (i + 1) fell) before after
   next_falls after e =
       subst (λ l. Drops t why l before after) (sym (take_more fell i u within ∙ ap (λ x. take i fell ++ x ∷ []) (sym at)))
@@ -130,7 +130,7 @@ undone t why fell items i before after same all falls drops = record {
   drops = subst (λ l. Drops t why l before after) (take_all i items all ∙ same) drops;
 }
 
--- an access that is blocked is rejected, by an abort with that walk
+-- an access that is blocked is rejected, by an abort with that path
 pub refuses : (t : ℕ) (k : Key) (kind : Kind) (rest walk : List ℕ) (before : State) (r : Reply) (after : State) → walk ≡ t ∷ rest
     → Blocks before t k kind rest → AbortEffect t (cause.Cycle walk) before r after → CycleAbortEffect t k kind before r after
 refuses t k kind rest walk before r after is blocks aborts = record {

@@ -23,7 +23,7 @@ use Rattle.sgt_sched.specs.Endings.{IsBlocked}
 use Rattle.sgt_sched.specs.Steps.{with_source}
 use Rattle.sgt_sched.proofs.Lists.{numbers-changed, progress_at-changed, progress_at-own}
 
--- who is listed has accessed some key
+-- a listed transaction has accessed some key
 store_conflicts : (kind : Kind) → one_stores kind Store ≡ true
 store_conflicts Look = refl
 store_conflicts Store = refl
@@ -41,7 +41,7 @@ listed_conflicting (a ∷ rest) t h = elim (or_cases (nat_eq a.by t) (is_listed 
       ↦ (let r = listed_conflicting rest t there in (r.0, or_right (is_conflicting t r.0 Store a) _ r.1))
 ]
 
--- a look's source, as the state tells it
+-- a read's source, as the state has it
 pub read_added : (o : Option (ℕ × ℤ)) (s : Option ℤ) (t : ℕ) (reads : List (ℕ × ℕ)) (u v : ℕ)
     → Has (with_source (top_from o s) t reads) u v ↔ (Has reads u v ⊎ ((v ≡ t) × (u ≢ t) × SourceIs o u))
 read_added None None t reads u v = ((λ h. inl h), (λ h. elim h [ inl old ↦ old | inr new ↦ absurd new.2 ]))
@@ -71,7 +71,7 @@ read_added (Some w) s t reads u v = both (nat_eq w.0 t) refl where
     (λ h. elim h [ inl old ↦ old_stays reads old | inr new ↦ new_there reads new.2 (sym new.0) ]),
   )
 
--- what a look finds, as the state tells it
+-- what a read returns, as the state has it
 pub value_of_top-from : (o : Option (ℕ × ℤ)) (s : Option ℤ) → value_of_top (top_from o s) ≡ top_value o s
 value_of_top-from None None = refl
 value_of_top-from None (Some v) = refl
@@ -85,7 +85,7 @@ pub rivals_seen : {R A G : Type 0} (list : A → List ListedAccess) (before now 
 rivals_seen list before now seen t k kind rivals exact = subst
     (λ p. (u : ℕ) → Member u rivals ↔ ((u ≢ t) × (lists_conflicting (list p.accesses) u k kind ≡ true))) seen exact
 
--- where no other has a conflicting access, the rivals are none, and no walk leads to one
+-- where no other has a conflicting access, the rivals are none, and no path leads to one
 pub no_rivals : (list : List ListedAccess) (t : ℕ) (k : Key) (kind : Kind) (rivals : List ℕ) → rivals ≡ []
     → ((u : ℕ) × (u ≢ t) × (lists_conflicting list u k kind ≡ true) → ⊥) → (u : ℕ)
     → Member u rivals ↔ ((u ≢ t) × (lists_conflicting list u k kind ≡ true))
@@ -114,13 +114,13 @@ module _ {R A G : Type 0} {chain : R → Key → List (ℕ × ℤ)} {settled : R
     pub rivals_are_nodes : (u : ℕ) → Member u rivals → (nodes before.graph u ≡ true) × (u ≢ t)
     rivals_are_nodes u m = let r = (exact u).0 m in (kept.sound.access_nodes u k kind r.1, r.0)
 
-    -- a walk to a rival blocks the access, and nothing else does
+    -- a path to a rival blocks the access, and nothing else does
     pub blocks_from_walk : (rest : List ℕ) → Walk (pairs before.graph) t rivals rest
         → Blocks (state_of chain settled list nodes pairs before) t k kind rest
     blocks_from_walk rest w = let r = (exact (last_of t rest)).0 w.ends in record
         { distinct = w.distinct; pairs = w.goes; rival = record { apart = r.0; has_conflicting = r.1 } }
 
-    -- without a walk to a rival nothing blocks
+    -- without a path to a rival nothing blocks
     pub not_blocked : NoWalk (pairs before.graph) t rivals → (rest : List ℕ)
         → Blocks (state_of chain settled list nodes pairs before) t k kind rest → ⊥
     not_blocked free rest b = free rest (record {

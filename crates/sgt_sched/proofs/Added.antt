@@ -1,4 +1,4 @@
--- One procedure more: who is live goes along the same one as before.
+-- One procedure more: each live transaction runs the same one as before.
 use Rattle.std.proofs.Common.{◌≡◌, ℕ, zero, suc, ℤ, arith, Bool, List, [], ◌∷◌, ◌++◌, Option, Some}
 use Rattle.std.specs.Prelude.{slice_get}
 use Rattle.std.proofs.lemmas.Grind.{common_steps}
@@ -7,7 +7,7 @@ use Rattle.sgt_model.specs.Syntax.{ProcedureText}
 use Rattle.sgt_model.specs.AccessList.{ListedAccess}
 use Rattle.sgt_sched.specs.SchedulerView.{SchedulerView, IsKept}
 
--- a list keeps what stood in it
+-- a list keeps its items
 kept_pushed : {X : Type 0} (xs : List X) (new x : X) (n : ℕ) → slice_get xs n ≡ Some x → slice_get (xs ++ new ∷ []) n ≡ Some x
 kept_pushed [] new x n at = absurd (grind (arith, common_steps, at))
 kept_pushed (y ∷ xs) new x zero at = at

@@ -16,12 +16,12 @@ has-more m n le (end.Asked code) h = tt
 has-more m n le (end.Fell first) h = tt
 has-more m n le (end.Cycle index) h = omega (arith, le, h)
 
--- more walks keep the indices
+-- more paths keep the indices
 pub have-more : (m n : ℕ) → m ≤ n → (ends : List End) → HaveWalks m ends → HaveWalks n ends
 have-more m n le [] h = tt
 have-more m n le (e ∷ ends) h = (has-more m n le e h.0, have-more m n le ends h.1)
 
--- a start has no walk
+-- a start has no path
 pub have-added : (n : ℕ) (ends : List End) → HaveWalks n ends → HaveWalks n (ends ++ end.Live ∷ [])
 have-added n [] h = (tt, tt)
 have-added n (e ∷ ends) h = (h.0, have-added n ends h.1)
@@ -61,7 +61,7 @@ live-set walks (end.Fell first ∷ ends) zero e h z = absurd (cc)
 live-set walks (end.Cycle index ∷ ends) zero e h z = absurd (cc)
 live-set walks (x ∷ ends) (suc t) e h z = let rest = live-set walks ends t e h z in omega (arith, rest)
 
--- who has or had no fate was started
+-- a transaction that has or had no fate was started
 pub started : (walks : List (List ℕ)) (ends : List End) (t : ℕ) → slice_get (fates_of_ends walks ends) t ≡ Some None → t < length ends
 started walks [] t h = absurd (cc)
 started walks (e ∷ ends) zero h = omega arith

@@ -15,7 +15,7 @@ use Rattle.sgt_sched.proofs.Lives.{index_member, has_index}
 module _ {R A G : Type 0} {chain : R → Key → List (ℕ × ℤ)} {settled : R → Key → Option ℤ} {list : A → List ListedAccess}
     {nodes : G → ℕ → Bool} {pairs : G → ℕ → ℕ → Bool} {p : SchedulerView R A G} (kept : IsKept chain settled list nodes pairs p)
     (t : ℕ) where
-  -- who has an index among the live ones is a node
+  -- a transaction with an index among the live ones is a node
   pub found_node : (i : ℕ) → position (has_number t) p.live ≡ Some i → nodes p.graph t ≡ true
   found_node i e = (kept.sound.listed t).1 (index_member t p.live i e)
 
@@ -36,7 +36,7 @@ module _ {R A G : Type 0} {chain : R → Key → List (ℕ × ℤ)} {settled : R
       → r ≡ (t, progress_at p.live t) → IsAlong programs r.1
   goes_along programs r node same is = subst₂ IsAlong (sym same) (ap (λ (x : ℕ × Progress). x.1) (sym is)) (kept.along t node)
 
-  -- an index, or none, tells whether it is live
+  -- an index, or none, says whether it is live
   pub index_node : (o : Option ℕ) → o ≡ position (has_number t) p.live → IsSome o → nodes p.graph t ≡ true
   index_node None e some = absurd (cc)
   index_node (Some i) e some = found_node i (sym e)

@@ -109,7 +109,7 @@ progress_at-without t u (r ∷ rest) h = both (nat_eq r.0 t) refl (progress_at-w
 
 -- fates
 
--- a start gives nobody a fate
+-- a start gives no transaction a fate
 pub fate_at-added : (fates : List (Option Fate)) (u : ℕ) → fate_at (fates ++ None ∷ []) u ≡ fate_at fates u
 fate_at-added [] zero = refl
 fate_at-added [] (suc u) = refl
@@ -139,7 +139,7 @@ fate_at-set fates t u f h = both (nat_eq t u) refl where
       ∙ (fate_at-own fates t (Some f) h ∙ sym (ap (λ b. cond b (Some f) (fate_at fates u)) e))
   both false e = fate_at-other fates t u (Some f) (eqb-false t u e) ∙ sym (ap (λ b. cond b (Some f) (fate_at fates u)) e)
 
--- who was never started has none
+-- a transaction that was never started has none
 pub fate_at-past : (fates : List (Option Fate)) (u : ℕ) → length fates ≤ u → fate_at fates u ≡ None
 fate_at-past [] u h = refl
 fate_at-past (f ∷ fates) zero h = absurd (omega arith)

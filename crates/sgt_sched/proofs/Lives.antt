@@ -1,4 +1,4 @@
--- The list of live transactions: where one stands in it, and what changes there.
+-- The list of live transactions: the index of one in it, and what changes there.
 use Rattle.std.proofs.Common.{◌≡◌, ℕ, zero, suc, ◌<◌, ◌≤◌, ◌+◌, arith, Bool, true, false, not, cond, nat_eq, nat_lt, ◌⊎◌, inl, inr, List, [], ◌∷◌, ◌++◌, take, drop, length, Some, None, refl, sym, ap, ◌∙◌, subst, slice_get, slice_set, get_or, position}
 use Rattle.std.specs.List.{position_or_len}
 use Rattle.std.proofs.lemmas.Bool.{false_from_ne_true, ltb-true, ltb-false, eqb-true, eqb-false}
@@ -22,7 +22,7 @@ pub record IsFirst (t : ℕ) (live : List (ℕ × Progress)) (i : ℕ) (r : ℕ 
   pub own_progress : progress_at live t ≡ r.1
   pub change : (f : Progress → Progress) → slice_set live i (r.0, f r.1) ≡ changed t f live
 
--- what stands at the first index of t
+-- the item at the first index of t
 pub first_at : (t : ℕ) (live : List (ℕ × Progress)) (i : ℕ) (r : ℕ × Progress) → position_or_len (has_number t) live ≡ i
     → slice_get live i ≡ Some r → IsFirst t live i r
 first_at t [] i r e at = absurd (cc)
@@ -63,7 +63,7 @@ pub index_within : (t : ℕ) (rows seen : List (ℕ × Progress)) (i : ℕ) → 
 index_within t rows seen i same found = subst (λ l. i < length l) (sym same)
     (within (position_or_len (has_number t) seen) (length seen) i found)
 
--- who has an index is live
+-- a transaction with an index is live
 pub index_member : (t : ℕ) (live : List (ℕ × Progress)) (i : ℕ) → position (has_number t) live ≡ Some i → Member t (numbers live)
 index_member t live i found = below_member t live (subst (λ m. m < length live) (sym (placed _ (length live) i found))
     (within (position_or_len (has_number t) live) (length live) i found)) where

@@ -1,4 +1,4 @@
--- What a look and a store do, where nothing blocks them.
+-- What a read and a write do, where nothing blocks them.
 use Rattle.std.proofs.Common.{◌≡◌, ◌≢◌, ℕ, ℤ, ◌<◌, arith, Bool, true, false, cond, ◌⊎◌, List, [], ◌∷◌, ◌++◌, length, Option, None, refl, sym, ap, ◌∙◌, subst}
 use Rattle.std.specs.Prelude.{◌↔◌}
 use Rattle.std.specs.List.{last_or}
@@ -36,7 +36,7 @@ module _ {R A G : Type 0} {chain : R → Key → List (ℕ × ℤ)} {settled : R
       (live_is : live ≡ changed t (with_look value) before.live)
       (reads_are : read_from ≡ with_source (top_from (last_or None (chain before.records k)) (settled before.records k)) t
       before.read_from) where
-    -- the parts after the look
+    -- the parts after the read
     abbrev pub after_look : SchedulerView R A G
     after_look = record before { accesses = accesses; graph = graph; live = live; read_from = read_from }
 
@@ -87,7 +87,7 @@ module _ {R A G : Type 0} {chain : R → Key → List (ℕ × ℤ)} {settled : R
         (kept.along t live_t)
         (sound_look before.limits.live _ _ kept.sound t k live_t looks))
 
-    -- it is a look that nothing blocks
+    -- it is a read that nothing blocks
     pub makes_look : MakesLook t k (state_of chain settled list nodes pairs now) (reply.Looked k value)
         (state_of chain settled list nodes pairs after_look)
     makes_look = subst (λ (p : SchedulerView R A G). MakesLook t k (state_of chain settled list nodes pairs p) (reply.Looked k value)
@@ -99,11 +99,11 @@ module _ {R A G : Type 0} {chain : R → Key → List (ℕ × ℤ)} {settled : R
         })
 
   module _ (exact : (u : ℕ) → Member u rivals ↔ ((u ≢ t) × (lists_conflicting (list before.accesses) u k Store ≡ true))) where
-    -- the value goes to the end of the chain, which has room for it
+    -- the value goes to the end of the chain, which has capacity for it
     pub store_last : IsLastIn t (chain before.records k)
     store_last = may_write before.limits.live _ kept.sound t k live_t (not_blocked kept t live_t k Store rivals exact free)
 
-    -- t's chain has room
+    -- t's chain has capacity
     pub store_room : writes_in t (chain before.records k) ≡ false → length (chain before.records k) < 32
     store_room h = let few = chain_room before.limits.live _ kept.sound t k live_t h in omega (arith, kept.in_range.few_live)
 
@@ -114,7 +114,7 @@ module _ {R A G : Type 0} {chain : R → Key → List (ℕ × ℤ)} {settled : R
         (nodes_are : (u : ℕ) → nodes graph u ≡ nodes before.graph u)
         (pairs_are : (u v : ℕ) → (pairs graph u v ≡ true) ↔ ((pairs before.graph u v ≡ true) ⊎ ((v ≡ t) × Member u rivals)))
         (live_is : live ≡ changed t with_store before.live) where
-      -- the parts after the store
+      -- the parts after the write
       abbrev pub after_store : SchedulerView R A G
       after_store = record before { records = records; accesses = accesses; graph = graph; live = live }
 
@@ -150,7 +150,7 @@ module _ {R A G : Type 0} {chain : R → Key → List (ℕ × ℤ)} {settled : R
           (kept.along t live_t)
           (sound_store before.limits.live _ _ kept.sound t k v live_t stores.notes stores.chain stores.read_from))
 
-      -- it is a store that nothing blocks
+      -- it is a write that nothing blocks
       pub makes_store : (w : ℤ) → w ≡ v → MakesStore t k v (state_of chain settled list nodes pairs now) (reply.Wrote k w)
           (state_of chain settled list nodes pairs after_store)
       makes_store w told = subst (λ (p : SchedulerView R A G). MakesStore t k v (state_of chain settled list nodes pairs p)

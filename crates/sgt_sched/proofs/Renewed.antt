@@ -14,7 +14,7 @@ use Rattle.sgt_model.specs.State.{Has}
 use Rattle.sgt_sched.specs.LiveList.{numbers}
 use Rattle.sgt_sched.specs.SchedulerView.{SchedulerView, state_of, IsKept}
 
--- a store conflicts with each access of its key
+-- a write conflicts with each access of its key
 conflicting : (a : ListedAccess) → is_conflicting a.by a.key Store a ≡ true
 conflicting a = and_from (nat_eq a.by a.by) _ (eq-eqb a.by a.by refl)
     (and_from (key_eq a.key a.key) _ (key_eq-refl a.key) (stored a.kind)) where
@@ -31,7 +31,7 @@ no_writes : (chain : List (ℕ × ℤ)) → ((t : ℕ) → writes_in t chain ≡
 no_writes [] none = refl
 no_writes (w ∷ rest) none = absurd (none w.0 (or_left _ _ (eq-eqb w.0 w.0 refl)))
 
--- nobody writes in an empty chain
+-- no transaction writes in an empty chain
 no_writer : (t : ℕ) → writes_in t [] ≡ true → ⊥
 no_writer t w = false≢true w
 

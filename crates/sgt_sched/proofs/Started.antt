@@ -144,7 +144,7 @@ module _ {R A G : Type 0} {chain : R → Key → List (ℕ × ℤ)} {settled : R
       (λ h. next_no_node before.limits.live (state_of chain settled list nodes pairs before) kept.sound
       (subst (λ n. nodes before.graph n ≡ true) next h))
 
-  -- there is room for one more node
+  -- there is capacity for one more node
   pub start_room : length (numbers before.live) < before.limits.live → AtMost 31 (nodes before.graph)
   start_room room = record {
     among = numbers before.live;

@@ -55,7 +55,7 @@ pub commits_on : (asks : Asks) (t : ℕ) (before : State) (r : Reply) (after : S
 commits_on asks t before r after n begun none next done = if_unended _ _ before r after _ begun none
     (subst (λ m. CommitOn asks t m before r after) next done)
 
--- what is told in short, of a call that does more
+-- what a short reply says, of a call that does more
 pub in_brief : {effect more : State → Reply → State → Type 0} {out : Reply} {before after : State} {b : Brief}
     → (effect before (in_full b out) after → more before (in_full b out) after) → InBrief effect out before b after
     → InBrief more out before b after
@@ -81,7 +81,7 @@ module _ {R A G : Type 0} {r : RecordsGhosts R} {a : AccessesGhosts A} {g : Grap
     kept = tries.kept;
   })
 
--- an abort is told by what is placed
+-- an abort is reported by what is placed
 pub placed_abort : (b : Brief) (out : Reply) (why : Cause) (fell : List ℕ) → in_full b out ≡ reply.Aborted why fell
     → out ≡ reply.Aborted why fell
 placed_abort (brief.Started t) out why fell e = absurd (cc)

@@ -8,13 +8,13 @@ use Rattle.sgt_model.specs.CallEffects.{start_answer, StartEffect}
 use Rattle.sgt_sched.specs.declared.brief.Brief.{Brief}
 use Rattle.sgt_sched.specs.Briefs.{Unplaced}
 
--- t is the next number, and the limits have room for it
+-- t is the next number, and the limits allow it
 pub record HasRoom (limits : Limits) (c : State) (t : ℕ) : Type 0 where
   pub next : t ≡ c.start_count
   pub begins : c.start_count < limits.begins
   pub live : length c.live < limits.live
 
--- with this number, for which there is room; or the start is answered so, and does nothing
+-- the start gets this number, which the limits allow; or it gets this reply, and does nothing
 abbrev pub Admits : Rules → State → ℕ → List ℤ → Result ℕ Brief → Type 0
 Admits rules c procedure args (Ok t) = (reply.Started t ≡ start_answer rules c procedure args) × HasRoom rules.limits c t
 Admits rules c procedure args (Err b) = Unplaced (StartEffect rules procedure args) c b c

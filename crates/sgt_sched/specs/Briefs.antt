@@ -1,11 +1,11 @@
--- What a reply in short stands for, and what a call does that is answered so.
+-- The full reply of a short one, and the effect of a call that returns a short one.
 use Rattle.sgt_model.specs.declared.reply.Reply.{Reply}
 use Rattle.sgt_model.specs.declared.reply.Reply.TheVariants as reply
 use Rattle.sgt_model.specs.State.{State}
 use Rattle.sgt_sched.specs.declared.brief.Brief.{Brief}
 use Rattle.sgt_sched.specs.declared.brief.Brief.TheVariants as brief
 
--- the reply, where what is placed is this one
+-- the full reply, if the placed one is this
 abbrev pub in_full : Brief → Reply → Reply
 in_full (brief.Started t) r = reply.Started t
 in_full brief.NoProcedure r = reply.NoProcedure
@@ -28,12 +28,12 @@ HoldsLists (reply.Aborted why fell) = Unit {0}
 HoldsLists (reply.Refused code fell) = Unit {0}
 HoldsLists _ = ⊥
 
--- the reply is placed only where it holds lists
+-- the reply is placed only if it holds lists
 abbrev pub IsShort : Brief → Reply → Type 0
 IsShort brief.Placed r = HoldsLists r
 IsShort _ r = Unit {0}
 
--- the effect, with the reply that a short one stands for
+-- the effect, with the full reply of a short one
 pub record InBrief (effect : State → Reply → State → Type 0) (out : Reply) (before : State) (b : Brief) (after : State) : Type 0 where
   pub does : effect before (in_full b out) after
   pub short : IsShort b out

@@ -22,26 +22,26 @@ use Rattle.sgt_model.specs.Walks.{Member}
 use Rattle.sgt_cycle.specs.Walk.{IsWalk}
 use Rattle.sgt_sched.specs.Steps.{IsUnended}
 
--- t alone is taken out of the state, with this fate; its values are dropped
+-- only t is removed from the state, with this fate; its values are dropped
 pub record EndsAborted (t : ℕ) (fate : Fate) (before after : State) : Type 0 where
   pub removes : Removes (λ u. nat_eq t u) before after
   pub settled : (k : Key) → after.settled k ≡ before.settled k
   pub fates : (u : ℕ) → after.fates u ≡ cond (nat_eq t u) (Some fate) (before.fates u)
 
--- t is aborted, as a walk leads from it to one of these
+-- t is aborted, because a path leads from it to one of these
 abbrev pub AbortsByWalk : ℕ → List ℕ → State → Reply → State → Type 0
 AbortsByWalk t targets before r after = (walk : List ℕ) × IsWalk before.pairs t targets walk × AbortEffect t (cause.Cycle walk) before r after
 
--- some walk blocks the access
+-- some path blocks the access
 abbrev pub IsBlocked : State → ℕ → Key → Kind → Type 0
 IsBlocked c t k kind = (rest : List ℕ) × Blocks c t k kind rest
 
--- an ask is answered at the step
+-- a code is reported at the step
 abbrev pub AtItsStep : Asks → Type 0
 AtItsStep AtStep = Unit {0}
 AtItsStep AtCommit = ⊥
 
--- an ask is answered at the commit
+-- a code is reported at the commit
 abbrev pub AtItsCommit : Asks → Type 0
 AtItsCommit AtStep = ⊥
 AtItsCommit AtCommit = Unit {0}
@@ -50,44 +50,44 @@ AtItsCommit AtCommit = Unit {0}
 abbrev pub IsFirst : ℕ → State → Type 0
 IsFirst t c = (u : ℕ) → c.pairs u t ≡ true → ⊥
 
--- a step ends t, which is live, by what its procedure does next: it asks, and asks are answered at the step, or it wants an
--- access that is blocked
+-- a step ends t, which is live, by what its procedure does next: it raises a code, and codes are reported at the step; or it
+-- wants an access that is blocked
 abbrev pub StepEnds : Asks → ℕ → Next → State → Type 0
 StepEnds asks t (Looks k) c = IsBlocked c t k Look
 StepEnds asks t (Puts k v) c = IsBlocked c t k Store
 StepEnds asks t (Ends answers) c = ⊥
 StepEnds asks t (Raises code) c = AtItsStep asks
 
--- a commit ends t, which is live, by what its procedure does next: t has no predecessor, and its procedure is at its end, or it
--- asks, and asks are answered at the commit
+-- a commit ends t, which is live, by what its procedure does next: t has no predecessor, and either its procedure is at its
+-- end, or it raises a code and codes are reported at commit
 abbrev pub CommitEnds : Asks → ℕ → Next → State → Type 0
 CommitEnds asks t (Looks k) c = ⊥
 CommitEnds asks t (Puts k v) c = ⊥
 CommitEnds asks t (Ends answers) c = IsFirst t c
 CommitEnds asks t (Raises code) c = AtItsCommit asks × IsFirst t c
 
--- the event ends a live transaction, where asks are answered then
+-- the event ends a live transaction, when codes are reported as `asks` says
 abbrev pub EndsOne : Asks → Event → State → Type 0
 EndsOne asks (Start p args) c = ⊥
 EndsOne asks (Step t) c = IsUnended c t × StepEnds asks t (next_left (c.left t)) c
 EndsOne asks (Commit t) c = IsUnended c t × CommitEnds asks t (next_left (c.left t)) c
 EndsOne asks (Quit t) c = IsUnended c t
 
--- a reply ends a live transaction exactly where this is so
+-- a reply ends a live transaction exactly if this holds
 abbrev pub EndsWhere : Reply → Type 0 → Type 0
 EndsWhere r X = (X → is_ending r ≡ true) × ((X → ⊥) → is_ending r ≡ false)
 
--- how many are live afterwards: at most one more, and fewer where the reply ends one
+-- how many are live afterwards: at most one more, and fewer if the reply ends one
 pub record Counts (r : Reply) (before after : State) : Type 0 where
   pub most : length after.live ≤ length before.live + 1
   pub fewer : is_ending r ≡ true → length after.live + 1 ≤ length before.live
 
--- of every call: its reply ends a live transaction exactly where its event does
+-- for every call, the reply ends a live transaction exactly if the event does
 abbrev pub RepliesEndWhere : Type 0
 RepliesEndWhere = (rules : Rules) (event : Event) (before : State) (r : Reply) (after : State) → CallEffect rules event before r after
     → EndsWhere r (EndsOne rules.limits.asks event before)
 
--- and where those that were started and have not ended are the live ones, so many are live afterwards
+-- if the live ones are those that were started and have not ended, that many are live afterwards
 abbrev pub CallsCount : Type 0
 CallsCount = (rules : Rules) (event : Event) (before : State) (r : Reply) (after : State)
     → ((t : ℕ) → IsUnended before t → Member t before.live) → CallEffect rules event before r after → Counts r before after

@@ -1,4 +1,4 @@
--- What is kept has one proof at most, as a ghost field asks.
+-- `IsKept` has at most one proof, as a ghost field requires.
 use Rattle.std.specs.Prelude.{◌≡◌, ℕ, ℤ, ◌<◌, ◌≤◌, Bool, List, [], ◌∷◌, Option}
 use Rattle.std.specs.Coded.{Coded, Coded-set, codes, ×_prop, Unit-prop}
 use Rattle.std.proofs.Props.{props}

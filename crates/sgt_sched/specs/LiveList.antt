@@ -1,4 +1,4 @@
--- The live transactions with how far each has come, as a list.
+-- The live transactions with the progress of each, as a list.
 use Rattle.std.specs.Prelude.{ℕ, ℤ, Bool, not, cond, nat_eq, List, [], ◌∷◌, map, filter, Option}
 use Rattle.sgt_model.specs.Syntax.{ProcedureText, empty}
 use Rattle.sgt_model.specs.Left.{left_at_start, after_look, after_store}
@@ -16,16 +16,16 @@ has_number t r = nat_eq r.0 t
 abbrev pub started : ℕ → ProcedureText → List ℤ → Progress
 started procedure program args = record { procedure = procedure; cursor = (program, left_at_start program args) }
 
--- how far t has come
+-- the progress of t
 abbrev pub progress_at : List (ℕ × Progress) → ℕ → Progress
 progress_at [] t = started 0 (record { args = 0; body = empty }) []
 progress_at (r ∷ rest) t = cond (nat_eq r.0 t) r.1 (progress_at rest t)
 
--- a look found this
+-- a read returned this
 abbrev pub with_look : Option ℤ → Progress → Progress
 with_look value c = record { procedure = c.procedure; cursor = (c.cursor.0, after_look value c.cursor.1) }
 
--- a store was made
+-- a write was made
 abbrev pub with_store : Progress → Progress
 with_store c = record { procedure = c.procedure; cursor = (c.cursor.0, after_store c.cursor.1) }
 

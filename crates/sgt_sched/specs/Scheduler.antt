@@ -1,4 +1,4 @@
--- What a scheduler holds, and what its calls do, by names that contracts can say.
+-- What a scheduler holds, and what its calls do, by names that contracts can use.
 use Rattle.std.specs.Prelude.{◌≡◌, ◌≢◌, ℕ, List, [], Option, IfSome, IsNone, Result, IfOk, OnErr}
 use Rattle.sgt_cycle.specs.Walk.{NoWalk}
 use Rattle.sgt_records.specs.declared.records.Records.{Ghosts as RecordsGhosts}
@@ -24,33 +24,33 @@ module _ {R A G : Type 0} {r : RecordsGhosts R} {a : AccessesGhosts A} {g : Grap
   abbrev pub state : Sched R A G r a g → State
   state s = state_of r.chain r.settled a.list g.nodes g.pairs (parts s)
 
-  -- the rules that it goes by
+  -- the rules that it follows
   abbrev pub rules_of : Sched R A G r a g → Rules
   rules_of s = rules_from s.procedures.items s.limits
 
-  -- when it answers asks
+  -- when it reports codes
   abbrev pub asks_of : Sched R A G r a g → Asks
   asks_of s = s.limits.asks
 
-  -- the procedures and limits are kept
+  -- the procedures and limits stay
   abbrev pub Keeps : Sched R A G r a g → Sched R A G r a g → Type 0
   Keeps old new = (new.procedures.items ≡ old.procedures.items) × (new.limits ≡ old.limits)
 
-  -- its state turns so, with this reply; nothing else changes
+  -- its state changes so, with this reply; nothing else changes
   pub record Turns {X : Type 0} (effect : State → X → State → Type 0) (old : Sched R A G r a g) (x : X)
       (new : Sched R A G r a g) : Type 0 where
     pub turn : effect (state old) x (state new)
     pub kept : Keeps old new
 
-  -- the same, or it was refused memory, and nothing has changed
+  -- the same, or an allocation failed, and nothing has changed
   pub record Tries {X : Type 0} (effect : State → X → State → Type 0) (old : Sched R A G r a g) (result : Result X NoMemory)
       (new : Sched R A G r a g) : Type 0 where
     pub done : IfOk result (λ x. effect (state old) x (state new))
     pub refused : OnErr result (Same (state old) (state new))
     pub kept : Keeps old new
 
-  -- t was aborted, as a walk leads from it to one of these, and the reply placed; or none does, nothing has changed, and pairs
-  -- from these, where there are some, can be linked so
+  -- t was aborted, because a path leads from it to one of these, and the reply is placed; or no path does, nothing has changed,
+  -- and edges from these, if any, can be linked so
   pub record LinksOrAborts (t : ℕ) (rivals : List ℕ) (old : Sched R A G r a g) (out : Reply) (link : Option Link) (placed : Reply)
       (new : Sched R A G r a g) : Type 0 where
     pub closes : IsNone link → AbortsByWalk t rivals (state old) placed (state new)

@@ -14,7 +14,7 @@ use Rattle.sgt_model.specs.Soundness.{Sound}
 use Rattle.sgt_sched.specs.LiveList.{numbers, progress_at}
 
 -- the procedures and limits, the three layers, the live transactions with their progress, who read from whom (source and
--- reader), and of each started transaction how it ended, if it did
+-- reader), and how each started transaction ended, if it did
 pub record SchedulerView (R A G : Type 0) : Type 0 where
   pub procedures : List ProcedureText
   pub limits : Limits
@@ -39,7 +39,7 @@ view procedures limits records accesses graph live read_from fates = record {
   fates = fates;
 }
 
--- the rules that it goes by
+-- the rules that it follows
 abbrev pub rules_of : {R A G : Type 0} → SchedulerView R A G → Rules
 rules_of p = rules_from p.procedures p.limits
 
@@ -47,12 +47,12 @@ rules_of p = rules_from p.procedures p.limits
 abbrev pub fate_at : List (Option Fate) → ℕ → Option Fate
 fate_at fates t = slice_index_or fates t None
 
--- a transaction goes along one of these procedures, which its number names
+-- a transaction runs one of these procedures, which its number names
 abbrev pub IsAlong : List ProcedureText → Progress → Type 0
 IsAlong programs c = slice_get programs c.procedure ≡ Some c.cursor.0
 
--- by what the layers tell: of records the chain and the committed value of each key, of accesses their list, of a graph its
--- nodes and pairs
+-- by the views of the layers: the chain and the committed value of each key for records, the list for accesses, the nodes and
+-- edges for a graph
 module _ {R A G : Type 0} (chain : R → Key → List (ℕ × ℤ)) (settled : R → Key → Option ℤ) (list : A → List ListedAccess)
     (nodes : G → ℕ → Bool) (pairs : G → ℕ → ℕ → Bool) where
   -- the state
@@ -70,8 +70,8 @@ module _ {R A G : Type 0} (chain : R → Key → List (ℕ × ℤ)) (settled : R
     left = λ t. left_kept (progress_at p.live t);
   }
 
-  -- what holds at every moment: the limits are in their ranges and kept; the state is sound; the live ones rise; the graph's
-  -- nodes are those that were started and have not ended; and each goes along its procedure
+  -- the invariant: the limits are in their ranges and respected; the state is sound; the live ones rise; the graph's
+  -- nodes are those that were started and have not ended; and each runs its procedure
   pub record IsKept (p : SchedulerView R A G) : Type 0 where
     pub in_range : AreInRange p.limits
     pub begun : length p.fates ≤ p.limits.begins

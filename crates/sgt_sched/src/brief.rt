@@ -1,4 +1,4 @@
-//! A reply in short, which the scheduler returns in place of a whole one.
+//! A short form of a reply, which the scheduler returns in place of a whole one.
 ghost use Rattle.std.specs.Prelude.{◌≡◌, ◌≢◌};
 ghost use Rattle.sgt_model.specs.declared.reply.Reply.{Reply};
 ghost use Rattle.sgt_sched.specs.declared.brief.Brief.TheVariants.{Placed};
@@ -7,8 +7,8 @@ ghost use Rattle.sgt_sched.specs.Briefs.{in_full};
 use sgt_model::{Key, Reply, Tid};
 use std::fmt;
 
-/// A reply in short. A reply that holds lists is large: it is written once, where the caller says, and only said to
-/// stand there.
+/// A short form of a reply. A reply that holds lists is large: it is written once, to `out`, and the short form only says
+/// that it is there.
 #[derive(Drop)]
 pub enum Brief {
     Started(Tid),
@@ -22,12 +22,12 @@ pub enum Brief {
     Ended,
     NotEnded,
     Waits(Tid),
-    /// The reply stands in `out`: it is `Over`, `Committed`, `Aborted` or `Refused`.
+    /// The reply is in `out`: it is `Over`, `Committed`, `Aborted` or `Refused`.
     Placed,
 }
 
 impl Brief {
-    /// The reply in full, where what is placed stands in `out`. This takes no memory.
+    /// The full reply; a placed one is copied from `out`. It allocates nothing.
     pub fn reply(&self, out: &Reply) -> Reply
         ensures { result ≡ in_full self.now out.now }
     {
@@ -37,7 +37,7 @@ impl Brief {
         }
     }
 
-    /// The reply in full, of one that is not placed.
+    /// The full reply, if it is not placed.
     #[inline(always)]
     pub fn short(&self) -> Reply
         requires { self.now ≢ Placed }
@@ -66,7 +66,7 @@ impl Brief {
     }
 }
 
-/// As the reply in full, but for what is placed.
+/// As the full reply, except for a placed one.
 impl fmt::Debug for Brief {
     fn fmt<W: fmt::Write>(&self, f: &mut fmt::Formatter<W>) -> fmt::Result {
         match self {

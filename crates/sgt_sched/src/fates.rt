@@ -1,4 +1,4 @@
-//! How each transaction ended that was started.
+//! How each started transaction ended.
 ghost use Rattle.std.specs.Prelude.{◌≡◌, ◌+◌, ◌<◌, ◌≤◌, ◌^◌, [], ◌∷◌, ◌++◌, length, Some, None, OnOk, slice_get, slice_set, vec_len, vec_capacity};
 ghost use Rattle.sgt_sched.specs.FateList.{AreKept, HasWalk, HasStartRoom, fate_of_end, live_in};
 ghost use Rattle.sgt_sched.specs.SchedulerView.{fate_at};
@@ -7,25 +7,25 @@ use sgt_model::{Cause, Fate, NoMemory, Tid, Tids};
 use std::alloc::Global;
 use std::marker::Model;
 
-/// How a transaction ended, in few bytes, as there is one for each that was started.
+/// How a transaction ended, in few bytes, because there is one for each start.
 #[derive(Clone, Copy)]
 pub enum End {
     /// It is live.
     Live,
-    /// By its commit.
+    /// It committed.
     Committed,
-    /// By an abort: its caller quit it.
+    /// It was aborted: its caller quit it.
     Quit,
-    /// By an abort: its procedure asked this code.
+    /// It was aborted: its procedure raised this code.
     Asked(u16),
-    /// By a cascading abort, which started with this transaction.
+    /// `Fell`: aborted in cascade. The cascade started with this transaction.
     Fell(Tid),
-    /// By an abort: its step would have closed a cycle. The walk has this index in the list of walks.
+    /// It was aborted: its step would have closed a cycle. The cycle has this index in the list of cycles (`walks`).
     Cycle(u32),
 }
 
-/// How the transactions ended, in the order of their starts. Walks are long and rare, so they are kept in a list of their own,
-/// which has room for one of each live transaction: an end takes no memory.
+/// How the transactions ended, in the order of their starts. Cycles are long and rare, so they have a list of their own.
+/// That list has capacity for one of each live transaction, so an end allocates nothing.
 #[derive(Drop)]
 pub struct Fates {
     ends: Vec<End>,
@@ -50,7 +50,7 @@ impl Model for Fates {
 }
 
 impl Fates {
-    /// None. This takes no memory.
+    /// No fates. It allocates nothing.
     pub fn new(alloc: Global) -> Self
         ensures { result.fates ≡ [] }
     {
@@ -61,7 +61,7 @@ impl Fates {
         }
     }
 
-    /// Forgets them all, so that numbers begin anew. This takes no memory.
+    /// Removes all fates, so that numbers begin at 0 again. It allocates nothing.
     pub fn clear(&mut self)
         ensures { self.new.fates ≡ [] }
     {
@@ -77,7 +77,7 @@ impl Fates {
         self.ends.len()
     }
 
-    /// Makes room for one more start, and for its end. `NoMemory` where a growth was refused. The fates stay.
+    /// Provides capacity for one more start, and for its end. `NoMemory` if an allocation failed. The fates stay.
     pub fn reserve(&mut self) -> Result<(), NoMemory>
         ensures same { self.new.fates ≡ self.old.fates }
         ensures ready { OnOk result (HasStartRoom self.new) }
@@ -87,7 +87,7 @@ impl Fates {
         Ok(())
     }
 
-    /// Adds a transaction that was just started, as the last. This takes no memory.
+    /// Adds a transaction that was just started, as the last. It allocates nothing.
     pub fn start(&mut self)
         requires ready { HasStartRoom self.old }
         requires few { length self.old.fates < 2 ^ 32 }
@@ -97,7 +97,7 @@ impl Fates {
         self.live += 1;
     }
 
-    /// Ends t, which is live. This takes no memory.
+    /// Ends t, which is live. It allocates nothing.
     pub fn end(&mut self, t: Tid, fate: &Fate)
         requires live { slice_get self.old.fates t ≡ Some None }
         ensures { self.new.fates ≡ slice_set self.old.fates t (Some fate.now) }
@@ -125,7 +125,7 @@ impl Fates {
     }
 }
 
-// The end that a fate is. Its walk, if it has one, goes to the others, for which there is room.
+// The `End` of a fate. Its cycle, if any, is added to the others, where there is capacity for it.
 fn end_of(walks: &mut Vec<Tids>, fate: &Fate) -> End
     requires room { vec_len walks.old < vec_capacity walks.old }
     requires few { length walks.old.items < 2 ^ 32 }

@@ -6,7 +6,8 @@ ghost use Rattle.sgt_cycle.specs.Walk.{NoWalk};
 use sgt_graph::{Graph, Link};
 use sgt_model::{Tid, Tids};
 
-/// Adds pairs from the rivals of an access to t, which close no cycle, by what a plan of them has told. Most accesses have no rival.
+/// Adds edges from the rivals of an access to t, which close no cycle, by the link that a plan of them returned. Most
+/// accesses have no rival.
 pub fn follow<G: Graph>(graph: &mut G, t: Tid, rivals: &Tids, link: Link)
     requires node { G.nodes graph.old t ≡ true }
     requires others { (u : ℕ) → Member u rivals.now → (G.nodes graph.old u ≡ true) × (u ≢ t) }

@@ -1,8 +1,8 @@
-//! Laws of what the scheduler's contracts say. A body has nothing to do: the law is its contract.
+//! Laws of the scheduler's contracts. The function bodies are empty: each law is its function's contract.
 ghost use Rattle.sgt_sched.specs.Endings.{CallsCount, RepliesEndWhere};
 
-/// Of every call that does what `CallEffect` says: its reply ends a live transaction exactly where its event does; and at most
-/// one more is live afterwards, fewer where the reply ends one.
+/// Take any call that does what `CallEffect` says. Its reply ends a live transaction exactly if its event does. At most one
+/// more transaction is live afterwards, and fewer if the reply ends one.
 pub fn endings_agree()
     ensures replies { RepliesEndWhere }
     ensures counts { CallsCount }

@@ -1,4 +1,4 @@
-//! What a transaction that has ended leaves in the lists of the scheduler: nothing.
+//! Removing an ended transaction from the lists of the scheduler.
 ghost use Rattle.std.specs.Prelude.{◌≡◌};
 ghost use Rattle.sgt_model.specs.Walks.{Rising};
 ghost use Rattle.sgt_sched.specs.LiveList.{numbers, others_live};
@@ -7,7 +7,7 @@ ghost use Rattle.sgt_sched.specs.Steps.{unread};
 use crate::live::Live;
 use sgt_model::Tid;
 
-/// Takes a transaction that has ended out of the live ones and the reads, source or reader. This takes no memory.
+/// Removes an ended transaction from the live ones and from the reads, as source or reader. It allocates nothing.
 pub fn leave(live: &mut Live, read_from: &mut Vec<(Tid, Tid)>, t: Tid)
     requires rising { Rising (numbers live.old) }
     ensures live { live.new ≡ others_live t live.old }

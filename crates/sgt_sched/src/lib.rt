@@ -1,17 +1,17 @@
-//! The scheduler: it starts transactions, lets each make its procedure's accesses one by one, and commits or aborts them, by
+//! The scheduler. It starts transactions, lets each make its procedure's accesses one by one, and commits or aborts them, by
 //! serialization graph testing over three layers: records, a list of accesses and a graph.
 //!
-//! It knows the layers by their contracts alone, so any body of them will do. It keeps no history and looks at none: what it
-//! holds of the live transactions is what decides. What each call answers and does is said of this alone, before and after;
-//! that it agrees with the definitions of histories is shown in `sgt_model`, and put together in `sgt_engine`. It has no
-//! lock and no thread, and wakes nobody who waits.
+//! It knows the layers by their contracts alone, so any implementations will do. It stores no history and reads none: it
+//! decides by what it stores of the live transactions. Each contract says what a call replies and does in terms of this state
+//! alone, before and after. `sgt_model` shows that this agrees with the definitions of histories, and `sgt_engine` puts it
+//! together. The scheduler has no lock and no thread, and notifies no transaction that waits.
 //!
 //! ```
 //! let mut sched: Sched<ListRecords, OneList, PairGraph> = Sched::new(alloc, &opening, procedures, limits)?;
 //! sched.start(0, &args)?;             // Started(0)
 //! sched.step(Tid(0))?;                // Looked, Wrote or Aborted; Ended once its procedure is at its end
 //! sched.commit(Tid(0));               // Committed with its answers, or Waits
-//! sched.records().committed(key);     // what it has stored
+//! sched.records().committed(key);     // the value that it has written
 //! ```
 #![tactic(auto)]
 

@@ -10,8 +10,8 @@ use sgt_proc::{Checked, Cursor};
 use std::alloc::Global;
 use std::marker::Model;
 
-/// The live transactions with how far each has come, in the order of their starts. A call searches the list at most once:
-/// what it has found is told as an index.
+/// The live transactions with the progress of each, in the order of their starts. A call searches the list at most once:
+/// the result is an index.
 #[derive(Drop)]
 pub struct Live {
     running: Vec<Running>,
@@ -32,7 +32,7 @@ impl Model for Live {
 }
 
 impl Live {
-    /// None. This takes no memory.
+    /// No transactions. It allocates nothing.
     pub fn new(alloc: Global) -> Self
         ensures { result ≡ [] }
     {
@@ -75,7 +75,7 @@ impl Live {
         &self.running[index]
     }
 
-    /// Adds one that was just started, as the last. `NoMemory` where a growth was refused; then nothing has changed.
+    /// Adds one that was just started, as the last. `NoMemory` if an allocation failed; then nothing has changed.
     pub fn start(&mut self, t: Tid, procedure: u16, cursor: Cursor) -> Result<(), NoMemory>
         ensures ok { OnOk result (self.new ≡ self.old ++ (t, record { procedure = procedure; cursor = cursor }) ∷ []) }
         ensures err { OnErr result (self.new ≡ self.old) }
@@ -89,7 +89,7 @@ impl Live {
         Ok(())
     }
 
-    /// Goes on with t, which is live and has this index, behind a look that found this. This takes no memory.
+    /// Continues t, which is live and has this index, after a read that returned this. It allocates nothing.
     #[inline(always)]
     pub fn look(&mut self, _t: Tid, index: usize, procedures: &[Checked], value: Option<i64>)
         requires at { position (has_number _t) self.old ≡ Some index }
@@ -99,7 +99,7 @@ impl Live {
         self.running[index].look(procedures, value);
     }
 
-    /// Goes on with t, which is live and has this index, behind a store. This takes no memory.
+    /// Continues t, which is live and has this index, after a write. It allocates nothing.
     #[inline(always)]
     pub fn store(&mut self, _t: Tid, index: usize, procedures: &[Checked])
         requires at { position (has_number _t) self.old ≡ Some index }
@@ -109,7 +109,7 @@ impl Live {
         self.running[index].store(procedures);
     }
 
-    /// Drops the transaction, which has ended. The others are moved at once, not each by itself. This takes no memory.
+    /// Removes the transaction, which has ended. The others are moved in one block, not one by one. It allocates nothing.
     pub fn remove(&mut self, t: Tid)
         requires rising { Rising (numbers self.old) }
         ensures { self.new ≡ others_live t self.old }

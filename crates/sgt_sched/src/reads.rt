@@ -1,4 +1,4 @@
-//! Who has read from whom, among the live transactions.
+//! Which live transaction has read from which.
 ghost use Rattle.std.specs.Prelude.{◌≡◌, ◌<◌};
 ghost use Rattle.std.specs.Vec.{vec_len, vec_capacity};
 ghost use Rattle.sgt_sched.specs.Steps.{with_source};
@@ -6,7 +6,7 @@ ghost use Rattle.sgt_sched.specs.Steps.{with_source};
 use sgt_model::Tid;
 use sgt_records::Top;
 
-/// Notes from whom a look of t has read, where it found another's pending value. The list has room for it.
+/// Records whom a read of t has read from, if it returned another's pending value. The list has capacity for it.
 ///
 /// Bernstein, Hadzilacos and Goodman (1987), chapter 2.
 pub fn note_read(read_from: &mut Vec<(Tid, Tid)>, top: &Top, t: Tid)

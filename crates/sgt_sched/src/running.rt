@@ -1,4 +1,4 @@
-//! One live transaction, and how far its procedure has come.
+//! One live transaction, and the progress of its procedure.
 ghost use Rattle.std.specs.Prelude.{◌≡◌};
 ghost use Rattle.sgt_model.specs.Left.{next_left};
 ghost use Rattle.sgt_proc.specs.Nexts.{seen, StoresValue};
@@ -10,8 +10,8 @@ use sgt_model::Tid;
 use sgt_proc::{Checked, Cursor, Next};
 use std::marker::Model;
 
-/// A live transaction: its number, that of its procedure, and how far that has come. It holds no procedure: whoever asks it or
-/// lets it go on hands in the list that the number counts in.
+/// A live transaction: its number, that of its procedure, and the procedure's progress. It holds no procedure: its calls take
+/// the list of procedures that the number refers to.
 #[derive(Drop)]
 pub struct Running {
     pub tid: Tid,
@@ -49,7 +49,7 @@ impl Running {
         self.cursor.next(self.checked(procedures))
     }
 
-    /// Goes on behind a look, which found this.
+    /// Continues after a read, which returned this.
     #[inline(always)]
     pub fn look(&mut self, procedures: &[Checked], value: Option<i64>)
         requires along { IsAlong procedures.now self.old.1 }
@@ -59,7 +59,7 @@ impl Running {
         self.cursor.looked(checked, value);
     }
 
-    /// Goes on behind a store.
+    /// Continues after a write.
     #[inline(always)]
     pub fn store(&mut self, procedures: &[Checked])
         requires along { IsAlong procedures.now self.old.1 }
@@ -69,7 +69,7 @@ impl Running {
         self.cursor.stored(checked);
     }
 
-    // The procedure that it goes along.
+    // The procedure that it runs.
     fn checked<'a>(&self, procedures: &'a [Checked]) -> &'a Checked
         requires along { IsAlong procedures.now self.now.1 }
         ensures { result.now ≡ self.now.1.cursor.0 }

@@ -1,4 +1,4 @@
-//! The scheduler: its parts, and the calls that only look at it. The other calls stand in files of their own.
+//! The scheduler: its parts, and the calls that only read it. The other calls are in files of their own.
 ghost use Rattle.std.specs.Prelude.{◌≡◌, true, length, position, Result, Ok, Err, Some, IfOk, OnErr, IfSome, IsSome, IsTrue, ◌↔◌};
 ghost use Rattle.std.specs.Result.{IsOk};
 ghost use Rattle.sgt_model.specs.declared.reply.Reply.{Reply};
@@ -40,16 +40,17 @@ use std::alloc::Global;
 /// A scheduler of transactions by serialization graph testing, over records, a list of accesses and a graph that it knows
 /// by their contracts alone.
 ///
-/// A step looks at one key or stores one. Each other live transaction that has accessed the key, where one of the two
-/// accesses stores, has to commit first: a pair leads from it to the one that steps. Where these pairs would close a cycle,
-/// the step is rejected and its transaction aborts (Bernstein, Hadzilacos and Goodman 1987, chapter 4). A look finds the
-/// last value that is not undone, committed or not; an abort takes out the transaction's own values, and takes along those
-/// that have read from it (chapter 1). A commit waits for the transaction's live predecessors, so commit order agrees with
-/// the order of conflicts (Durner and Neumann, ICDE 2019).
+/// - A step reads one key or writes one. Each other live transaction with a conflicting access of the key must commit first:
+///   an edge leads from it to the one that steps. If these edges would close a cycle, the step is rejected and its
+///   transaction aborts (Bernstein, Hadzilacos and Goodman 1987, chapter 4).
+/// - A read returns the last value that is not undone, committed or not. An abort removes the transaction's own values, and
+///   aborts in cascade those that have read from it (chapter 1).
+/// - A commit waits for the transaction's live predecessors, so commit order agrees with the order of conflicts (Durner and
+///   Neumann, ICDE 2019).
 ///
-/// Of a transaction that has ended it keeps how it ended, and nothing else. So what a call costs grows with what the live
-/// transactions have done and with what the layers take for it, and not with how many came before, but for growing a list
-/// now and then.
+/// Of an ended transaction it stores how it ended, and nothing else. So the cost of a call grows with what the live
+/// transactions have done and with the cost of the layers. It does not grow with the number of earlier transactions, except
+/// when a list grows now and then.
 #[derive(Drop)]
 pub struct Sched<R: Records, A: Accesses, G: Graph> {
     procedures: Vec<Checked>,
@@ -66,10 +67,10 @@ pub struct Sched<R: Records, A: Accesses, G: Graph> {
 impl<R: Records, A: Accesses, G: Graph> Sched<R, A, G> {
     ghost use Rattle.sgt_sched.specs.Scheduler.{parts, state, rules_of, asks_of, Tries};
 
-    /// A scheduler over an opening database, with nothing started. It copies the opening. The procedures are numbered from
-    /// 0 in their order.
+    /// A scheduler over an initial database, with nothing started. It copies the initial database. The procedures are numbered
+    /// from 0 in their order.
     ///
-    /// `BadLimits` where a limit is out of its range, tested first; `NoMemory` where a growth was refused.
+    /// `BadLimits` if a limit is out of its range, tested first; `NoMemory` if an allocation failed.
     pub fn new(
         alloc: Global,
         opening: &Database,
@@ -96,10 +97,10 @@ impl<R: Records, A: Accesses, G: Graph> Sched<R, A, G> {
         })
     }
 
-    /// Makes the call that an event stands for: starts, steps, commits or quits. The reply is told in short: one that holds
-    /// lists is written into `out`.
+    /// Makes the call of an event: starts, steps, commits or quits. It returns the reply in short; a reply that holds lists is
+    /// written to `out`.
     ///
-    /// `NoMemory` where a growth was refused; then nothing has changed. An event that ends a live transaction takes no memory.
+    /// `NoMemory` if an allocation failed; then nothing has changed. An event that ends a live transaction allocates nothing.
     pub fn answer(&mut self, event: &Event, out: &mut Reply) -> Result<Brief, NoMemory>
         ensures done { Tries (InBrief (CallEffect (rules_of self.old) event.now) out.new) self.old result self.new }
         ensures out { OnErr result (out.new ≡ out.old) }
@@ -113,8 +114,8 @@ impl<R: Records, A: Accesses, G: Graph> Sched<R, A, G> {
         }
     }
 
-    /// Whether the reply to this event would end a live transaction: `Committed`, `Refused` or `Aborted`. The events of which this
-    /// is true take no memory.
+    /// Whether the reply to this event would end a live transaction: `Committed`, `Refused` or `Aborted`. An event for which
+    /// this is true allocates nothing.
     pub fn ends(&self, event: &Event) -> bool
         ensures exact { IsTrue result ↔ EndsOne (asks_of self.now) event.now (state self.now) }
         ensures replies { (r : Reply) (after : State)
@@ -144,14 +145,14 @@ impl<R: Records, A: Accesses, G: Graph> Sched<R, A, G> {
         self.live.len()
     }
 
-    /// The records: the committed values, and above them what the live transactions have stored.
+    /// The records: the committed values, and above them what the live transactions have written.
     pub fn records(&self) -> &R
         ensures { result.now ≡ (parts self.now).records }
     {
         &self.records
     }
 
-    /// The accesses of the live transactions: few enough to be asked for rivals.
+    /// The accesses of the live transactions. There are few enough for a search for rivals.
     pub fn accesses(&self) -> &A
         ensures same { result.now ≡ (parts self.now).accesses }
         ensures few { AtMost 32 (is_listed (A.list result.now)) }
@@ -186,7 +187,7 @@ impl<R: Records, A: Accesses, G: Graph> Sched<R, A, G> {
         self.live.index(t)
     }
 
-    // What an event of a transaction that is not live is answered.
+    // The reply to an event of a transaction that is not live.
     fn answer_not_live(&self, t: Tid, out: &mut Reply) -> Brief
         requires not_live { IsUnended (state self.now) t → ⊥ }
         ensures not_live { IsNotLive (state self.now) t (in_full result out.new) }
@@ -215,7 +216,7 @@ impl<R: Records, A: Accesses, G: Graph> Sched<R, A, G> {
         }
     }
 
-    // The same, of a live transaction that has this index among the live ones.
+    // The same, for a live transaction that has this index among the live ones.
     fn next_at(&self, t: Tid, index: usize) -> Next
         requires live { (state self.now).nodes t ≡ true }
         requires at { position (has_number t) (parts self.now).live ≡ Some index }

@@ -1,4 +1,4 @@
-//! Cutting the history off, so that the engine goes on with an empty one.
+//! Cutting the history off, so that the engine continues with an empty one.
 ghost use Rattle.std.specs.Prelude.{◌≡◌, Err, IfOk, OnOk, OnErr, ◌↔◌, reverse};
 ghost use Rattle.sgt_model.specs.Aborts.{AbortsHaveCause};
 ghost use Rattle.sgt_model.specs.CommitOrder.{CommitsInOrder};
@@ -28,7 +28,7 @@ pub enum CutError {
     /// A transaction is live. This is tested first.
     #[error("a transaction is live")]
     StillLive,
-    /// A growth was refused.
+    /// An allocation failed.
     #[error("no memory")]
     NoMemory,
 }
@@ -44,16 +44,16 @@ impl From<NoMemory> for CutError {
 }
 
 impl<R: Records, A: Accesses, G: Graph> Engine<R, A, G> {
-    /// Cuts the history off, where nobody is live: what was asked and answered becomes a past of its own, and the engine goes on
-    /// from the committed database as one that was just opened on it, with an empty history and numbers from 0. Procedures and
-    /// limits stay, and what the limits allow is counted anew. An engine that is cut now and then holds what its database and the
-    /// events since the last cut take, however long it runs.
+    /// Cuts the history off, if no transaction is live. The events and replies become a past of their own. The engine continues
+    /// from the committed database as a new one would, with an empty history and numbers from 0. Procedures and limits stay, and
+    /// starts are counted anew. An engine that is cut now and then holds only what its database and the events since the last cut
+    /// take, however long it runs.
     ///
-    /// The headline holds of each part, and the parts chain: what the replay of one leaves is what the next one opens with. The new
-    /// opening is a copy of the old one with what the part has written, or of all records where they are fewer than the entries; no
-    /// record is touched.
+    /// The headline holds of each part, and the parts chain: what the replay of one leaves is the initial database of the next. That
+    /// is a copy of the old one with what the part has written, or of all records if they are fewer than the entries. No record
+    /// changes.
     ///
-    /// `StillLive` where a transaction is live, tested first; `NoMemory` where a growth was refused. Then nothing has changed.
+    /// `StillLive` if a transaction is live, tested first; `NoMemory` if an allocation failed. Then nothing has changed.
     pub fn cut(&mut self, alloc: Global) -> Result<Past, CutError>
         ensures past { IfOk result (λ p. p.opening ≡ self.old.opening) }
         ensures entries { IfOk result (λ p. reverse p.history.entries ≡ self.old.past) }

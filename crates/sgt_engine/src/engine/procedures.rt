@@ -1,4 +1,4 @@
-//! More procedures.
+//! Adding procedures to an engine with an empty history.
 ghost use Rattle.std.specs.Prelude.{◌≡◌, ◌≢◌, ◌<◌, ◌≤◌, ◌^◌, ◌↔◌, [], length, Err, IfOk, OnOk, OnErr};
 ghost use Rattle.sgt_engine.specs.Puts.{with_procedure};
 
@@ -19,7 +19,7 @@ pub enum AddError {
     /// There are 65536 procedures, and so no number for another. This is tested next.
     #[error("all numbers of procedures are taken")]
     TooMany,
-    /// A growth was refused.
+    /// An allocation failed.
     #[error("no memory")]
     NoMemory,
 }
@@ -35,10 +35,10 @@ impl From<NoMemory> for AddError {
 }
 
 impl<R: Records, A: Accesses, G: Graph> Engine<R, A, G> {
-    /// Adds a procedure behind the others, where the history is empty, and answers its number, by which it is started.
+    /// Adds a procedure after the others, if the history is empty, and returns its number, by which it is started.
     ///
-    /// `Begun` where there is a history, tested first; `TooMany` where there are 65536 procedures; `NoMemory` where a growth was
-    /// refused. Then nothing has changed.
+    /// `Begun` if there is a history, tested first; `TooMany` if there are 65536 procedures; `NoMemory` if an allocation
+    /// failed. Then nothing has changed.
     pub fn add_procedure(&mut self, procedure: Checked) -> Result<u16, AddError>
         ensures added { OnOk result (self.new ≡ with_procedure procedure self.old) }
         ensures number { IfOk result (λ n. n ≡ length self.old.procedures) }
@@ -52,7 +52,7 @@ impl<R: Records, A: Accesses, G: Graph> Engine<R, A, G> {
         Ok(number)
     }
 
-    /// The same, for a caller that has asked for the number.
+    /// The same, for a caller that already has the number.
     pub fn add_at_start(&mut self, procedure: Checked) -> Result<(), NoMemory>
         requires begins { self.old.past ≡ [] }
         requires has_number { length self.old.procedures < 2 ^ 16 }
@@ -62,7 +62,7 @@ impl<R: Records, A: Accesses, G: Graph> Engine<R, A, G> {
         self.sched.add_procedure(procedure)
     }
 
-    /// The number that a procedure gets that is added now. `Begun` and `TooMany` as where one is added.
+    /// The number that a procedure gets if it is added now. `Begun` and `TooMany` as for adding one.
     pub fn next_number(&self) -> Result<u16, AddError>
         ensures number { IfOk result (λ n. (self.now.past ≡ []) × (n ≡ length self.now.procedures)) }
         ensures begun { result ≡ Err AddError.Begun → self.now.past ≢ [] }

@@ -1,4 +1,4 @@
-//! More rows in the opening database.
+//! Adding rows to the initial database.
 ghost use Rattle.std.specs.Prelude.{◌≡◌, ◌≢◌, ◌↔◌, true, false, [], None, Err, IsSome, IfOk, IfErr, OnOk, OnErr};
 ghost use Rattle.sgt_model.specs.Contents.{Key, put_in};
 ghost use Rattle.sgt_model.specs.Databases.{contents_of, HasValues};
@@ -13,16 +13,16 @@ use sgt_records::Records;
 use std::alloc::Global;
 use thiserror::Error;
 
-/// Why rows were not put in.
+/// Why rows were not added.
 #[derive(Clone, Copy, Debug, PartialEq, Eq, Error)]
 pub enum PutError {
     /// There is a history. This is tested first.
     #[error("there is a history")]
     Begun,
-    /// The key of the row with this index has a value: the opening's, or that of a row before it. It is the first such row.
+    /// The key of the row with this index has a value already, initially or from a row before it. It is the first such row.
     #[error("row {0} has a key that has a value")]
     Taken(usize),
-    /// A growth was refused.
+    /// An allocation failed.
     #[error("no memory")]
     NoMemory,
 }
@@ -38,14 +38,14 @@ impl From<NoMemory> for PutError {
 }
 
 impl<R: Records, A: Accesses, G: Graph> Engine<R, A, G> {
-    /// Puts more rows into the opening database, where the history is empty: values from `LEAST` to `MOST` at keys that have none.
-    /// Procedures and limits stay. So an engine is opened on what a caller keeps elsewhere.
+    /// Adds rows to the initial database, if the history is empty: values from `LEAST` to `MOST` at keys that have none.
+    /// Procedures and limits stay. So an engine can start from what a caller stores elsewhere.
     ///
-    /// It goes once through the opening and makes the records anew, so many rows are put in by one call. They come by key: a row in
-    /// any other place moves those behind it.
+    /// It goes through the initial database once and makes the records anew, so one call should add many rows. Pass them by key:
+    /// a row at any other position moves those after it.
     ///
-    /// `Begun` where there is a history, tested first; `Taken` with the index of the first row whose key has a value then;
-    /// `NoMemory` where a growth was refused. Then nothing has changed.
+    /// `Begun` if there is a history, tested first; `Taken` with the index of the first row whose key has a value then;
+    /// `NoMemory` if an allocation failed. Then nothing has changed.
     pub fn put(&mut self, alloc: Global, rows: &[(Key, i64)]) -> Result<(), PutError>
         requires in_range { HasValues rows.now }
         ensures put { OnOk result (PutsRows self.old rows.now self.new) }
@@ -75,7 +75,7 @@ impl<R: Records, A: Accesses, G: Graph> Engine<R, A, G> {
         Ok(())
     }
 
-    // The opening with these rows, where the history is empty.
+    // The initial database with these rows, if the history is empty.
     fn opening_with(&self, alloc: Global, rows: &[(Key, i64)]) -> Result<Database, PutError>
         requires begins { self.now.past ≡ [] }
         requires in_range { HasValues rows.now }
@@ -84,14 +84,14 @@ impl<R: Records, A: Accesses, G: Graph> Engine<R, A, G> {
         ensures new { OnOk result (AreNew (contents_of self.now.opening) rows.now) }
         ensures refused { IfErr result (DoNotFit (contents_of self.now.opening) rows.now) }
     {
-        // Nothing is committed yet, so this is a copy of the opening.
+        // Nothing is committed yet, so this is a copy of the initial database.
         let mut opening = self.database(alloc)?;
         put_rows(&mut opening, rows)?;
         Ok(opening)
     }
 }
 
-// Puts rows in, one after another, as long as they are new.
+// Adds rows one after another, as long as they are new.
 fn put_rows(database: &mut Database, rows: &[(Key, i64)]) -> Result<(), PutError>
     requires in_range { HasValues rows.now }
     ensures contents { OnOk result ((k : Key) →
@@ -107,7 +107,7 @@ fn put_rows(database: &mut Database, rows: &[(Key, i64)]) -> Result<(), PutError
     Ok(())
 }
 
-// Puts a row in, and answers whether it is new: where its key has a value, nothing changes.
+// Adds a row, and returns whether it is new. If its key has a value, nothing changes.
 fn put_row(database: &mut Database, row: &(Key, i64)) -> Result<bool, NoMemory>
     requires in_range { IsValue row.now.1 }
     ensures put { IfOk result (λ new. new ≡ true → (k : Key) →

@@ -1,4 +1,4 @@
-//! The records by key, or by an index that was found before.
+//! Access to the records by key, or by an index that was found before.
 ghost use Rattle.std.specs.Prelude.{◌≡◌, ℕ, None, Some, true, false, cond, IfOk, OnOk, OnErr};
 ghost use Rattle.std.specs.Option.{option_copied};
 ghost use Rattle.sgt_model.specs.Contents.{Key, key_eq};
@@ -14,7 +14,7 @@ use std::alloc::Global;
 use std::collections::BTreeMap;
 
 impl Table {
-    /// No records. This takes no memory.
+    /// No records. It allocates nothing.
     pub fn new(alloc: Global) -> Table
         ensures { (k : Key) → record_in result k ≡ None }
     {
@@ -77,7 +77,7 @@ impl Table {
         &self.records[index]
     }
 
-    /// Puts a record in the place of the key's, which has this index.
+    /// Replaces the key's record, which has this index.
     #[inline(always)]
     pub fn put(&mut self, _key: Key, index: usize, given: Record)
         requires { index_in self.old _key ≡ Some index }
@@ -87,8 +87,8 @@ impl Table {
         self.records[index] = given;
     }
 
-    /// Adds the record of a key that has none, with a committed value, or none, and nothing written above it. It tells the record's
-    /// index. `NoMemory` where a growth was refused.
+    /// Adds the record of a key that has none, with a committed value, or none, and nothing written above it. It returns the
+    /// record's index. `NoMemory` if an allocation failed.
     pub fn add(&mut self, key: Key, committed: Option<i64>) -> Result<usize, NoMemory>
         requires absent { index_in self.old key ≡ None }
         ensures added { OnOk result ((k : Key) → record_in self.new k

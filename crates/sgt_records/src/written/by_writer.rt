@@ -1,4 +1,4 @@
-//! What each transaction has written.
+//! The writes of each transaction to one key.
 ghost use Rattle.std.specs.Prelude.{◌≡◌, ◌<◌, Some, None, [], ◌∷◌, false, length};
 ghost use Rattle.std.specs.List.{last_or};
 ghost use Rattle.slab.specs.Slab.{HasRoomFor};
@@ -13,7 +13,7 @@ use sgt_model::Tid;
 use slab::Slab;
 
 impl Written {
-    /// Who wrote last, and what.
+    /// The last write: its writer and value.
     #[inline(always)]
     pub fn last(self, chains: &Slab<Chain>) -> Option<(Tid, i64)>
         ensures { result ≡ last_or None (chain_at chains.now self) }
@@ -25,8 +25,8 @@ impl Written {
         }
     }
 
-    /// The same with t's value last, and whether it takes the place of an earlier one. A chain is made for the second writer. This
-    /// takes no memory.
+    /// The same with t's value last, and whether it replaces an earlier one of t. A second writer gets a chain. It allocates
+    /// nothing.
     #[inline(always)]
     pub fn write(self, chains: &mut Slab<Chain>, t: Tid, value: i64) -> (Written, bool)
         requires ready { HasRoomFor chains.old 1 }
@@ -52,7 +52,7 @@ impl Written {
         }
     }
 
-    /// The same without t's value, and that value. Where none is left of a chain, its slot is given back.
+    /// The same without t's value, and that value. If a chain becomes empty, its slot is freed.
     #[inline(always)]
     pub fn take_out(self, chains: &mut Slab<Chain>, t: Tid) -> (Written, Option<i64>)
         requires held { IsHeld chains.old (slot_in self) }
@@ -74,7 +74,7 @@ impl Written {
     }
 }
 
-// Makes a chain of two writes. This takes no memory.
+// Makes a chain of two writes. It allocates nothing.
 #[inline(never)]
 fn chain_of(chains: &mut Slab<Chain>, first: (Tid, i64), second: (Tid, i64)) -> Written
     requires ready { HasRoomFor chains.old 1 }
@@ -84,7 +84,7 @@ fn chain_of(chains: &mut Slab<Chain>, first: (Tid, i64), second: (Tid, i64)) -> 
     Written::InSlot(chains.insert_reserved(Chain::of(first, second)))
 }
 
-// Takes t's value out of the chain in a slot, and gives the slot back where none is left.
+// Removes t's value from the chain in a slot. If the chain becomes empty, its slot is freed.
 #[inline(never)]
 fn take_out_of(chains: &mut Slab<Chain>, slot: usize, t: Tid) -> (Written, Option<i64>)
     requires held { IsHeld chains.old (Some slot) }

@@ -1,4 +1,4 @@
-//! Aborts, which a step, a commit or a quit comes to.
+//! Aborts by a step, a commit or a quit.
 ghost use Rattle.std.specs.Prelude.{◌≡◌, true};
 ghost use Rattle.sgt_model.specs.CallEffects.{AbortEffect, Undo};
 ghost use Rattle.sgt_model.specs.FallsIn.{FallsIn};
@@ -17,7 +17,7 @@ use sgt_model::{Cause, Fate, Reply, Tid, Tids};
 use sgt_records::Records;
 
 impl<R: Records, A: Accesses, G: Graph> Sched<R, A, G> {
-    // Aborts a live transaction, and those that have read from it with it.
+    // Aborts a live transaction, and in cascade those that have read from it.
     pub(super) fn abort(&mut self, t: Tid, cause: Cause, out: &mut Reply) -> Brief
         requires live { (state self.old).nodes t ≡ true }
         ensures { Turns (InBrief (AbortEffect t cause) out.new) self.old result self.new }
@@ -27,7 +27,7 @@ impl<R: Records, A: Accesses, G: Graph> Sched<R, A, G> {
         Brief::Placed
     }
 
-    // Undoes a live transaction for this cause, and those that have read from it with it. These are the ones that fall.
+    // Undoes a live transaction for this cause, and in cascade those that have read from it. It returns the latter.
     pub(super) fn undo(&mut self, t: Tid, cause: &Cause) -> Tids
         requires live { (state self.old).nodes t ≡ true }
         ensures undone { Undo t cause.now result (state self.old) (state self.new) }
@@ -41,7 +41,7 @@ impl<R: Records, A: Accesses, G: Graph> Sched<R, A, G> {
         fell
     }
 
-    // Those that fall with a live transaction, when it aborts.
+    // Those that are aborted in cascade with a live transaction.
     fn falling_with(&self, t: Tid) -> Tids
         requires live { (state self.now).nodes t ≡ true }
         ensures { FallsIn (state self.now) t result }
@@ -49,7 +49,7 @@ impl<R: Records, A: Accesses, G: Graph> Sched<R, A, G> {
         fallers(self.read_from.as_slice(), &self.live.numbers(), t)
     }
 
-    // Takes a live transaction that is aborted, or falls with another, out of all layers. Its readers stay.
+    // Removes a live transaction that is aborted, by itself or in cascade, from all layers. Its readers stay.
     fn end_aborted(&mut self, t: Tid, fate: Fate)
         requires live { (state self.old).nodes t ≡ true }
         ensures ends { EndsAborted t fate (state self.old) (state self.new) }

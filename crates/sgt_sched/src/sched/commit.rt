@@ -1,4 +1,4 @@
-//! Commits, and refusals at them.
+//! Commits, and refusals at a commit.
 ghost use Rattle.std.specs.Prelude.{◌≡◌, ℕ, true, false, IsTrue, ◌↔◌};
 ghost use Rattle.sgt_model.specs.declared.event.Event.TheVariants.{Commit};
 ghost use Rattle.sgt_model.specs.CallEffects.{CommitEffect, CommitOn, CommitsIn, RefusesIn};
@@ -18,11 +18,17 @@ use sgt_proc::Next;
 use sgt_records::Records;
 
 impl<R: Records, A: Accesses, G: Graph> Sched<R, A, G> {
-    /// Commits a transaction that has no live predecessor (Durner and Neumann, ICDE 2019). This takes no memory.
+    /// Commits a transaction that has no live predecessor (Durner and Neumann, ICDE 2019). It allocates nothing.
     ///
-    /// Answers: `Unknown` where it was never started; `Over` where it has ended; `NotEnded` where its procedure is not at its
-    /// end; `Waits` with the least live predecessor, where there is one; else `Committed` with the procedure's answers. A
-    /// procedure that asks a code is at its end where asks are answered at the commit, and then `Refused` stands in the place of
+    /// Replies:
+    ///
+    /// - `Unknown` if it was never started;
+    /// - `Over` if it has ended;
+    /// - `NotEnded` if its procedure is not at its end;
+    /// - `Waits` with the least live predecessor, if there is one;
+    /// - else `Committed` with the procedure's answers.
+    ///
+    /// If codes are reported at commit, a procedure that raises a code is at its end, and gets `Refused` in place of
     /// `Committed`.
     ///
     /// Only tests call this. It is part of the specification; the engine calls [`Sched::answer`].
@@ -34,7 +40,7 @@ impl<R: Records, A: Accesses, G: Graph> Sched<R, A, G> {
         brief.reply(&out)
     }
 
-    // The same, in short.
+    // The same, with the reply in short.
     pub(super) fn answer_commit(&mut self, t: Tid, out: &mut Reply) -> Brief
         ensures { Turns (InBrief (CommitEffect (asks_of self.old) t) out.new) self.old result self.new }
     {
@@ -49,7 +55,7 @@ impl<R: Records, A: Accesses, G: Graph> Sched<R, A, G> {
         }
     }
 
-    // The same, for a live transaction whose procedure asks this code.
+    // The same, for a live transaction whose procedure raises this code.
     #[inline(never)]
     fn commit_asked(&mut self, t: Tid, code: u16, out: &mut Reply) -> Brief
         requires live { (state self.old).nodes t ≡ true }

@@ -24,9 +24,9 @@ impl<R: Records, A: Accesses, G: Graph> Sched<R, A, G> {
         self.procedures.len()
     }
 
-    /// Adds a procedure behind the others. Who is live goes on with the one that it was started with.
+    /// Adds a procedure after the others. Live transactions continue with the ones that they were started with.
     ///
-    /// `NoMemory` where a growth was refused; then nothing has changed.
+    /// `NoMemory` if an allocation failed; then nothing has changed.
     pub fn add_procedure(&mut self, procedure: Checked) -> Result<(), NoMemory>
         ensures added { OnOk result ((parts self.new).procedures ≡ (parts self.old).procedures ++ procedure ∷ []) }
         ensures unchanged { OnErr result (parts self.new ≡ parts self.old) }

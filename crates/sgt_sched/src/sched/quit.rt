@@ -1,4 +1,4 @@
-//! Quits.
+//! Quits: aborts at the caller's request.
 ghost use Rattle.sgt_model.specs.CallEffects.{QuitEffect};
 ghost use Rattle.sgt_sched.specs.Briefs.{InBrief};
 ghost use Rattle.sgt_sched.specs.Scheduler.{Turns};
@@ -11,9 +11,9 @@ use sgt_model::{Cause, Reply, Tid};
 use sgt_records::Records;
 
 impl<R: Records, A: Accesses, G: Graph> Sched<R, A, G> {
-    /// Aborts a transaction, as its caller asks. This takes no memory.
+    /// Aborts a transaction at its caller's request. It allocates nothing.
     ///
-    /// Answers: `Unknown` where it was never started; `Over` where it has ended; else `Aborted`.
+    /// Replies: `Unknown` if it was never started; `Over` if it has ended; else `Aborted`.
     ///
     /// Only tests call this. It is part of the specification; the engine calls [`Sched::answer`].
     pub fn quit(&mut self, t: Tid) -> Reply
@@ -24,7 +24,7 @@ impl<R: Records, A: Accesses, G: Graph> Sched<R, A, G> {
         brief.reply(&out)
     }
 
-    // The same, in short.
+    // The same, with the reply in short.
     pub(super) fn answer_quit(&mut self, t: Tid, out: &mut Reply) -> Brief
         ensures { Turns (InBrief (QuitEffect t) out.new) self.old result self.new }
     {

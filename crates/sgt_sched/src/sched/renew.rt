@@ -1,4 +1,4 @@
-//! Beginning anew.
+//! Restarting the numbers of transactions, over the same or another database.
 ghost use Rattle.std.specs.Prelude.{◌≡◌, [], OnOk, OnErr};
 ghost use Rattle.sgt_model.specs.Databases.{contents_of};
 ghost use Rattle.sgt_model.specs.NewState.{IsNew};
@@ -12,9 +12,8 @@ use sgt_records::Records;
 use std::alloc::Global;
 
 impl<R: Records, A: Accesses, G: Graph> Sched<R, A, G> {
-    /// Forgets how the transactions ended and how many were started, so that the next one has number 0 again and what the limits
-    /// allow is counted anew. Nothing may be live. The committed values stay, as do the procedures and the limits. This takes no
-    /// memory.
+    /// Removes the fates of all transactions, so that the next one has number 0 again and starts are counted anew. No
+    /// transaction may be live. The committed values stay, as do the procedures and the limits. It allocates nothing.
     pub fn renew(&mut self)
         requires none_live { (state self.old).live ≡ [] }
         ensures new { IsNew (state self.old).settled (state self.new) }
@@ -23,9 +22,9 @@ impl<R: Records, A: Accesses, G: Graph> Sched<R, A, G> {
         self.fates.clear();
     }
 
-    /// The same over another opening database, of which it takes a copy in place of the committed values.
+    /// The same over another initial database; a copy of it replaces the committed values.
     ///
-    /// `NoMemory` where a growth was refused; then nothing has changed.
+    /// `NoMemory` if an allocation failed; then nothing has changed.
     pub fn reopen(&mut self, alloc: Global, opening: &Database) -> Result<(), NoMemory>
         requires none_live { (state self.old).live ≡ [] }
         ensures new { OnOk result (IsNew (contents_of opening.now) (state self.new)) }

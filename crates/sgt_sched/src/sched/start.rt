@@ -15,10 +15,15 @@ use sgt_records::Records;
 impl<R: Records, A: Accesses, G: Graph> Sched<R, A, G> {
     /// Starts a transaction that runs the procedure of this number with these arguments.
     ///
-    /// Answers, tested in this order: `NoProcedure` where the number names none; `BadArgs` where the arguments are not as
-    /// many as the procedure takes, or one is no value; `Spent` where as many were started as the limits allow; `Full`
-    /// where as many are live; else `Started` with the next number. `NoMemory` where a growth was refused; then nothing has
-    /// changed.
+    /// Replies, tested in this order:
+    ///
+    /// - `NoProcedure` if the number names none;
+    /// - `BadArgs` if the number of arguments is not the procedure's, or one is no value;
+    /// - `Spent` if the most starts are used up;
+    /// - `Full` if as many transactions are live as the limits allow;
+    /// - else `Started` with the next number.
+    ///
+    /// `NoMemory` if an allocation failed; then nothing has changed.
     ///
     /// Only tests call this. It is part of the specification; the engine calls [`Sched::answer`].
     pub fn start(&mut self, procedure: u16, args: &Args) -> Result<Reply, NoMemory>
@@ -28,7 +33,7 @@ impl<R: Records, A: Accesses, G: Graph> Sched<R, A, G> {
         Ok(brief.short())
     }
 
-    // The same, in short. No reply to a start is placed.
+    // The same, with the reply in short. No reply to a start is placed.
     pub(super) fn answer_start(&mut self, procedure: u16, args: &Args) -> Result<Brief, NoMemory>
         ensures { Tries (Unplaced (StartEffect (rules_of self.old) procedure args.now)) self.old result self.new }
     {

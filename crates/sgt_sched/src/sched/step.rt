@@ -29,11 +29,16 @@ use sgt_records::Records;
 impl<R: Records, A: Accesses, G: Graph> Sched<R, A, G> {
     /// Lets the procedure of a transaction make its next access (Bernstein, Hadzilacos and Goodman 1987, chapter 4).
     ///
-    /// Answers: `Unknown` where it was never started; `Over` where it has ended; `Ended` where its procedure is at its end,
-    /// with nothing done; `Aborted` where its procedure asks a code, and exactly where the access would close a cycle; else
-    /// `Looked` with the last value that is not undone, or `Wrote`. Where asks are answered at the commit, a procedure that asks
-    /// is at its end. `NoMemory` where a growth was refused; then nothing has changed. A step that ends the transaction takes no
-    /// memory.
+    /// Replies:
+    ///
+    /// - `Unknown` if it was never started;
+    /// - `Over` if it has ended;
+    /// - `Ended` if its procedure is at its end; nothing is done;
+    /// - `Aborted` if its procedure raises a code, or if the access would close a cycle, and only then;
+    /// - else `Looked` with the last value that is not undone, or `Wrote`.
+    ///
+    /// If codes are reported at commit, a procedure that raises one is at its end. `NoMemory` if an allocation failed; then
+    /// nothing has changed. A step that ends the transaction allocates nothing.
     ///
     /// Only tests call this. It is part of the specification; the engine calls [`Sched::answer`].
     pub fn step(&mut self, t: Tid) -> Result<Reply, NoMemory>
@@ -45,7 +50,7 @@ impl<R: Records, A: Accesses, G: Graph> Sched<R, A, G> {
         Ok(brief.reply(&out))
     }
 
-    // The same, in short.
+    // The same, with the reply in short.
     pub(super) fn answer_step(&mut self, t: Tid, out: &mut Reply) -> Result<Brief, NoMemory>
         ensures done { Tries (InBrief (StepEffect (asks_of self.old) t) out.new) self.old result self.new }
         ensures out { OnErr result (out.new ≡ out.old) }
@@ -63,8 +68,8 @@ impl<R: Records, A: Accesses, G: Graph> Sched<R, A, G> {
         }
     }
 
-    // Makes an access of a live transaction, which has this index, or aborts it where the access would close a cycle. Most have no
-    // rival.
+    // Makes an access of a live transaction, which has this index. If the access would close a cycle, it aborts the
+    // transaction. Most accesses have no rival.
     #[inline(always)]
     fn access(
         &mut self,
@@ -87,7 +92,7 @@ impl<R: Records, A: Accesses, G: Graph> Sched<R, A, G> {
         self.make_access(t, index, key, operation, &Tids::new(), Link::default())
     }
 
-    // The same, where others have conflicting accesses. Each kind of access has its own copy of it.
+    // The same, if others have conflicting accesses. Each kind of access has its own copy of it.
     #[inline(always)]
     fn access_after(
         &mut self,
@@ -136,7 +141,7 @@ impl<R: Records, A: Accesses, G: Graph> Sched<R, A, G> {
         }
     }
 
-    // Makes a look of a live transaction, which has this index, after these writers.
+    // Makes a read of a live transaction, which has this index, after these writers.
     #[inline(always)]
     fn make_look(
         &mut self,
@@ -164,7 +169,7 @@ impl<R: Records, A: Accesses, G: Graph> Sched<R, A, G> {
         Ok(Brief::Looked { key, value })
     }
 
-    // Makes a store of a live transaction, which has this index, after these rivals.
+    // Makes a write of a live transaction, which has this index, after these rivals.
     #[inline(always)]
     fn make_store(
         &mut self,
@@ -192,7 +197,7 @@ impl<R: Records, A: Accesses, G: Graph> Sched<R, A, G> {
         Ok(Brief::Wrote { key, value })
     }
 
-    // What links pairs from these rivals to a live transaction; or aborts it, where they would close a cycle.
+    // Returns what links edges from these rivals to a live transaction. If they would close a cycle, it aborts the transaction.
     #[inline(never)]
     fn plan_or_abort(&mut self, t: Tid, rivals: &Tids, out: &mut Reply) -> Option<Link>
         requires live { (state self.old).nodes t ≡ true }
@@ -208,7 +213,7 @@ impl<R: Records, A: Accesses, G: Graph> Sched<R, A, G> {
         }
     }
 
-    // Aborts a live transaction whose procedure asks this code, or leaves it to its commit.
+    // Aborts a live transaction whose procedure raises this code, or leaves it to its commit.
     #[inline(never)]
     fn step_asked(&mut self, t: Tid, code: u16, out: &mut Reply) -> Brief
         requires live { (state self.old).nodes t ≡ true }

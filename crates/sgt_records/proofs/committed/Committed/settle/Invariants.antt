@@ -4,7 +4,7 @@ use Rattle.sgt_records.specs.Settleds.{settled_in, has_record}
 use Rattle.sgt_records.specs.Pendings.{settled_with}
 use Rattle.sgt_records.proofs.committed.Committed.settle.Given as goal
 
--- t's writes so far are settled
+-- t's writes so far are committed
 abbrev pub invariant-loop-write : goal.invariant-loop-write
 invariant-loop-write l = record {
   settled : (k : Key) → settled_in l.self.records k ≡ settled_with l.t (take l.write-index l.writes) (settled_in l.fn.self.records) k;

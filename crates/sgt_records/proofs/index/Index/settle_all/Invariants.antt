@@ -7,7 +7,7 @@ use Rattle.sgt_records.specs.Slots.{key_chain, committed_of}
 use Rattle.sgt_records.specs.Tables.{record_in}
 use Rattle.sgt_records.proofs.index.Index.settle_all.Given as goal
 
--- t's writes so far are settled
+-- t's writes so far are committed
 abbrev pub invariant-loop-write : goal.invariant-loop-write
 invariant-loop-write l = record {
   chain : (k : Key) → key_chain (record_in l.self.table) l.self.chains k ≡ cond (is_live l.t k (take l.write-index l.writes))

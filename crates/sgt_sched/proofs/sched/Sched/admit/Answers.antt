@@ -12,7 +12,7 @@ use Rattle.sgt_model.specs.Syntax.{ProcedureText}
 use Rattle.sgt_sched.specs.LiveProgress.{Progress}
 use Rattle.sgt_sched.proofs.sched.Sched.admit.Goals as goal
 
--- what a start is told, by what is looked up
+-- the reply to a start, by what is looked up
 module _ (limits : Limits) (begun living p : ℕ) (args : List ℤ) (programs read : List ProcedureText) (at : ℕ) (same : read ≡ programs)
     (here : at ≡ p) where
   told_unnamed : length read ≤ at → reply.NoProcedure ≡ start_reply (rules_from programs limits) begun living p args
