@@ -108,7 +108,7 @@ def asked(server, wanted):
 def tables(rows):
     """The records of a database, by table."""
     found = [{} for _ in range(8)]
-    for table, _, number, value in ROW.iter_unpack(rows):
+    for table, number, value in ROW.iter_unpack(rows):
         found[table][number] = value
     return found
 

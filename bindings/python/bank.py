@@ -1,6 +1,6 @@
 """A bank's story: a deposit, and a balance that reads what it stored before it is committed."""
 
-from sgt import Asked, Begun, Engine, Kind, OpeningRefused, ProcedureRefused, Reply, Row, StillLive, Taken
+from sgt import Asked, BadCall, Begun, Engine, Kind, OpeningRefused, ProcedureRefused, Reply, Row, StillLive, Taken
 
 
 def show(reply: Reply) -> None:
@@ -87,6 +87,15 @@ with Engine(limits=(8, 100), rows=rows) as again:
     assert (again.records(), again.part()) == (4, 1)
     with Engine.bare(8, 100) as bare:
         assert (bare.records(), bare.procedure([0, [["put", 7, 1, 2]]]), bare.run(0)[0]) == (0, 0, 0)
+        with Engine.bare(8, 100) as copy:
+            copy.put_bytes(again.rows_bytes())
+            assert copy.rows() == again.rows() and copy.rows_bytes() == again.rows_bytes()
+            for wrong, error in ((b"x", BadCall), (b"\xff" * 24, BadCall), (again.rows_bytes()[:24], Taken)):
+                try:
+                    copy.put_bytes(wrong)
+                    raise SystemExit(f"rows were put: {wrong!r}")
+                except error:
+                    pass
         ran = bare.run_many([(0,), (9,)])
         assert [(tid, reply.kind) for tid, reply in ran] == [(1, Kind.COMMITTED), (None, Kind.NO_PROCEDURE)], ran
     try:

@@ -7,10 +7,10 @@ import sys
 from typing import NamedTuple, Optional, Sequence
 
 sys.path.insert(0, str(pathlib.Path(__file__).resolve().parents[2] / "bindings" / "python"))
-from sgt import Engine, Kind, Reply, Row  # noqa: E402
+from sgt import Engine, Kind, Reply  # noqa: E402
 
 ENTRIES = 1_000_000  # the history is cut after so many entries, or as many as there are records
-ROW = struct.Struct("<IIqq")  # of a snapshot: table, nothing, number, value
+ROW = struct.Struct("<I4xqq")  # table, number and value of a row
 
 
 class Damaged(Exception):
@@ -47,7 +47,7 @@ class Bank:
         """`texts` are the procedures by name, and `rows` the database as `rows()` returns it."""
         self.seq, self.texts = seq, texts
         self._engine = Engine.bare(1, 4_000_000_000)
-        self._engine.put([Row(table, number, value) for table, _, number, value in ROW.iter_unpack(rows)])
+        self._engine.put_bytes(rows)
         self._numbers = {name: self._engine.procedure(text) for name, text in texts.items()}
         self._records = len(rows) // ROW.size
 
@@ -63,10 +63,10 @@ class Bank:
         self.seq = seq
 
     def rows(self) -> bytes:
-        """The committed database."""
-        rows = self._engine.rows()
-        self._records = len(rows)
-        return b"".join(ROW.pack(row.table, 0, row.number, row.value) for row in rows)
+        """The committed database: 24 bytes a row."""
+        rows = self._engine.rows_bytes()
+        self._records = len(rows) // ROW.size
+        return rows
 
     def cut_if_long(self) -> bool:
         """Frees the history when it is time: it costs memory, and a cut costs a pass over the records. The database stays."""
@@ -78,4 +78,4 @@ class Bank:
 
 def first_rows(accounts: int, cents: int) -> bytes:
     """The database of a new journal: accounts from 0 on, each with so many cents. Account 0 gets the fees."""
-    return b"".join(ROW.pack(1, 0, account, cents) for account in range(accounts))
+    return b"".join(ROW.pack(1, account, cents) for account in range(accounts))

@@ -27,10 +27,13 @@ from ._library import (
     Row,
     Uncopied,
     all_rows,
+    bytes_of,
     check,
     opening_of,
     pack_args,
     rows_for,
+    rows_in,
+    rows_of,
     whole,
     written,
 )
@@ -108,6 +111,15 @@ class Engine(Uncopied):
         """
         at = ctypes.c_uint64()
         status = HELD.sgt_put(self._engine, rows_for(rows), len(rows), at)
+        if status == TAKEN:
+            raise Taken(at.value)
+        check(status)
+
+    def put_bytes(self, rows: Union[bytes, bytearray, memoryview]) -> None:
+        """Puts the rows in these bytes, as `rows_bytes` returns them. The errors are those of `put`."""
+        at = ctypes.c_uint64()
+        told, count = rows_in(rows)
+        status = HELD.sgt_put(self._engine, told, count, at)
         if status == TAKEN:
             raise Taken(at.value)
         check(status)
@@ -203,7 +215,12 @@ class Engine(Uncopied):
     def rows(self, table: int = 0, number: int = LEAST) -> list[Row]:
         """The committed database from a record on, by table and then by number."""
         table, number = whole(table, 0, 7), whole(number, LEAST, MOST)
-        return all_rows(lambda told, space, count: HELD.sgt_rows(self._engine, table, number, told, space, count))
+        return rows_of(*all_rows(lambda told, space, count: HELD.sgt_rows(self._engine, table, number, told, space, count)))
+
+    def rows_bytes(self) -> bytes:
+        """The committed database as bytes, for `put_bytes`: 24 a row, as `sgt_row` of sgt.h has them. Some ten times as fast as `rows`."""
+        told, count = all_rows(lambda told, space, count: HELD.sgt_rows(self._engine, 0, LEAST, told, space, count))
+        return bytes(bytes_of(told, count))
 
     def records(self) -> int:
         """How many records the committed database has."""

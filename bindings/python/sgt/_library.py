@@ -274,17 +274,33 @@ _unpacked_rows = struct.Struct("=I4xqq").iter_unpack
 
 def rows_of(told: ctypes.Array[CRow], count: int) -> list[Row]:
     """The first so many rows that a call wrote."""
-    return list(map(Row._make, _unpacked_rows(memoryview(told).cast("B")[: count * ctypes.sizeof(CRow)])))
+    return list(map(Row._make, _unpacked_rows(bytes_of(told, count))))
 
 
-def all_rows(ask: Callable[[ctypes.Array[CRow], int, ctypes.c_uint64], int]) -> list[Row]:
-    """The rows that a call tells. Others may go on between two calls, so it asks until the room suffices."""
+def bytes_of(told: ctypes.Array[CRow], count: int) -> memoryview:
+    """The bytes of the first so many rows that a call wrote."""
+    return memoryview(told).cast("B")[: count * ctypes.sizeof(CRow)]
+
+
+def rows_in(data: Union[bytes, bytearray, memoryview]) -> tuple[ctypes.Array[CRow], int]:
+    """The rows in these bytes, for a call, and how many they are. BadCall if the last one is cut off."""
+    data = memoryview(data).cast("B")
+    count, rest = divmod(len(data), ctypes.sizeof(CRow))
+    if rest:
+        raise BadCall(f"a row takes {ctypes.sizeof(CRow)} bytes")
+    rows = (CRow * max(1, count))()
+    memoryview(rows).cast("B")[: len(data)] = data
+    return rows, count
+
+
+def all_rows(ask: Callable[[ctypes.Array[CRow], int, ctypes.c_uint64], int]) -> tuple[ctypes.Array[CRow], int]:
+    """The rows that a call writes, and how many they are. Others may go on between two calls, so it asks until the room suffices."""
     count, room = ctypes.c_uint64(), 0
     while True:
         told = (CRow * max(1, room))()
         check(ask(told, room, count))
         if count.value <= room:
-            return rows_of(told, count.value)
+            return told, count.value
         room = count.value
 
 

@@ -33,6 +33,7 @@ from ._library import (
     opening_of,
     pack_args,
     rows_for,
+    rows_of,
     whole,
     written,
 )
@@ -205,7 +206,7 @@ class SharedEngine(Uncopied):
     def rows(self, table: int = 0, number: int = LEAST) -> list[Row]:
         """The committed database from a record on, by table and then by number."""
         table, number = whole(table, 0, 7), whole(number, LEAST, MOST)
-        return all_rows(lambda told, space, count: self._ask(FREE.sgt_shared_rows, table, number, told, space, count))
+        return rows_of(*all_rows(lambda told, space, count: self._ask(FREE.sgt_shared_rows, table, number, told, space, count)))
 
     def entries(self) -> int:
         """How many entries the history has since the last cut."""
