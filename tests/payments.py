@@ -38,7 +38,7 @@ from replicated import RedisJournal  # noqa: E402
 SECONDS = 60
 PROCEDURES = {name: it.text for name, it in load_procedures(PAYMENTS / "procedures").items()}
 FEE_OF = 100  # an amount has a fee of one of so many cents
-CLIENTS, ACCOUNTS, CENTS = 32, 20, 5_000
+CLIENTS, ACCOUNTS, CENTS = 32, 200, 5_000
 LIMIT = 1_000_000
 
 
@@ -172,9 +172,11 @@ class Load:
         if self.unanswered and self.draw.random() < 0.5:
             return self.unanswered.pop()
         self.ids += 1
-        payer = self.draw.randrange(1, ACCOUNTS)
+        payer = self.draw.randrange(ACCOUNTS)
         payee = (payer + self.draw.randrange(1, ACCOUNTS)) % ACCOUNTS
-        self.asked[self.ids] = pay(self.ids, payer, payee, self.draw.randrange(1, 2_000))
+        # Small, so that the money and the limit of the day last; one in twenty may be refused.
+        amount = self.draw.randrange(1, 200) if self.draw.randrange(20) else self.draw.randrange(1, 2 * CENTS)
+        self.asked[self.ids] = pay(self.ids, payer, payee, amount)
         return self.asked[self.ids]
 
     def run(self, server, seconds):
@@ -249,7 +251,10 @@ def lose_power(folder, safe, draw):
     data = bytearray(calls.read_bytes())
     start = safe.get(calls.name, 0)
     if len(data) <= start:
-        return False
+        # All was on disk. The beginning of a next batch may be there, too.
+        data += draw.randbytes(draw.randrange(80))
+        calls.write_bytes(data)
+        return len(data) > start
     what = draw.randrange(3)
     if what == 0:
         del data[draw.randrange(start, len(data)) :]
