@@ -278,6 +278,9 @@ def have_the_lists_that_a_script_makes(_sgt):
     if proof_lists.made(page) != page:
         raise Differs("docs/PROOFS.md is not as tools/proof_lists.py makes it")
     mutants = [proof_lists.mutants_of(crate) for crate in crates()]
+    named = re.findall(r"\(`([a-z0-9-]+-[a-z0-9-]+)`\)|(?<!\()`([a-z0-9]+-[a-z0-9-]+)`", page)
+    there = [name for crate in crates() for name in proof_lists.marked_mutants_of(crate)]
+    same("the mutants of the page", sorted(there), sorted(f"(`{other}`)" if other else f"`{name}`" for other, name in named))
     tried = sum(len(first) for first, _ in mutants)
     if f"the {tried} of now" not in text_of("CONTRIBUTING.md"):
         raise Differs(f"CONTRIBUTING.md does not say that the test command tries {tried} mutants")
@@ -321,7 +324,7 @@ def name_clauses_that_exist(_sgt):
     found, count = [], 0
     for number, line in parts_of("docs/PROOFS.md")[0]:
         cells = line.split(" | ")
-        if not line.startswith("| ") or len(cells) != 2:
+        if not line.startswith("| ") or len(cells) < 2:
             continue
         for group in cells[1].rstrip(" |").split(";"):
             before, colon, after = re.sub(r"\([^)]*\)", "", group).partition("`: ")

@@ -1,9 +1,9 @@
 #!/usr/bin/env python3
-"""Makes the lists of docs/PROOFS.md from the sources: the laws of each crate, and its mutants.
+"""Makes the lists of docs/PROOFS.md from the sources: the laws of each crate, and the mutants that its table does not name.
 
 Run it anywhere in the repository: tools/proof_lists.py. Between each line `<!-- lists CRATE.. -->` and the next empty line it
-writes the laws and the mutants of these crates. It prints how many it wrote. A law is a public function without parameters
-and with an empty body. A mutant in brackets is one of tools/edits, which the test command does not try.
+writes these lists. It prints how many laws and mutants there are. A law is a public function without parameters and with an
+empty body. A mutant in brackets is one of tools/edits, which the test command does not try.
 """
 import re
 import sys
@@ -32,6 +32,12 @@ def mutants_of(crate):
     return tried, others
 
 
+def marked_mutants_of(crate):
+    """The names as the page has them: those that the test command does not try in brackets."""
+    tried, others = mutants_of(crate)
+    return [f"`{name}`" for name in tried] + [f"(`{name}`)" for name in others]
+
+
 def item(title, crates, named):
     """The wrapped lines of a list item with the names of each crate; none if there are no names."""
     parts = []
@@ -46,25 +52,28 @@ def item(title, crates, named):
     return textwrap.wrap(text, WIDTH, subsequent_indent="  ", break_on_hyphens=False)
 
 
-def lists_of(crates):
-    """The lines of these crates' lists."""
+def lists_of(crates, table):
+    """The lines of these crates' lists, after the lines of their table."""
+    named = set(re.findall(r"\(?`[^`]+`\)?", "\n".join(table)))
+
     def laws(crate):
         return [f"`{name}`" for name in laws_of(crate)]
 
-    def mutants(crate):
-        tried, others = mutants_of(crate)
-        return [f"`{name}`" for name in tried] + [f"(`{name}`)" for name in others]
+    def others(crate):
+        return [name for name in marked_mutants_of(crate) if name not in named]
 
-    return item("Laws", crates, laws) + item("Mutants", crates, mutants)
+    return item("Laws", crates, laws) + item("Other mutants", crates, others)
 
 
 def made(text):
     """The page with its lists made anew: what stands between a mark and the next empty line."""
-    lines, inside = [], False
+    lines, inside, heading = [], False, 0
     for line in text.split("\n"):
         found = MARK.match(line)
+        if line.startswith("#"):
+            heading = len(lines)
         if found:
-            lines += [line, *lists_of(found.group(1).split())]
+            lines += [line, *lists_of(found.group(1).split(), lines[heading:])]
             inside = True
         elif not line:
             inside = False
