@@ -485,18 +485,36 @@ def have_a_grammar_of_the_examples(_sgt):
     inputs = [*EXAMPLES.glob("*.jsonl"), *EXAMPLES.glob("bank*/*.jsonl"), *(INPUTS / "scripts").glob("*.jsonl"), *(INPUTS / "banks").glob("**/*.jsonl")]
     for path in inputs:
         for number, line in enumerate(path.read_text().splitlines(), 1):
-            try:
-                compact = json.dumps(json.loads(line), separators=(",", ":"))
-            except ValueError:
-                continue
-            names = ("record", "event", "cut", "job")
-            if number > 1 and not any(compiled[name].fullmatch(compact) for name in names):
+            tree = json.loads(line)
+            if number == 1:
+                tree = {key: tree[key] for key in ("limits", "accounts", "procedures")}
+            compact = json.dumps(tree, separators=(",", ":"))
+            names = ("line1",) if number == 1 else ("record", "event", "cut", "job")
+            if not any(compiled[name].fullmatch(compact) for name in names):
                 found.append(f"{path.name}:{number}")
             count += 1
         bank = path.parent.name.startswith("bank")
         for number, line in enumerate(path.with_suffix(".out").read_text().splitlines(), 1):
             if not any(compiled[name].fullmatch(line) for name in (("outcome", "row") if bank else ("reply", "row"))):
                 found.append(f"{path.stem}.out:{number} {line}")
+            count += 1
+    fail_if(found)
+    return f"{count} lines"
+
+
+def have_a_grammar_that_refuses_bad_lines(_sgt):
+    """No line of the inputs that is a bad line, or a procedure with an error of shape, is one of the grammar's."""
+    compiled = {name: re.compile(grammar().pattern(name)) for name in ("line1", "record", "event", "cut", "job")}
+    found, count = [], 0
+    for path in [*(INPUTS / "script_faults").glob("*.err"), *(INPUTS / "bank_faults").glob("**/*.err")]:
+        fault = re.match(r"line (\d+): (bad line|procedure \d+ shape)", path.read_text())
+        line = fault and path.with_suffix(".jsonl").read_text().splitlines()[int(fault.group(1)) - 1]
+        if fault and '"record"' not in line and "\\u" not in line:
+            names = ("line1",) if fault.group(1) == "1" else ("job",) if "bank" in path.parts[-2] else ("event", "cut")
+            compact = json.dumps(json.loads(line), separators=(",", ":"))
+            numbers = [abs(int(number)) for number in re.findall(r"\d+", compact)]
+            if any(compiled[name].fullmatch(compact) for name in names) and max(numbers, default=0) < 256:
+                found.append(f"{path.name} {line}")
             count += 1
     fail_if(found)
     return f"{count} lines"
@@ -590,6 +608,7 @@ def main(path):
         run_as_they_say,
         name_commands_that_exist,
         have_a_grammar_of_the_examples,
+        have_a_grammar_that_refuses_bad_lines,
         have_a_grammar_that_the_program_accepts,
         have_the_five_procedures,
         have_the_positions_that_the_program_gives,
