@@ -273,6 +273,20 @@ def name_each_crate(_sgt):
     fail_if([f"no lists of {crate} in PROOFS.md" for crate in missing if crate != "sgt_assembly"])
 
 
+def draw_the_crates_in_order(_sgt):
+    """In the picture of the crates each uses only those of lower lines, and of its own line to its right."""
+    drawn = re.findall(r"\bsgt\w*", "\n".join(blocks_of("docs/ARCHITECTURE.md", "")[0]))
+    for line in (TOP / "crates.txt").read_text(encoding="utf-8").split("\n"):
+        crate, colon, uses = line.partition(":")
+        crate = crate.removesuffix(" staticlib")
+        if not colon or line.startswith("#") or "test" in crate or "runs" in crate:
+            continue
+        for used in uses.split():
+            if used.startswith("sgt") and drawn.index(used) < drawn.index(crate):
+                raise Differs(f"{crate} uses {used}, which stands above it")
+    return f"{len(drawn)} crates"
+
+
 def have_the_lists_that_a_script_makes(_sgt):
     page = text_of("docs/PROOFS.md")
     if proof_lists.made(page) != page:
@@ -600,6 +614,7 @@ def main(path):
         name_files_that_exist,
         name_code_that_exists,
         name_each_crate,
+        draw_the_crates_in_order,
         have_the_lists_that_a_script_makes,
         name_the_files_to_trust,
         name_clauses_that_exist,
