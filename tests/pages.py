@@ -375,6 +375,49 @@ def name_each_test_and_tool(_sgt):
             raise Differs(f"examples/README.md does not name {path.name}")
 
 
+# Limits: a constant of a source, a page, and what the page says of it.
+LIMITS = [
+    ("sgt_model/src/key.rt", "MOST", "docs/FORMATS.md", "to {}."),
+    ("sgt_model/src/key.rt", "LAST_TABLE", "docs/LANGUAGE.md", "a table is over {}"),
+    ("sgt_model/src/limits.rt", "MOST_LIVE", "README.md", "| 1 to {};"),
+    ("sgt_model/src/limits.rt", "MOST_LIVE", "docs/FORMATS.md", "from 1 to {};"),
+    ("sgt_model/src/limits.rt", "MOST_BEGINS", "README.md", "at most {} started"),
+    ("sgt_model/src/limits.rt", "MOST_BEGINS", "docs/FORMATS.md", "from 1 to {}"),
+    ("sgt_proc/src/sizes.rt", "MOST_STATEMENTS", "README.md", "{} statements"),
+    ("sgt_proc/src/sizes.rt", "MOST_STATEMENTS", "docs/LANGUAGE.md", "over {} statements"),
+    ("sgt_proc/src/flaw.rt", "MOST_ARGUMENTS", "docs/LANGUAGE.md", "more than {} arguments"),
+    ("sgt_proc/src/answers.rt", "MOST_ANSWERS", "docs/LANGUAGE.md", "more than {} `Answer`"),
+    ("sgt_proc/src/depths.rt", "DEEPEST", "docs/LANGUAGE.md", "over {} deep"),
+    ("sgt_proc/src/numbers.rt", "LAST_REGISTER", "docs/LANGUAGE.md", "a register is over {}"),
+    ("sgt_proc/src/numbers.rt", "LAST_CODE", "docs/LANGUAGE.md", "0 or over {}"),
+    ("sgt_input/src/lines.rt", "LONGEST_LINE", "docs/FORMATS.md", "newline | {} bytes"),
+    ("sgt_input/src/lines.rt", "LONGEST_INPUT", "README.md", "| {} bytes"),
+    ("sgt_input/src/lines.rt", "LONGEST_INPUT", "docs/FORMATS.md", "bank | {} bytes"),
+    ("sgt_check/src/input.rt", "LONGEST_INPUT", "docs/FORMATS.md", "at most {} bytes"),
+    ("sgt_dispatch/src/feed.rt", "MOST_JOBS", "docs/FORMATS.md", "jobs of a bank | {}"),
+    ("sgt_workers/src/bank.rt", "MOST_WORKERS", "docs/FORMATS.md", "W is from 1 to {}"),
+    ("sgt_workers/src/bank.rt", "MOST_TRIES", "docs/FORMATS.md", "from 1 to {} (default 100)"),
+    ("sgt_notation/src/spelled.rt", "LONGEST_ITEM", "docs/FORMATS.md", "1 to {} bytes"),
+    ("sgt_line_errors/src/json_text.rt", "DEEPEST", "docs/FORMATS.md", "one another | {};"),
+    ("sgt_line_errors/src/excerpt.rt", "LONGEST", "docs/FORMATS.md", "at most {} characters"),
+    ("sgt_timeline/src/drawn.rt", "MOST", "docs/FORMATS.md", "more than {} operations"),
+    ("sgt_timeline/src/drawn.rt", "MOST_PAIRS", "docs/FORMATS.md", "first {} edges"),
+    ("sgt_smallbank/src/tables.rt", "PENALTY", "docs/FORMATS.md", "WriteCheck takes {} more"),
+]
+
+
+def have_the_limits_of_the_sources(_sgt):
+    found = []
+    for source, name, page, words in LIMITS:
+        text = (CRATES / source).read_text(encoding="utf-8")
+        number = int(re.search(rf"\bconst {name}: \w+ = ([\d_]+);", text).group(1).replace("_", ""))
+        says = words.format(f"{number:,}")
+        if says not in " ".join(text_of(page).split()) and words.format(number) not in " ".join(text_of(page).split()):
+            found.append(f"{page} does not say {says!r}")
+    fail_if(found)
+    return f"{len(LIMITS)} limits"
+
+
 # Commands
 
 
@@ -620,6 +663,7 @@ def main(path):
         name_clauses_that_exist,
         have_the_headline_word_for_word,
         name_each_test_and_tool,
+        have_the_limits_of_the_sources,
         run_as_they_say,
         name_commands_that_exist,
         have_a_grammar_of_the_examples,
