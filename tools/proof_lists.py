@@ -2,8 +2,8 @@
 """Makes the lists of docs/PROOFS.md from the sources: the laws of each crate, and the mutants that its table does not name.
 
 Run it anywhere in the repository: tools/proof_lists.py. Between each line `<!-- lists CRATE.. -->` and the next empty line it
-writes these lists. It prints how many laws and mutants there are. A law is a public function without parameters and with an
-empty body. A mutant in brackets is one of tools/edits, which the test command does not try.
+writes these lists. It prints how many laws and mutants there are. A law is a public function without parameters and
+result, whose contract is the law. A mutant in brackets is one of tools/edits, which the test command does not try.
 """
 import re
 import sys
@@ -14,8 +14,8 @@ ROOT = Path(__file__).resolve().parent.parent
 PAGE = ROOT / "docs" / "PROOFS.md"
 WIDTH = 118
 
-# A law: a public function without parameters and result, with clauses, and with an empty body.
-LAW = re.compile(r"^pub fn (\w+)(?:<[^>]*>)?\(\)\n(?:    [^\n]*\n)+\{\}", re.MULTILINE)
+# A law: a public function without parameters and result, with clauses. Its body is empty or calls other laws.
+LAW = re.compile(r"^pub fn (\w+)(?:<[^>]*>)?\(\)\n(?:    [^\n]*\n)+\{", re.MULTILINE)
 MARK = re.compile(r"^<!-- lists (.+) -->$")
 
 
