@@ -12,7 +12,7 @@ from pathlib import Path
 
 ROOT = Path(__file__).resolve().parent.parent
 PAGE = ROOT / "docs" / "PROOFS.md"
-WIDTH = 118
+WIDTH = 120
 
 # A law: a public function without parameters and result, with clauses. Its body is empty or calls other laws.
 LAW = re.compile(r"^pub fn (\w+)(?:<[^>]*>)?\(\)\n(?:    [^\n]*\n)+\{", re.MULTILINE)
