@@ -78,7 +78,6 @@ WORDS = {
 # Where such a word is meant as it stands: the page, what it says, and the reason.
 EXCEPTIONS = [
     ("", "it was told", "the headline's own words"),
-    ("docs/HEADLINE.md", "read from an aborted one", "the headline's own words"),
     ("docs/DEFINITIONS.md", "falls", "the name of the definition; the book's term stands beside it"),
     ("docs/DEFINITIONS.md", "fall", "the name of the definition; the book's term stands beside it"),
     ("docs/DEFINITIONS.md", "settled", "the name of the definition; the book's term stands beside it"),
@@ -87,15 +86,10 @@ EXCEPTIONS = [
     ("docs/HEADLINE.md", "closing walk", "the name of the definition"),
     ("docs/HEADLINE.md", "event is a quit", "the name of the event"),
     ("docs/PROOFS.md", "fall", "the name of the definition `Falls`"),
-    ("docs/PROOFS.md", "settled", "the name of the definition"),
     ("docs/PROOFS.md", "quit", "the name of the event"),
     ("docs/LIBRARY.md", "quit", "the name of the call"),
-    ("docs/FIGURES.md", "falls", "falls to a row of a table"),
-    ("docs/DECISIONS.md", "Fixed words", "the words themselves"),
-    ("docs/PROOFS.md", "for want of memory", "the promise's own words"),
     ("docs/DECISIONS.md", "for want of memory", "the promise's own words"),
     ("tools/README.md", "falls to", "what is measured falls to a row of a table"),
-    ("examples/README.md", "falls", "the name of the reply"),
 ]
 
 
