@@ -106,7 +106,7 @@ earlier_cases t p i j (inr same) = elim (cases_eq p j) [
   | inr differ ↦ inl (inr (same.0, omega (arith, same.1, differ)))
 ]
 
-same_append : (os : List Operation) (p k v l w : ℕ) → slice_get os p ≡ Some (Append k v) → slice_get os p ≡ Some (Append l w)
+pub same_append : (os : List Operation) (p k v l w : ℕ) → slice_get os p ≡ Some (Append k v) → slice_get os p ≡ Some (Append l w)
     → (k ≡ l) × (v ≡ w)
 same_append os p k v l w one other = (key (sym one ∙ other), val (sym one ∙ other))
   where
