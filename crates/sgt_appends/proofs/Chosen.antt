@@ -1,7 +1,7 @@
 -- The transactions of the order, and the premise on those with an unknown end.
 use Rattle.std.proofs.Common.{◌≡◌, ◌⊎◌, ◌<◌, ◌≤◌, ◌+◌, ◌++◌, ℕ, List, [], ◌∷◌, length, take, get_or, refl, sym, subst, inl, inr, arith}
 use Rattle.std.proofs.lemmas.Bool.{cases_eq}
-use Rattle.std.proofs.lemmas.List.{take_more, take_all}
+use Rattle.std.proofs.lemmas.List.{take_more}
 use Rattle.sgt_appends.specs.declared.transaction.Operation.TheVariants.{Read}
 use Rattle.sgt_appends.specs.declared.transaction.Transaction.{Transaction}
 use Rattle.sgt_appends.specs.Lists.{Has, Rises}
@@ -28,20 +28,12 @@ rises_last rank (x ∷ xs) t rises below =
     first y (inl has) = rises.0 y has
     first y (inr last) = subst (λ z. rank x < rank z) (only t y last) (below x (inl refl))
 
--- no node yet
-pub none_chosen : (h : List Transaction) → AreNotAborted h [] []
-none_chosen h = record {
-  may_run = λ t none. absurd none;
-  among = λ t none. absurd none;
-  all = λ t none. absurd none;
-  rises = λ rank rises. tt;
-}
-
 -- one node more, which takes part
 chosen_one : (h : List Transaction) (nodes order new : List ℕ) (i : ℕ) → i < length nodes → AreNotAborted h (take i nodes) order
     → MayRun h (get_or nodes i 0) → new ≡ order ++ get_or nodes i 0 ∷ [] → AreNotAborted h (take (i + 1) nodes) new
 chosen_one h nodes order new i within are may longer =
-    subst (λ ns. AreNotAborted h ns new) (sym (take_more nodes i 0 within)) (subst (λ ts. AreNotAborted h (take i nodes ++ t ∷ []) ts) (sym longer) all)
+    subst (λ ns. AreNotAborted h ns new) (sym (take_more nodes i 0 within))
+    (subst (λ ts. AreNotAborted h (take i nodes ++ t ∷ []) ts) (sym longer) all)
   where
     t : ℕ
     t = get_or nodes i 0
@@ -86,10 +78,6 @@ pub chosen_next : (h : List Transaction) (nodes order new : List ℕ) (i : ℕ) 
 chosen_next h nodes order new i within are (inl it) = chosen_one h nodes order new i within are it.0 it.1
 chosen_next h nodes order new i within are (inr it) =
     subst (λ ts. AreNotAborted h (take (i + 1) nodes) ts) (sym it.1) (chosen_none h nodes order i within are it.0)
-
-pub chosen_whole : (h : List Transaction) (nodes order : List ℕ) (i : ℕ) → length nodes ≤ i → AreNotAborted h (take i nodes) order
-    → AreNotAborted h nodes order
-chosen_whole h nodes order i whole are = subst (λ ns. AreNotAborted h ns order) (take_all i nodes whole) are
 
 -- the ranks of the sort are an order by rank
 pub by_rank : (h : List Transaction) (ranks nodes order : List ℕ) → AreOrdered ranks nodes → AreNotAborted h nodes order

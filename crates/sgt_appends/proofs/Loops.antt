@@ -44,19 +44,6 @@ next_is i = omega arith
 not_none : (l : Link) → Some l ≢ None
 not_none l e = cc
 
--- the first link begins at a transaction, so nothing waits
-pub edges_none : (h : List Transaction) (links : List Link) → IsLoopBelow (length h) links → AreEdgesSoFar h links 0 [] None
-edges_none h links loop = record {
-  start = loop.node;
-  below = loop.below;
-  at = loop.node;
-  leads = refl;
-  rest = loop.leads;
-  shown = tt;
-  waits = loop.below;
-  some = inl refl;
-}
-
 -- the link waits
 waits_one : (h : List Transaction) (links : List Link) (i : ℕ) (edges : List Edge) (before : Option Link) (l : Link)
     → slice_get links i ≡ Some l → MakeEdges h links → AreEdgesSoFar h links i edges before → length h ≤ l.to
@@ -200,7 +187,8 @@ shown_precedes h from to (InOrder first second reader read) differ (k, v, w, see
 
 pub all_precede : (h : List Transaction) (es : List Edge) → AreShown h es → AllPrecede h es
 all_precede h [] shown i e at = absurd (grind (arith, common_steps, at))
-all_precede h (d ∷ es) shown zero e at = subst (λ (f : Edge). Precedes h f.from f.to) (by at) (shown_precedes h d.from d.to d.reason shown.0.0 shown.0.1)
+all_precede h (d ∷ es) shown zero e at =
+    subst (λ (f : Edge). Precedes h f.from f.to) (by at) (shown_precedes h d.from d.to d.reason shown.0.0 shown.0.1)
   where
     by : Some d ≡ Some e → d ≡ e
     by same = cc
@@ -256,7 +244,8 @@ make_fewer h links few make among = record {
 
 -- the same cycle from its second link on, if the first begins at the end of a line
 pub turned_below : (h : List Transaction) (links : List Link) (d : Link) → IsLoop links → MakeEdges h links
-    → length h ≤ (get_or links 0 d).from → IsLoopBelow (length h) (drop 1 links ++ take 1 links) × MakeEdges h (drop 1 links ++ take 1 links)
+    → length h ≤ (get_or links 0 d).from
+    → IsLoopBelow (length h) (drop 1 links ++ take 1 links) × MakeEdges h (drop 1 links ++ take 1 links)
 turned_below h [] d loop make beyond = absurd (loop.some refl)
 turned_below h (x ∷ rest) d loop make beyond =
     let turned = turned_loop h x rest loop make (λ less. omega (arith, less, beyond)) in

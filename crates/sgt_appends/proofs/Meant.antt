@@ -137,7 +137,8 @@ turn_shown h lines keys l m no_more a b meet = (
 
     unknown : ¬ IsKnown h l.from a.key a.seen b.value
     unknown known = b.not_there (subst (λ k. Has (values_in lines k) b.value) (sym keys_same)
-        (no_more l.from a.key (own_at h l.from a.read a.key) a.seen a.reads.0 (reads_at h l.from a.read a.key a.seen a.reads.1) a.known b.value known))
+        (no_more l.from a.key (own_at h l.from a.read a.key) a.seen a.reads.0 (reads_at h l.from a.read a.key a.seen a.reads.1) a.known
+        b.value known))
 
 -- links with a meaning make edges
 pub make_edges : (h : List Transaction) (lines : KeyLines) (keys : List ℕ) (links : List Link) → KnowsNoMore h lines
@@ -153,7 +154,8 @@ make_edges h lines keys links no_more meant = record {
     direct l (inr (inl it)) from to = absurd (omega (arith, it.target, to))
     direct l (inr (inr it)) from to = absurd (omega (arith, it.source, from))
 
-    turn : (l m : Link) → IsMeant h lines keys l → IsMeant h lines keys m → l.to ≡ m.from → length h ≤ l.to → EdgeIsShown h (edge_after (Some l) m)
+    turn : (l m : Link) → IsMeant h lines keys l → IsMeant h lines keys m → l.to ≡ m.from → length h ≤ l.to
+        → EdgeIsShown h (edge_after (Some l) m)
     turn l m (inl it) other meet beyond = absurd (omega (arith, it.target, beyond))
     turn l m (inr (inr it)) other meet beyond = absurd (omega (arith, it.target, beyond))
     turn l m (inr (inl it)) (inl other) meet beyond = absurd (omega (arith, other.source, beyond, meet))
@@ -168,19 +170,20 @@ make_edges h lines keys links no_more meant = record {
 -- a link from the end of a line to the appender of a value that is not in it
 pub unseen_meant : (h : List Transaction) (lines : KeyLines) (keys : List ℕ) (t p end : ℕ) (l : Link) → AreNumbered lines keys
     → IsEndBefore h lines t p end → l ≡ record { from = end; to = t; reason = Missed 0 p } → LeadsFromEnd h lines keys l
-unseen_meant h lines keys t p end l numbered (k, v, line, at, there, not, is) same = subst (λ m. LeadsFromEnd h lines keys m) (sym same) (record {
-  target = append_within h t p k v at;
-  number = line.number;
-  key = k;
-  value = v;
-  read = 0;
-  append = p;
-  source = is;
-  numbered = numbered k line there;
-  reason_is = refl;
-  appends = at;
-  not_there = λ has. not (subst (λ o. Has (values_or_none o) v) there has);
-})
+unseen_meant h lines keys t p end l numbered (k, v, line, at, there, not, is) same =
+    subst (λ m. LeadsFromEnd h lines keys m) (sym same) (record {
+      target = append_within h t p k v at;
+      number = line.number;
+      key = k;
+      value = v;
+      read = 0;
+      append = p;
+      source = is;
+      numbered = numbered k line there;
+      reason_is = refl;
+      appends = at;
+      not_there = λ has. not (subst (λ o. Has (values_or_none o) v) there has);
+    })
 
 same_line : (o : Option Line) (a b : Line) → o ≡ Some a → o ≡ Some b → a ≡ b
 same_line o a b one other = by (sym one ∙ other)

@@ -10,8 +10,8 @@ use Rattle.sgt_appends.proofs.Sortings.{among_append, among_left, among_right}
 pub none_more : (links : List Link) (are : Link → Type 0) → AreMore links links are
 none_more links are = record { stay = λ l is. is; only = λ l is. inl is }
 
-pub more_on : (a b c : List Link) (P Q R : Link → Type 0) → AreMore a b P → AreMore b c Q → ((l : Link) → P l → R l) → ((l : Link) → Q l → R l)
-    → AreMore a c R
+pub more_on : (a b c : List Link) (P Q R : Link → Type 0) → AreMore a b P → AreMore b c Q → ((l : Link) → P l → R l)
+    → ((l : Link) → Q l → R l) → AreMore a c R
 more_on a b c P Q R one other p q = record {
   stay = λ l is. other.stay l (one.stay l is);
   only = λ l is. elim (other.only l is) [
@@ -51,14 +51,6 @@ same_append o x y one other = by (sym one ∙ other)
 next_is : (i : ℕ) → i + 1 ≡ suc i
 next_is i = omega arith
 
--- no value yet
-pub none_linked : (at : Positions) (links : List Link) (r p k : ℕ) (seen : List ℕ) → AreLinkedSoFar at links links r p k seen 0 None
-none_linked at links r p k seen = record {
-  before_is = refl;
-  more = none_more links (IsNextLink at r p k seen);
-  linked = λ i x y less one other. absurd (omega (arith, less));
-}
-
 -- one value more
 pub next_one : (at : Positions) (old links new : List Link) (r p k : ℕ) (seen : List ℕ) (i : ℕ) (before : Option (ℕ × ℕ)) (y : ℕ × ℕ)
     → i < length seen → AreLinkedSoFar at old links r p k seen i before → at k (get_or seen i 0) ≡ Some y
@@ -74,7 +66,8 @@ next_one at old links new r p k seen i (Some x) y within so_far is paired = reco
       (λ l it. it) (λ l same. (j, x, y, omega (arith, within, so_far.before_is.1), so_far.before_is.2, here, same));
   linked = λ m u w less one other. elim (cases_eq m j) [
     | inl same ↦
-        let first : u ≡ x = same_append (at k (get_or seen m 0)) u x one (subst (λ n. at k (get_or seen n 0) ≡ Some x) (sym same) so_far.before_is.2) in
+        let first : u ≡ x = same_append (at k (get_or seen m 0)) u x one
+        (subst (λ n. at k (get_or seen n 0) ≡ Some x) (sym same) so_far.before_is.2) in
         let second : w ≡ y = same_append (at k (get_or seen (suc m) 0)) w y other
         (subst (λ n. at k (get_or seen (suc n) 0) ≡ Some y) (sym same) here) in
         subst (λ (z : ℕ × ℕ). IsLinked new z.0 w.0) (sym first) (subst (λ (z : ℕ × ℕ). IsLinked new x.0 z.0) (sym second) paired.1)

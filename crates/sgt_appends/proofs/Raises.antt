@@ -33,7 +33,8 @@ may_within h t (inr it) = ended_within h t it.0 it.1
 -- the appenders of a list, each linked with the next
 next_climbs : (h : List Transaction) (at : Positions) (links : List Link) (rank : ℕ → ℕ) (k : ℕ) (xs : List ℕ) → IsIndex h at
     → RiseAlong links rank
-    → ((i : ℕ) (x y : ℕ × ℕ) → suc i < length xs → at k (get_or xs i 0) ≡ Some x → at k (get_or xs (suc i) 0) ≡ Some y → IsLinked links x.0 y.0)
+    → ((i : ℕ) (x y : ℕ × ℕ) → suc i < length xs → at k (get_or xs i 0) ≡ Some x → at k (get_or xs (suc i) 0) ≡ Some y
+    → IsLinked links x.0 y.0)
     → Climbs h rank k xs
 next_climbs h at links rank k [] index rise linked = tt
 next_climbs h at links rank k (x ∷ []) index rise linked = tt
@@ -110,7 +111,8 @@ version_climbs : (h : List Transaction) (rank : ℕ → ℕ) (r k : ℕ) (seen l
     → ((v : ℕ) → Has later v → Appends h r k v)
     → ((front : List ℕ) (x t : ℕ) → seen ≡ front ++ x ∷ [] → Appends h t k x → t ≢ r → rank t < rank r) → Climbs h rank k (seen ++ later)
 version_climbs h rank r k [] [] once climbs all last = tt
-version_climbs h rank r k [] (x ∷ later) once climbs all last = own_climb h rank r k x later once (all x (inl refl)) (λ v has. all v (inr has))
+version_climbs h rank r k [] (x ∷ later) once climbs all last =
+    own_climb h rank r k x later once (all x (inl refl)) (λ v has. all v (inr has))
 version_climbs h rank r k (x ∷ []) [] once climbs all last = tt
 version_climbs h rank r k (x ∷ []) (y ∷ later) once climbs all last = (
   (λ t u one other differ.

@@ -22,8 +22,8 @@ pub sorted_runs : (h : List Transaction) (at : Positions) (lines : KeyLines) (ke
     → AreAllLinked h at lines keys links → length h ≤ nodes → RiseAlong links (λ v. get_or ranks v 0) → AreOrdered ranks sorted
     → ((v : ℕ) → v < nodes → 0 < get_or ranks v 0) → AreNotAborted h sorted order → IsSerialRun h order
 sorted_runs h at lines keys links nodes ranks sorted order once unknown clean index are linked within rise ordered all chosen =
-    raised_enough h order (λ v. get_or ranks v 0) (λ k. end_rank (λ v. get_or ranks v 0) (length h) (lines k)) (values_in lines) once unknown
-    clean
+    raised_enough h order (λ v. get_or ranks v 0) (λ k. end_rank (λ v. get_or ranks v 0) (length h) (lines k)) (values_in lines) once
+    unknown clean
     (links_raise h at lines keys links order (λ v. get_or ranks v 0) once clean index are linked rise chosen.may_run
     (λ t less. all t (omega (arith, less, within))))
     (by_rank h ranks sorted order ordered chosen (λ t less. all t (omega (arith, less, within))))

@@ -76,7 +76,8 @@ read_linked h at lines i j r p k seen b c d is place reads next last missed one 
 
 pub from_end_meant : (h : List Transaction) (lines : KeyLines) (keys : List ℕ) (old new : List Link)
     → AreMore old new (LeadsFromEnd h lines keys) → AreMore old new (IsMeant h lines keys)
-from_end_meant h lines keys old new more = more_as old new (LeadsFromEnd h lines keys) (IsMeant h lines keys) more (λ l differ is. inr (inr is))
+from_end_meant h lines keys old new more =
+    more_as old new (LeadsFromEnd h lines keys) (IsMeant h lines keys) more (λ l differ is. inr (inr is))
 
 pub both_more : (old mid new : List Link) (are : Link → Type 0) → AreMore old mid are → AreMore mid new are → AreMore old new are
 both_more old mid new are one other = more_on old mid new are are are one other (λ l is. is) (λ l is. is)
@@ -119,8 +120,8 @@ linked_one h at lines keys old new i j are more read append = record {
   ];
 }
 
-earlier_within : (h : List Transaction) (t p i j : ℕ) (o : Operation) → length (operations_of h i) ≤ j → slice_get (operations_of h t) p ≡ Some o
-    → IsEarlier t p (i + 1) 0 → IsEarlier t p i j
+earlier_within : (h : List Transaction) (t p i j : ℕ) (o : Operation) → length (operations_of h i) ≤ j
+    → slice_get (operations_of h t) p ≡ Some o → IsEarlier t p (i + 1) 0 → IsEarlier t p i j
 earlier_within h t p i j o whole is (inl less) = elim (cases_eq t i) [
   | inl same ↦ inr (
     same,

@@ -1,5 +1,5 @@
 -- The claims of a verdict.
-use Rattle.std.specs.Prelude.{List}
+use Rattle.std.specs.Prelude.{◌↔◌, List}
 use Rattle.sgt_appends.specs.declared.transaction.Transaction.{Transaction}
 use Rattle.sgt_appends.specs.declared.check.Verdict.{Verdict}
 use Rattle.sgt_appends.specs.declared.check.Verdict.TheVariants.{Serial, Violated, AppendedTwice, UnknownReads}
@@ -7,6 +7,7 @@ use Rattle.sgt_appends.specs.declared.check.Witness.{Witness}
 use Rattle.sgt_appends.specs.declared.check.Witness.TheVariants.{Cycle, Fault}
 use Rattle.sgt_appends.specs.Runs.{IsSerialRun, IsSerializable}
 use Rattle.sgt_appends.specs.Precedences.{AppendsOnce}
+use Rattle.sgt_appends.specs.Orders.{UnknownOnlyAppend}
 use Rattle.sgt_appends.specs.Reads.{HasFault, HasUnknownRead}
 use Rattle.sgt_appends.specs.Witnesses.{AllPrecede, IsEdgeCycle}
 
@@ -22,3 +23,21 @@ IsRight h (Serial order) = IsSerialRun h order.items
 IsRight h (Violated witness) = (¬ IsSerializable h) × IsWitness h witness
 IsRight h AppendedTwice = ¬ AppendsOnce h
 IsRight h (UnknownReads reader read) = HasUnknownRead h reader read
+
+-- the verdict is `Serial`
+abbrev pub SaysSerial : Verdict → Type 0
+SaysSerial (Serial order) = Unit {0}
+SaysSerial (Violated witness) = ⊥
+SaysSerial AppendedTwice = ⊥
+SaysSerial (UnknownReads reader read) = ⊥
+
+-- the verdict is `Violated`
+abbrev pub SaysViolated : Verdict → Type 0
+SaysViolated (Serial order) = ⊥
+SaysViolated (Violated witness) = Unit {0}
+SaysViolated AppendedTwice = ⊥
+SaysViolated (UnknownReads reader read) = ⊥
+
+-- Under the two premises, the verdict is `Serial` exactly if there is a serial run, and otherwise `Violated`.
+abbrev pub IsExact : List Transaction → Verdict → Type 0
+IsExact h verdict = AppendsOnce h → UnknownOnlyAppend h → (SaysSerial verdict ↔ IsSerializable h) × (SaysViolated verdict ↔ (¬ IsSerializable h))

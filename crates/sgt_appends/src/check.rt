@@ -1,6 +1,6 @@
 //! The verdict on a history.
 ghost use Rattle.std.specs.Prelude.{IfOk};
-ghost use Rattle.sgt_appends.specs.Verdicts.{IsRight};
+ghost use Rattle.sgt_appends.specs.Verdicts.{IsRight, IsExact};
 
 use crate::append_index::AppendIndex;
 use crate::fault::Fault;
@@ -42,6 +42,15 @@ pub enum Verdict {
 ///
 /// The time is about linear in the size of the history: n log n.
 pub fn check_appends(alloc: Global, history: &[Transaction]) -> Result<Verdict, NoMemory>
+    ensures right { IfOk result (IsRight history.now) }
+    ensures exact { IfOk result (IsExact history.now) }
+{
+    let verdict = verdict_of(alloc, history)?;
+    Ok(verdict)
+}
+
+/// The verdict: the premises are tested first, then each read by itself, then all reads together.
+fn verdict_of(alloc: Global, history: &[Transaction]) -> Result<Verdict, NoMemory>
     ensures { IfOk result (IsRight history.now) }
 {
     let Some(appends) = AppendIndex::of_history(alloc, history)? else {

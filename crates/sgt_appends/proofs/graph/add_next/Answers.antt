@@ -7,7 +7,8 @@ use Rattle.sgt_appends.proofs.graph.add_next.Goals as goal
 pub position_in-next-requires : goal.position_in-next-requires
 position_in-next-requires c =
     c.requires (get_or c.args.read.seen.now c.loop-value.value-index 0)
-    (has_at c.args.read.seen.now c.loop-value.value-index (get_or c.args.read.seen.now c.loop-value.value-index 0) c.loop-value-test.true (search rules))
+    (has_at c.args.read.seen.now c.loop-value.value-index (get_or c.args.read.seen.now c.loop-value.value-index 0)
+    c.loop-value-test.true (search rules))
 
 pub loop-value-preserved : goal.loop-value-preserved
 loop-value-preserved c =

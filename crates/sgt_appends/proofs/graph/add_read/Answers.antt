@@ -18,8 +18,8 @@ add_last-requires c =
 
 pub returns-in_ok-add_missed-in-Some-clause-more : goal.returns-in_ok-add_missed-in-Some-clause-more
 returns-in_ok-add_missed-in-Some-clause-more c =
-    read_more c.args.history.now (position_of c.args.appends.now) (line_in c.args.lines.now) (keys_in c.args.lines.now) c.in-Some.read.reader
-    c.in-Some.read.position c.in-Some.read.key c.in-Some.read.seen.now c.args.links.now.items c.add_next.new.links.items
+    read_more c.args.history.now (position_of c.args.appends.now) (line_in c.args.lines.now) (keys_in c.args.lines.now)
+    c.in-Some.read.reader c.in-Some.read.position c.in-Some.read.key c.in-Some.read.seen.now c.args.links.now.items c.add_next.new.links.items
     c.add_last.new.links.items c.add_missed.new.links.items c.requires.index c.requires.numbered c.in-Some.ensures.some
     c.in_ok-add_next-in-Some.ensures.more c.in_ok-add_last-in-Some.ensures.more c.in_ok-add_missed-in-Some.ensures.more
 

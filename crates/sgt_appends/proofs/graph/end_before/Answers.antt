@@ -33,6 +33,7 @@ returns-clause-some c = (
   c.in_ok-key.ensures.some,
   c.in_ok-line.ensures.some,
   (λ has. true≢false (sym ((c.requires.values c.in_ok-key.key c.in_ok-key.value).1
-      (subst (λ o. Has (values_or_none o) c.in_ok-key.value) (sym c.in_ok-line.ensures.some) has)) ∙ sym c.contains.ensures ∙ c.if-contains.false)),
+      (subst (λ o. Has (values_or_none o) c.in_ok-key.value) (sym c.in_ok-line.ensures.some) has)) ∙ sym c.contains.ensures
+      ∙ c.if-contains.false)),
   refl,
 )

@@ -9,7 +9,8 @@ pub position_in-found-requires : goal.position_in-found-requires
 position_in-found-requires c =
     let i : ℕ = c.loop-rest.rest - 1 in
     c.requires (get_or c.args.read.seen.now i 0)
-    (has_at c.args.read.seen.now i (get_or c.args.read.seen.now i 0) (omega (arith, c.loop-rest-test.true, c.loop-rest.invariant.within)) refl)
+    (has_at c.args.read.seen.now i (get_or c.args.read.seen.now i 0)
+    (omega (arith, c.loop-rest-test.true, c.loop-rest.invariant.within)) refl)
 
 pub returns-then-found-read-clause-some : goal.returns-then-found-read-clause-some
 returns-then-found-read-clause-some c =

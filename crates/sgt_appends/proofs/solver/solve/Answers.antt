@@ -19,7 +19,8 @@ links_of-requires-clause-fits c = omega (arith, c.in-Some.ensures.0, c.len.ensur
 
 pub sort-requires : goal.sort-requires
 sort-requires c =
-    let nodes : c.in-Some.nodes ≡ length c.args.history.now + length (keys_in c.in_ok-lines.lines) = omega (arith, c.in-Some.ensures.1, c.len.ensures) in
+    let nodes : c.in-Some.nodes ≡ length c.args.history.now + length (keys_in c.in_ok-lines.lines) =
+    omega (arith, c.in-Some.ensures.1, c.len.ensures) in
     subst (λ ls. AreWithin ls c.in-Some.nodes) (sym c.as_slice.ensures.value)
     (subst (λ n. AreWithin c.in_ok-links.links.items n) (sym nodes)
     (meant_within c.args.history.now (line_in c.in_ok-lines.lines) (keys_in c.in_ok-lines.lines) c.in_ok-links.links.items
