@@ -51,7 +51,7 @@ pub fn file(history: &mut History, event: &Event, brief: &Brief, out: &mut Reply
     ensures no_growth { history.new.capacities ≡ history.old.capacities }
 {
     write_out(brief, out);
-    history.push(event, out);
+    history.push_reply(event, out);
 }
 
 // Writes the reply in full, unless it is placed.
