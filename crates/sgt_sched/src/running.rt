@@ -1,13 +1,10 @@
 //! One live transaction, and the progress of its procedure.
 ghost use Rattle.std.specs.Prelude.{◌≡◌};
-ghost use Rattle.sgt_model.specs.Left.{next_left};
-ghost use Rattle.sgt_proc.specs.Nexts.{seen, StoresValue};
 ghost use Rattle.sgt_sched.specs.LiveList.{with_look, with_store};
-ghost use Rattle.sgt_sched.specs.LiveProgress.{left_kept};
 ghost use Rattle.sgt_sched.specs.SchedulerView.{IsAlong};
 
 use sgt_model::Tid;
-use sgt_proc::{Checked, Cursor, Next};
+use sgt_proc::{Checked, Cursor};
 use std::marker::Model;
 
 /// A live transaction: its number, that of its procedure, and the procedure's progress. It holds no procedure: its calls take
@@ -40,15 +37,6 @@ impl Model for Running {
 }
 
 impl Running {
-    /// What the procedure does next.
-    pub fn next(&self, procedures: &[Checked]) -> Next
-        requires along { IsAlong procedures.now self.now.1 }
-        ensures next { seen result ≡ next_left (left_kept self.now.1) }
-        ensures in_range { StoresValue result }
-    {
-        self.cursor.next(self.checked(procedures))
-    }
-
     /// Continues after a read, which returned this.
     #[inline(always)]
     pub fn look(&mut self, procedures: &[Checked], value: Option<i64>)

@@ -39,8 +39,7 @@ invariant_of-self-2 g c = record {
 
 pub returns : goal.returns
 returns g c = record {
-  done = λ out. record {
-    does = makes_store refl c.args.self.now.kept c.args.t c.requires.live c.args.key c.args.rivals.now c.requires.free
+  done = λ lists. makes_store refl c.args.self.now.kept c.args.t c.requires.live c.args.key c.args.rivals.now c.requires.free
         c.requires.rivals c.args.value
         c.write.new.self c.note.new.self c.follow.new.graph c.store.new.self
         (λ j. c.write.ensures.chain j ∙ (ap (λ z. cond (key_eq c.args.key j)
@@ -52,8 +51,6 @@ returns g c = record {
         c.follow.ensures.nodes
         c.follow.ensures.pairs
         c.store.ensures _ (to_z-of_z w64 c.args.value c.ranges.value);
-    short = tt;
-  };
   refused = tt;
   kept = (refl, refl);
 }
