@@ -6,7 +6,7 @@ use Rattle.std.proofs.Crossing.{crosses}
 use Rattle.sgt_model.proofs.procedure.Expr.TheLaws.TheKnot as expr
 use Rattle.sgt_model.proofs.procedure.Statement.TheLaws.TheKnot as statement
 use Rattle.sgt_log.proofs.history.History.TheSendSync as history
-use Rattle.sgt_log.proofs.short_entry.ShortEntry.TheSendSync as short_entry
+use Rattle.sgt_log.proofs.stored_entry.StoredEntry.TheSendSync as stored_entry
 use Rattle.sgt_log.specs.contracts.history.History as History
 use Rattle.sgt_model.proofs.reply.Reply.TheSendSync as reply
 use Rattle.sgt_model.specs.contracts.database.Database as Database
@@ -32,7 +32,7 @@ database_send : IsSend (Database.the_field).row
 database_send = search (sendable, crosses) depth 40
 
 history_send : IsSend (History.the_field).row
-history_send = search (sendable, crosses, short_entry.the_field_send, history.the_send) depth 40
+history_send = search (sendable, crosses, stored_entry.the_field_send, history.the_send) depth 40
 
 module _ (R A G : RattleType) (r : records.Ghosts R.Denot) (a : accesses.Ghosts A.Denot) (g : graph.Ghosts G.Denot) where
   sched_send : IsSend R → IsSend A → IsSend G → IsSend (Sched.the_field R A G r a g).row

@@ -68,5 +68,5 @@ pub fn file(history: &mut History, event: &Event, reply: ShortReply, lists: &Rep
     ensures room { history.new.room + 1 ≡ history.old.room }
     ensures no_growth { history.new.capacities ≡ history.old.capacities }
 {
-    history.push(event, &reply.with_lists(lists));
+    history.push(event, reply, lists);
 }

@@ -1,5 +1,5 @@
 use Rattle.sgt_log.proofs.Entries.{joined, joined_is, more-more}
-use Rattle.sgt_log.proofs.short_entry.ShortEntry.of.Goals as goal
+use Rattle.sgt_log.proofs.stored_entry.StoredEntry.of.Goals as goal
 
 pub returns-clause-entry : goal.returns-clause-entry
 returns-clause-entry c =
