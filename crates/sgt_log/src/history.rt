@@ -213,16 +213,6 @@ impl History {
         }
     }
 
-    /// Adds an entry, for which there is capacity. It allocates nothing.
-    pub fn push_reply(&mut self, event: &Event, reply: &Reply)
-        requires { 0 < self.old.room }
-        ensures entries { self.new.entries ≡ self.old.entries ++ record { event = event.now; reply = reply.now } ∷ [] }
-        ensures room { self.new.room + 1 ≡ self.old.room }
-        ensures capacities { self.new.capacities ≡ self.old.capacities }
-    {
-        self.push(event, reply.in_short(), &reply.lists());
-    }
-
     // Adds an entry of any kind.
     #[inline(never)]
     fn push_any(&mut self, event: &Event, reply: &ShortReply, lists: &ReplyLists)
@@ -388,6 +378,37 @@ impl History {
         } else {
             Some(self.entry(self.len() - 1))
         }
+    }
+
+    /// Whether the entry at this index is the same as that of another history at another index.
+    #[inline]
+    pub fn is_same_at(&self, place: usize, other: &History, index: usize) -> bool
+        requires here { place < length self.now.entries }
+        requires there { index < length other.now.entries }
+        ensures { IsTrue result ↔ (slice_get self.now.entries place ≡ slice_get other.now.entries index) }
+    {
+        // Most entries have no lists, and are read where they are.
+        self.is_same_plain(place, other, index) || self.is_same_entry(place, other, index)
+    }
+
+    // Whether both entries have no lists and are the same.
+    #[inline(always)]
+    fn is_same_plain(&self, place: usize, other: &History, index: usize) -> bool
+        requires here { place < length self.now.entries }
+        requires there { index < length other.now.entries }
+        ensures { IsTrue result → slice_get self.now.entries place ≡ slice_get other.now.entries index }
+    {
+        self.entries[place].is_same_plain(&other.entries[index])
+    }
+
+    // Whether both entries are the same, of any kind.
+    #[inline(never)]
+    fn is_same_entry(&self, place: usize, other: &History, index: usize) -> bool
+        requires here { place < length self.now.entries }
+        requires there { index < length other.now.entries }
+        ensures { IsTrue result ↔ (slice_get self.now.entries place ≡ slice_get other.now.entries index) }
+    {
+        self.entry(place).is_same(&other.entry(index))
     }
 
     /// The entry at this index.

@@ -54,4 +54,12 @@ impl StoredEntry {
     {
         self.event.is_plain() && self.reply.is_plain()
     }
+
+    /// Whether both are of kinds that have no lists, and the same. Then they are the same entry, even of different histories.
+    #[inline(always)]
+    pub fn is_same_plain(&self, other: &Self) -> bool
+        ensures { IsTrue result → HasNoArgs self.now.event × HasNoLists self.now.reply × (self.now ≡ other.now) }
+    {
+        self.is_plain() && self.event.is_same(&other.event) && self.reply.is_same(&other.reply)
+    }
 }

@@ -1,5 +1,5 @@
 //! An event in few bytes, as the history stores it.
-ghost use Rattle.std.specs.Prelude.{◌≡◌, ◌+◌, ◌≤◌, IsTrue, length, vec_len, vec_capacity};
+ghost use Rattle.std.specs.Prelude.{◌≡◌, ◌+◌, ◌≤◌, ◌↔◌, IsTrue, length, vec_len, vec_capacity};
 ghost use Rattle.sgt_log.specs.Spans.{part_of, HasMore};
 ghost use Rattle.sgt_log.specs.StoredEntries.{bare_of, args_at, event_of, IsEvent, HasNoArgs};
 ghost use Rattle.sgt_log.specs.EntryParts.{full_event};
@@ -9,7 +9,7 @@ use crate::span::Span;
 use sgt_model::{Event, Tid};
 
 /// An event. Its arguments are in the list of values: as many as `count`, from the index `from`.
-#[derive(Clone, Copy)]
+#[derive(Clone, Copy, PartialEq, Eq)]
 pub enum StoredEvent {
     Start {
         procedure: u16,
@@ -56,6 +56,14 @@ impl StoredEvent {
         ensures { IsTrue result → HasNoArgs self.now }
     {
         !matches!(self, StoredEvent::Start { .. })
+    }
+
+    /// Whether both are the same in all that is stored. If they are of one history, they are the same event.
+    #[inline]
+    pub fn is_same(&self, other: &Self) -> bool
+        ensures { IsTrue result ↔ (self.now ≡ other.now) }
+    {
+        self == other
     }
 
     /// The event without its arguments.
