@@ -42,7 +42,8 @@ same_setting opening procedures procedures' limits limits' p l = ap₂ (setting 
 
 -- an entry that was added after making room
 pub added : (items reserved new : List Entry) (event : Event) (r : Reply)
-    → new ≡ reserved ++ record { event = event; reply = r } ∷ [] → reserved ≡ items → new ≡ items ++ record { event = event; reply = r } ∷ []
+    → new ≡ reserved ++ record { event = event; reply = r } ∷ [] → reserved ≡ items → new ≡ items ++ record { event = event; reply = r }
+    ∷ []
 added items reserved new event r pushed room = pushed ∙ ap (λ (l : List Entry). l ++ record { event = event; reply = r } ∷ []) room
 
 -- a call that was answered keeps all that an engine keeps

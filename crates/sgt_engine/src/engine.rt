@@ -25,7 +25,7 @@ mod put;
 
 use crate::changes::changes;
 use crate::past::Past;
-use crate::room::{file, make_room};
+use crate::room::make_room;
 pub use cut::CutError;
 pub use procedures::AddError;
 pub use put::PutError;
@@ -186,7 +186,7 @@ impl<R: Records, A: Accesses, G: Graph> Engine<R, A, G> {
 
         make_room(&mut self.history, &self.sched, event)?;
         let reply = self.sched.answer(event, &mut self.lists)?;
-        file(&mut self.history, event, reply, &self.lists);
+        self.history.push(event, reply, &self.lists);
         Ok(reply)
     }
 
@@ -201,10 +201,7 @@ impl<R: Records, A: Accesses, G: Graph> Engine<R, A, G> {
     pub fn last_reply(&self) -> Option<Reply>
         ensures { result ≡ newest_reply self.now.past }
     {
-        match self.history.last_entry() {
-            Some(entry) => Some(entry.reply()),
-            None => None,
-        }
+        self.history.last_reply()
     }
 
     /// The scheduler with its layers. It holds exactly what the history says of the live transactions, how the others ended, and

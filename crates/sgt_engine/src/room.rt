@@ -1,14 +1,13 @@
-//! Capacity in the history for an event and for the ends of the live transactions, and the entry that uses it.
+//! Capacity in the history for an event and for the ends of the live transactions.
 ghost use Rattle.std.specs.Prelude.{◌≡◌, ◌+◌, ◌<◌, ◌≤◌, [], ◌∷◌, ◌++◌, length, OnOk};
 ghost use Rattle.std.specs.Result.{IsOk};
-ghost use Rattle.sgt_model.specs.ShortReplies.{reply_with};
 ghost use Rattle.sgt_sched.specs.Endings.{EndsOne};
 ghost use Rattle.sgt_sched.specs.Scheduler.{state, asks_of};
 
 use sgt_access::Accesses;
 use sgt_graph::Graph;
 use sgt_log::History;
-use sgt_model::{Event, NoMemory, ReplyLists, ShortReply};
+use sgt_model::{Event, NoMemory};
 use sgt_records::Records;
 use sgt_sched::Sched;
 
@@ -57,16 +56,4 @@ fn add_room<R: Records, A: Accesses, G: Graph>(
         history.reserve(needed)?;
     }
     Ok(())
-}
-
-/// Adds an entry, for which there is capacity. It allocates nothing.
-#[inline(always)]
-pub fn file(history: &mut History, event: &Event, reply: ShortReply, lists: &ReplyLists)
-    requires { 0 < history.old.room }
-    ensures entries { history.new.entries
-        ≡ history.old.entries ++ record { event = event.now; reply = reply_with reply lists.now } ∷ [] }
-    ensures room { history.new.room + 1 ≡ history.old.room }
-    ensures no_growth { history.new.capacities ≡ history.old.capacities }
-{
-    history.push(event, reply, lists);
 }

@@ -66,7 +66,8 @@ module _ {R A G : Type 0} {r : RecordsGhosts R} {a : AccessesGhosts A} {g : Grap
   }
 
   -- the same effect of the same scheduler, with these lists
-  pub made_with : (effect : State → Reply → State → Type 0) (lists : ReplyLists) {now new : Sched R A G r a g} (result : Result ShortReply NoMemory)
+  pub made_with : (effect : State → Reply → State → Type 0) (lists : ReplyLists) {now new : Sched R A G r a g}
+      (result : Result ShortReply NoMemory)
       → now ≡ old → Tries (WithAnyLists effect) now result new → Tries (WithLists effect lists) old result new
   made_with effect lists {new = new} result same tries = subst (λ s. Tries (WithLists effect lists) s result new) same (record {
     done = IfOk-weaker result _ _ (λ r done. done lists) tries.done;

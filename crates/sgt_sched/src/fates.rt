@@ -39,8 +39,8 @@ impl Model for Fates {
     ghost use Rattle.std.specs.Prelude.{◌-◌, ◌+◌};
     ghost use Rattle.std.specs.Vec.{vec_len, vec_capacity};
     ghost use Rattle.std.specs.Option.{option_map};
-ghost use Rattle.sgt_model.specs.ShortReplies.{full_fate};
-ghost use Rattle.sgt_sched.specs.FateList.{FateList, IsFateList, fates_of_ends};
+    ghost use Rattle.sgt_model.specs.ShortReplies.{full_fate};
+    ghost use Rattle.sgt_sched.specs.FateList.{FateList, IsFateList, fates_of_ends};
 
     ghost Value = { FateList };
 

@@ -33,9 +33,7 @@ use crate::fates::Fates;
 use crate::live::Live;
 use sgt_access::Accesses;
 use sgt_graph::Graph;
-use sgt_model::{
-    Database, Event, Limits, MakeError, NoMemory, ReplyLists, ShortReply, Tid, Tids,
-};
+use sgt_model::{Database, Event, Limits, MakeError, NoMemory, ReplyLists, ShortReply, Tid, Tids};
 use sgt_proc::{Ahead, Checked};
 use sgt_records::Records;
 use std::alloc::Global;

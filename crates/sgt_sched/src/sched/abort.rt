@@ -19,12 +19,7 @@ use sgt_records::Records;
 
 impl<R: Records, A: Accesses, G: Graph> Sched<R, A, G> {
     // Aborts a live transaction, and in cascade those that have read from it. The path of a cycle is in the lists already.
-    pub(super) fn abort(
-        &mut self,
-        t: Tid,
-        cause: ShortCause,
-        lists: &mut ReplyLists,
-    ) -> ShortReply
+    pub(super) fn abort(&mut self, t: Tid, cause: ShortCause, lists: &mut ReplyLists) -> ShortReply
         requires live { (state self.old).nodes t ≡ true }
         ensures aborts { Turns (WithLists (AbortEffect t (full_cause cause lists.old.walk)) lists.new) self.old result self.new }
         ensures reply { result ≡ Aborted cause }

@@ -33,7 +33,11 @@ impl<R: Records, A: Accesses, G: Graph> Sched<R, A, G> {
     }
 
     // The same, with the reply in short. No reply to a start has lists.
-    pub(super) fn answer_start(&mut self, procedure: u16, args: &Args) -> Result<ShortReply, NoMemory>
+    pub(super) fn answer_start(
+        &mut self,
+        procedure: u16,
+        args: &Args,
+    ) -> Result<ShortReply, NoMemory>
         ensures { Tries (WithAnyLists (StartEffect (rules_of self.old) procedure args.now)) self.old result self.new }
     {
         let t = match self.admit(procedure, args) {

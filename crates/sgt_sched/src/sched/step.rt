@@ -21,9 +21,7 @@ use crate::reads::note_read;
 use crate::sched::Sched;
 use sgt_access::Accesses;
 use sgt_graph::{Graph, Link, Plan, Verdict};
-use sgt_model::{
-    Asks, Key, Kind, NoMemory, Reply, ReplyLists, ShortCause, ShortReply, Tid, Tids,
-};
+use sgt_model::{Asks, Key, Kind, NoMemory, Reply, ReplyLists, ShortCause, ShortReply, Tid, Tids};
 use sgt_proc::Ahead;
 use sgt_records::Records;
 
@@ -52,7 +50,11 @@ impl<R: Records, A: Accesses, G: Graph> Sched<R, A, G> {
     }
 
     // The same, with the reply in short.
-    pub(super) fn answer_step(&mut self, t: Tid, lists: &mut ReplyLists) -> Result<ShortReply, NoMemory>
+    pub(super) fn answer_step(
+        &mut self,
+        t: Tid,
+        lists: &mut ReplyLists,
+    ) -> Result<ShortReply, NoMemory>
         ensures done { Tries (WithLists (StepEffect (asks_of self.old) t) lists.new) self.old result self.new }
         ensures lists { OnErr result (lists.new ≡ lists.old) }
         ensures no_memory { EndsOne (asks_of self.old) (Step t) (state self.old) → IsOk result }

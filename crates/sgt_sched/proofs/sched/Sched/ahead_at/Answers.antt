@@ -1,5 +1,5 @@
-use Rattle.std.proofs.Common.{ℕ, ap, subst, ◌∙◌}
-use Rattle.sgt_model.specs.Left.{Left, next_left}
+use Rattle.std.proofs.Common.{◌≡◌, ℕ, subst}
+use Rattle.sgt_model.specs.Left.{next_left}
 use Rattle.sgt_proc.specs.Nexts.{answers_at, seen_with}
 use Rattle.sgt_sched.specs.LiveProgress.{Progress, left_kept}
 use Rattle.sgt_sched.proofs.sched.Sched.ahead_at.Goals as goal

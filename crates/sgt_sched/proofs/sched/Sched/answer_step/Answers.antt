@@ -17,7 +17,8 @@ returns-in-Look-clause-done g c = record {
   done = IfOk-weaker c.access.result _ _
       (λ b done. (steps_on c.args.self.now.limits.asks c.args.t _ (reply_with b c.access.new.lists) _ _
       (c.in-Some.ensures.unended.0 refl).begun
-      (c.in-Some.ensures.unended.0 refl).unended (ap (next_by (state c.args.self.now) c.args.t) (sym c.in-Look.is) ∙ c.ahead_at.ensures.next)) done)
+      (c.in-Some.ensures.unended.0 refl).unended (ap (next_by (state c.args.self.now) c.args.t) (sym c.in-Look.is)
+      ∙ c.ahead_at.ensures.next)) done)
       c.access.ensures.done.done;
   refused = c.access.ensures.done.refused;
   kept = c.access.ensures.done.kept;
@@ -26,7 +27,8 @@ returns-in-Look-clause-done g c = record {
 pub returns-in-Put-clause-done : goal.returns-in-Put-clause-done
 returns-in-Put-clause-done g c =
     let fits : SFits w64 c.in-Put.value = search rules in
-    let next = ap (Puts c.in-Put.key) (to_z-of_z w64 c.in-Put.value fits) ∙ (ap (next_by (state c.args.self.now) c.args.t) (sym c.in-Put.is) ∙ c.ahead_at.ensures.next) in
+    let next = ap (Puts c.in-Put.key) (to_z-of_z w64 c.in-Put.value fits) ∙ (ap (next_by (state c.args.self.now) c.args.t)
+    (sym c.in-Put.is) ∙ c.ahead_at.ensures.next) in
     record {
       done = IfOk-weaker c.access-in-Put.result _ _ (λ b done.
           (steps_on c.args.self.now.limits.asks c.args.t (state c.args.self.now) (reply_with b c.access-in-Put.new.lists) _

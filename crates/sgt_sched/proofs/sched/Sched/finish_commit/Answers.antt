@@ -44,7 +44,7 @@ returns g c =
     record {
       turn = record {
         first = λ u h. true≢false (sym h ∙ c.requires.first u);
-        reply = ap reply.Committed (c.copied.ensures ∙ c.answers.ensures _ (ap next_left own ∙ sym c.requires.ends));
+        reply = ap reply.Committed (c.copied-lists.ensures ∙ c.answers.ensures _ (ap next_left own ∙ sym c.requires.ends));
         settles = record {
           removes = removes_after c.args.self.now.kept c.args.t node fate.Committed c.finish.new.records c.finish.new.accesses
               c.finish.new.graph c.finish.ensures.chain c.finish.ensures.accesses c.finish.ensures.nodes c.finish.ensures.pairs

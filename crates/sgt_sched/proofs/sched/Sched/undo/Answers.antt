@@ -15,7 +15,8 @@ loop-reader-init g c =
     }
 
 pub end_aborted-requires-in-loop-reader-clause-live : goal.end_aborted-requires-in-loop-reader-clause-live
-end_aborted-requires-in-loop-reader-clause-live g c = λ κs lives. next_node c.args.t (full_cause c.args.cause c.args.walk.now) c.as_slice-reader-items.result.now _ _
+end_aborted-requires-in-loop-reader-clause-live g c = λ κs lives. next_node c.args.t
+    (full_cause c.args.cause c.args.walk.now) c.as_slice-reader-items.result.now _ _
     c.loop-reader.invariant.falls c.loop-reader.reader-index c.reader-item.result c.loop-reader-test.true c.reader-item.is
     c.loop-reader.invariant.drops
 
@@ -34,7 +35,8 @@ loop-reader-preserved g c = record {
 }
 
 pub returns-clause-undone : goal.returns-clause-undone
-returns-clause-undone g c = undone c.args.t (full_cause c.args.cause c.args.walk.now) c.falling_with-fell.result c.as_slice-reader-items.result.now
+returns-clause-undone g c = undone c.args.t
+    (full_cause c.args.cause c.args.walk.now) c.falling_with-fell.result c.as_slice-reader-items.result.now
     c.loop-reader.reader-index _ _ c.as_slice-reader-items.ensures c.loop-reader-test.false c.falling_with-fell.ensures
     c.loop-reader.invariant.drops
 
