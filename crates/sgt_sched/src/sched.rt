@@ -218,6 +218,6 @@ impl<R: Records, A: Accesses, G: Graph> Sched<R, A, G> {
         ensures next { next_by (state self.now) t result ≡ next_left ((state self.now).left t) }
         ensures in_range { PutsValue result }
     {
-        self.live.at(t, index).cursor.ahead()
+        self.live.at(t, index).ahead()
     }
 }

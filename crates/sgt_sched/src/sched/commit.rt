@@ -95,7 +95,7 @@ impl<R: Records, A: Accesses, G: Graph> Sched<R, A, G> {
         ensures { Turns (WithLists (CommitsIn t (answers_at (next_left ((state self.old).left t)))) lists.new)
             self.old result self.new }
     {
-        lists.answers = self.live.at(t, index).cursor.answers().copied();
+        lists.answers = self.live.at(t, index).answers().copied();
         finish(&mut self.records, &mut self.accesses, &mut self.graph, t);
         leave(&mut self.live, &mut self.read_from, t);
         self.fates.end(t, ShortFate::Committed, &lists.walk);
