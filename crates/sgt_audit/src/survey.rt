@@ -34,7 +34,11 @@ pub struct Survey {
 /// or some at the end.
 ///
 /// `NoMemory` if an allocation failed.
-pub fn make_survey(alloc: Global, history: &History, workers: u32) -> Result<Option<Survey>, NoMemory>
+pub fn make_survey(
+    alloc: Global,
+    history: &History,
+    workers: u32,
+) -> Result<Option<Survey>, NoMemory>
     requires { (s : Setting) × Legal s (reverse history.now.entries) }
     ensures few { IfOk result (λ found.
         IsSome found ↔ (FewLive history.now.entries workers × AllEnded history.now.entries)) }

@@ -152,8 +152,10 @@ pub plain-entry : (ns : List ℕ) (vs : List ℤ) (e : StoredEvent) (r : StoredR
     ≡ record { event = full_event (bare_of e) []; reply = full_reply (short_of r) [] [] [] }
 plain-entry ns vs e r args lists =
     ap (λ a. record { event = full_event (bare_of e) a; reply = reply_of ns vs r }) (part-none vs (args_at e) args)
-    ∙ ap (λ a. record { event = full_event (bare_of e) []; reply = full_reply (short_of r) a (part_of ns (walk_at r)) (part_of ns (fell_at r)) })
-    (part-none vs (answers_at r) lists.0)
+    ∙ ap (λ a. record {
+      event = full_event (bare_of e) [];
+      reply = full_reply (short_of r) a (part_of ns (walk_at r)) (part_of ns (fell_at r));
+    }) (part-none vs (answers_at r) lists.0)
     ∙ ap (λ w. record { event = full_event (bare_of e) []; reply = full_reply (short_of r) [] w (part_of ns (fell_at r)) })
     (part-none ns (walk_at r) lists.1)
     ∙ ap (λ f. record { event = full_event (bare_of e) []; reply = full_reply (short_of r) [] [] f }) (part-none ns (fell_at r) lists.2)

@@ -1,11 +1,13 @@
-use Rattle.std.proofs.Common.{◌≡◌, ◌↔◌, ℕ, ◌<◌, IsTrue, sym, subst, ◌∙◌, reverse, length, arith}
-use Rattle.std.specs.List.{All, AllZip, flat_map}
+use Rattle.std.proofs.Common.{rules, ◌≡◌, ◌↔◌, ℕ, ◌+◌, ◌<◌, ◌≤◌, IsTrue, sym, subst, ◌∙◌, reverse, length, arith}
+use Rattle.std.specs.List.{All, AllZip, count_by, flat_map}
 use Rattle.std.proofs.lemmas.Bool.{false≢true}
 use Rattle.sgt_model.specs.Fates.{start_count}
 use Rattle.sgt_model.specs.Walks.{Distinct}
+use Rattle.sgt_model.specs.declared.entry.Entry.{Entry}
+use Rattle.sgt_model.specs.Questions.{is_commit, is_quit}
 use Rattle.sgt_audit.specs.Lives.{AreLives}
 use Rattle.sgt_audit.specs.Outcomes.{OutcomeStands}
-use Rattle.sgt_audit.specs.AllOutcomes.{entries_of, transactions_of, NumbersAgree}
+use Rattle.sgt_audit.specs.AllOutcomes.{entries_of, transactions_of, is_left, is_no_memory, NumbersAgree, FewLive, AllEnded}
 use Rattle.sgt_audit.proofs.Named.{all_started, all_there}
 use Rattle.sgt_audit.proofs.all_outcomes.audit.Goals as goal
 
@@ -17,8 +19,8 @@ none_twice-requires g c =
     let all = all_started h c.args.tries c.args.jobs.now c.args.outcomes.now (stand.0 c.if-not-all_stand.false) in
     let named : c.deref-2.result.now ≡ flat_map (transactions_of h) c.args.outcomes.now = c.deref-2.ensures.value
     ∙ c.in_ok-transactions.ensures in
-    let are : AreLives (reverse h) c.in_ok-lives.lives.items = c.in_ok-lives.ensures.lives in
-    let count : start_count (reverse h) ≡ c.len.result = omega (arith, are.counted, c.in_ok-lives.lives.ok.0, c.len.ensures) in
+    let are : AreLives (reverse h) c.in-Some.field-0.lives.items = search (rules, c.in_ok-lives.ensures.lives) in
+    let count : start_count (reverse h) ≡ c.len.result = omega (arith, are.counted, c.in-Some.field-0.lives.ok.0, c.len.ensures) in
     subst (All (λ t. t < c.len.result)) (sym named)
     (subst (λ (n : ℕ). All (λ t. t < n) (flat_map (transactions_of h) c.args.outcomes.now)) count all)
 
@@ -42,24 +44,30 @@ returns g c =
     let named : c.deref-2.result.now ≡ flat_map (transactions_of h) c.args.outcomes.now = c.deref-2.ensures.value
     ∙ c.in_ok-transactions.ensures in
     let named_too : c.deref-3.result.now ≡ flat_map entries_of c.args.outcomes.now = c.deref-3.ensures.value ∙ c.in_ok-entries.ensures in
-    let counts : IsTrue c.counts_agree.result ↔ NumbersAgree c.in_ok-lives.ends.commits c.in_ok-lives.ends.quits c.args.outcomes.now
-    c.args.workers = c.counts_agree.ensures in (
+    let counts : IsTrue c.counts_agree.result ↔ NumbersAgree c.in-Some.field-0.ends.commits c.in-Some.field-0.ends.quits c.args.outcomes.now
+    c.args.workers = c.counts_agree.ensures in
+    let commits : c.in-Some.field-0.ends.commits ≡ count_by (λ (e : Entry). is_commit e.reply) h =
+    search (rules, c.in_ok-lives.ensures.commits) in
+    let quits : c.in-Some.field-0.ends.quits ≡ count_by (λ (e : Entry). is_quit e.reply) h = search (rules, c.in_ok-lives.ensures.quits) in
+    let few : FewLive h c.args.workers × AllEnded h = c.in_ok-lives.ensures.few.0 (search rules) in (
       (λ t. record {
         each = stand.0 c.if-not-all_stand.false;
         transactions_once = subst Distinct named (transactions.0 c.if-not-branch.false);
         entries_once = subst Distinct named_too (entries.0 c.if-not-branch-2.false);
         counts = record {
-          commits = sym c.in_ok-lives.ensures.commits ∙ (counts.0 t).commits;
-          quits = omega (arith, c.in_ok-lives.ensures.quits, (counts.0 t).quits);
+          commits = sym commits ∙ (counts.0 t).commits;
+          quits = subst (λ n. n ≤ count_by is_left c.args.outcomes.now + count_by is_no_memory c.args.outcomes.now) quits
+              (counts.0 t).quits;
           left = (counts.0 t).left;
           untaken = (counts.0 t).untaken;
         };
-        few_live = (c.in_ok-lives.ensures.few.0 tt).0;
-        all_ended = (c.in_ok-lives.ensures.few.0 tt).1;
+        few_live = few.0;
+        all_ended = few.1;
       }),
       λ o. counts.1 (record {
-        commits = c.in_ok-lives.ensures.commits ∙ o.counts.commits;
-        quits = omega (arith, c.in_ok-lives.ensures.quits, o.counts.quits);
+        commits = commits ∙ o.counts.commits;
+        quits = subst (λ n. n ≤ count_by is_left c.args.outcomes.now + count_by is_no_memory c.args.outcomes.now) (sym quits)
+            o.counts.quits;
         left = o.counts.left;
         untaken = o.counts.untaken;
       }),

@@ -1,7 +1,5 @@
-use Rattle.std.proofs.Common.{◌≡◌, ◌+◌, ◌≤◌, length, reverse, take, ap, sym, subst, ◌∙◌, inl, inr, arith}
-use Rattle.std.proofs.lemmas.Bool.{cases_lt, eqb-true, eq-eqb}
-use Rattle.std.specs.List.{count_by}
-use Rattle.std.proofs.lemmas.List.{take_all}
+use Rattle.std.proofs.Common.{◌≡◌, ◌+◌, ◌≤◌, length, reverse, take, refl, ap, sym, subst, ◌∙◌, inl, inr, arith}
+use Rattle.std.proofs.lemmas.Bool.{false≢true, cases_lt, eqb-true, eq-eqb}
 use Rattle.sgt_model.specs.declared.entry.Entry.{Entry}
 use Rattle.sgt_model.specs.Fates.{live_ones}
 use Rattle.sgt_model.specs.Questions.{is_commit, is_quit}
@@ -33,7 +31,7 @@ counted c =
 
 pub returns-then-live-workers-clause-few : goal.returns-then-live-workers-clause-few
 returns-then-live-workers-clause-few c = (
-  (λ t. absurd t),
+  (λ t. absurd (false≢true t)),
   λ both.
       let now = counted (goal.at.returns-then-live-workers-clause-few c).After-live_after-live in
       let few = both.0 (c.loop-place.place + 1) in absurd (omega arith),
@@ -71,11 +69,11 @@ returns-then-live-gt0-clause-few c =
     let i = c.loop-place.invariant in
     let end = at_end c.args.history.now.entries c.loop-place.place c.args.workers c.loop-place.live
     (omega (arith, c.loop-place-test.false)) i.live i.before in
-    ((λ t. absurd t), λ both. let none = eqb-true c.loop-place.live 0 (end.1 both) in absurd (omega arith))
+    ((λ t. absurd (false≢true t)), λ both. let none = eqb-true c.loop-place.live 0 (end.1 both) in absurd (omega arith))
 
 pub returns-clause-few : goal.returns-clause-few
 returns-clause-few c =
     let i = c.loop-place.invariant in
     let end = at_end c.args.history.now.entries c.loop-place.place c.args.workers c.loop-place.live
     (omega (arith, c.loop-place-test.false)) i.live i.before in
-    ((λ t. end.0 (eq-eqb c.loop-place.live 0 (omega arith))), λ both. tt)
+    ((λ t. end.0 (eq-eqb c.loop-place.live 0 (omega arith))), λ both. refl)

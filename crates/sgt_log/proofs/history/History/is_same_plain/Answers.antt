@@ -10,8 +10,9 @@ returns c t =
     c.args.place c.index.result.now (ap (λ h. h.entries) c.self.view_is) c.self.invariant.0 c.requires.here c.index.ensures in
     let theirs = seen_at c.other.inside.tids.items c.other.inside.values.items c.other.inside.entries.items c.args.other.now.entries
     c.args.index c.index-2.result.now (ap (λ h. h.entries) c.other.view_is) c.other.invariant.0 c.requires.there c.index-2.ensures in
+    let e = c.index.result.now in
     mine.0
-    ∙ ap Some (plain-entry c.self.inside.tids.items c.self.inside.values.items c.index.result.now.event c.index.result.now.reply plain.0 plain.1
-    ∙ sym (plain-entry c.other.inside.tids.items c.other.inside.values.items c.index.result.now.event c.index.result.now.reply plain.0 plain.1)
+    ∙ ap Some (plain-entry c.self.inside.tids.items c.self.inside.values.items e.event e.reply plain.0 plain.1
+    ∙ sym (plain-entry c.other.inside.tids.items c.other.inside.values.items e.event e.reply plain.0 plain.1)
     ∙ ap (entry_of c.other.inside.tids.items c.other.inside.values.items) plain.2)
     ∙ sym theirs.0

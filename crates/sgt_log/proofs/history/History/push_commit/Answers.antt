@@ -11,7 +11,10 @@ use Rattle.sgt_log.proofs.history.History.push_commit.Goals as goal
 pub invariant_of-self : goal.invariant_of-self
 invariant_of-self c =
     let used = ap (λ h. h.room) c.self.view_is in
-    let filed : StoredEntry = record { event = stored_event.Commit c.args.t; reply = stored_reply.Committed c.append-part.result.count c.append-part.result.from } in (
+    let filed : StoredEntry = record {
+      event = stored_event.Commit c.args.t;
+      reply = stored_reply.Committed c.append-part.result.count c.append-part.result.from;
+    } in (
       entries-pushed c.self.inside.tids.items c.self.inside.tids.items c.self.inside.values.items c.append-part.new.list.items
           c.self.inside.entries.items c.push_reserved.new.self.items filed ([], sym (append-nil _))
           (c.args.answers.now, c.append-part.ensures.items) c.self.invariant.0 (
@@ -40,7 +43,10 @@ invariant_of-self c =
 
 pub returns-clause-entries : goal.returns-clause-entries
 returns-clause-entries c =
-    let filed : StoredEntry = record { event = stored_event.Commit c.args.t; reply = stored_reply.Committed c.append-part.result.count c.append-part.result.from } in
+    let filed : StoredEntry = record {
+      event = stored_event.Commit c.args.t;
+      reply = stored_reply.Committed c.append-part.result.count c.append-part.result.from;
+    } in
     entries-after c.self.inside.tids.items c.self.inside.tids.items c.self.inside.values.items c.append-part.new.list.items
     c.self.inside.entries.items c.push_reserved.new.self.items filed ([], sym (append-nil _))
     (c.args.answers.now, c.append-part.ensures.items) c.self.invariant.0 c.push_reserved.ensures.items
