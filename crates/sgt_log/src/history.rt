@@ -166,7 +166,7 @@ impl History {
     }
 
     /// Adds an entry, for which there is capacity: the event, and the reply with these lists. It allocates nothing.
-    #[inline]
+    #[inline(always)]
     pub fn push(&mut self, event: &Event, reply: ShortReply, lists: &ReplyLists)
         requires { 0 < self.old.room }
         ensures entries { self.new.entries

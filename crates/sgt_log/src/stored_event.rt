@@ -59,7 +59,7 @@ impl StoredEvent {
     }
 
     /// Whether both are the same in all that is stored. If they are of one history, they are the same event.
-    #[inline]
+    #[inline(always)]
     pub fn is_same(&self, other: &Self) -> bool
         ensures { IsTrue result ↔ (self.now ≡ other.now) }
     {
