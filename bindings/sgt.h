@@ -17,14 +17,20 @@
  *     runs, if the old bytes are never used again.
  *   - An sgt_reply, sgt_event, sgt_call, sgt_outcome, sgt_fault or sgt_row is initialized before it is passed, with any
  *     values: `sgt_reply reply = {0};`.
- *   - Pointers are not null, are aligned, and point to as much as the call says. No two pointers of one call overlap. If a
- *     count is 0, the pointer may not be null either: pass the address of any object.
+ *   - Pointers are aligned, and point to as much as the call says. No two pointers of one call overlap.
  *   - One call at a time to one engine. If threads share an engine, put a lock around each call, or join one thread before
  *     another calls: sgt_shared.h is an engine with such a lock. Different engines share nothing, and need no common lock. A
  *     call that finds another one in the engine returns SGT_BUSY and changes nothing. SGT_BUSY helps to find a mistake, and is
  *     no lock: two calls that enter at the same moment do not see each other.
  *   - No call from a signal handler, nor in a forked child of a process with threads.
  *   - malloc, realloc and free are of one allocator, which aligns to 16 bytes.
+ *
+ * NULL POINTERS are tested first, and then nothing is changed or written. If the engine is null, a call returns SGT_CLOSED; the
+ * calls that open one return SGT_BAD_CALL, and sgt_close does nothing. If another pointer is null, a call returns SGT_BAD_CALL. A
+ * list may be null if its count or its capacity is 0.
+ *
+ * READS take a `const sgt_engine *`: the engine is the same afterwards. That does not mean that two reads may run at once: a
+ * read, too, marks the engine as busy while it runs, so the rule of one call at a time holds for it.
  *
  * MEMORY. The caller owns all memory that it passes, and the library stores no pointer to it. The library hands out no
  * memory: it allocates an engine by malloc, and sgt_close frees all of it.
@@ -62,7 +68,7 @@ enum sgt_status {
     SGT_CLOSED = 2,      /* the engine is closed */
     SGT_OPEN = 3,        /* the engine is already open */
     SGT_NONE = 4,        /* there is no such record or entry */
-    SGT_BAD_CALL = 5,    /* a number that was passed is out of its range */
+    SGT_BAD_CALL = 5,    /* a number that was passed is out of its range, or a pointer is null */
     SGT_STILL_LIVE = 6,  /* the history cannot be cut, as a transaction is live */
     SGT_BEGUN = 7,       /* nothing can be added to the initial state of the engine, as there is a history */
     SGT_TAKEN = 8,       /* the key of a row already has a value */
@@ -327,7 +333,7 @@ uint32_t sgt_run_many(sgt_engine *engine, const sgt_call *calls, size_t count, s
  *   - SGT_CLOSED.
  *   - SGT_NONE: there is no such record.
  */
-uint32_t sgt_get(sgt_engine *engine, uint64_t table, int64_t number, int64_t *value);
+uint32_t sgt_get(const sgt_engine *engine, uint64_t table, int64_t number, int64_t *value);
 
 /*
  * The committed database from a record on, by table and then by number; from table 0, number SGT_LEAST on it is all of it.
@@ -340,7 +346,7 @@ uint32_t sgt_get(sgt_engine *engine, uint64_t table, int64_t number, int64_t *va
  *   - SGT_CLOSED.
  *   - SGT_NO_MEMORY.
  */
-uint32_t sgt_rows(sgt_engine *engine, uint64_t table, int64_t number, sgt_row *rows, size_t room, uint64_t *count);
+uint32_t sgt_rows(const sgt_engine *engine, uint64_t table, int64_t number, sgt_row *rows, size_t room, uint64_t *count);
 
 /*
  * How many records the committed database has: as many as sgt_rows returns from the first on. The call scans all records, and
@@ -348,10 +354,10 @@ uint32_t sgt_rows(sgt_engine *engine, uint64_t table, int64_t number, sgt_row *r
  *
  * SGT_CLOSED; SGT_NO_MEMORY. If the result is not SGT_OK, the count is unchanged.
  */
-uint32_t sgt_records(sgt_engine *engine, uint64_t *count);
+uint32_t sgt_records(const sgt_engine *engine, uint64_t *count);
 
 /* How many entries the history has: one for each event since the engine was opened or last cut. SGT_CLOSED. */
-uint32_t sgt_entries(sgt_engine *engine, uint64_t *count);
+uint32_t sgt_entries(const sgt_engine *engine, uint64_t *count);
 
 /*
  * The entry at a position of the history, counted from 0, oldest first. The event is written to `event`, and its reply to
@@ -360,7 +366,7 @@ uint32_t sgt_entries(sgt_engine *engine, uint64_t *count);
  *   - SGT_CLOSED.
  *   - SGT_NONE: there are not so many entries.
  */
-uint32_t sgt_entry(sgt_engine *engine, uint64_t place, sgt_event *event, sgt_reply *reply);
+uint32_t sgt_entry(const sgt_engine *engine, uint64_t place, sgt_event *event, sgt_reply *reply);
 
 /*
  * The calls of the committed and refused transactions, in the order of their replies, each with its answers or its code. It
@@ -377,7 +383,7 @@ uint32_t sgt_entry(sgt_engine *engine, uint64_t place, sgt_event *event, sgt_rep
  *   - SGT_CLOSED.
  *   - SGT_NONE: `from` is more than the number of entries.
  */
-uint32_t sgt_calls(sgt_engine *engine, uint64_t from, sgt_call *calls, size_t room, uint64_t *count, uint64_t *next);
+uint32_t sgt_calls(const sgt_engine *engine, uint64_t from, sgt_call *calls, size_t room, uint64_t *count, uint64_t *next);
 
 /*
  * Allocates memory for `entries` more entries, of 72 bytes each, so that the history is not moved until then. The lists of
@@ -409,7 +415,7 @@ uint32_t sgt_cut(sgt_engine *engine, uint64_t *live);
  *
  * SGT_CLOSED. If the result is not SGT_OK, the part is unchanged.
  */
-uint32_t sgt_part(sgt_engine *engine, uint64_t *part);
+uint32_t sgt_part(const sgt_engine *engine, uint64_t *part);
 
 /*
  * The text of a reply: the line that `sgt script` writes for it, without its end and without a zero byte after it. If it fits

@@ -4,7 +4,7 @@
     tests/check.py crates/sgt/out/sgt
 
 All histories of few operations are checked, up to the names of transactions and items; longer ones that are drawn; and some of up
-to a million operations, of which time and memory are told and not compared. Of all but the last, every order of the committed
+to a million operations, of which time and memory are reported and not compared. Of all but the last, every order of the committed
 transactions is tried: the report has to say yes, and one of these orders, exactly where one gives an equivalent serial history.
 Several programs run at once. The last line counts the cases.
 """
@@ -43,7 +43,7 @@ def report_on(program, operations):
     return ran.returncode, ran.stdout.decode()
 
 
-# Starts the program, and tells its status, its milliseconds and its most bytes. It is small itself: a process has at first
+# Starts the program, and reports its status, its milliseconds and its most bytes. It is small itself: a process has at first
 # what its parent has.
 MEASURE = """import os, subprocess, sys
 process = subprocess.Popen(sys.argv[1:])
@@ -66,7 +66,7 @@ def measured_report_on(program, operations):
 
 
 class Report:
-    """What the lines of a report have to be. Where more than one witness would do, the told one is taken if it is one."""
+    """What the lines of a report have to be. If more than one witness would do, the reported one is taken if it is one."""
 
     def __init__(self, history):
         self.history = history
@@ -300,7 +300,7 @@ class Stamping(Drawing):
 
 
 def compare_long(program, drawing, seed, end, number=LONG):
-    """What was told of it, with a digest of the report."""
+    """What was reported of it, with a digest of the report."""
     operations = drawing(seed, number).history(end)
     same("operations", number, len(operations))
     status, text, took, most = measured_report_on(program, operations)

@@ -4,7 +4,7 @@ formats and of the language say.
 
     tests/formats.py crates/sgt/out/sgt
 
-Each case is told as in `tests/program.py`, and the last line counts them.
+Each case is reported as in `tests/program.py`, and the last line counts them.
 """
 
 import os
@@ -46,12 +46,12 @@ class Program:
 
 
 def opening(limits="[1,1]", accounts="[]", procedures=""):
-    """An opening with these procedures, the texts of which are parted by commas."""
+    """An opening with these procedures, the texts of which are separated by commas."""
     return f'{{"limits":{limits},"accounts":{accounts},"procedures":[{procedures}]}}'
 
 
 def rows(table):
-    """What stands before the first colon of each line, and behind it."""
+    """What stands before the first colon of each line, and after it."""
     return [line.split(": ", 1) for line in table.strip("\n").split("\n")]
 
 
@@ -114,7 +114,7 @@ NO_EVENTS = """
 
 NO_JSON = (b"", b'["step",0', b'["step",\xff]')
 
-# A blank may stand behind a comma, and nowhere inside a number or a word. Numbers are of eighteen digits, and of nineteen.
+# A space may stand after a comma, and nowhere inside a number or a word. Numbers are of eighteen digits, and of nineteen.
 SPELLINGS = """
 bad args: ["start", 5, [999999999999999999, -999999999999999999]]
 bad args: ["start",5,[1000000000000000000,-1000000000000000000]]
@@ -200,7 +200,7 @@ def numbers_transactions_by_their_starts(sgt):
     same("how many replies", 2 * many, came[1].count("\n"))
 
 
-# Records behind the opening
+# Records after line 1
 
 # Behind an opening of the account [1,101,500,1000].
 PUT_RECORDS = """
@@ -295,7 +295,7 @@ def numbers_lines_and_jobs_behind_records(sgt):
 
 
 def puts_as_many_records_as_an_input_has_room_for(sgt):
-    """In the order of their keys; and some of them with half behind the other half, and against that order."""
+    """In the order of their keys; and some of them with half after the other half, and against that order."""
     many, few = 600_000, 2_000
     for numbers in (range(many), [*range(1, few, 2), *range(0, few, 2)], range(few, 0, -1)):
         lines = "".join(f'["record",7,{number},{number % 7}]\n' for number in numbers)
@@ -585,9 +585,9 @@ def takes_blanks_and_escapes(sgt):
     are_answered(sgt, given, 'started 0: ["start",5,[]]\naborted asked 1 fell none: ["step",0]')
 
 
-# What is told of faults
+# Explanations of errors
 
-# A first line, its fault, and what is told of it.
+# A first line, its error, and the explanation.
 EXPLAINED_OPENINGS = (
     ("", "not JSON", "column 1: the line ends where its JSON has to go on"),
     ('{"limits":[1,1]', "not JSON", "column 16: the line ends where its JSON has to go on"),
@@ -614,7 +614,7 @@ EXPLAINED_OPENINGS = (
      '"accounts": the checking of account 2 is 1000000000000000, and has to be from -999999999999999 to 999999999999999'),
 )
 
-# An only procedure, its fault, and what is told of it behind its number.
+# An only procedure, its error, and the explanation after its number.
 EXPLAINED_PROCEDURES = (
     ("7", "shape top", "at top: expected [arguments,[statement,..]], found 7"),
     ("[0,[],[]]", "shape top", "at top: expected [arguments,[statement,..]], found [0,[],[]]"),
@@ -649,7 +649,7 @@ EXPLAINED_PROCEDURES = (
     ('[0,[["answer",1000000000000000]]]', "flaw 10", "at 1 0 1: 1000000000000000 has more than fifteen digits"),
 )
 
-# A line behind the opening of a script and of a bank, and what is told of it.
+# A line after line 1 of a script and of a bank, and the explanation of its error.
 EXPLAINED_EVENTS = (
     ("7", 'expected an event, as ["step",0], found 7'),
     ("[]", 'expected an event, as ["step",0], found []'),
@@ -751,7 +751,7 @@ def explains_procedures_past_their_sizes(sgt):
 
 
 def explains_the_place_of_each_misfit_and_flaw(sgt):
-    """A second line comes of each of the tables above, and names the place of a misfit."""
+    """A second line comes of each of the tables above, and names the position of a shape error."""
     for table in (PLACES, NO_ROW, OTHER_KINDS, DEEP_BLOCKS, FIRST_MISFIT, PAST_RANGES, ENDS_OF_RANGES, EACH_WAY, FLAWS):
         for wanted, text in rows(table):
             if wanted == "no flaw":
@@ -779,7 +779,7 @@ def explains_records(sgt):
 
 
 def explains_records_behind_others(sgt):
-    """Also where the record itself could not be put; a line of another form is told by its form."""
+    """Also where the record itself could not be put; a line of another form is explained by its form."""
     for command, before, what in (("script", '["start",0,[1]]', "event or cut"), ("script", '["cut"]', "event or cut"), ("bank", '["job",0,[1]]', "job")):
         for line, more in (
             ('["record",3,1,1]', f"records stand before the first {what}"),
@@ -919,20 +919,20 @@ ONCE = (
     '["put",4,["arg",0],["arg",1]],["answer",["arg",1]]]]'
 )
 
-# A find in a branch whose value sets the register that it uses, and a find behind it.
+# A find in a branch whose value sets the register that it uses, and a find after it.
 AGAIN = (
     '[1,[["let",1,5],["if",["less",0,["arg",0]],[["find",1,3,["arg",0],["product",["reg",1],2]]],[]],'
     '["find",2,3,["reg",1],["reg",1]],["answer",["reg",1]],["answer",["reg",2]]]]'
 )
 
-# Branches with accesses, Lets and answers in them, one in the other, and statements behind each of them.
+# Branches with accesses, Lets and answers in them, one in the other, and statements after each of them.
 BRANCHES = (
     '[2,[["let",0,["arg",0]],["if",["less",["arg",0],10],[["let",1,1],["look",0,0,["reg",1],5],'
     '["if",["most",["reg",0],0],[["answer",["reg",0]]],[["put",0,1,["reg",0]],["let",0,7]]],["answer",["reg",0]]],'
     '[["let",1,2],["put",1,2,["arg",1]]]],["look",2,1,["reg",1],6],["answer",["diff",["reg",2],["reg",0]]]]]'
 )
 
-# An Ask in a branch, and a Let that goes out of range behind it.
+# An Ask in a branch, and a Let that goes out of range after it.
 STOPS = (
     '[1,[["if",["same",["arg",0],0],[["put",0,1,1],["ask",3],["put",0,2,2]],[["put",0,3,3]]],'
     '["let",4,["sum",["arg",0],999999999999999]],["put",0,4,["reg",4]]]]'
@@ -1105,13 +1105,13 @@ UNKNOWN = "unknown\n"
 
 
 def lines_of(length, size):
-    """An opening and then events, each in a line of so many bytes with blanks at its end, so many bytes in all."""
+    """An opening and then events, each in a line of so many bytes with spaces at its end, so many bytes in all."""
     line = EVENT.ljust(length) + "\n"
     return (FIRST + line * ((size - len(FIRST)) // len(line) + 1))[:size]
 
 
 def takes_lines_of_the_greatest_length(sgt):
-    """With a byte 10 at the end and without, and with one byte more."""
+    """With a newline at the end and without, and with one byte more."""
     for length, ends in ((LONGEST_LINE, (0, UNKNOWN, "")), (LONGEST_LINE + 1, (2, "", "line 2: long line\n"))):
         for size in (len(FIRST) + length + 1, len(FIRST) + length):
             same(f"{length}, {size} bytes", ends, sgt.run("script", given=lines_of(length, size)))

@@ -4,7 +4,7 @@
     tests/growths.py crates/sgt_engine_runs/out/sgt_engine_runs
 
 The program runs the events of the row `two_level_cascade`, and tells what it finds where one is refused memory; and it cuts the
-history off behind them. `c/failing.c` refuses it. Each case is told, and the last line counts them.
+history off behind them. `c/failing.c` refuses it. Each case is reported, and the last line counts them.
 """
 
 import sys
@@ -18,11 +18,11 @@ RUNS = (CRATE / "stdout").read_text().splitlines(True)
 # Without a word the program runs the row first.
 ROW = RUNS[: RUNS.index("history as before\n") + 1]
 
-# Behind the replies come the committed values, who is live and the history.
+# After the replies come the committed values, who is live and the history.
 REPLIES, END = ROW[:-8], ROW[-8:]
 REFUSED = ["refused: history as before\n", "refused: committed values and who is live as before\n"]
 
-# The cut behind the row; one while the transaction that was started then is live; and one behind its quit.
+# The cut after the row; one while the transaction that was started then is live; and one after its quit.
 STILL_LIVE = [line.replace("refused", "still live") for line in REFUSED]
 CUT_ROW = [f"cut {len(REPLIES)}: history as before\n"]
 BEHIND = ["started 0\n", *STILL_LIVE, "aborted quit fell none\n", "cut 2: history as before\n"]

@@ -3,7 +3,7 @@
 
     tests/hostile.py crates/sgt/out/sgt
 
-A library of a few calls, `c/failing.c`, is made with `cc` and loaded before the C library. Each case is told as
+A library of a few calls, `c/failing.c`, is made with `cc` and loaded before the C library. Each case is reported as
 in `tests/program.py`, and the last line counts them.
 """
 
@@ -47,7 +47,7 @@ BANK = ("bank", "--workers", "1")
 # What is grown before the run, while the words are parsed, may be done without.
 
 def refused_growths(sgt, script, replies):
-    """One growth is refused, or all from one on: what was written is the replies to the first lines, and no database."""
+    """One allocation fails, or all from one on: what was written is the replies to the first lines, and no database."""
     starts = {"".join(replies.splitlines(True)[:n]) for n in range(len(replies.splitlines()) + 1)}
     before = sgt.allocations("--version", given="")
     count = sgt.allocations("script", given=script)
@@ -75,7 +75,7 @@ def refuses_each_growth_of_a_script_with_cuts(sgt):
 
 FLAWED = OPENING.replace("[]}", '[[1,[["let",0,["arg",1]]]]]}')
 
-# What runs with --explain, its replies, its fault, and what is told of that.
+# What runs with --explain, its replies, its error, and the explanation.
 FAULTY = (
     (("script",), SCRIPT + '["stop",0]\n', REPLIES, "line 13: bad line\n", 'unknown word "stop"\n'),
     (("script",), FLAWED, "", "line 1: procedure 5 flaw 3\n", "procedure 5, at 1 0 2 1: argument 1 is not below 1, the number of arguments\n"),
@@ -85,7 +85,7 @@ FAULTY = (
 
 
 def refuses_each_growth_of_what_is_told_of_a_fault(sgt):
-    """It is left out where there is no memory for it. Else a run ends as it does without the word, or for want of memory."""
+    """It is left out where there is no memory for it. Else a run ends as it does without the option, or with no memory."""
     counts = {"left out": 0, "told": 0, "no memory": 0}
     for words, given, replies, fault, more in FAULTY:
         same(f"{words}", (2, replies, fault + more), sgt.run(*words, "--explain", given=given))
@@ -113,7 +113,7 @@ def refuses_each_growth_of_what_is_told_of_a_fault(sgt):
 
 
 def writes_up_to_a_failure(sgt):
-    """As much as fits at a time, and a byte at a time; with just enough room nothing fails."""
+    """As much as fits at a time, and a byte at a time; with just enough capacity nothing fails."""
     for words, given, wanted in ((["script"], SCRIPT, WRITTEN), (BANK, JOBS, REPORT)):
         for failing in ("write_fails_after", "write_stops_after"):
             for more in ({}, {"write_at_most": 1}):
@@ -133,7 +133,7 @@ def writes_byte_by_byte(sgt):
 
 
 def replies_to(given):
-    """The replies to the whole lines behind the first one."""
+    """The replies to the whole lines after the first one."""
     return "".join(REPLIES.splitlines(True)[: max(given.count("\n") - 1, 0)])
 
 
@@ -187,7 +187,7 @@ def padded(size):
 
 
 def takes_lines_up_to_their_limit(sgt):
-    """In small pieces and in large ones, with a byte 10 at the end and without."""
+    """In small pieces and in large ones, with a newline at the end and without."""
     for more in ({}, {"read_at_most": 97}, {"read_at_most": 9_999}):
         for end in ("\n", ""):
             came = sgt.run("script", given=OPENING + padded(LONGEST_LINE) + end, **more)

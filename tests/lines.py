@@ -1,12 +1,12 @@
 #!/usr/bin/env python3
-"""Draws hostile lines, runs each in a script behind a good opening, and compares what the script writes and how it ends with what
+"""Draws hostile lines, runs each in a script after a good line 1, and compares what the script writes and how it ends with what
 another reader of lines says, which is written apart: JSON as Python reads it, less what it takes beyond JSON.
 
     tests/lines.py crates/sgt_bank_runs/out/sgt_bank_runs
 
 The program runs many scripts in one process. The drawn lines are events; records; events, records, openings and trees of JSON that are changed at
 some places; trees; texts with escapes; bytes that are no text; deep nesting; long numbers; lines about as long as one may be.
-Each case is told as in `tests/program.py`, and the last line counts them.
+Each case is reported as in `tests/program.py`, and the last line counts them.
 """
 
 import json
@@ -46,14 +46,14 @@ def finite(text):
 
 
 def whole(text):
-    """The whole number; `-0` is a float, and so is what has no room in 64 bits."""
+    """The whole number; `-0` is a float, and so is what does not fit 64 bits."""
     if len(text) > 20:
         return finite(text)
     number = int(text)
     return -0.0 if text == "-0" or not -(2**63) <= number < 2**64 else number
 
 
-# Python takes one half of a surrogate pair alone. Behind a backslash that is itself escaped stands no escape.
+# Python takes one half of a surrogate pair alone. After a backslash that is itself escaped stands no escape.
 STRING = re.compile(rb'"(?:[^"\\]|\\.)*"', re.S)
 HALF = re.compile(r"[\ud800-\udfff]")
 BRACKETS = re.compile(rb"[\[\]{}]")
@@ -149,7 +149,7 @@ ACCOUNTS = '"accounts":[[1,101,500,1000],[2,102,0,200]]'
 
 
 class Place:
-    """An opening and events behind it, and what is answered next: a start that has nothing wrong, and each transaction's step,
+    """A line 1 and events after it, and what is answered next: a start that has nothing wrong, and each transaction's step,
     commit and quit, by its number. It was written down from the formats, for a few calls of SmallBank's procedures."""
 
     def __init__(self, limits, procedures, events, replies, arguments, started, transactions):
@@ -159,7 +159,7 @@ class Place:
         self.transactions = transactions
 
     def taken(self, what):
-        """What a record line is here, behind the opening alone."""
+        """What a record line is here, directly after line 1."""
         _, table, number, value = what
         if self.replies:
             return "bad line"
@@ -221,7 +221,7 @@ REPLIES = {
     *(DEPOSITED, QUIT, "aborted quit fell 2\n"),
 }
 
-# What stands behind a line: nothing, not even its end; its end; that and an empty line; that and a step of one not started.
+# What stands after a line: nothing, not even its end; its end; that and an empty line; that and a step of one not started.
 NOTHING, BREAK, EMPTY_LINE, STEP = b"", b"\n", b"\n\n", b'\n["step",4294967295]\n'
 
 
@@ -274,7 +274,7 @@ BLANKS = (b" ", b"\t", b"\r", b"  ", b" \r\t")
 
 
 class Draws:
-    """Lines, without a byte 10."""
+    """Lines, without a newline."""
 
     def __init__(self, seed):
         self.dice = random.Random(seed)
@@ -298,7 +298,7 @@ class Draws:
         return self.pick(BLANKS) if self.once_in(16) else b""
 
     def comma(self):
-        """Each third one has the blank behind it that Python's `json.dumps` writes, and none before it."""
+        """Each third one has the space after it that Python's `json.dumps` writes, and none before it."""
         return b", " if self.once_in(3) else self.blanks() + b"," + self.blanks()
 
     def digits(self, count):
@@ -378,7 +378,7 @@ class Draws:
         return self.word(b"a") + self.blanks() + b":" + self.blanks()
 
     def open(self, closing):
-        """Begins a list or an object. Behind it a value has to come."""
+        """Begins a list or an object. After it a value has to come."""
         if self.once_in(2):
             closing.append(b"]")
             return b"["
@@ -467,7 +467,7 @@ class Draws:
     )
 
     def place(self):
-        """Mostly behind the opening alone."""
+        """Mostly directly after line 1."""
         return (SPENT, FULL, BUSY, *(FRESH,) * 13)[self.below(16)]
 
     def ending(self):
@@ -479,7 +479,7 @@ class Draws:
 
 
 def run(program, scripts):
-    """What each of these scripts writes, with a line behind it that tells how it ended."""
+    """What each of these scripts writes, with a line after it that says how it ended."""
     given = b"".join(len(script).to_bytes(4, "big") + script for script in scripts)
     ran = subprocess.run([program, "scripts"], input=given, capture_output=True, timeout=600, check=False)
     same("status and standard error", (0, b""), (ran.returncode, ran.stderr))

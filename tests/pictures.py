@@ -4,7 +4,7 @@
     tests/pictures.py crates/sgt/out/sgt
     tests/pictures.py crates/sgt/out/sgt write      # draws the pictures of the examples anew
 
-Of each picture an XML reader tells whether it is well formed. Its marks, its arrows and what is red are compared with what the
+An XML reader says of each picture whether it is well formed. Its marks, its arrows and what is red are compared with what the
 operations and the report say, and the boxes with each other and with the size of the picture.
 """
 

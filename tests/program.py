@@ -3,8 +3,8 @@
 
     tests/program.py crates/sgt/out/sgt
 
-A case that differs is told with what was wanted and what came. The last line counts the cases. What the program tells of its
-own usage stands in `expected`.
+A case that differs is reported with what was wanted and what came. The last line counts the cases. Its help
+stands in `expected`.
 """
 
 import os
@@ -28,7 +28,7 @@ EXAMPLES = TESTS.parent / "examples"
 INPUTS = TESTS / "inputs"
 EXPECTED = TESTS / "expected"
 
-# What is told of scripts of those two with `--explain`, each worked out by hand.
+# The explanations of scripts of those two with `--explain`, each worked out by hand.
 EXPLANATIONS = EXPECTED / "explanations"
 
 # The most bytes that an input may have.
@@ -243,7 +243,7 @@ def draws_each_edge_once(sgt):
 
 
 def graph_of(words, report):
-    """The graph of these operations by its plainest definition, with the cycle that the report tells."""
+    """The graph of these operations by its plainest definition, with the cycle of the report."""
     operations = [re.fullmatch(r"([rwca])(\d+)(.*)", word).groups() for word in words]
     committed = [transaction for kind, transaction, _ in operations if kind == "c"]
     first = {}
@@ -386,7 +386,7 @@ def leaves_records(sgt, script, *words):
         raise Differs(f"{script.parent.name}/{script.name}: {why}") from None
 
 
-# Lost updates, of which 1 and then 0 is aborted: the second part begins behind a cut.
+# Lost updates, of which 1 and then 0 is aborted: the second part begins after a cut.
 LOST = '["start",1,[1,100]]\n["start",1,[1,50]]\n' + '["step",0]\n["step",0]\n["step",1]\n["step",1]\n["step",0]\n["step",1]\n'
 LOST_REPLIES = ("started 0\nstarted 1\nread 0/1 101\nread 2/101 1000\nread 0/1 101\nread 2/101 1000\nwrote 2/101 1100\n"
                 "aborted cycle 1 0 fell none\n")
@@ -400,7 +400,7 @@ def why_lost(first):
 
 
 def explained_by_hand(script):
-    """What is told of a script of the examples or of the inputs; nothing where no file is there."""
+    """The explanations of a script of the examples or of the inputs; nothing if no file is there."""
     told = EXPLANATIONS / f"{script.parent.name}_{script.stem}.txt"
     return told.read_text() if told.exists() else ""
 
@@ -415,7 +415,7 @@ def explains_each_example(sgt):
 
 
 def explains_each_input(sgt):
-    """Nothing else of a run changes, and its fault is told as without the word, with one line more at most."""
+    """Nothing else of a run changes, and its error is reported as without the option, with one line more at most."""
     for folder in ("scripts", "script_faults"):
         for script in sorted((INPUTS / folder).glob("*.jsonl")):
             status, wrote, told = sgt.run("script", given=script.read_text())
@@ -427,7 +427,7 @@ def explains_each_input(sgt):
             same(f"{folder}/{script.name}", (status, wrote, before + told), (*came[:2], "".join(lines)))
 
 
-# A line of what is told of a job's tries, and an attempt that failed in it.
+# A line of a job's tries, and an attempt that failed in it.
 TRIED = re.compile(r"job (\d+): (\d+) (try|tries)(?:: (.*))?")
 ATTEMPT = re.compile(r"(\d+)(?: \((?:cycle with ([\d, ]+)|fell with (\d+))\))?")
 
@@ -450,7 +450,7 @@ def tells_how_often_each_job_of_the_examples_was_tried(sgt):
             raise Differs(f"{jobs.parent.name}/{jobs.name}: {why}") from None
 
 
-# Of two procedures that look at a record many times and then store into it, so that two which overlap close a cycle: the one reads
+# Of two procedures that read a record many times and then write it, so that two which overlap close a cycle: the one reads
 # first what the other has stored.
 LOOKS = ",".join(['["look",0,1,101,5]'] * 60) + ',["put",1,101,["sum",["reg",0],1]]'
 OVERLAPPING = ('{"limits":[16,4000000],"accounts":[[1,101,0,0]],"procedures":'
@@ -472,7 +472,7 @@ def tells_by_whom_tries_were_aborted(sgt):
 
 
 def tried(report, lines, tally):
-    """Compares lines of tries with the report: each transaction that was started is told once, and those that failed with others of
+    """Compares lines of tries with the report: each transaction that was started is reported once, and those that failed with others of
     the run. Counts those that were in a cycle, and those that fell."""
     outcomes = [line.split() for line in report if "/" not in line.split()[0]]
     same("the lines", len(outcomes), len(lines))
@@ -570,7 +570,7 @@ def tells_of_a_bank_that_has_a_fault_no_more_than_that(sgt):
 
 
 def explains_by_the_lines_of_the_whole_script(sgt):
-    """Also behind a cut, where transactions are numbered from 0 again, and behind a cut that is refused."""
+    """Also after a cut, where transactions are numbered from 0 again, and after a cut that is refused."""
     given = OPENING + LOST + '["cut"]\n["quit",0]\n["cut"]\n' + LOST
     out = LOST_REPLIES + "still live\naborted quit fell none\ncut 9\n" + LOST_REPLIES + RECORDS
     sgt.expect("script", "--explain", given=given, out=out, err=why_lost(2) + why_lost(13) + "1 transaction is live at the end: 0\n")
@@ -615,7 +615,7 @@ def checks_no_operations(sgt):
 
 
 def names_the_fault_of_a_history(sgt):
-    # The first 32 bytes of a word are told, and none of them where it is not printable.
+    # The first 32 bytes of a word are shown, and none of them where it is not printable.
     for word, told in (("r1x", "r1x"), ("r01[x]", "r01[x]"), ("c4294967296", "c4294967296"), ("w1[]", "w1[]"), ("\x01r1[\x7f]", "?r1[?]"),
                        ("r1[" + "x" * 65 + "]", "r1[" + "x" * 29)):
         sgt.expect("check", given=f"r1[x]\n\nc1 {word} c1", status=2, err=f"line 3: no operation: {told}\n")
@@ -687,7 +687,7 @@ def takes_the_workers(sgt):
 
 
 def takes_the_tries(sgt):
-    """Each job looks at a record many times and then stores into it, so two that overlap close a cycle."""
+    """Each job reads a record many times and then writes it, so two that overlap close a cycle."""
     jobs = 400
     look = ",".join(['["look",0,1,101,5]'] * 60)
     procedure = f'[0,[{look},["put",1,101,["sum",["reg",0],1]],["answer",["reg",0]]]]'

@@ -1,10 +1,10 @@
 #!/usr/bin/env python3
-"""Runs threads on one shared engine of the library for C, and judges from outside what they were told.
+"""Runs threads on one shared engine of the library for C, and judges their replies from outside.
 
     tests/threads.py
 
-It takes the library that `bindings/build` has made. Each case is told, the last line counts them; where something is missing on
-this machine, what was left out is told.
+It takes the library that `bindings/build` has made. Each case is reported, the last line counts them; where something is missing on
+this machine, what was left out is reported.
 """
 
 import json
@@ -52,7 +52,7 @@ def opening_on(rows):
 
 
 def judged(parts):
-    """Compares each part with the definitions. The rows at the end, and of all parts who ended, in order, with what was told."""
+    """Compares each part with the definitions. The rows at the end, and of all parts who ended, in order, with their replies."""
     opening, ends = LIMITS % ACCOUNTS, []
     for part, entries in enumerate(parts):
         checker, calls = Checker(opening), []
@@ -72,7 +72,7 @@ def judged(parts):
 
 
 def told_of(folder):
-    """What the threads were told of each transaction: what they asked, and the reply."""
+    """The replies to the threads of each transaction, with what they asked."""
     told = defaultdict(list)
     for path in folder.glob("thread.*"):
         for line in path.read_text().splitlines():
@@ -96,7 +96,7 @@ def entries_of(parts):
 
 
 def compare_replies(told, entries):
-    """Whoever steps was told each entry; whoever runs was told its last one."""
+    """Whoever steps got each reply; whoever runs got the last one."""
     for ticket, replies in told.items():
         ran = [reply for kind, reply in replies if kind == "run"]
         if not ran:

@@ -3,8 +3,8 @@
 
     tests/workers.py crates/sgt/out/sgt crates/sgt_bank_runs/out/sgt_bank_runs
 
-The second program tells the history behind a bank's report, which is compared with the definitions as `helpers/legal.py`
-has them. The library of `c/failing.c` is made with `cc`, as in `tests/hostile.py`. Each case is told as there, and the last
+The second program writes the history of a bank's report, which is compared with the definitions as `helpers/legal.py`
+has them. The library of `c/failing.c` is made with `cc`, as in `tests/hostile.py`. Each case is reported as there, and the last
 line counts them.
 """
 
@@ -31,7 +31,7 @@ BANKS, JOBS_OF_A_BANK, WORKERS, ACCOUNTS = 20, 1_000, 16, 5
 
 
 def report_on(done):
-    """What a bank of one worker writes where these of the deposits were done, and the others were refused memory."""
+    """What a bank of one worker writes where these of the deposits were done, and the others had no memory."""
     rows, lines = rows_of(OPENING), []
     for number, (name, amount) in enumerate(DEPOSITS):
         if number in done:
@@ -43,7 +43,7 @@ def report_on(done):
 
 
 def outcome_of(came, what):
-    """What became of a bank of which growths were refused: a fault, and nothing was written, or the deposits that were done."""
+    """What became of a bank whose allocations failed: a fault, and nothing was written, or the deposits that were done."""
     status, out, told = came
     if status == 0:
         done = {int(line.split()[0]) for line in out.splitlines() if line.split()[1] == "committed"}
@@ -56,7 +56,7 @@ def outcome_of(came, what):
 
 
 def refuses_each_growth_of_a_bank(sgt, _):
-    """One growth is refused, or some from one on, or all: never do the receipts differ from the history."""
+    """One allocation fails, or some from one on, or all: never do the receipts differ from the history."""
     count = sgt.allocations(*BANK, given=JOBS)
     came = Counter()
     for number in range(1, count + 1):
@@ -78,7 +78,7 @@ def refuses_each_growth_of_a_bank(sgt, _):
 
 
 def quits_where_all_memory_is_refused(_, program):
-    """A session quits what it has started, the first one behind the first line and the others at the end."""
+    """A session quits what it has started, the first one after the first line and the others at the end."""
     start = "started\naborted quit fell none\n"
     same("with memory", (0, start + "32 started, then full\n32 quit\n", ""), program.run("quit"))
     status, out, told = program.run("quit", refuse_after_writes=1)
@@ -142,7 +142,7 @@ def check_report(checker, replies, outcomes, workers):
 
 
 def parts_of(told):
-    """The events, their replies, and the report behind them."""
+    """The events, their replies, and the report after them."""
     asked = sum(line.startswith("[") for line in told)
     return told[: 2 * asked : 2], told[1 : 2 * asked : 2], told[2 * asked :]
 
@@ -223,7 +223,7 @@ def presses_five_accounts(_, program):
 
 
 def refusals_are_those_of_the_serial_run(_, program):
-    """Jobs that ask where they find what lies between two stores. No serial run has that, and none is told so."""
+    """Jobs that ask where they find what lies between two stores. No serial run has that, and none is reported."""
     opened, total = opening("32,100000,1", IN_TWO_STEPS), Counter()
     for seed in range(BANKS):
         draw = random.Random(seed)

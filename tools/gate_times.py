@@ -3,7 +3,7 @@
 
     tools/gate_times.py [--every SECONDS] [COMMAND WORD..]
 
-It runs `./test` at the top of the repository, or the command that is named, and shows its output. Meanwhile it looks at the processes
+It runs `./test` of the repository, or the command that is named, and shows its output. Meanwhile it looks at the processes
 of that run every half second, and reads from their words what each prover works on. The table has a row for each crate:
 
     Proof           the crate

@@ -6,7 +6,7 @@ of its answer is a file, a line and a name. It ends with status 1 where it lists
 
 A lemma is used if an answer, an invariant, a definition of specs/, a `using(..)` in src/, or a worked history names it, or a
 lemma that is used does. So lemmas that only name each other are listed as well, and so is what stands in a file for them alone.
-A name counts where it is defined or imported; behind a dot it is a field, and does not count. Worked histories and wrong replies
+A name counts where it is defined or imported; after a dot it is a field, and does not count. Worked histories and wrong replies
 (Examples*.antt, WrongReplies.antt) are there for their own sake and are never listed.
 
 A lemma that a tactic finds unnamed is listed too: check a crate after taking one out.

@@ -87,6 +87,9 @@ class Bank:
         told = pay(self.database, *args)
         return Reply(Kind.REFUSED, code=told.code) if told.code else Reply(Kind.COMMITTED, answers=told.answers)
 
+    def run_all(self, calls: list) -> list:
+        return [self.run(*call) for call in calls]
+
     def cut_if_long(self) -> bool:
         return False
 

@@ -404,12 +404,11 @@ static void unmade(sgt_shared *s)
 uint32_t sgt_shared_open(sgt_shared **shared, const uint8_t *opening, size_t length, const sgt_row *rows, size_t count,
                          const sgt_shared_config *config, sgt_fault *fault)
 {
-    static const sgt_row none;
     sgt_shared_config with = SGT_SHARED_CONFIG;
     if (!shared || !opening || !fault || (count > 0 && !rows) || !configured(&with, config)) return SGT_BAD_CALL;
     sgt_shared *s = made(&with);
     if (!s) return SGT_NO_MEMORY;
-    uint32_t status = sgt_open_with(&s->engine, opening, length, rows ? rows : &none, count, fault);
+    uint32_t status = sgt_open_with(&s->engine, opening, length, rows, count, fault);
     if (status == SGT_OK) *shared = s;
     else unmade(s);
     return status;
@@ -612,10 +611,9 @@ uint32_t sgt_shared_get(sgt_shared *shared, uint64_t table, int64_t number, int6
 
 uint32_t sgt_shared_rows(sgt_shared *shared, uint64_t table, int64_t number, sgt_row *rows, size_t room, uint64_t *count)
 {
-    sgt_row none = {0};
     uint32_t status = count && (rows || room == 0) ? enter(shared) : (uint32_t)SGT_BAD_CALL;
     if (status != SGT_OK) return status;
-    return leave(shared, sgt_rows(&shared->engine, table, number, rows ? rows : &none, room, count));
+    return leave(shared, sgt_rows(&shared->engine, table, number, rows, room, count));
 }
 
 uint32_t sgt_shared_entries(sgt_shared *shared, uint64_t *count, uint64_t *part)

@@ -109,7 +109,8 @@ struct Ran {
 };
 
 // An engine for one thread at a time. If memory is short a call throws std::bad_alloc: then nothing has changed, but that a run may
-// have started its transaction and quit it. Too many arguments are std::invalid_argument.
+// have started its transaction and quit it. Too many arguments are std::invalid_argument. A member that is const leaves the engine as
+// it was; two threads may not be in it at once for all that.
 class Engine {
 public:
     explicit Engine(std::string_view opening) : Engine(opening, {}) {}
@@ -119,10 +120,7 @@ public:
     {
         sgt_fault fault{};
         auto bytes = reinterpret_cast<const std::uint8_t *>(opening.data());
-        static const std::uint8_t none = 0;
-        static const sgt_row no_row{};
-        auto row = rows.empty() ? &no_row : rows.data();
-        auto status = sgt_open_with(&engine, bytes ? bytes : &none, opening.size(), row, rows.size(), &fault);
+        auto status = sgt_open_with(&engine, bytes, opening.size(), rows.data(), rows.size(), &fault);
         if (status >= SGT_NOT_JSON) throw Refused(fault);
         check(status);
     }
@@ -198,7 +196,7 @@ public:
     sgt_reply quit(std::uint32_t tid) { return ask(sgt_quit, tid); }
 
     // The committed value, or none where there is no such record.
-    std::optional<std::int64_t> get(std::uint64_t table, std::int64_t number)
+    std::optional<std::int64_t> get(std::uint64_t table, std::int64_t number) const
     {
         std::int64_t value = 0;
         auto status = sgt_get(&engine, table, number, &value);
@@ -208,18 +206,17 @@ public:
     }
 
     // The committed database from a record on, by table and then by number.
-    std::vector<sgt_row> rows(std::uint64_t table = 0, std::int64_t number = SGT_LEAST)
+    std::vector<sgt_row> rows(std::uint64_t table = 0, std::int64_t number = SGT_LEAST) const
     {
-        sgt_row none{};
         std::uint64_t count = 0;
-        check(sgt_rows(&engine, table, number, &none, 0, &count));
+        check(sgt_rows(&engine, table, number, nullptr, 0, &count));
         std::vector<sgt_row> rows(count);
         if (count) check(sgt_rows(&engine, table, number, rows.data(), rows.size(), &count));
         return rows;
     }
 
     // How many records the committed database has.
-    std::uint64_t records()
+    std::uint64_t records() const
     {
         std::uint64_t count = 0;
         check(sgt_records(&engine, &count));
@@ -227,14 +224,14 @@ public:
     }
 
     // How many cuts there were. With it a transaction's number is never another's.
-    std::uint64_t part()
+    std::uint64_t part() const
     {
         std::uint64_t part = 0;
         check(sgt_part(&engine, &part));
         return part;
     }
 
-    std::uint64_t entries()
+    std::uint64_t entries() const
     {
         std::uint64_t count = 0;
         check(sgt_entries(&engine, &count));
@@ -242,7 +239,7 @@ public:
     }
 
     // The entry at a place, counted from 0, oldest first, or none where there are not so many.
-    std::optional<Entry> entry(std::uint64_t place)
+    std::optional<Entry> entry(std::uint64_t place) const
     {
         Entry entry{};
         auto status = sgt_entry(&engine, place, &entry.event, &entry.reply);
@@ -253,7 +250,7 @@ public:
 
     // At most so many of the committed and refused calls, in reply order, that the history has from a place on, and the place to go on
     // from; none where there are not so many entries. Run one after another, these calls give the same answers.
-    std::optional<std::pair<std::vector<sgt_call>, std::uint64_t>> calls(std::uint64_t from, std::size_t most)
+    std::optional<std::pair<std::vector<sgt_call>, std::uint64_t>> calls(std::uint64_t from, std::size_t most) const
     {
         std::vector<sgt_call> calls(most ? most : 1);
         std::uint64_t count = 0, next = 0;

@@ -4,7 +4,7 @@ import json
 import pathlib
 import struct
 import sys
-from typing import NamedTuple, Optional, Sequence
+from typing import Sequence
 
 sys.path.insert(0, str(pathlib.Path(__file__).resolve().parents[2] / "bindings" / "python"))
 from sgt import Engine, Kind, Reply  # noqa: E402
@@ -17,27 +17,37 @@ class Damaged(Exception):
     """The journal or a snapshot can't be trusted."""
 
 
-class Procedure(NamedTuple):
+class Procedure:
     """A procedure of the folder, with what a client sends and gets."""
 
-    name: str
-    request: tuple[str, ...]  # the keys of a request; clients can't ask for a procedure without any
-    done: Optional[str]  # a key that is true in the reply if it committed
-    reply: tuple[str, ...]  # the keys of its answers
-    refused: dict[int, str]  # what each code means
-    text: list  # as docs/LANGUAGE.md has it
-    writes: bool  # whether it can write at all; a call that can't is not journaled
+    def __init__(self, name: str, file: dict) -> None:
+        self.name, self.text = name, file["procedure"]  # the text is as docs/LANGUAGE.md has it
+        self.request: tuple[str, ...] = tuple(file.get("request", ()))  # clients can't ask for a procedure without any keys
+        self.writes = '"put"' in json.dumps(self.text)  # a call that can't write is not journaled
+        if self.request and len(self.request) != self.text[0]:
+            raise Damaged(f"{name}.json: the request has {len(self.request)} keys, and the procedure takes {self.text[0]} arguments")
+        # The parts of a reply as text, in which %d stands for a number.
+        self._begin = "{" + spelled(self.request[0] if self.request else "") + "%d"
+        self._done = ", " + json.dumps(file["done"]) + ": true" if file.get("done") else ""
+        self._answers = [", " + spelled(key) + "%d" for key in file.get("reply", ())]
+        self._reasons = {int(code): reason for code, reason in file.get("refused", {}).items()}
+
+    def reply(self, first: int, reply: Reply) -> str:
+        """The line that a client gets: its first argument, and the answers, or why it was refused."""
+        begin = self._begin % first
+        if reply.kind is not Kind.COMMITTED:
+            return f'{begin}, "refused": {json.dumps(self._reasons.get(reply.code, f"code {reply.code}"))}}}\n'
+        return begin + self._done + "".join([key % value for key, value in zip(self._answers, reply.answers)]) + "}\n"
+
+
+def spelled(key: str) -> str:
+    """A key of a reply, in which %d may follow."""
+    return json.dumps(key).replace("%", "%%") + ": "
 
 
 def load_procedures(folder: pathlib.Path) -> dict[str, Procedure]:
     """The procedures of a folder, by name."""
-    found = {}
-    for path in sorted(folder.glob("*.json")):
-        file = json.loads(path.read_text())
-        reasons = {int(code): reason for code, reason in file.get("refused", {}).items()}
-        request, reply, text = tuple(file.get("request", ())), tuple(file.get("reply", ())), file["procedure"]
-        found[path.stem] = Procedure(path.stem, request, file.get("done"), reply, reasons, text, '"put"' in json.dumps(text))
-    return found
+    return {path.stem: Procedure(path.stem, json.loads(path.read_text())) for path in sorted(folder.glob("*.json"))}
 
 
 class Bank:
@@ -53,7 +63,11 @@ class Bank:
 
     def run(self, name: str, args: Sequence[int]) -> Reply:
         """Runs a call as a transaction of its own. The reply is COMMITTED with its answers, or REFUSED with a code."""
-        return self._engine.run(self._numbers[name], *args)[1]
+        return self.run_all([(name, args)])[0]
+
+    def run_all(self, calls: Sequence[tuple[str, Sequence[int]]]) -> list[Reply]:
+        """Runs calls one after another."""
+        return [reply for _, reply in self._engine.run_many([(self._numbers[name], *args) for name, args in calls])]
 
     def replay(self, seq: int, name: str, args: Sequence[int]) -> None:
         """Runs a call of the journal. It committed when it was journaled, so it commits again, or the journal is not this bank's."""

@@ -22,7 +22,7 @@ class Record(NamedTuple):
 
     def line(self) -> bytes:
         """The line: a checksum, and the fields. The empty line before a mark keeps it apart from damage before it."""
-        body = " ".join(map(str, (self.seq, self.safe, self.name, *self.args))).encode()
+        body = b"%d %d %b" % (self.seq, self.safe, " ".join([self.name, *map(str, self.args)]).encode())
         return b"%s%08x %s\n" % (b"\n" if self.name == MARK else b"", zlib.crc32(body), body)
 
 

@@ -5,12 +5,12 @@ import argparse
 import hashlib
 import json
 import pathlib
-import selectors
+import select
 import signal
 import socket
 import sys
 import time
-from typing import Optional
+from typing import Union
 
 from audit import show, verify
 from bank import Bank, Damaged, Procedure, first_rows, load_procedures
@@ -18,7 +18,14 @@ from journal import FileJournal, Record
 from sgt import LEAST, MOST, Kind
 
 LONGEST = 1000  # bytes of a request
+NOT_JSON = '{"error": "not JSON"}\n'
+NO_REQUEST = '{"error": "the keys are not those of a procedure, or a value is no whole number of at most fifteen digits"}\n'
+read_json = json.JSONDecoder().raw_decode  # a value, and where it ends
 IDLE = 0.1  # seconds without a request, after which the journal notes what is safe
+
+
+# What is asked on a line: a procedure with its arguments, None for all rows, or text that is the reply already.
+Request = Union[tuple[Procedure, list[int]], None, str]
 
 
 class Server:
@@ -28,24 +35,28 @@ class Server:
         self.bank, self.journal, self.procedures = bank, journal, procedures
         self.requests = {frozenset(it.request): it for it in procedures.values() if it.request}
         self.batch: list[Record] = []
-        self.heard: dict[socket.socket, bytes] = {}
+        self.clients: dict[int, socket.socket] = {}
+        self.heard: dict[int, bytes] = {}  # of each client the beginning of a line
         self.is_marked, self.day = True, -1
-        self.selector = selectors.DefaultSelector()
         self.listener = socket.create_server(("127.0.0.1", port), backlog=1024)
         self.listener.setblocking(False)
-        self.selector.register(self.listener, selectors.EVENT_READ)
+        self.poll = select.epoll()
+        self.poll.register(self.listener, select.EPOLLIN)
 
     def turn(self) -> None:
         """Waits for requests, and answers all that have come in."""
-        replies: list[tuple[socket.socket, Optional[bytes]]] = []
-        for key, _ in self.selector.select(IDLE):
-            if key.fileobj is self.listener:
+        asked: list[tuple[int, Request]] = []
+        for number, _ in self.poll.poll(IDLE):
+            if number == self.listener.fileno():
                 self.accept()
             else:
-                replies.append((key.fileobj, self.receive(key.fileobj)))
+                asked += [(number, self.request(line)) for line in self.receive(number)]
+        replies: dict[int, str] = {}
+        for (number, _), reply in zip(asked, self.run([request for _, request in asked])):
+            replies[number] = replies.get(number, "") + reply
         self.before_replies()
-        for client, reply in replies:
-            self.send(client, reply)
+        for number, reply in replies.items():
+            self.send(number, reply)
         if self.bank.cut_if_long():
             self.journal.cut(self.bank)
 
@@ -58,67 +69,80 @@ class Server:
             self.journal.mark(self.bank.seq)
             self.is_marked = True
 
-    def answer(self, line: bytes) -> dict:
-        """The reply to a request."""
+    def request(self, line: bytes) -> Request:
+        """What is asked on a line."""
         try:
-            asked = json.loads(line)
+            text = line.strip().decode()
+            asked, end = read_json(text)
         except (ValueError, RecursionError):
-            return {"error": "not JSON"}
+            return NOT_JSON
+        if end != len(text):
+            return NOT_JSON
         if asked == {"rows": True}:
-            return {"seq": self.bank.seq, "sha256": hashlib.sha256(self.bank.rows()).hexdigest()}
+            return None
         procedure = self.requests.get(frozenset(asked)) if isinstance(asked, dict) else None
         if procedure is None or not all(type(value) is int and LEAST <= value <= MOST for value in asked.values()):
-            return {"error": "the keys are not those of a procedure, or a value is no whole number of at most fifteen digits"}
-        self.begin_day()
-        key = procedure.request[0]
-        return {key: asked[key], **self.call(procedure, [asked[name] for name in procedure.request])}
+            return NO_REQUEST
+        return procedure, [asked[key] for key in procedure.request]
 
-    def call(self, procedure: Procedure, args: list[int]) -> dict:
-        """Runs a call, adds it to the batch if it committed, and returns what its client is told."""
+    def run(self, requests: list[Request]) -> list[str]:
+        """Runs the calls among the requests, adds those that committed to the batch, and returns the replies to all."""
+        calls = [it for it in requests if isinstance(it, tuple)]
+        if calls:
+            self.begin_day()
         safe = self.bank.seq - len(self.batch)
-        reply = self.bank.run(procedure.name, args)
-        if reply.kind is not Kind.COMMITTED:
-            return {"refused": procedure.refused.get(reply.code, f"code {reply.code}")}
-        if procedure.writes:
-            self.bank.seq += 1
-            self.batch.append(Record(self.bank.seq, safe, procedure.name, tuple(args)))
-        return {**({procedure.done: True} if procedure.done else {}), **dict(zip(procedure.reply, reply.answers))}
+        replies = iter(self.bank.run_all([(procedure.name, args) for procedure, args in calls]))
+        told = []
+        for request in requests:
+            if isinstance(request, tuple):
+                (procedure, args), reply = request, next(replies)
+                request = procedure.reply(args[0], reply)
+                if procedure.writes and reply.kind is Kind.COMMITTED:
+                    self.bank.seq += 1
+                    self.batch.append(Record(self.bank.seq, safe, procedure.name, tuple(args)))
+            told.append(self.rows() if request is None else request)
+        return told
 
     def begin_day(self) -> None:
         """Tells the bank the day, as a call: a procedure has no clock, so the day stands in the journal."""
         day = int(time.time() // 86_400)
         if day != self.day and "day" in self.procedures:
-            self.call(self.procedures["day"], [day])
             self.day = day
+            self.run([(self.procedures["day"], [day])])
+
+    def rows(self) -> str:
+        """What stands for all rows."""
+        return json.dumps({"seq": self.bank.seq, "sha256": hashlib.sha256(self.bank.rows()).hexdigest()}) + "\n"
 
     def accept(self) -> None:
-        connection, _ = self.listener.accept()
-        connection.setblocking(False)
-        connection.setsockopt(socket.IPPROTO_TCP, socket.TCP_NODELAY, 1)
-        self.selector.register(connection, selectors.EVENT_READ)
-        self.heard[connection] = b""
+        client, _ = self.listener.accept()
+        client.setblocking(False)
+        client.setsockopt(socket.IPPROTO_TCP, socket.TCP_NODELAY, 1)
+        self.poll.register(client, select.EPOLLIN)
+        self.clients[client.fileno()], self.heard[client.fileno()] = client, b""
 
-    def receive(self, client: socket.socket) -> Optional[bytes]:
-        """The replies to what the client has sent, or None if it is gone or sends a line that is too long."""
+    def receive(self, number: int) -> list[bytes]:
+        """The lines that have come from a client. One that is gone, or sends a line that is too long, is dropped."""
         try:
-            data = client.recv(16_384)
+            data = self.clients[number].recv(16_384)
         except ConnectionError:
-            return None
-        *lines, self.heard[client] = (self.heard[client] + data).split(b"\n")
-        if not data or max(map(len, (*lines, self.heard[client]))) > LONGEST:
-            return None
-        return b"".join(json.dumps(self.answer(line)).encode() + b"\n" for line in lines)
+            data = b""
+        *lines, self.heard[number] = (self.heard[number] + data).split(b"\n")
+        if data and max(map(len, (*lines, self.heard[number]))) <= LONGEST:
+            return lines
+        self.drop(number)
+        return []
 
-    def send(self, client: socket.socket, replies: Optional[bytes]) -> None:
+    def send(self, number: int, replies: str) -> None:
         """Sends the replies. A client that is gone, or takes no replies, is dropped; it can ask again with its id."""
         try:
-            if replies is None:
-                raise ConnectionError
-            client.sendall(replies)
+            self.clients[number].sendall(replies.encode())
         except (BlockingIOError, ConnectionError):
-            self.selector.unregister(client)
-            client.close()
-            del self.heard[client]
+            self.drop(number)
+
+    def drop(self, number: int) -> None:
+        self.clients.pop(number).close()
+        del self.heard[number]
 
 
 def serve(words: argparse.Namespace) -> None:

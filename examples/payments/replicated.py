@@ -18,7 +18,7 @@ from typing import Iterator, Union
 
 from bank import Bank, Damaged, Procedure, first_rows, load_procedures
 from journal import Record, pack_snapshot, read, unpack_snapshot
-from payments import Server, run
+from payments import Request, Server, run
 
 
 class RedisJournal:
@@ -100,20 +100,15 @@ class Replica(Server):
         super().__init__(bank, journal, procedures, port)
         self.journal: RedisJournal = journal
 
-    def answer(self, line: bytes) -> dict:
-        """The reply to a request. What a follower reads may be as old as IDLE says."""
-        if not self.journal.follows:
-            return super().answer(line)
-        try:
-            asked = json.loads(line)
-        except (ValueError, RecursionError):
-            return {"error": "not JSON"}
-        if asked == {"promote": True}:
+    def request(self, line: bytes) -> Request:
+        """What is asked on a line. What a follower reads may be as old as IDLE says."""
+        if self.journal.follows and b"".join(line.split()) == b'{"promote":true}':
             self.journal.catch_up(self.bank)
             self.journal.follows = False
-            return {"promoted": self.bank.seq}
-        procedure = self.requests.get(frozenset(asked)) if isinstance(asked, dict) else None
-        return {"error": "this is a follower"} if procedure is not None and procedure.writes else super().answer(line)
+            return json.dumps({"promoted": self.bank.seq}) + "\n"
+        asked = super().request(line)
+        is_refused = self.journal.follows and isinstance(asked, tuple) and asked[0].writes
+        return '{"error": "this is a follower"}\n' if is_refused else asked
 
     def begin_day(self) -> None:
         if not self.journal.follows:

@@ -431,6 +431,109 @@ static void many_calls_are_run(void)
     sgt_close(&other);
 }
 
+/* Each pointer of each call in turn: a null engine is a closed one, and another null pointer a bad call. Nothing is written. */
+static void null_pointers_are_told(void)
+{
+    const uint8_t *line = (const uint8_t *)opening;
+    const size_t length = strlen(opening);
+    const sgt_call asked = {.procedure = 1, .args = 2, .arg = {1, 100}};
+    const sgt_row own = {7, 0, 5, 50};
+    sgt_engine engine = {0};
+    sgt_fault fault = {0};
+    sgt_reply told = {0};
+    sgt_event event = {0};
+    sgt_call call = {0};
+    sgt_outcome outcome = {0};
+    sgt_row row = {0};
+    char text[8] = "";
+    uint16_t number = 77;
+    uint32_t t = 77;
+    uint64_t count = 77, next = 77;
+    int64_t value = 77;
+    sgt_close(0);
+    CHECK(sgt_open(0, line, length, &fault) == 5);
+    CHECK(sgt_open(&engine, 0, length, &fault) == 5);
+    CHECK(sgt_open(&engine, line, length, 0) == 5);
+    CHECK(sgt_open_with(0, line, length, &own, 1, &fault) == 5);
+    CHECK(sgt_open_with(&engine, 0, length, &own, 1, &fault) == 5);
+    CHECK(sgt_open_with(&engine, line, length, 0, 1, &fault) == 5);
+    CHECK(sgt_open_with(&engine, line, length, &own, 1, 0) == 5);
+    CHECK(sgt_open_bare(0, 8, 100, 1) == 5);
+    CHECK(!engine.is_open && !engine.at);
+    CHECK(opens(&engine, opening, &fault) == 0);
+    CHECK(sgt_put(0, &own, 1, &count) == 2);
+    CHECK(sgt_put(&engine, 0, 1, &count) == 5);
+    CHECK(sgt_put(&engine, &own, 1, 0) == 5);
+    CHECK(sgt_procedure(0, line, length, &number, &fault) == 2);
+    CHECK(sgt_procedure(&engine, 0, length, &number, &fault) == 5);
+    CHECK(sgt_procedure(&engine, line, length, 0, &fault) == 5);
+    CHECK(sgt_procedure(&engine, line, length, &number, 0) == 5);
+    CHECK(sgt_start(0, 1, deposit, 2, &told) == 2);
+    CHECK(sgt_start(&engine, 1, 0, 2, &told) == 5);
+    CHECK(sgt_start(&engine, 1, deposit, 2, 0) == 5);
+    CHECK(sgt_step(0, 0, &told) == 2 && sgt_step(&engine, 0, 0) == 5);
+    CHECK(sgt_commit(0, 0, &told) == 2 && sgt_commit(&engine, 0, 0) == 5);
+    CHECK(sgt_quit(0, 0, &told) == 2 && sgt_quit(&engine, 0, 0) == 5);
+    CHECK(sgt_run(0, 1, deposit, 2, &t, &told) == 2);
+    CHECK(sgt_run(&engine, 1, 0, 2, &t, &told) == 5);
+    CHECK(sgt_run(&engine, 1, deposit, 2, 0, &told) == 5);
+    CHECK(sgt_run(&engine, 1, deposit, 2, &t, 0) == 5);
+    CHECK(sgt_run_many(0, &asked, 1, &outcome, 1, &count) == 2);
+    CHECK(sgt_run_many(&engine, 0, 1, &outcome, 1, &count) == 5);
+    CHECK(sgt_run_many(&engine, &asked, 1, 0, 1, &count) == 5);
+    CHECK(sgt_run_many(&engine, &asked, 1, &outcome, 1, 0) == 5);
+    CHECK(sgt_get(0, 2, 101, &value) == 2 && sgt_get(&engine, 2, 101, 0) == 5);
+    CHECK(sgt_rows(0, 0, 0, &row, 1, &count) == 2);
+    CHECK(sgt_rows(&engine, 0, 0, 0, 1, &count) == 5);
+    CHECK(sgt_rows(&engine, 0, 0, &row, 1, 0) == 5);
+    CHECK(sgt_records(0, &count) == 2 && sgt_records(&engine, 0) == 5);
+    CHECK(sgt_entries(0, &count) == 2 && sgt_entries(&engine, 0) == 5);
+    CHECK(sgt_entry(0, 0, &event, &told) == 2);
+    CHECK(sgt_entry(&engine, 0, 0, &told) == 5 && sgt_entry(&engine, 0, &event, 0) == 5);
+    CHECK(sgt_calls(0, 0, &call, 1, &count, &next) == 2);
+    CHECK(sgt_calls(&engine, 0, 0, 1, &count, &next) == 5);
+    CHECK(sgt_calls(&engine, 0, &call, 1, 0, &next) == 5);
+    CHECK(sgt_calls(&engine, 0, &call, 1, &count, 0) == 5);
+    CHECK(sgt_reserve(0, 1) == 2);
+    CHECK(sgt_cut(0, &count) == 2 && sgt_cut(&engine, 0) == 5);
+    CHECK(sgt_part(0, &count) == 2 && sgt_part(&engine, 0) == 5);
+    told.kind = 10;
+    CHECK(sgt_reply_text(0, text, 8, &count) == 5);
+    CHECK(sgt_reply_text(&told, 0, 8, &count) == 5);
+    CHECK(sgt_reply_text(&told, text, 8, 0) == 5);
+    CHECK(sgt_fault_text(0, text, 8, &count) == 5);
+    CHECK(sgt_fault_text(&fault, 0, 8, &count) == 5);
+    CHECK(sgt_fault_text(&fault, text, 8, 0) == 5);
+    CHECK(number == 77 && t == 77 && count == 77 && next == 77 && value == 77 && text[0] == 0);
+    CHECK(told.kind == 10 && fault.kind == 0 && event.kind == 0 && call.kind == 0 && outcome.reply.kind == 0 && row.value == 0);
+    CHECK(sgt_entries(&engine, &count) == 0 && count == 0);
+    sgt_close(&engine);
+}
+
+/* A list of no items needs no address. */
+static void lists_of_no_items_may_be_null(void)
+{
+    sgt_engine engine = {0};
+    const sgt_engine *read = &engine;
+    sgt_fault fault = {0};
+    sgt_reply told = {0};
+    uint16_t number = 77;
+    uint32_t t = 77;
+    uint64_t count = 77, next = 77;
+    CHECK(sgt_open(&engine, 0, 0, &fault) == 16);
+    CHECK(opens_with(&engine, opening, 0, 0, &fault) == 0);
+    CHECK(sgt_put(&engine, 0, 0, &count) == 0 && count == 77);
+    CHECK(sgt_procedure(&engine, 0, 0, &number, &fault) == 16 && number == 77);
+    CHECK(sgt_start(&engine, 1, 0, 0, &told) == 0 && told.kind == 3);
+    CHECK(sgt_run(&engine, 1, 0, 0, &t, &told) == 0 && told.kind == 3 && t == 77);
+    CHECK(sgt_run_many(&engine, 0, 0, 0, 0, &count) == 0 && count == 0);
+    CHECK(sgt_rows(read, 0, SGT_LEAST, 0, 0, &count) == 0 && count == 3);
+    CHECK(sgt_calls(read, 0, 0, 0, &count, &next) == 0 && count == 0);
+    CHECK(sgt_reply_text(&told, 0, 0, &count) == 0 && count == 8);
+    CHECK(sgt_fault_text(&fault, 0, 0, &count) == 0 && count == 8);
+    sgt_close(&engine);
+}
+
 /* As a second thread finds an engine that a call is in. */
 static void a_busy_engine_is_left_alone(void)
 {
@@ -686,6 +789,8 @@ int main(void)
     procedures_have_numbers_of_16_bits();
     a_run_goes_to_its_end();
     many_calls_are_run();
+    null_pointers_are_told();
+    lists_of_no_items_may_be_null();
     a_busy_engine_is_left_alone();
     wide_numbers_are_refused();
     an_engine_is_opened_bare();

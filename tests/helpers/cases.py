@@ -23,7 +23,7 @@ def same(what, wanted, came):
 
 
 def tell(cases, *given, of="sgt"):
-    """Runs each case on what is given, tells how it went, counts them in a last line, and gives the status."""
+    """Runs each case on what is given, reports how it went, counts them in a last line, and gives the status."""
     failed = 0
     for case in cases:
         name = case.__name__.replace("_", " ")

@@ -12,7 +12,7 @@ from helpers.legal import IN_TWO_STEPS, Run, key_text
 
 OPENING = '{{"limits":[8,100000{asks}],"accounts":[[1,101,500,1000],[2,102,300,200],[3,103,0,90]],"procedures":[' + IN_TWO_STEPS + "]}}\n"
 
-# What lines may put behind the opening: the account that transfers miss, and what the two steps store.
+# What lines may put after line 1: the account that transfers miss, and what the two steps store.
 RECORDS = ((0, -60, 104), (1, 104, 70), (2, 104, -7), (3, 7, 100))
 
 # How many arguments each procedure takes.
@@ -44,7 +44,7 @@ def drawn(seed, events):
 
 
 def explanation(script, replies):
-    """What is told of a script that ends well, by its lines and their replies."""
+    """The explanations of a script that ends well, by its lines and their replies."""
     told = []
     part = Part()
     lines = list(enumerate(script.splitlines()[1:], start=2))
@@ -67,7 +67,7 @@ class Part:
         self.calls = {}  # of each that was started
         self.live = set()
         self.gone = set()  # those that were aborted or fell
-        self.accesses = []  # line, whose, "read" or "wrote", key, from whom a look read
+        self.accesses = []  # line, whose, "read" or "wrote", key, from whom a read was
 
     def take(self, line, kind, first, *rest):
         """The texts that tell of an abort."""
@@ -90,7 +90,7 @@ class Part:
         return []
 
     def source(self, key):
-        """Whose store a look at the key finds, if one of those that were not aborted by now has stored it."""
+        """Whose write a read of the key finds, if one of those that were not aborted by now has written it."""
         stores = [whose for _, whose, done, other, *_ in self.accesses if done == "wrote" and other == key and whose not in self.gone]
         return stores[-1] if stores else None
 

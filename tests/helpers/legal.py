@@ -14,10 +14,10 @@ class Illegal(Exception):
 
 
 class Asks(Exception):
-    """The procedure asks a code."""
+    """The procedure aborts with a code."""
 
 
-# The procedures: each look is given its value, and each store is told.
+# The procedures: each read is given its value, and each write is reported.
 
 
 def held(value):
@@ -137,14 +137,14 @@ class Run:
             self.answer = end.value
 
     def told(self):
-        """What its caller is told at the end: the code that it asks, or its answer."""
+        """What its caller gets at the end: its code, or its answer."""
         if self.code is not None:
             return f"asked {self.code}"
         return f"committed {'none' if self.answer is None else self.answer}"
 
 
 def rows_of(opening):
-    """The records that the accounts of an opening have, and those of the record lines behind it."""
+    """The records that the accounts of an opening have, and those of the record lines after it."""
     first, *records = opening.splitlines()
     rows = {}
     for name, customer, saving, checking in json.loads(first)["accounts"]:
@@ -165,7 +165,7 @@ def database_text(rows):
 
 
 class Checker:
-    """Takes the entries of a history one after another, and tells the first that is not legal."""
+    """Takes the entries of a history one after another, and reports the first that is not legal."""
 
     def __init__(self, opening):
         first = json.loads(opening.splitlines()[0])
@@ -176,7 +176,7 @@ class Checker:
         self.settled = dict(self.opened)
         self.runs = []  # of each transaction that was started
         self.fates = {}  # of each that has ended, as a reply behind `over`
-        self.told = []  # the calls that were committed or refused, in that order, with what each was told
+        self.told = []  # the calls that were committed or refused, in that order, with what each was answered
         self.accesses = []  # of those that are live, in their order: who, look or store, key, value
         self.pairs = set()  # among those that are live: of two accesses in conflict the first one's, the second one's
         self.reads = set()  # who read from whom, while both are live
@@ -232,7 +232,7 @@ class Checker:
         return f"{verb} {key_text(key)} {'none' if value is None else value}"
 
     def seen(self, t, key):
-        """What a look of t finds: the last store of a live one, or what is settled."""
+        """What a read of t finds: the last write of a live one, or the committed value."""
         for u, kind, at, value in reversed(self.accesses):
             if kind == "store" and at == key:
                 if u != t:
@@ -248,7 +248,7 @@ class Checker:
         return reached
 
     def walk_in(self, t, rivals, reply):
-        """The cause of an abort by a cycle: any walk from t that the access would close will do."""
+        """The cause of an abort by a cycle: any path from t that the access would close will do."""
         words = reply.split()
         if words[:2] != ["aborted", "cycle"] or "fell" not in words:
             return "cycle"
@@ -262,7 +262,7 @@ class Checker:
         return f"aborted {cause} fell {self.undo(t, cause)}"
 
     def undo(self, t, cause):
-        """Ends t and those that read from it, and tells these."""
+        """Ends t and those that read from it, and returns these."""
         fell, new = set(), {t}
         while new:
             new = {reader for reader, writer in self.reads if writer in new} - fell
@@ -294,7 +294,7 @@ class Checker:
         self.reads = {pair for pair in self.reads if t not in pair}
 
     def serial(self):
-        """What the committed and refused ones leave, run one after another. Each has to give what it was told."""
+        """What the committed and refused ones leave, run one after another. Each has to give what it was answered."""
         rows = dict(self.opened)
         for (procedure, args), told in self.told:
             run, own = Run(procedure, args), dict(rows)

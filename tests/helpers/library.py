@@ -20,7 +20,7 @@ SHARED = BINDINGS / "c" / "sgt_shared.c"
 
 
 def run(words, seconds=SECONDS, env=None, cwd=None, also_errors=False):
-    """What the words write, where they end well; with standard error behind it, where that is asked."""
+    """What the words write, where they end well; with standard error after it, if that is wanted."""
     words = [str(word) for word in words]
     try:
         ran = subprocess.run(words, capture_output=True, timeout=seconds, check=False, env=env, cwd=cwd)

@@ -31,13 +31,14 @@ from ._library import (
     check,
     opening_of,
     pack_args,
+    packed_calls,
     rows_for,
     rows_in,
     rows_of,
     whole,
     written,
 )
-from ._replies import Call, Event, Kind, Reply, call_of, event_of, free_room, reply_of, room
+from ._replies import Call, Event, Kind, Reply, call_of, event_of, free_room, replies_of, reply_of, room
 
 
 def _quick(name: str) -> Callable[..., int]:
@@ -45,7 +46,7 @@ def _quick(name: str) -> Callable[..., int]:
     return HELD[name]
 
 
-_start, _run, _step, _commit, _quit = map(_quick, ("sgt_start", "sgt_run", "sgt_step", "sgt_commit", "sgt_quit"))
+_start, _run, _run_many, _step, _commit, _quit = map(_quick, ("sgt_start", "sgt_run", "sgt_run_many", "sgt_step", "sgt_commit", "sgt_quit"))
 _SIZES = [ctypes.c_size_t(count) for count in range(5)]
 
 
@@ -57,9 +58,14 @@ def _tid(tid: int) -> int:
 _NOT_STARTED = (Kind.NO_PROCEDURE, Kind.BAD_ARGS, Kind.SPENT, Kind.FULL)
 
 
-def _outcome(told: COutcome) -> tuple[Optional[int], Reply]:
-    reply = reply_of(told.reply, told.reply)
-    return (None if reply.kind in _NOT_STARTED else told.tid), reply
+def _outcomes(told: ctypes.Array[COutcome], count: int) -> list[tuple[Optional[int], Reply]]:
+    """The first so many outcomes."""
+    outcomes = []
+    for place, (tid, reply) in enumerate(replies_of(told, count)):
+        if reply is None:
+            reply = reply_of(told[place].reply, told[place].reply)
+        outcomes.append((None if reply.kind in _NOT_STARTED else tid, reply))
+    return outcomes
 
 
 class Engine(Uncopied):
@@ -163,13 +169,11 @@ class Engine(Uncopied):
         """Runs these calls, each a procedure with its arguments, one after another, each as `run` does. Each has its outcome, also one
         that is refused, aborted or has to wait. NoMemory, with the outcomes of the calls before it.
         """
-        given, count = (CCall * max(1, len(calls)))(), len(calls)
-        outcomes, done = (COutcome * max(1, count))(), ctypes.c_uint64()
-        for to, (procedure, *args) in zip(given, calls):
-            pack_args(to.arg, args)
-            to.procedure, to.args = whole(procedure, 0, 65535), len(args)
-        status = HELD.sgt_run_many(self._engine, given, count, outcomes, count, done)
-        ran = [_outcome(outcome) for outcome in outcomes[: done.value]]
+        count, done = len(calls), ctypes.c_uint64()
+        outcomes = (COutcome * count)()
+        size = ctypes.c_size_t(count)
+        status = _run_many(self._at, packed_calls(calls), size, outcomes, size, ctypes.byref(done))
+        ran = _outcomes(outcomes, done.value)
         if status == NO_MEMORY:
             raise NoMemory(ran)
         check(status)

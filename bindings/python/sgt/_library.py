@@ -153,7 +153,6 @@ _ENGINE_CALLS = {
     "sgt_open_bare": [_engine, _u64, _u64, _u64],
     "sgt_put": [_engine, _row, _size, _count],
     "sgt_procedure": [_engine, _text, _size, ctypes.POINTER(ctypes.c_uint16), _fault],
-    "sgt_run_many": [_engine, ctypes.POINTER(CCall), _size, ctypes.POINTER(COutcome), _size, _count],
     "sgt_get": [_engine, _u64, _i64, ctypes.POINTER(_i64)],
     "sgt_rows": [_engine, _u64, _i64, _row, _size, _count],
     "sgt_records": [_engine, _count],
@@ -315,6 +314,20 @@ def pack_args(to: ctypes.Array[ctypes.c_int64], args: Sequence[int]) -> None:
         raise BadCall("a procedure takes at most 4 arguments") from None
     except struct.error as error:
         raise BadCall(f"an argument is no number of 64 bits: {error}") from None
+
+
+# A sgt_call with so many arguments: its procedure, how many arguments there are, and these.
+_pack_call = [struct.Struct(f"=8xI4xI4x{count}q{96 - 8 * count}x").pack for count in range(5)]
+
+
+def packed_calls(calls: Sequence[Sequence[int]]) -> bytes:
+    """The structs of these calls, each a procedure with its arguments."""
+    try:
+        return b"".join([_pack_call[len(call) - 1](call[0], len(call) - 1, *call[1:]) for call in calls])
+    except IndexError:
+        raise BadCall("a call is a procedure with at most 4 arguments") from None
+    except struct.error as error:
+        raise BadCall(f"a number of a call is out of its range: {error}") from None
 
 
 class Uncopied:

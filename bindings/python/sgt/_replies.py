@@ -5,10 +5,10 @@ from __future__ import annotations
 import ctypes
 import enum
 import struct
-from typing import NamedTuple, Optional, Union
+from typing import Iterator, NamedTuple, Optional, Union
 
 from ._errors import Error
-from ._library import HELD, CCall, CEvent, CReply, written
+from ._library import HELD, CCall, CEvent, COutcome, CReply, written
 
 
 class Kind(enum.IntEnum):
@@ -142,6 +142,22 @@ def reply_of(told: CReply, fields: Union[CReply, memoryview]) -> Reply:
         return _PLAIN[number]
     except IndexError:
         raise Error(f"sgt: a reply of kind {number}, which this package does not know") from None
+
+
+# Of each outcome: its transaction, and of its reply the kind, the code, how many answers and how many that fell, and the answers.
+_outcome_fields = struct.Struct("=I4xI8xI24xI4xI4x8q256x").iter_unpack
+
+
+def replies_of(told: ctypes.Array[COutcome], count: int) -> Iterator[tuple[int, Optional[Reply]]]:
+    """The transaction and the reply of each of the first so many outcomes; none for a reply of a rare kind: `reply_of` reads those."""
+    fields = memoryview(told).cast("B")[: count * ctypes.sizeof(COutcome)] if count else b""
+    for tid, number, code, many, fallen, *answers in _outcome_fields(fields):
+        if number == _COMMITTED:
+            yield tid, _made(Reply, (Kind.COMMITTED, None, None, None, None, tuple(answers[:many]), None, None, (), ()))
+        elif number == _REFUSED and not fallen:
+            yield tid, _made(Reply, (Kind.REFUSED, None, None, None, None, (), None, code, (), ()))
+        else:
+            yield tid, None
 
 
 def event_of(asked: CEvent) -> Event:

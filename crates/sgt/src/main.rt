@@ -112,9 +112,9 @@ fn script_options<'a>(alloc: Global) -> Result<Vec<Arg<'a>>, AllocError> {
         alloc,
         &mut options,
         [
-            "In place of the replies, writes the run as a history, for 'sgt check'",
-            "In place of the replies, writes the committed database as records",
-            "Tells on standard error why transactions are aborted, and what is wrong with a faulty line",
+            "Writes the run as a history for 'sgt check', instead of the replies",
+            "Writes the committed database as records, instead of the replies",
+            "Explains on standard error why transactions abort, and what is wrong with a line",
         ],
     )?;
     Ok(options)
@@ -133,7 +133,7 @@ fn bank_options<'a>(alloc: Global) -> Result<Vec<Arg<'a>>, AllocError> {
     options.push(number_option(
         alloc,
         "tries",
-        "How often a job is tried before it is given up, from 1 to 1000",
+        "How often a job is tried at most, from 1 to 1000",
         MOST_TRIES,
         TRIES,
     ))?;
@@ -141,9 +141,9 @@ fn bank_options<'a>(alloc: Global) -> Result<Vec<Arg<'a>>, AllocError> {
         alloc,
         &mut options,
         [
-            "In place of the outcomes, writes the run as a history, for 'sgt check'",
-            "In place of the outcomes, writes the committed database as records",
-            "Tells on standard error how often each job was tried, and what is wrong with a faulty line",
+            "Writes the run as a history for 'sgt check', instead of the outcomes",
+            "Writes the committed database as records, instead of the outcomes",
+            "Reports on standard error how often each job was tried; explains errors",
         ],
     )?;
     Ok(options)
@@ -155,12 +155,12 @@ fn check_options<'a>(alloc: Global) -> Result<Vec<Arg<'a>>, AllocError> {
     options.push(flag(
         alloc,
         "graph",
-        "Writes the serialization graph in DOT, and no report",
+        "Writes the serialization graph in DOT, instead of the report",
     ))?;
     options.push(flag(
         alloc,
         "timeline",
-        "Writes a picture of the history in SVG, and no report",
+        "Writes a picture of the history in SVG, instead of the report",
     )
     .conflicts_with("graph")?)?;
     Ok(options)
@@ -195,21 +195,21 @@ impl Word {
             Word::Script => subcommand(
                 alloc,
                 "script",
-                "Runs a script: an opening and then events, a JSON line each, from standard input",
+                "Runs a script of events, as lines of JSON, and answers each",
                 SCRIPT_HELP,
                 script_options(alloc)?,
             ),
             Word::Bank => subcommand(
                 alloc,
                 "bank",
-                "Runs jobs on worker threads: an opening and then jobs, a JSON line each, from standard input",
+                "Runs jobs, as lines of JSON, on worker threads",
                 BANK_HELP,
                 bank_options(alloc)?,
             ),
             Word::Check => subcommand(
                 alloc,
                 "check",
-                "Tells whether a history from standard input is serializable, recoverable, and of which other classes",
+                "Checks whether a history is serializable, recoverable, and more",
                 CHECK_HELP,
                 check_options(alloc)?,
             ),

@@ -25,7 +25,7 @@ mod put;
 
 use crate::changes::changes;
 use crate::past::Past;
-use crate::room::make_room;
+use crate::room::{file, make_room};
 pub use cut::CutError;
 pub use procedures::AddError;
 pub use put::PutError;
@@ -186,8 +186,7 @@ impl<R: Records, A: Accesses, G: Graph> Engine<R, A, G> {
 
         make_room(&mut self.history, &self.sched, event)?;
         let reply = self.sched.answer(event, &mut self.lists)?;
-        self.history.push(event, reply, &self.lists);
-        Ok(reply)
+        Ok(file(&mut self.history, event, reply, &self.lists))
     }
 
     /// The lists of the reply to the newest event, if there was one. A list that the reply does not have may hold anything.

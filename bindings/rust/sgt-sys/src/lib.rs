@@ -228,13 +228,13 @@ extern "C" {
     pub fn sgt_step(engine: *mut Engine, tid: u32, reply: *mut Reply) -> u32;
     pub fn sgt_commit(engine: *mut Engine, tid: u32, reply: *mut Reply) -> u32;
     pub fn sgt_quit(engine: *mut Engine, tid: u32, reply: *mut Reply) -> u32;
-    pub fn sgt_get(engine: *mut Engine, table: u64, number: i64, value: *mut i64) -> u32;
-    pub fn sgt_rows(engine: *mut Engine, table: u64, number: i64, rows: *mut Row, room: usize, count: *mut u64) -> u32;
-    pub fn sgt_records(engine: *mut Engine, count: *mut u64) -> u32;
-    pub fn sgt_entries(engine: *mut Engine, count: *mut u64) -> u32;
-    pub fn sgt_entry(engine: *mut Engine, place: u64, event: *mut Event, reply: *mut Reply) -> u32;
+    pub fn sgt_get(engine: *const Engine, table: u64, number: i64, value: *mut i64) -> u32;
+    pub fn sgt_rows(engine: *const Engine, table: u64, number: i64, rows: *mut Row, room: usize, count: *mut u64) -> u32;
+    pub fn sgt_records(engine: *const Engine, count: *mut u64) -> u32;
+    pub fn sgt_entries(engine: *const Engine, count: *mut u64) -> u32;
+    pub fn sgt_entry(engine: *const Engine, place: u64, event: *mut Event, reply: *mut Reply) -> u32;
     pub fn sgt_calls(
-        engine: *mut Engine,
+        engine: *const Engine,
         from: u64,
         calls: *mut Call,
         room: usize,
@@ -243,7 +243,7 @@ extern "C" {
     ) -> u32;
     pub fn sgt_reserve(engine: *mut Engine, entries: u64) -> u32;
     pub fn sgt_cut(engine: *mut Engine, live: *mut u64) -> u32;
-    pub fn sgt_part(engine: *mut Engine, part: *mut u64) -> u32;
+    pub fn sgt_part(engine: *const Engine, part: *mut u64) -> u32;
     pub fn sgt_reply_text(reply: *const Reply, text: *mut u8, room: usize, length: *mut u64) -> u32;
     pub fn sgt_fault_text(fault: *const Fault, text: *mut u8, room: usize, length: *mut u64) -> u32;
     pub fn sgt_version() -> *const c_char;
