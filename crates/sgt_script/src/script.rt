@@ -21,7 +21,7 @@ use json::Scratch;
 use sgt_assembly::{SgtEngine, open_engine, opened_hold_values};
 use sgt_engine::CutError;
 use sgt_format::{
-    LineKind, Opening, ScriptLine, append_cut, append_database, append_records, append_reply,
+    LineKind, Opening, ScriptLine, append_cut, append_database, append_records, append_short_reply,
     append_still_live, read_script_line,
 };
 use sgt_input::{Fault, Lines, Sink, Source, at_line, opening_of, read_records, write_all};
@@ -95,12 +95,9 @@ fn answer_event(
     ensures legal { Legal (setting_of engine.new) engine.new.past }
     ensures kept { OnErr result (text.new.items ≡ text.old.items) }
 {
-    engine.answer(event)?;
+    let reply = engine.answer(event)?;
     match output {
-        Output::Replies => match engine.last_reply() {
-            Some(reply) => append_reply(text, reply),
-            None => unreachable!(),
-        },
+        Output::Replies => append_short_reply(text, &reply, engine.reply_lists()),
         Output::History => append_newest(engine, text),
         Output::Records => Ok(()),
     }
