@@ -67,6 +67,13 @@ pub record CountsAgree {N : Type 0} (history : List Entry) (outcomes : List (Out
   pub left : count_by is_left outcomes ≤ workers
   pub untaken : 0 < count_by is_untaken outcomes → count_by is_left outcomes ≡ workers
 
+-- the same, of the number of commits and of that of aborts by the caller
+pub record NumbersAgree {N : Type 0} (committed quit : ℕ) (outcomes : List (Outcome N)) (workers : ℕ) : Type 0 where
+  pub commits : committed ≡ count_by is_done outcomes
+  pub quits : quit ≤ count_by is_left outcomes + count_by is_no_memory outcomes
+  pub left : count_by is_left outcomes ≤ workers
+  pub untaken : 0 < count_by is_untaken outcomes → count_by is_left outcomes ≡ workers
+
 -- after every entry at most this many transactions are live
 abbrev pub FewLive : List Entry → ℕ → Type 0
 FewLive history workers = (n : ℕ) → length (live_ones (reverse (take n history))) ≤ workers

@@ -5,11 +5,10 @@ ghost use Rattle.sgt_model.specs.Legality.{Legal};
 ghost use Rattle.sgt_audit.specs.AllOutcomes.{OutcomesStand};
 
 use crate::counts::counts_agree;
-use crate::live_count::live_counts_stand;
-use crate::lives::lives_of;
 use crate::names::{entries_named, none_twice, transactions_named};
 use crate::outcome::Outcome;
 use crate::stands::all_stand;
+use crate::survey::{Survey, make_survey};
 use sgt_dispatch::Job;
 use sgt_log::History;
 use sgt_model::NoMemory;
@@ -31,7 +30,9 @@ pub fn audit<N>(
     ensures { IfOk result (λ stands.
         IsTrue stands ↔ OutcomesStand history.now.entries jobs.now outcomes.now workers tries) }
 {
-    let lives = lives_of(alloc, history)?;
+    let Some(Survey { lives, ends }) = make_survey(alloc, history, workers)? else {
+        return Ok(false);
+    };
     if !all_stand(history, &lives, jobs, outcomes, tries) {
         return Ok(false);
     }
@@ -43,8 +44,5 @@ pub fn audit<N>(
     if !none_twice(alloc, &entries, history.len())? {
         return Ok(false);
     }
-    if !counts_agree(history, outcomes, workers) {
-        return Ok(false);
-    }
-    Ok(live_counts_stand(history, workers))
+    Ok(counts_agree(ends, outcomes, workers))
 }

@@ -1,12 +1,10 @@
 //! Counts of outcomes, compared with the history.
 ghost use Rattle.std.specs.Prelude.{◌≡◌, ◌↔◌, IsTrue, [], ◌∷◌};
 ghost use Rattle.std.specs.List.{count_by};
-ghost use Rattle.sgt_model.specs.declared.entry.Entry.{Entry};
-ghost use Rattle.sgt_model.specs.Questions.{is_commit, is_quit};
-ghost use Rattle.sgt_audit.specs.AllOutcomes.{is_done, is_left, is_untaken, is_no_memory, CountsAgree};
+ghost use Rattle.sgt_audit.specs.AllOutcomes.{is_done, is_left, is_untaken, is_no_memory, NumbersAgree};
 
 use crate::outcome::Outcome;
-use sgt_log::History;
+use crate::survey::Ends;
 
 /// How many outcomes of a kind there are.
 #[derive(Clone, Copy)]
@@ -18,41 +16,15 @@ struct Kinds {
 }
 
 /// Whether the numbers of commits, aborts by the caller and workers that left agree with the outcomes.
-pub fn counts_agree<N>(history: &History, outcomes: &[Outcome<N>], workers: u32) -> bool
-    ensures { IsTrue result ↔ CountsAgree history.now.entries outcomes.now workers }
+pub fn counts_agree<N>(ends: Ends, outcomes: &[Outcome<N>], workers: u32) -> bool
+    ensures { IsTrue result ↔ NumbersAgree ends.commits ends.quits outcomes.now workers }
 {
     let kinds = kinds_of(outcomes);
     let workers = workers as usize;
-    commits_in(history) == kinds.done
-        && quits_in(history).saturating_sub(kinds.left) <= kinds.no_memory
+    ends.commits == kinds.done
+        && ends.quits.saturating_sub(kinds.left) <= kinds.no_memory
         && kinds.left <= workers
         && (kinds.untaken == 0 || kinds.left == workers)
-}
-
-/// How many entries commit.
-fn commits_in(history: &History) -> usize
-    ensures { result ≡ count_by (λ (e : Entry). is_commit e.reply) history.now.entries }
-{
-    let mut count = 0;
-    for place in 0..history.len() {
-        if history.entry(place).is_commit() {
-            count += 1;
-        }
-    }
-    count
-}
-
-/// How many entries abort a transaction at the caller's request.
-fn quits_in(history: &History) -> usize
-    ensures { result ≡ count_by (λ (e : Entry). is_quit e.reply) history.now.entries }
-{
-    let mut count = 0;
-    for place in 0..history.len() {
-        if history.entry(place).is_quit() {
-            count += 1;
-        }
-    }
-    count
 }
 
 /// How many outcomes there are of each kind that is counted.

@@ -19,11 +19,11 @@ mod all_outcomes;
 mod attempts;
 mod counts;
 mod events;
-mod live_count;
 mod lives;
 mod names;
 mod outcome;
 mod stands;
+mod survey;
 
 pub use all_outcomes::audit;
 pub use outcome::Outcome;

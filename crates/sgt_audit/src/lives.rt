@@ -1,5 +1,5 @@
 //! What a history says of each transaction.
-ghost use Rattle.std.specs.Prelude.{◌≡◌, ℕ, ◌<◌, Bool, true, cond, nat_eq, List, ◌∷◌, IfOk, OnOk, length, reverse, slice_get, vec_len};
+ghost use Rattle.std.specs.Prelude.{◌≡◌, ℕ, ◌<◌, Bool, true, cond, nat_eq, List, ◌∷◌, OnOk, length, slice_get, vec_len};
 ghost use Rattle.std.specs.List.{list_any};
 ghost use Rattle.std.specs.Option.{option_map};
 ghost use Rattle.sgt_model.specs.declared.entry.Entry.{Entry};
@@ -8,9 +8,8 @@ ghost use Rattle.sgt_model.specs.Settings.{Setting};
 ghost use Rattle.sgt_model.specs.Legality.{Legal, LegalReply};
 ghost use Rattle.sgt_audit.specs.Lives.{AreLives, ended_life, life_after, with_started};
 
-use sgt_log::{EntryRef, History};
+use sgt_log::EntryRef;
 use sgt_model::{Args, Event, NoMemory, Tid};
-use std::alloc::Global;
 
 /// What a history says of one transaction.
 #[derive(Drop)]
@@ -26,22 +25,8 @@ pub struct Life {
     pub failed: bool,
 }
 
-/// A row for each transaction, by its number. Makes one pass over the history.
-///
-/// `NoMemory` if an allocation failed.
-pub fn lives_of(alloc: Global, history: &History) -> Result<Vec<Life>, NoMemory>
-    requires { (s : Setting) × Legal s (reverse history.now.entries) }
-    ensures { IfOk result (λ lives. AreLives (reverse history.now.entries) lives.items) }
-{
-    let mut lives = Vec::new(alloc);
-    for number in 0..history.len() {
-        add_entry(&mut lives, number, &history.entry(number))?;
-    }
-    Ok(lives)
-}
-
 /// Adds what the entry with this number says.
-fn add_entry(lives: &mut Vec<Life>, number: usize, entry: &EntryRef<'_>) -> Result<(), NoMemory>
+pub fn add_entry(lives: &mut Vec<Life>, number: usize, entry: &EntryRef<'_>) -> Result<(), NoMemory>
     ensures { (s : Setting) (past : List Entry) → LegalReply s past entry.now.event entry.now.reply
         → Legal s past → length past ≡ number → AreLives past lives.old.items
         → OnOk result (AreLives (entry.now ∷ past) lives.new.items) }

@@ -6,9 +6,8 @@ use Rattle.std.proofs.Crossing.{crosses}
 use Rattle.sgt_model.proofs.procedure.Expr.TheLaws.TheKnot as expr
 use Rattle.sgt_model.proofs.procedure.Statement.TheLaws.TheKnot as statement
 use Rattle.sgt_log.proofs.history.History.TheSendSync as history
-use Rattle.sgt_log.proofs.short_entry.ShortEntry.TheSendSync as short_entry
+use Rattle.sgt_log.proofs.stored_entry.StoredEntry.TheSendSync as stored_entry
 use Rattle.sgt_log.specs.contracts.history.History as History
-use Rattle.sgt_model.proofs.reply.Reply.TheSendSync as reply
 use Rattle.sgt_model.specs.contracts.database.Database as Database
 use Rattle.sgt_records.specs.declared.records.Records as records
 use Rattle.sgt_access.specs.declared.accesses.Accesses as accesses
@@ -32,15 +31,14 @@ database_send : IsSend (Database.the_field).row
 database_send = search (sendable, crosses) depth 40
 
 history_send : IsSend (History.the_field).row
-history_send = search (sendable, crosses, short_entry.the_field_send, history.the_send) depth 40
+history_send = search (sendable, crosses, stored_entry.the_field_send, history.the_send) depth 40
 
 module _ (R A G : RattleType) (r : records.Ghosts R.Denot) (a : accesses.Ghosts A.Denot) (g : graph.Ghosts G.Denot) where
   sched_send : IsSend R → IsSend A → IsSend G → IsSend (Sched.the_field R A G r a g).row
   sched_send sr sa sg = search (sendable, crosses, expr.crosses, statement.crosses, live_send, fates_send) depth 40
 
   engine_send : IsSend R → IsSend A → IsSend G → IsSend (Engine.the_field R A G r a g).row
-  engine_send sr sa sg = let s = sched_send sr sa sg in search (sendable, crosses, history_send, reply.the_field_send, database_send) depth
-      40
+  engine_send sr sa sg = let s = sched_send sr sa sg in search (sendable, crosses, history_send, database_send) depth 40
 
 per_key_send : IsSend (PerKey.the_field).row
 per_key_send = search (sendable, crosses) depth 40

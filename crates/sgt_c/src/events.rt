@@ -144,10 +144,7 @@ fn answer(held: &mut Held, event: Event, reply: &mut SgtReply) -> Result<(), NoM
         → IsOk result }
     ensures quits { (t : ℕ) → event ≡ Quit t → live held.old.engine.past t ≡ true → IsOk result }
 {
-    held.engine.answer(event)?;
-    match held.engine.last_reply() {
-        Some(last) => write_reply(reply, last),
-        None => unreachable!(),
-    }
+    let short = held.engine.answer(&event)?;
+    write_reply(reply, &short, held.engine.reply_lists());
     Ok(())
 }

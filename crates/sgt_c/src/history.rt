@@ -5,7 +5,7 @@ ghost use Rattle.sgt_c.specs.Handles.{IsBusy};
 
 use crate::event_struct::{SgtEvent, write_event};
 use crate::handle::Handle;
-use crate::reply_struct::{SgtReply, write_reply};
+use crate::reply_struct::{SgtReply, write_full_reply};
 use crate::status;
 use sgt_model::NoMemory;
 use std::alloc::Global;
@@ -69,7 +69,7 @@ pub extern "C" fn sgt_entry(
     match entry {
         Some(entry) => {
             write_event(event, &entry.event);
-            write_reply(reply, &entry.reply);
+            write_full_reply(reply, &entry.reply);
             status::OK
         }
         None => status::NONE,

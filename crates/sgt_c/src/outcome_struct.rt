@@ -3,7 +3,7 @@ ghost use Rattle.std.specs.Prelude.{◌≡◌};
 ghost use Rattle.sgt_c.specs.ReplyStructs.{HoldsReply};
 ghost use Rattle.sgt_c.specs.Runs.{IsNumberTold};
 
-use crate::reply_struct::{SgtReply, write_reply};
+use crate::reply_struct::{SgtReply, write_full_reply};
 use crate::run::Outcome;
 use sgt_model::Tid;
 
@@ -23,7 +23,7 @@ impl SgtOutcome {
         ensures reply { HoldsReply result.reply outcome.now.last }
     {
         let mut reply = SgtReply::blank();
-        write_reply(&mut reply, &outcome.last);
+        write_full_reply(&mut reply, &outcome.last);
         SgtOutcome {
             tid: number_or_0(outcome.started),
             spare: 0,

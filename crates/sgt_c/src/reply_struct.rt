@@ -1,9 +1,10 @@
 //! The struct of a reply for C, and how it is written.
 ghost use Rattle.std.specs.Prelude.{◌≡◌, take};
 ghost use Rattle.sgt_model.specs.declared.reply.Reply.TheVariants as reply;
+ghost use Rattle.sgt_model.specs.ShortReplies.{full_cause, full_fate, reply_with};
 ghost use Rattle.sgt_c.specs.ReplyStructs.{HoldsReply, HoldsCause};
 
-use sgt_model::{Answers, Cause, Fate, Key, Reply, Tids};
+use sgt_model::{Answers, Key, Reply, ReplyLists, ShortCause, ShortFate, ShortReply, Tids};
 
 /// The reply to an event, for C. `kind` says which of the other fields belong to it.
 #[repr(C)]
@@ -57,41 +58,48 @@ impl SgtReply {
     }
 }
 
-/// Writes a reply for C.
-pub fn write_reply(into: &mut SgtReply, reply: &Reply)
-    ensures { HoldsReply into.new reply.now }
+/// Writes a reply for C, with its lists.
+pub fn write_reply(into: &mut SgtReply, reply: &ShortReply, lists: &ReplyLists)
+    ensures { HoldsReply into.new (reply_with reply.now lists.now) }
 {
     match reply {
-        Reply::Started(t) => write_tid(into, 1, t.0),
-        Reply::NoProcedure => into.kind = 2,
-        Reply::BadArgs => into.kind = 3,
-        Reply::Spent => into.kind = 4,
-        Reply::Full => into.kind = 5,
-        Reply::Unknown => into.kind = 6,
-        Reply::Over(fate) => write_over(into, fate),
-        Reply::Looked { key, value } => write_looked(into, *key, *value),
-        Reply::Wrote { key, value } => {
+        ShortReply::Started(t) => write_tid(into, 1, t.0),
+        ShortReply::NoProcedure => into.kind = 2,
+        ShortReply::BadArgs => into.kind = 3,
+        ShortReply::Spent => into.kind = 4,
+        ShortReply::Full => into.kind = 5,
+        ShortReply::Unknown => into.kind = 6,
+        ShortReply::Over(fate) => write_over(into, fate, &lists.walk),
+        ShortReply::Looked { key, value } => write_looked(into, *key, *value),
+        ShortReply::Wrote { key, value } => {
             into.kind = 9;
             write_record(into, *key, *value);
         }
-        Reply::Ended => into.kind = 10,
-        Reply::NotEnded => into.kind = 11,
-        Reply::Waits(first) => write_tid(into, 12, first.0),
-        Reply::Committed(answers) => {
+        ShortReply::Ended => into.kind = 10,
+        ShortReply::NotEnded => into.kind = 11,
+        ShortReply::Waits(first) => write_tid(into, 12, first.0),
+        ShortReply::Committed => {
             into.kind = 13;
-            into.answers = write_answers(&mut into.answer, answers);
+            into.answers = write_answers(&mut into.answer, &lists.answers);
         }
-        Reply::Aborted { cause, fell } => {
+        ShortReply::Aborted(cause) => {
             into.kind = 14;
-            write_cause(into, cause);
-            into.fallen = write_tids(&mut into.fell, fell);
+            write_cause(into, cause, &lists.walk);
+            into.fallen = write_tids(&mut into.fell, &lists.fell);
         }
-        Reply::Refused { code, fell } => {
+        ShortReply::Refused(code) => {
             into.kind = 15;
             into.code = *code as u32;
-            into.fallen = write_tids(&mut into.fell, fell);
+            into.fallen = write_tids(&mut into.fell, &lists.fell);
         }
     }
+}
+
+/// Writes a reply for C.
+pub fn write_full_reply(into: &mut SgtReply, reply: &Reply)
+    ensures { HoldsReply into.new reply.now }
+{
+    write_reply(into, &reply.in_short(), &reply.lists());
 }
 
 fn write_tid(into: &mut SgtReply, kind: u32, t: u32)
@@ -130,34 +138,34 @@ fn write_looked(into: &mut SgtReply, key: Key, value: Option<i64>)
     }
 }
 
-fn write_over(into: &mut SgtReply, fate: &Fate)
-    ensures { HoldsReply into.new (reply.Over fate.now) }
+fn write_over(into: &mut SgtReply, fate: &ShortFate, walk: &Tids)
+    ensures { HoldsReply into.new (reply.Over (full_fate fate.now walk.now)) }
 {
     into.kind = 7;
     match fate {
-        Fate::Committed => into.cause = 0,
-        Fate::Aborted(cause) => write_cause(into, cause),
-        Fate::Fell(first) => {
+        ShortFate::Committed => into.cause = 0,
+        ShortFate::Aborted(cause) => write_cause(into, cause, walk),
+        ShortFate::Fell(first) => {
             into.cause = 4;
             into.tid = first.0;
         }
     }
 }
 
-fn write_cause(into: &mut SgtReply, cause: &Cause)
-    ensures cause { HoldsCause into.new cause.now }
+fn write_cause(into: &mut SgtReply, cause: &ShortCause, walk: &Tids)
+    ensures cause { HoldsCause into.new (full_cause cause.now walk.now) }
     ensures kind { into.new.kind ≡ into.old.kind }
 {
     match cause {
-        Cause::Cycle(walk) => {
+        ShortCause::Cycle => {
             into.cause = 1;
             into.walked = write_tids(&mut into.walk, walk);
         }
-        Cause::Asked(code) => {
+        ShortCause::Asked(code) => {
             into.cause = 2;
             into.code = *code as u32;
         }
-        Cause::Quit => into.cause = 3,
+        ShortCause::Quit => into.cause = 3,
     }
 }
 

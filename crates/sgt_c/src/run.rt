@@ -10,7 +10,7 @@ ghost use Rattle.sgt_c.specs.Handles.{IsBusy};
 
 use crate::asked::call;
 use crate::handle::Handle;
-use crate::reply_struct::{SgtReply, write_reply};
+use crate::reply_struct::{SgtReply, write_full_reply};
 use crate::status;
 use sgt_assembly::SgtEngine;
 use sgt_model::{Args, Event, NoMemory, Reply, Tid};
@@ -62,7 +62,7 @@ pub extern "C" fn sgt_run(
             if let Some(t) = started {
                 *tid = t.0;
             }
-            write_reply(reply, &last);
+            write_full_reply(reply, &last);
             status::OK
         }
         Err(NoMemory) => status::NO_MEMORY,
@@ -136,8 +136,8 @@ fn quit(engine: &mut SgtEngine, t: Tid)
     requires { live engine.old.past t ≡ true }
     ensures { (r : Reply) × (engine.new ≡ with_entry (Quit t) r engine.old) }
 {
-    match engine.answer(Event::Quit(t)) {
-        Ok(()) => (),
+    match engine.answer(&Event::Quit(t)) {
+        Ok(_) => (),
         Err(NoMemory) => unreachable!(),
     }
 }

@@ -1,12 +1,20 @@
 -- One more entry.
 use Rattle.std.proofs.Common.{◌≡◌, ℕ, ◌<◌, ◌+◌, length, map, take, get_or, List, [], ◌∷◌, ◌++◌, reverse, refl, sym, ap, ap₂, ◌∙◌, subst, subst₂}
 use Rattle.std.proofs.lemmas.List.{reverse-append, reverse-reverse, map-append, take_more}
-use Rattle.std.specs.Prelude.{◌≢◌, Some, IfSome}
+use Rattle.std.specs.Prelude.{IfSome}
 use Rattle.std.proofs.lemmas.Grind.{reverse_onto}
 use Rattle.sgt_model.specs.declared.entry.Entry.{Entry}
 use Rattle.sgt_model.specs.declared.event.Event.{Event}
 use Rattle.sgt_model.specs.declared.limits.Limits.{Limits}
 use Rattle.sgt_model.specs.declared.reply.Reply.{Reply}
+use Rattle.sgt_model.specs.declared.short_reply.ReplyLists.{ReplyLists}
+use Rattle.sgt_model.specs.declared.short_reply.ShortCause.{ShortCause}
+use Rattle.sgt_model.specs.declared.short_reply.ShortCause.TheVariants as cause
+use Rattle.sgt_model.specs.declared.short_reply.ShortFate.{ShortFate}
+use Rattle.sgt_model.specs.declared.short_reply.ShortFate.TheVariants as fate
+use Rattle.sgt_model.specs.declared.short_reply.ShortReply.{ShortReply}
+use Rattle.sgt_model.specs.declared.short_reply.ShortReply.TheVariants as short
+use Rattle.sgt_model.specs.ShortReplies.{full_cause, full_fate, reply_with, short_cause, short_fate, short_reply}
 use Rattle.sgt_model.specs.Contents.{Contents}
 use Rattle.sgt_model.specs.Databases.{Row}
 use Rattle.sgt_model.specs.Syntax.{ProcedureText}
@@ -15,7 +23,7 @@ use Rattle.sgt_model.specs.Legality.{Legal, LegalReply}
 use Rattle.sgt_model.specs.State.{State}
 use Rattle.sgt_model.specs.StateAfter.{IsStateAfter}
 use Rattle.sgt_model.specs.CallEffects.{CallEffect}
-use Rattle.sgt_engine.specs.EngineView.{EngineView, setting_of, made_of, with_entry, newest_reply}
+use Rattle.sgt_engine.specs.EngineView.{EngineView, setting_of, made_of, with_entry, newest_reply, Answers, HasLists}
 use Rattle.sgt_model.specs.Histories.{events_of}
 use Rattle.sgt_model.specs.Refinement.{CallsSimulate}
 
@@ -32,12 +40,11 @@ pub same_setting : (opening : Contents) (procedures procedures' : List Procedure
     → limits' ≡ limits → setting opening procedures limits ≡ setting opening procedures' limits'
 same_setting opening procedures procedures' limits limits' p l = ap₂ (setting opening) (sym p) (sym l)
 
--- an entry that was added after making room, with a copy of the reply
-pub added : (items reserved new : List Entry) (event : Event) (copied r : Reply)
-    → new ≡ reserved ++ record { event = event; reply = copied } ∷ [] → reserved ≡ items → copied ≡ r
-    → new ≡ items ++ record { event = event; reply = r } ∷ []
-added items reserved new event copied r pushed room is = pushed
-    ∙ ap₂ (λ (l : List Entry) (x : Reply). l ++ record { event = event; reply = x } ∷ []) room is
+-- an entry that was added after making room
+pub added : (items reserved new : List Entry) (event : Event) (r : Reply)
+    → new ≡ reserved ++ record { event = event; reply = r } ∷ [] → reserved ≡ items → new ≡ items ++ record { event = event; reply = r }
+    ∷ []
+added items reserved new event r pushed room = pushed ∙ ap (λ (l : List Entry). l ++ record { event = event; reply = r } ∷ []) room
 
 -- a call that was answered keeps all that an engine keeps
 pub kept_entry : CallsSimulate → (s s' : Setting) (items new : List Entry) (before after : State) (event : Event) (r : Reply) → s ≡ s'
@@ -65,19 +72,47 @@ entry_added opening procedures procedures' limits limits' items new event r now 
         (record { event = event; reply = r }) is i;
   }
 
--- its reply is the newest one
-pub newest_added : (items new : List Entry) (event : Event) (r : Reply) → new ≡ items ++ record { event = event; reply = r } ∷ []
-    → IfSome (newest_reply (reverse new)) (λ x. x ≡ r)
-newest_added items new event r is = subst (λ (past : List Entry). IfSome (newest_reply past) (λ x. x ≡ r))
-    (sym (longer items new (record { event = event; reply = r }) is)) refl
+-- a short cause is what its full one is without the path
+cause_with : (c : ShortCause) (walk : List ℕ) → short_cause (full_cause c walk) ≡ c
+cause_with cause.Cycle walk = refl
+cause_with (cause.Asked code) walk = refl
+cause_with cause.Quit walk = refl
 
--- what is the newest reply, where there is an entry
-pub newest_is : (items : List Entry) (r : Reply) → IfSome (newest_reply (reverse items)) (λ x. x ≡ r) → items ≢ []
-    → Some r ≡ newest_reply (reverse items)
-newest_is items r is some = both (reverse items) refl is where
-  both : (past : List Entry) → reverse items ≡ past → IfSome (newest_reply past) (λ x. x ≡ r) → Some r ≡ newest_reply past
-  both [] empty is = absurd (some (sym (reverse-reverse items) ∙ ap reverse empty))
-  both (e ∷ past) empty is = ap Some (sym is)
+-- a short reply is what its full one is without the lists
+pub short_with : (r : ShortReply) (lists : ReplyLists) → short_reply (reply_with r lists) ≡ r
+short_with (short.Started t) lists = refl
+short_with short.NoProcedure lists = refl
+short_with short.BadArgs lists = refl
+short_with short.Spent lists = refl
+short_with short.Full lists = refl
+short_with short.Unknown lists = refl
+short_with (short.Over f) lists = ap short.Over (fate_with f) where
+  fate_with : (f : ShortFate) → short_fate (full_fate f lists.walk) ≡ f
+  fate_with fate.Committed = refl
+  fate_with (fate.Aborted c) = ap fate.Aborted (cause_with c lists.walk)
+  fate_with (fate.Fell t) = refl
+short_with (short.Looked k v) lists = refl
+short_with (short.Wrote k v) lists = refl
+short_with short.Ended lists = refl
+short_with short.NotEnded lists = refl
+short_with (short.Waits t) lists = refl
+short_with short.Committed lists = refl
+short_with (short.Aborted c) lists = ap short.Aborted (cause_with c lists.walk)
+short_with (short.Refused code) lists = refl
+
+-- its lists are those of the newest reply
+pub newest_added : (items new : List Entry) (event : Event) (r : ShortReply) (lists : ReplyLists)
+    → new ≡ items ++ record { event = event; reply = reply_with r lists } ∷ [] → HasLists (reverse new) lists
+newest_added items new event r lists is = subst (λ (past : List Entry). HasLists past lists)
+    (sym (longer items new (record { event = event; reply = reply_with r lists }) is))
+    (ap (λ s. reply_with s lists) (sym (short_with r lists)))
+
+-- the reply that was answered in short, with the lists that are lent
+pub answered_with : (event : Event) (before : EngineView) (r : ShortReply) (after : EngineView) (lists : ReplyLists)
+    → (a : Answers event before r after) → HasLists after.past lists → a.reply ≡ reply_with r lists
+answered_with event before r after lists a has =
+    subst (λ (e : EngineView). IfSome (newest_reply e.past) (λ x. x ≡ reply_with (short_reply x) lists)) a.adds has
+    ∙ ap (λ s. reply_with s lists) a.is_short
 
 -- its reply is legal
 pub legal_reply : CallsSimulate → (s s' : Setting) (past past' : List Entry) (before after : State) (event : Event) (r : Reply) → s ≡ s'

@@ -1,6 +1,5 @@
 //! The engine: a scheduler with the history of its events and replies.
 ghost use Rattle.std.specs.Prelude.{◌≡◌, ℕ, true, [], Result, Ok, Err, IfOk, OnOk, OnErr, IsTrue, ◌↔◌, reverse};
-ghost use Rattle.std.specs.Option.{option_copied};
 ghost use Rattle.std.specs.Result.{IsOk};
 ghost use Rattle.sgt_model.specs.declared.event.Event.TheVariants.{Quit};
 ghost use Rattle.sgt_model.specs.declared.reply.Reply.{Reply};
@@ -18,7 +17,7 @@ ghost use Rattle.sgt_model.specs.Values.{settled};
 ghost use Rattle.sgt_model.specs.Walks.{Acyclic};
 ghost use Rattle.sgt_model.specs.Questions.{is_ending};
 ghost use Rattle.sgt_sched.specs.Scheduler.{parts, state};
-ghost use Rattle.sgt_engine.specs.EngineView.{setting_of, made_of, with_entry, newest_reply};
+ghost use Rattle.sgt_engine.specs.EngineView.{setting_of, made_of, with_entry, newest_reply, Answers, HasLists};
 
 mod cut;
 mod procedures;
@@ -34,8 +33,9 @@ use sgt_access::Accesses;
 use sgt_graph::Graph;
 use sgt_log::History;
 use sgt_model::{
-    Database, Event, Key, Limits, MakeError, NoMemory, Reply, calls_simulate, headline_holds,
-    nexts_agree, replay_is_serial, states_are_sound, verdicts_agree,
+    Database, Event, Key, Limits, MakeError, NoMemory, Reply, ReplyLists, ShortReply,
+    calls_simulate, headline_holds, nexts_agree, replay_is_serial, states_are_sound,
+    verdicts_agree,
 };
 use sgt_proc::Checked;
 use sgt_records::Records;
@@ -65,13 +65,13 @@ pub struct Engine<R: Records, A: Accesses, G: Graph> {
     opening: Database,
     sched: Sched<R, A, G>,
     history: History,
-    // The reply of the newest entry, if there is one.
-    newest: Reply,
+    // The lists of the newest entry's reply, if there is one.
+    lists: ReplyLists,
 }
 
 impl<R: Records, A: Accesses, G: Graph> Model for Engine<R, A, G> {
     ghost use Rattle.std.specs.Coded.{codes};
-    ghost use Rattle.std.specs.Prelude.{◌≡◌, ◌≤◌, IfSome, length, reverse};
+    ghost use Rattle.std.specs.Prelude.{◌≤◌, length, reverse};
     ghost use Rattle.sgt_model.specs.Codes.{coded_procedure};
     ghost use Rattle.sgt_model.specs.Databases.{contents_of};
     ghost use Rattle.sgt_model.specs.Legality.{Legal};
@@ -79,7 +79,7 @@ impl<R: Records, A: Accesses, G: Graph> Model for Engine<R, A, G> {
     ghost use Rattle.sgt_model.specs.StateAfter.{IsStateAfter};
     ghost use Rattle.sgt_sched.specs.LiveList.{numbers};
     ghost use Rattle.sgt_sched.specs.Scheduler.{parts, state};
-    ghost use Rattle.sgt_engine.specs.EngineView.{EngineView, newest_reply};
+    ghost use Rattle.sgt_engine.specs.EngineView.{EngineView, HasLists};
 
     ghost Value = { EngineView };
 
@@ -99,7 +99,7 @@ impl<R: Records, A: Accesses, G: Graph> Model for Engine<R, A, G> {
         (reverse e.history.entries)
         (state e.sched)
         × (length (numbers e.sched.live) ≤ e.history.room)
-        × IfSome (newest_reply (reverse e.history.entries)) (λ r. r ≡ e.newest) };
+        × HasLists (reverse e.history.entries) e.lists };
 }
 
 impl<R: Records, A: Accesses, G: Graph> Engine<R, A, G> {
@@ -120,7 +120,7 @@ impl<R: Records, A: Accesses, G: Graph> Engine<R, A, G> {
             opening,
             sched,
             history: History::new(alloc),
-            newest: Reply::Ended,
+            lists: ReplyLists::new(),
         })
     }
 
@@ -158,27 +158,23 @@ impl<R: Records, A: Accesses, G: Graph> Engine<R, A, G> {
             → IsOk result }
         ensures quits { (t : ℕ) → event ≡ Quit t → live self.old.past t ≡ true → IsOk result }
     {
-        self.answer(event)?;
-        match self.last_reply() {
-            Some(reply) => Ok(reply.copied()),
-            None => unreachable!(),
-        }
+        let reply = self.answer(&event)?;
+        Ok(reply.with_lists(self.reply_lists()))
     }
 
-    /// The same, without returning the reply: [`Engine::last_reply`] lends it until the next event.
-    pub fn answer(&mut self, event: Event) -> Result<(), NoMemory>
-        ensures adds { OnOk result ((r : Reply) × (self.new ≡ with_entry event r self.old)
-            × LegalReply (setting_of self.old) self.old.past event r) }
+    /// The same, with the reply in short: [`Engine::reply_lists`] lends its lists until the next event.
+    pub fn answer(&mut self, event: &Event) -> Result<ShortReply, NoMemory>
+        ensures adds { IfOk result (λ r. Answers event.now self.old r self.new) }
         ensures legal { Legal (setting_of self.new) self.new.past }
         ensures replay { ReplayAgrees (setting_of self.new) self.new.past }
         ensures no_cycle { Acyclic (Pair self.new.past) }
         ensures causes { AbortsHaveCause (setting_of self.new) self.new.past }
         ensures order { CommitsInOrder self.new.past }
         ensures unchanged { OnErr result (self.new ≡ self.old) }
-        ensures no_memory { (r : Reply) → LegalReply (setting_of self.old) self.old.past event r
+        ensures no_memory { (r : Reply) → LegalReply (setting_of self.old) self.old.past event.now r
             → is_ending r ≡ true
             → IsOk result }
-        ensures quits { (t : ℕ) → event ≡ Quit t → live self.old.past t ≡ true → IsOk result }
+        ensures quits { (t : ℕ) → event.now ≡ Quit t → live self.old.past t ≡ true → IsOk result }
     {
         // The laws that the proof rests on, of calls and states, and of legal histories. They do nothing at run time.
         calls_simulate();
@@ -188,22 +184,23 @@ impl<R: Records, A: Accesses, G: Graph> Engine<R, A, G> {
         endings_agree();
         headline_holds();
 
-        make_room(&mut self.history, &self.sched, &event)?;
-        let brief = self.sched.answer(&event, &mut self.newest)?;
-        file(&mut self.history, &event, &brief, &mut self.newest);
-        Ok(())
+        make_room(&mut self.history, &self.sched, event)?;
+        let reply = self.sched.answer(event, &mut self.lists)?;
+        Ok(file(&mut self.history, event, reply, &self.lists))
     }
 
-    /// The reply to the newest event, if there was one. It is the stored reply of the newest entry; the history would have to
-    /// build it again.
-    pub fn last_reply(&self) -> Option<&Reply>
-        ensures { option_copied result ≡ newest_reply self.now.past }
+    /// The lists of the reply to the newest event, if there was one. A list that the reply does not have may hold anything.
+    pub fn reply_lists(&self) -> &ReplyLists
+        ensures { HasLists self.now.past result.now }
     {
-        if self.history.is_empty() {
-            None
-        } else {
-            Some(&self.newest)
-        }
+        &self.lists
+    }
+
+    /// The reply to the newest event, if there was one.
+    pub fn last_reply(&self) -> Option<Reply>
+        ensures { result ≡ newest_reply self.now.past }
+    {
+        self.history.last_reply()
     }
 
     /// The scheduler with its layers. It holds exactly what the history says of the live transactions, how the others ended, and
@@ -300,7 +297,7 @@ impl<R: Records, A: Accesses, G: Graph> Engine<R, A, G> {
             opening,
             sched: _,
             history,
-            newest: _,
+            lists: _,
         } = self;
         Past { opening, history }
     }

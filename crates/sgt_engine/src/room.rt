@@ -1,16 +1,16 @@
 //! Capacity in the history for an event and for the ends of the live transactions, and the entry that uses it.
 ghost use Rattle.std.specs.Prelude.{◌≡◌, ◌+◌, ◌<◌, ◌≤◌, [], ◌∷◌, ◌++◌, length, OnOk};
 ghost use Rattle.std.specs.Result.{IsOk};
-ghost use Rattle.sgt_sched.specs.Briefs.{in_full};
+ghost use Rattle.sgt_model.specs.ShortReplies.{reply_with};
 ghost use Rattle.sgt_sched.specs.Endings.{EndsOne};
 ghost use Rattle.sgt_sched.specs.Scheduler.{state, asks_of};
 
 use sgt_access::Accesses;
 use sgt_graph::Graph;
 use sgt_log::History;
-use sgt_model::{Event, NoMemory, Reply};
+use sgt_model::{Event, NoMemory, ReplyLists, ShortReply};
 use sgt_records::Records;
-use sgt_sched::{Brief, Sched};
+use sgt_sched::Sched;
 
 /// Ensures that the history has the capacity that an event needs.
 ///
@@ -33,33 +33,48 @@ pub fn make_room<R: Records, A: Accesses, G: Graph>(
     ensures no_memory { EndsOne (asks_of sched.now) event.now (state sched.now) → IsOk result }
 {
     let needed = sched.live_count() + 2;
-    // Whether it ends one is computed only if there is less capacity than other events need.
-    if history.room() < needed && !sched.ends(event) {
+    if history.room() < needed {
+        return add_room(history, sched, event, needed);
+    }
+    Ok(())
+}
+
+// Provides capacity for so many entries, unless the event ends a live transaction.
+#[inline(never)]
+fn add_room<R: Records, A: Accesses, G: Graph>(
+    history: &mut History,
+    sched: &Sched<R, A, G>,
+    event: &Event,
+    needed: usize,
+) -> Result<(), NoMemory>
+    ensures entries { history.new.entries ≡ history.old.entries }
+    ensures no_less { history.old.room ≤ history.new.room }
+    ensures room { OnOk result ((EndsOne (asks_of sched.now) event.now (state sched.now) → ⊥) → needed ≤ history.new.room) }
+    ensures no_growth { EndsOne (asks_of sched.now) event.now (state sched.now) → history.new ≡ history.old }
+    ensures no_memory { EndsOne (asks_of sched.now) event.now (state sched.now) → IsOk result }
+{
+    if !sched.ends(event) {
         history.reserve(needed)?;
     }
     Ok(())
 }
 
-/// Adds an entry, for which there is capacity, and leaves its full reply in `out`. A placed reply is there already. It
-/// allocates nothing.
+/// Adds an entry, for which there is capacity, and returns its reply. It allocates nothing.
 #[inline(always)]
-pub fn file(history: &mut History, event: &Event, brief: &Brief, out: &mut Reply)
+pub fn file(
+    history: &mut History,
+    event: &Event,
+    reply: ShortReply,
+    lists: &ReplyLists,
+) -> ShortReply
     requires { 0 < history.old.room }
-    ensures out { out.new ≡ in_full brief.now out.old }
-    ensures entries { history.new.entries ≡ history.old.entries ++ record { event = event.now; reply = out.new } ∷ [] }
+    ensures reply { result ≡ reply }
+    ensures entries { history.new.entries
+        ≡ history.old.entries ++ record { event = event.now; reply = reply_with reply lists.now } ∷ [] }
     ensures room { history.new.room + 1 ≡ history.old.room }
-    ensures no_growth { history.new.capacities ≡ history.old.capacities }
+    ensures capacities { history.new.capacities ≡ history.old.capacities }
 {
-    write_out(brief, out);
-    history.push(event, out);
-}
-
-// Writes the reply in full, unless it is placed.
-fn write_out(brief: &Brief, out: &mut Reply)
-    ensures { out.new ≡ in_full brief.now out.old }
-{
-    match brief {
-        Brief::Placed => (),
-        _ => *out = brief.short(),
-    }
+    let filed = reply;
+    history.push(event, filed, lists);
+    reply
 }

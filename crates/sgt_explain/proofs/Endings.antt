@@ -15,7 +15,7 @@ use Rattle.sgt_model.specs.Walks.{Member}
 use Rattle.sgt_model.specs.Fates.{concerns, subject, undone_in, ending_in, has_aborted}
 use Rattle.sgt_model.specs.Questions.{named_by}
 use Rattle.sgt_model.proofs.Facts.{member_from, member_to}
-use Rattle.sgt_log.specs.EntryParts.{fell_in}
+use Rattle.sgt_model.specs.ShortReplies.{fell_in}
 
 -- whether an ending is by an abort
 abbrev pub by_abort : Option Fate → Option Bool

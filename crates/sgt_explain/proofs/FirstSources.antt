@@ -5,7 +5,7 @@ use Rattle.sgt_model.specs.declared.entry.Entry.{Entry}
 use Rattle.sgt_model.specs.Settings.{Setting}
 use Rattle.sgt_model.specs.Legality.{Legal}
 use Rattle.sgt_model.proofs.Facts.{some_is}
-use Rattle.sgt_log.specs.EntryParts.{fell_in}
+use Rattle.sgt_model.specs.ShortReplies.{fell_in}
 use Rattle.sgt_explain.specs.declared.source.Source.{Source}
 use Rattle.sgt_explain.specs.Firsts.{NoneBelow, IsFirst}
 use Rattle.sgt_explain.specs.Places.{listed_by, placed_falls}

@@ -20,7 +20,7 @@ use Rattle.sgt_model.proofs.Aborts.{aborts_have_cause}
 use Rattle.sgt_model.proofs.Facts.{some_is, live-stands, live-not_committed, status, precedes-started}
 use Rattle.sgt_model.proofs.Sources.{read-precedes, reaches-step, source_of_standing_stands, source_commits_before}
 use Rattle.sgt_model.proofs.Questions.{endings_end_one}
-use Rattle.sgt_log.specs.EntryParts.{fell_in}
+use Rattle.sgt_model.specs.ShortReplies.{fell_in}
 use Rattle.sgt_explain.specs.Firsts.{NoneBelow}
 use Rattle.sgt_explain.specs.Places.{entries_before, listed_by, placed_falls}
 use Rattle.sgt_explain.specs.Sources.{IsUndoneAt, ReadsUndoneAt}

@@ -6,10 +6,18 @@ use Rattle.serde_json.specs.Data.{Data}
 use Rattle.serde_json.specs.Find.{as_str}
 use Rattle.sgt_format.specs.Trees.{tree_of, list}
 use Rattle.sgt_format.specs.EventLines.{event_from}
+use Rattle.sgt_model.specs.declared.event.Event as model
+use Rattle.sgt_format.specs.declared.script_line.LineKind.{LineKind}
+use Rattle.sgt_format.specs.declared.script_line.LineKind.TheVariants as kind
 use Rattle.sgt_format.specs.declared.script_line.ScriptLine.{ScriptLine}
 use Rattle.sgt_format.specs.declared.script_line.ScriptLine.TheVariants.{Event, Cut}
 use Rattle.sgt_format.specs.declared.errors.LineError.{LineError}
 use Rattle.sgt_format.specs.declared.errors.LineError.TheVariants.{NotJson, BadLine}
+
+-- the line of a kind, with its event
+abbrev pub line_of : LineKind → model.Event → ScriptLine
+line_of kind.Event event = Event event
+line_of kind.Cut event = Cut
 
 -- a word alone
 abbrev pub of_word : List ℕ → Option ScriptLine

@@ -30,7 +30,8 @@ pub fn read_event(alloc: Global, scratch: &mut Scratch, line: &[u8]) -> Result<E
     ensures event { IfOk result (λ event. event_of line.now ≡ Ok event) }
     ensures error { IfErr result (λ error. error ≢ NoMemory → event_of line.now ≡ Err error) }
 {
-    if let Some(event) = plain_event(line) {
+    let mut event = Event::Step(Tid(0));
+    if plain_event(line, &mut event).is_some() {
         return Ok(event);
     }
     if let Some(event) = quick_event(line, scratch)? {

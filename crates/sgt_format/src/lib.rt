@@ -51,6 +51,6 @@ pub use opening::{Opening, read_opening};
 pub use procedure_line::read_procedure_line;
 pub use record_line::{Record, RecordLine, read_record_line};
 pub use record_text::append_records;
-pub use reply_text::{append_reply, reply_line};
-pub use script_line::{ScriptLine, read_script_line};
+pub use reply_text::{append_reply, append_short_reply, reply_line};
+pub use script_line::{LineKind, ScriptLine, read_script_line};
 pub use tree::{items, read_tree};

@@ -13,21 +13,34 @@ use crate::call::JobCall;
 use crate::record_line::RecordLine;
 use sgt_model::{Args, Event, Tid};
 
-/// The event of a line in plain form, read byte by byte. If this finds none, the tokens decide.
+/// Reads the event of a line in plain form, byte by byte, into `event`. If this returns `None`, the tokens decide.
 #[inline(always)]
-pub(crate) fn plain_event(line: &[u8]) -> Option<Event>
-    ensures { IfSome result (λ event. event_of line.now ≡ Ok event) }
+pub(crate) fn plain_event(line: &[u8], event: &mut Event) -> Option<()>
+    ensures { IfSome result (λ _. event_of line.now ≡ Ok event.new) }
 {
-    match line.get(4)? {
-        b'e' => Some(Event::Step(last_tid(item_behind(line, b"[\"step\",")?)?)),
-        b'm' => Some(Event::Commit(last_tid(item_behind(line, b"[\"commit\",")?)?)),
-        b'i' => Some(Event::Quit(last_tid(item_behind(line, b"[\"quit\",")?)?)),
-        b'a' => {
-            let JobCall { procedure, args } = last_call(item_behind(line, b"[\"start\",")?)?;
-            Some(Event::Start { procedure, args })
-        }
-        _ => None,
+    if let Some(rest) = item_behind(line, b"[\"step\",") {
+        *event = Event::Step(last_tid(rest)?);
+        return Some(());
     }
+    if let Some(rest) = item_behind(line, b"[\"commit\",") {
+        *event = Event::Commit(last_tid(rest)?);
+        return Some(());
+    }
+    plain_start_or_quit(line, event)
+}
+
+/// The same, of a start or a quit. A start's arguments are built here, so that a step needs no space for them.
+#[inline(never)]
+fn plain_start_or_quit(line: &[u8], event: &mut Event) -> Option<()>
+    ensures { IfSome result (λ _. event_of line.now ≡ Ok event.new) }
+{
+    if let Some(rest) = item_behind(line, b"[\"start\",") {
+        let JobCall { procedure, args } = last_call(rest)?;
+        *event = Event::Start { procedure, args };
+        return Some(());
+    }
+    *event = Event::Quit(last_tid(item_behind(line, b"[\"quit\",")?)?);
+    Some(())
 }
 
 /// The job of a line in plain form.
@@ -72,14 +85,14 @@ fn behind<'a>(text: &'a [u8], words: &[u8]) -> Option<&'a [u8]>
     if text.len() < words.len() {
         return None;
     }
-    let mut same = 0;
-    while same < words.len() {
-        if text[same] != words[same] {
-            return None;
-        }
-        same += 1;
+    let mut same = true;
+    for at in 0..words.len() {
+        same = same & (text[at] == words[at]);
     }
-    Some(&text[same..])
+    if !same {
+        return None;
+    }
+    Some(&text[words.len()..])
 }
 
 /// The items after a comma that ends these bytes, if the text begins with them. One space before the items is skipped.

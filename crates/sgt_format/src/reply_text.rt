@@ -1,6 +1,7 @@
 //! The line of a reply.
 ghost use Rattle.std.specs.Prelude.{◌≡◌, ◌++◌, take, IfOk, OnOk, OnErr, vec_len, codes};
 ghost use Rattle.std.specs.Fmt.{signed_decimal};
+ghost use Rattle.sgt_model.specs.ShortReplies.{full_cause, full_fate, reply_with};
 ghost use Rattle.sgt_format.specs.Decimals.{record_text};
 ghost use Rattle.sgt_format.specs.ReplyText.{cause_text, over_text, looked_text, committed_text, fell_text, aborted_text, refused_text, reply_text, text};
 
@@ -8,7 +9,9 @@ use crate::decimal_text::{
     LONGEST_LINE, append_answers, append_number_line, append_numbered, append_tids,
     append_tids_or_none, write_byte, write_key, write_record, write_signed, write_words,
 };
-use sgt_model::{Answers, Cause, Fate, Key, NoMemory, Reply, Tids};
+use sgt_model::{
+    Answers, Key, NoMemory, Reply, ReplyLists, ShortCause, ShortFate, ShortReply, Tids,
+};
 use std::alloc::{AllocError, Global};
 
 /// The line of a reply, with its end.
@@ -25,8 +28,21 @@ pub fn append_reply(lines: &mut Vec<u8>, reply: &Reply) -> Result<(), NoMemory>
     ensures ok { OnOk result (lines.new.items ≡ lines.old.items ++ text reply.now) }
     ensures err { OnErr result (lines.new.items ≡ lines.old.items) }
 {
+    append_short_reply(lines, &reply.in_short(), &reply.lists())
+}
+
+/// Appends the line of a reply with these lists, as [`append_reply`] does.
+pub fn append_short_reply(
+    lines: &mut Vec<u8>,
+    reply: &ShortReply,
+    lists: &ReplyLists,
+) -> Result<(), NoMemory>
+    ensures ok { OnOk result
+        (lines.new.items ≡ lines.old.items ++ text (reply_with reply.now lists.now)) }
+    ensures err { OnErr result (lines.new.items ≡ lines.old.items) }
+{
     let before = lines.len();
-    if append_line(lines, reply).is_err() {
+    if append_line(lines, reply, lists).is_err() {
         lines.truncate(before);
         return Err(NoMemory);
     }
@@ -34,42 +50,48 @@ pub fn append_reply(lines: &mut Vec<u8>, reply: &Reply) -> Result<(), NoMemory>
 }
 
 /// On an error the lines still begin with what they held.
-fn append_line(lines: &mut Vec<u8>, reply: &Reply) -> Result<(), AllocError>
-    ensures ok { OnOk result (lines.new.items ≡ lines.old.items ++ text reply.now) }
+fn append_line(
+    lines: &mut Vec<u8>,
+    reply: &ShortReply,
+    lists: &ReplyLists,
+) -> Result<(), AllocError>
+    ensures ok { OnOk result
+        (lines.new.items ≡ lines.old.items ++ text (reply_with reply.now lists.now)) }
     ensures err { OnErr result (take (vec_len lines.old) lines.new.items ≡ lines.old.items) }
 {
     match reply {
-        Reply::Started(t) => append_number_line(lines, b"started ", u64::from(t.0)),
-        Reply::NoProcedure => lines.extend_from_slice(b"no procedure\n"),
-        Reply::BadArgs => lines.extend_from_slice(b"bad args\n"),
-        Reply::Spent => lines.extend_from_slice(b"spent\n"),
-        Reply::Full => lines.extend_from_slice(b"full\n"),
-        Reply::Unknown => lines.extend_from_slice(b"unknown\n"),
-        Reply::Over(fate) => append_over(lines, fate),
-        Reply::Looked { key, value } => append_looked(lines, key, *value),
-        Reply::Wrote { key, value } => append_wrote(lines, key, *value),
-        Reply::Ended => lines.extend_from_slice(b"ended\n"),
-        Reply::NotEnded => lines.extend_from_slice(b"not ended\n"),
-        Reply::Waits(first) => append_number_line(lines, b"waits ", u64::from(first.0)),
-        Reply::Committed(answers) => append_committed(lines, answers),
-        Reply::Aborted { cause, fell } => append_aborted(lines, cause, fell),
-        Reply::Refused { code, fell } => append_refused(lines, *code, fell),
+        ShortReply::Started(t) => append_number_line(lines, b"started ", u64::from(t.0)),
+        ShortReply::NoProcedure => lines.extend_from_slice(b"no procedure\n"),
+        ShortReply::BadArgs => lines.extend_from_slice(b"bad args\n"),
+        ShortReply::Spent => lines.extend_from_slice(b"spent\n"),
+        ShortReply::Full => lines.extend_from_slice(b"full\n"),
+        ShortReply::Unknown => lines.extend_from_slice(b"unknown\n"),
+        ShortReply::Over(fate) => append_over(lines, fate, &lists.walk),
+        ShortReply::Looked { key, value } => append_looked(lines, key, *value),
+        ShortReply::Wrote { key, value } => append_wrote(lines, key, *value),
+        ShortReply::Ended => lines.extend_from_slice(b"ended\n"),
+        ShortReply::NotEnded => lines.extend_from_slice(b"not ended\n"),
+        ShortReply::Waits(first) => append_number_line(lines, b"waits ", u64::from(first.0)),
+        ShortReply::Committed => append_committed(lines, &lists.answers),
+        ShortReply::Aborted(cause) => append_aborted(lines, cause, &lists.walk, &lists.fell),
+        ShortReply::Refused(code) => append_refused(lines, *code, &lists.fell),
     }
 }
 
 /// On an error the lines still begin with what they held.
-fn append_over(lines: &mut Vec<u8>, fate: &Fate) -> Result<(), AllocError>
-    ensures ok { OnOk result (lines.new.items ≡ lines.old.items ++ over_text fate.now ++ codes "\n") }
+fn append_over(lines: &mut Vec<u8>, fate: &ShortFate, walk: &Tids) -> Result<(), AllocError>
+    ensures ok { OnOk result
+        (lines.new.items ≡ lines.old.items ++ over_text (full_fate fate.now walk.now) ++ codes "\n") }
     ensures err { OnErr result (take (vec_len lines.old) lines.new.items ≡ lines.old.items) }
 {
     match fate {
-        Fate::Committed => lines.extend_from_slice(b"over committed\n"),
-        Fate::Aborted(cause) => {
+        ShortFate::Committed => lines.extend_from_slice(b"over committed\n"),
+        ShortFate::Aborted(cause) => {
             lines.extend_from_slice(b"over aborted ")?;
-            append_cause(lines, cause)?;
+            append_cause(lines, cause, walk)?;
             lines.extend_from_slice(b"\n")
         }
-        Fate::Fell(first) => append_number_line(lines, b"over fell ", u64::from(first.0)),
+        ShortFate::Fell(first) => append_number_line(lines, b"over fell ", u64::from(first.0)),
     }
 }
 
@@ -137,13 +159,18 @@ fn append_answered(lines: &mut Vec<u8>, answer: i64) -> Result<(), AllocError>
 
 /// On an error the lines still begin with what they held.
 #[tactic(auto, using(crate::proofs::Begins::still_begins))]
-fn append_aborted(lines: &mut Vec<u8>, cause: &Cause, fell: &Tids) -> Result<(), AllocError>
-    ensures ok { OnOk result
-        (lines.new.items ≡ lines.old.items ++ aborted_text cause.now fell.now ++ codes "\n") }
+fn append_aborted(
+    lines: &mut Vec<u8>,
+    cause: &ShortCause,
+    walk: &Tids,
+    fell: &Tids,
+) -> Result<(), AllocError>
+    ensures ok { OnOk result (lines.new.items
+        ≡ lines.old.items ++ aborted_text (full_cause cause.now walk.now) fell.now ++ codes "\n") }
     ensures err { OnErr result (take (vec_len lines.old) lines.new.items ≡ lines.old.items) }
 {
     lines.extend_from_slice(b"aborted ")?;
-    append_cause(lines, cause)?;
+    append_cause(lines, cause, walk)?;
     append_fell(lines, fell)
 }
 
@@ -169,16 +196,17 @@ fn append_fell(lines: &mut Vec<u8>, fell: &Tids) -> Result<(), AllocError>
 }
 
 /// Appends why a transaction was aborted. On an error the line still begins with what it held.
-fn append_cause(line: &mut Vec<u8>, cause: &Cause) -> Result<(), AllocError>
-    ensures ok { OnOk result (line.new.items ≡ line.old.items ++ cause_text cause.now) }
+fn append_cause(line: &mut Vec<u8>, cause: &ShortCause, walk: &Tids) -> Result<(), AllocError>
+    ensures ok { OnOk result
+        (line.new.items ≡ line.old.items ++ cause_text (full_cause cause.now walk.now)) }
     ensures err { OnErr result (take (vec_len line.old) line.new.items ≡ line.old.items) }
 {
     match cause {
-        Cause::Cycle(walk) => {
+        ShortCause::Cycle => {
             line.extend_from_slice(b"cycle")?;
             append_tids(line, walk)
         }
-        Cause::Asked(code) => append_numbered(line, b"asked ", *code),
-        Cause::Quit => line.extend_from_slice(b"quit"),
+        ShortCause::Asked(code) => append_numbered(line, b"asked ", *code),
+        ShortCause::Quit => line.extend_from_slice(b"quit"),
     }
 }

@@ -1,7 +1,7 @@
 //! A line of a script: an event or a cut.
 ghost use Rattle.std.specs.Prelude.{◌≡◌, ◌≢◌, Ok, Err, IfOk, IfErr};
 ghost use Rattle.serde_json.specs.View.{view};
-ghost use Rattle.sgt_format.specs.ScriptLines.{of_word, script_line_in, script_line_of};
+ghost use Rattle.sgt_format.specs.ScriptLines.{line_of, of_word, script_line_in, script_line_of};
 ghost use Rattle.sgt_format.specs.declared.errors.LineError.TheVariants.{NoMemory};
 
 use crate::errors::LineError;
@@ -23,9 +23,19 @@ pub enum ScriptLine {
     Cut,
 }
 
-/// What a line of a script spells, without its end: an event as [`crate::read_event`] reads it, or `["cut"]`.
+/// Which of the two a line of a script is.
+#[derive(Clone, Copy, Debug, PartialEq, Eq)]
+pub enum LineKind {
+    /// An event.
+    Event,
+    /// A cut.
+    Cut,
+}
+
+/// Reads what a line of a script spells, without its end: an event as [`crate::read_event`] reads it, or `["cut"]`. An
+/// event is put into `event`, and a cut leaves any event there.
 ///
-/// An argument may be any whole number of 64 bits. `scratch` is memory of the reader; pass the same one for each line.
+/// An argument may be any whole number of 64 bits.
 ///
 /// # Errors
 ///
@@ -38,14 +48,15 @@ pub fn read_script_line(
     alloc: Global,
     scratch: &mut Scratch,
     line: &[u8],
-) -> Result<ScriptLine, LineError>
-    ensures line { IfOk result (λ asked. script_line_of line.now ≡ Ok asked) }
+    event: &mut Event,
+) -> Result<LineKind, LineError>
+    ensures line { IfOk result (λ kind. script_line_of line.now ≡ Ok (line_of kind event.new)) }
     ensures error { IfErr result (λ error. error ≢ NoMemory → script_line_of line.now ≡ Err error) }
 {
-    if let Some(event) = plain_event(line) {
-        return Ok(ScriptLine::Event(event));
+    if plain_event(line, event).is_some() {
+        return Ok(LineKind::Event);
     }
-    read_other_line(alloc, scratch, line)
+    read_other_line(alloc, scratch, line, event)
 }
 
 /// The same, of a line that is not in plain form.
@@ -55,17 +66,26 @@ fn read_other_line(
     alloc: Global,
     scratch: &mut Scratch,
     line: &[u8],
-) -> Result<ScriptLine, LineError>
-    ensures line { IfOk result (λ asked. script_line_of line.now ≡ Ok asked) }
+    event: &mut Event,
+) -> Result<LineKind, LineError>
+    ensures line { IfOk result (λ kind. script_line_of line.now ≡ Ok (line_of kind event.new)) }
     ensures error { IfErr result (λ error. error ≢ NoMemory → script_line_of line.now ≡ Err error) }
 {
-    if let Some(event) = quick_event(line, scratch)? {
-        return Ok(ScriptLine::Event(event));
+    if let Some(found) = quick_event(line, scratch)? {
+        *event = found;
+        return Ok(LineKind::Event);
     }
     let Some(tree) = read_tree(alloc, line)? else {
         return Err(LineError::NotJson);
     };
-    script_line_in(&tree).ok_or(LineError::BadLine)
+    match script_line_in(&tree) {
+        Some(ScriptLine::Event(found)) => {
+            *event = found;
+            Ok(LineKind::Event)
+        }
+        Some(ScriptLine::Cut) => Ok(LineKind::Cut),
+        None => Err(LineError::BadLine),
+    }
 }
 
 fn script_line_in(tree: &Value) -> Option<ScriptLine>

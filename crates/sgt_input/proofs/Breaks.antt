@@ -1,13 +1,17 @@
 -- Laws of newlines.
-use Rattle.std.proofs.Common.{◌≡◌, ◌≢◌, ℕ, zero, suc, ◌+◌, ◌<◌, ◌≤◌, true, false, List, [], ◌∷◌, ◌++◌, length, take, get_or, refl, ap, sym, ◌∙◌, arith, suc-le-suc, subst, ◌-◌, drop}
+use Rattle.std.proofs.Common.{◌≡◌, ◌≢◌, ℕ, zero, suc, ◌+◌, ◌*◌, ◌<◌, ◌≤◌, Bool, true, false, cond, not, eqb, ltb, map, List, [], ◌∷◌, ◌++◌, length, take, get_or, refl, ap, sym, ◌∙◌, arith, suc-le-suc, subst, ◌-◌, drop}
 use Rattle.std.proofs.lemmas.Grind.{common_steps}
 use Rattle.std.proofs.lemmas.Bool.Decides.{nat_tests}
 use Rattle.std.proofs.Math.Seq.{take-add, take-append-add}
-use Rattle.std.proofs.lemmas.List.{get_or-append-add, length-append}
+use Rattle.std.proofs.lemmas.List.{get_or-append-add, length-append, length-take}
 use Rattle.std.specs.Prelude.{Option, None, Some, is_some, min}
-use Rattle.std.proofs.lemmas.Bool.{true≢false, eqb-true, eq-eqb}
+use Rattle.std.proofs.lemmas.Bool.{true≢false, eqb-true, eq-eqb, ltb-true, ltb-false}
 use Rattle.std.specs.Option.{option_map}
-use Rattle.memchr.specs.Find.{IsFirstByte, is_byte}
+use lib.Count.{count_trailing_zeros}
+use lib.Lanes.{chunk, mask_l}
+use Rattle.std.specs.List.{prefix_len}
+use Rattle.std.proofs.lemmas.Simd.{length-chunk, run_in_chunk_fails, run_in_chunk_stops, trailing_mask_l}
+use Rattle.memchr.specs.Find.{IsFirstByte, NoneBefore, Passes, is_byte}
 use Rattle.sgt_input.specs.Lines.{has_break, IsBreak}
 
 -- no newline in either of two lists of bytes
@@ -80,3 +84,55 @@ break-within bytes from within stop found is inside fits none first =
     subst (λ n. IsBreak (take within bytes) (option_map (λ k. n + k) found)) size
     (subst (λ xs. IsBreak xs (option_map (λ k. length (take from bytes) + k) found)) whole
     (break-behind (take from bytes) (take (stop - from) (drop from bytes)) found none first))
+
+-- where a bit is set, some lane passes
+marked : (p : ℕ → Bool) (xs : List ℕ) → 0 < mask_l (map p xs) → prefix_len (λ x. not (p x)) xs < length xs
+marked p [] some = absurd (omega (arith, some))
+marked p (x ∷ xs) some = by (p x) some (marked p xs)
+  where
+    by : (b : Bool) → 0 < cond b 1 0 + 2 * mask_l (map p xs)
+        → (0 < mask_l (map p xs) → prefix_len (λ x. not (p x)) xs < length xs)
+        → cond (not b) (1 + prefix_len (λ x. not (p x)) xs) 0 < length (x ∷ xs)
+    by true some later = omega arith
+    by false some later = omega (arith, later (omega (arith, some)))
+
+-- the first newline among 32 bytes is at their lowest mark
+pub first-marked : (bytes : List ℕ) (from n : ℕ) → from + 32 ≤ length bytes
+    → 0 < mask_l (map (λ x. eqb x 10) (chunk from 32 bytes))
+    → n ≡ count_trailing_zeros 64 (mask_l (map (λ x. eqb x 10) (chunk from 32 bytes)))
+    → NoneBefore (Passes (is_byte 10) bytes) from (from + 32) (from + n) × Passes (is_byte 10) bytes (from + n)
+first-marked bytes from n fits some is =
+    let p = λ (x : ℕ). eqb x 10 in
+    let v = chunk from 32 bytes in
+    let long : length v ≡ 32 = length-chunk from 32 bytes fits in
+    let counted : n ≡ prefix_len (λ x. not (p x)) v = is ∙ trailing_mask_l p 64 v (omega (arith, long)) some in
+    let few : n < 32 = omega (arith, counted, long, marked p v some) in (
+      record {
+        low = omega arith;
+        high = omega (arith, few);
+        before = λ k low high ten. true≢false (sym ten ∙ run_in_chunk_fails p bytes from 32 n 0 fits counted k low high);
+      },
+      run_in_chunk_stops p bytes from 32 n 0 fits counted few,
+    )
+
+-- the first newline within the limit, if it is near and none is before
+pub break-near : (bytes : List ℕ) (from within stop n : ℕ) → stop ≡ min within (length bytes) → from + 32 ≤ stop
+    → has_break (take from bytes) ≡ false → NoneBefore (Passes (is_byte 10) bytes) from (from + 32) n
+    → Passes (is_byte 10) bytes n → IsBreak (take within bytes) (Some n)
+break-near bytes from within stop n is fits none first ten =
+    let inside : n < within = omega (arith, is, first.high) in
+    let few : n < length bytes = omega (arith, is, first.high) in
+    let same : (k : ℕ) → k ≤ n → get_or (take within bytes) k 0 ≡ get_or bytes k 0 = λ k low. grind (arith, common_steps, inside) in (
+      grind (arith, common_steps, inside, few),
+      same n (omega arith) ∙ eqb-true _ 10 ten,
+      no_break-each (take n (take within bytes)) (λ k below is-ten. by k (omega (arith, length-take n (take within bytes)))
+          (sym (same k (omega (arith, length-take n (take within bytes)))) ∙ grind (arith, common_steps, is-ten))),
+    )
+  where
+    by : (k : ℕ) → k < n → get_or bytes k 0 ≢ 10
+    by k below = by-place (ltb k from) refl
+      where
+        by-place : (b : Bool) → ltb k from ≡ b → get_or bytes k 0 ≢ 10
+        by-place true e is-ten = true≢false (sym (has_break-at (take from bytes) k (grind (arith, common_steps, ltb-true k from e))
+            (grind (arith, common_steps, ltb-true k from e))) ∙ none)
+        by-place false e is-ten = first.before k (omega (arith, ltb-false k from e)) below (eq-eqb _ 10 is-ten)

@@ -1,6 +1,7 @@
 //! The lines of what a source gives, within the limits.
 ghost use Rattle.std.specs.Prelude.{◌≡◌, ◌≢◌, ℕ, if◌then◌else◌, IsTrue, IsFalse, true, false, IfOk, IfErr, OnOk, OnErr, OnSome, None, Some, min, [], ◌++◌, ◌+◌, ◌-◌, ◌^◌, ◌<◌, ◌≤◌, ◌↔◌, ◌⊎◌, IfSome, IsNone, length, take, drop};
 ghost use Rattle.std.specs.Io.KnownBytes.{Consumes, Keeps};
+ghost use Rattle.memchr.specs.Find.{IsFirst, Passes, is_byte};
 ghost use Rattle.sgt_input.specs.Lines.{has_break, whole_lines, IsBreak, AtEnd};
 ghost use Rattle.sgt_input.specs.Intake.{Intake, before_input, has_whole_line, bytes_left, work, IsReady, IsGiven, IsLong, cut_left, Gives, EndsAs, Explains, taken, come};
 
@@ -11,6 +12,7 @@ use memchr::memchr;
 use sgt_model::NoMemory;
 use std::alloc::Global;
 use std::marker::Model;
+use std::simd::prelude::*;
 
 /// The most bytes that a line may have, without its newline.
 const LONGEST_LINE: usize = 65_536;
@@ -27,10 +29,30 @@ fn find_break(bytes: &[u8], from: usize, within: usize) -> Option<usize>
     ensures { IsBreak (take within bytes.now) result }
 {
     let stop = within.min(bytes.len());
+    if 32 <= stop - from {
+        if let Some(near) = near_break(bytes, from) {
+            return Some(near);
+        }
+    }
     match memchr(b'\n', &bytes[from..stop]) {
         Some(n) => Some(from + n),
         None => None,
     }
+}
+
+/// The position of the first newline among the 32 bytes from `from` on. Most lines are shorter.
+#[inline(always)]
+fn near_break(bytes: &[u8], from: usize) -> Option<usize>
+    requires { from + 32 ≤ length bytes.now }
+    ensures { IsFirst (Passes (is_byte 10) bytes.now) from (from + 32) result }
+{
+    let marks = u8x32::from_slice(&bytes[from..])
+        .simd_eq(u8x32::splat(b'\n'))
+        .to_bitmask();
+    if marks == 0 {
+        return None;
+    }
+    Some(from + marks.trailing_zeros() as usize)
 }
 
 /// Splits the bytes of a source into lines, within the limits. Its buffer has a fixed size, however long the input is.

@@ -1,5 +1,4 @@
 pub mod HistoryView
-pub mod Spans
-pub mod ShortEntries
 pub mod EntryParts
-pub mod Plain
+pub mod Spans
+pub mod StoredEntries

@@ -6,6 +6,10 @@ use Rattle.sgt_log.specs.declared.span.Span.{Span}
 abbrev pub part_of : {X : Type 0} → List X → Span → List X
 part_of list s = take s.count (drop s.from list)
 
+-- the part without items
+abbrev pub no_items : Span
+no_items = record { from = 0; count = 0 }
+
 -- a part of a list of this length
 abbrev pub IsWithin : ℕ → Span → Type 0
 IsWithin len s = (s.from + s.count ≤ len) × (s.count ≤ 32)

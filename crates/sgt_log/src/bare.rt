@@ -1,7 +1,8 @@
-//! Entries without their lists.
-ghost use Rattle.std.specs.Prelude.{◌≡◌, ◌↔◌, IsTrue};
+//! Events without their arguments.
+ghost use Rattle.std.specs.Prelude.{◌≡◌, ◌≤◌, ◌↔◌, length, IsTrue};
+ghost use Rattle.sgt_log.specs.EntryParts.{bare_event, args_in};
 
-use sgt_model::{Key, Tid};
+use sgt_model::{Event, Tid};
 
 /// An event without its arguments.
 #[derive(Clone, Copy, PartialEq, Eq)]
@@ -12,43 +13,19 @@ pub enum BareEvent {
     Quit(Tid),
 }
 
-/// Why a transaction was aborted, without the path of a cycle.
-#[derive(Clone, Copy, PartialEq, Eq)]
-pub enum BareCause {
-    Cycle,
-    Asked(u16),
-    Quit,
-}
-
-/// How a transaction ended, without the path of a cycle.
-#[derive(Clone, Copy, PartialEq, Eq)]
-pub enum BareFate {
-    Committed,
-    Aborted(BareCause),
-    Fell(Tid),
-}
-
-/// A reply without its lists.
-#[derive(Clone, Copy, PartialEq, Eq)]
-pub enum BareReply {
-    Started(Tid),
-    NoProcedure,
-    BadArgs,
-    Spent,
-    Full,
-    Unknown,
-    Over(BareFate),
-    Looked { key: Key, value: Option<i64> },
-    Wrote { key: Key, value: i64 },
-    Ended,
-    NotEnded,
-    Waits(Tid),
-    Committed,
-    Aborted(BareCause),
-    Refused(u16),
-}
-
 impl BareEvent {
+    /// The event without its arguments.
+    pub fn of(event: &Event) -> Self
+        ensures { result ≡ bare_event event.now }
+    {
+        match event {
+            Event::Start { procedure, .. } => BareEvent::Start(*procedure),
+            Event::Step(t) => BareEvent::Step(*t),
+            Event::Commit(t) => BareEvent::Commit(*t),
+            Event::Quit(t) => BareEvent::Quit(*t),
+        }
+    }
+
     /// Whether both are the same.
     pub fn is_same(&self, other: &Self) -> bool
         ensures { IsTrue result ↔ (self.now ≡ other.now) }
@@ -57,11 +34,16 @@ impl BareEvent {
     }
 }
 
-impl BareReply {
-    /// Whether both are the same.
-    pub fn is_same(&self, other: &Self) -> bool
-        ensures { IsTrue result ↔ (self.now ≡ other.now) }
-    {
-        self == other
+/// The arguments of an event. An event of another kind than a start has none.
+pub fn args_of(event: &Event) -> &[i64]
+    ensures args { result.now ≡ args_in event.now }
+    ensures few { length result.now ≤ 4 }
+{
+    match event {
+        Event::Start { args, .. } => {
+            let _count = args.len();
+            args.as_slice()
+        }
+        _ => &[],
     }
 }

@@ -1,24 +1,27 @@
 //! An entry, read in place in the history.
-ghost use Rattle.std.specs.Prelude.{◌≡◌, ◌↔◌, IsTrue};
+ghost use Rattle.std.specs.Prelude.{◌≡◌, ◌≤◌, ◌↔◌, length, IsTrue};
 ghost use Rattle.sgt_model.specs.Fates.{is_start};
 ghost use Rattle.sgt_model.specs.Questions.{named_by, started_in, over_in};
 ghost use Rattle.sgt_model.specs.Questions.{refuses_start, is_wait, is_commit, is_ask, is_quit, is_ending, tells_end};
-ghost use Rattle.sgt_log.specs.EntryParts.{bare_event, bare_reply, args_in, walk_in, fell_in, answers_in, committed_in, is_by_cycle, tells_fall, is_access, is_at_end};
+ghost use Rattle.sgt_model.specs.ShortReplies.{short_reply, walk_in, fell_in, answers_in};
+ghost use Rattle.sgt_log.specs.EntryParts.{args_in, bare_event, full_entry, committed_in, is_by_cycle, tells_fall, is_access, is_at_end, AreFew};
 
-use crate::short_cause::{ShortCause, ShortFate};
-use crate::short_entry::ShortEntry;
-use crate::short_event::ShortEvent;
-use crate::short_reply::ShortReply;
-use sgt_model::{Answers, Entry, Event, Reply, Tid};
+use crate::bare::BareEvent;
+use crate::entry_lists::EntryLists;
+use crate::span::Span;
+use crate::stored_entry::StoredEntry;
+use crate::stored_event::StoredEvent;
+use crate::stored_reply::StoredReply;
+use sgt_model::{Answers, Entry, Event, Reply, ShortCause, ShortFate, ShortReply, Tid};
 use std::marker::Model;
 
 /// An entry of a history, read in place. Contracts see it as the entry.
 ///
 /// An [`Entry`] in full takes some 320 bytes, which are written each time that one is made. Most questions about an entry
-/// are small, and answered here from its 72 bytes.
+/// are small, and answered here from its 40 bytes.
 #[derive(Drop)]
 pub struct EntryRef<'a> {
-    pub(crate) short: &'a ShortEntry,
+    pub(crate) stored: &'a StoredEntry,
     // The lists of its history.
     pub(crate) tids: &'a [Tid],
     pub(crate) values: &'a [i64],
@@ -27,13 +30,13 @@ pub struct EntryRef<'a> {
 impl<'a> Model for EntryRef<'a> {
     ghost use Rattle.std.specs.Prelude.{length};
     ghost use Rattle.sgt_model.specs.declared.entry.Entry.{Entry};
-    ghost use Rattle.sgt_log.specs.ShortEntries.{entry_of, IsEntry};
+    ghost use Rattle.sgt_log.specs.StoredEntries.{entry_of, IsEntry};
 
     ghost Value = { Entry };
 
-    ghost view = { λ e. entry_of e.tids.now e.values.now e.short.now };
+    ghost view = { λ e. entry_of e.tids.now e.values.now e.stored.now };
 
-    ghost invariant = { λ e. IsEntry (length e.tids.now) (length e.values.now) e.short.now };
+    ghost invariant = { λ e. IsEntry (length e.tids.now) (length e.values.now) e.stored.now };
 }
 
 impl<'a> EntryRef<'a> {
@@ -51,14 +54,21 @@ impl<'a> EntryRef<'a> {
     pub fn event(&self) -> Event
         ensures { result ≡ self.now.event }
     {
-        self.short.event.in_full(self.values)
+        self.stored.event.in_full(self.values)
+    }
+
+    /// Its reply without the lists.
+    pub fn short(&self) -> ShortReply
+        ensures { result ≡ short_reply self.now.reply }
+    {
+        self.stored.reply.short()
     }
 
     /// Its reply in full.
     pub fn reply(&self) -> Reply
         ensures { result ≡ self.now.reply }
     {
-        self.short.reply.in_full(self.tids, self.values)
+        self.stored.reply.in_full(self.tids, self.values)
     }
 
     /// Whether both are the same entry, even of different histories.
@@ -73,7 +83,7 @@ impl<'a> EntryRef<'a> {
         ensures { result ≡ self.now }
     {
         EntryRef {
-            short: self.short,
+            stored: self.stored,
             tids: self.tids,
             values: self.values,
         }
@@ -92,19 +102,16 @@ impl<'a> EntryRef<'a> {
     fn has_surely_same_event(&self, other: &EntryRef<'_>) -> bool
         ensures { IsTrue result → self.now.event ≡ other.now.event }
     {
-        match (&self.short.event, &other.short.event) {
-            (ShortEvent::Step(t), ShortEvent::Step(u)) => t == u,
-            (ShortEvent::Commit(t), ShortEvent::Commit(u)) => t == u,
+        match (&self.stored.event, &other.stored.event) {
+            (StoredEvent::Step(t), StoredEvent::Step(u)) => t == u,
+            (StoredEvent::Commit(t), StoredEvent::Commit(u)) => t == u,
             (
-                ShortEvent::Start { procedure, args },
-                ShortEvent::Start {
+                StoredEvent::Start { procedure, .. },
+                StoredEvent::Start {
                     procedure: another,
-                    args: others,
+                    ..
                 },
-            ) => {
-                procedure == another
-                    && are_same_values(args.items(self.values), others.items(other.values))
-            }
+            ) => procedure == another && are_same_values(self.args(), other.args()),
             _ => false,
         }
     }
@@ -114,28 +121,11 @@ impl<'a> EntryRef<'a> {
     fn has_surely_same_reply(&self, other: &EntryRef<'_>) -> bool
         ensures { IsTrue result → self.now.reply ≡ other.now.reply }
     {
-        match (&self.short.reply, &other.short.reply) {
-            (
-                ShortReply::Looked { key, value },
-                ShortReply::Looked {
-                    key: another,
-                    value: found,
-                },
-            ) => key == another && value == found,
-            (
-                ShortReply::Wrote { key, value },
-                ShortReply::Wrote {
-                    key: another,
-                    value: stored,
-                },
-            ) => key == another && value == stored,
-            (ShortReply::Ended, ShortReply::Ended) => true,
-            (ShortReply::Started(t), ShortReply::Started(u)) => t == u,
-            (ShortReply::Committed(answers), ShortReply::Committed(others)) => are_same_values(
-                answers.items(self.values),
-                others.items(other.values),
-            ),
-            _ => false,
+        match (&self.stored.reply, &other.stored.reply) {
+            (StoredReply::Committed { .. }, StoredReply::Committed { .. }) => {
+                are_same_values(self.answers(), other.answers())
+            }
+            (reply, another) => reply.is_plain() && reply.is_same(another),
         }
     }
 
@@ -154,20 +144,14 @@ impl<'a> EntryRef<'a> {
     fn has_same_event(&self, other: &EntryRef<'_>) -> bool
         ensures { IsTrue result ↔ (bare_event self.now.event ≡ bare_event other.now.event) }
     {
-        self.short
-            .event
-            .without_args()
-            .is_same(&other.short.event.without_args())
+        self.bare_event().is_same(&other.bare_event())
     }
 
     // Whether the replies are the same, apart from the items of their lists.
     fn has_same_reply(&self, other: &EntryRef<'_>) -> bool
-        ensures { IsTrue result ↔ (bare_reply self.now.reply ≡ bare_reply other.now.reply) }
+        ensures { IsTrue result ↔ (short_reply self.now.reply ≡ short_reply other.now.reply) }
     {
-        self.short
-            .reply
-            .without_lists()
-            .is_same(&other.short.reply.without_lists())
+        self.short().is_same(&other.short())
     }
 
     // Whether the lists of values have the same items.
@@ -191,9 +175,9 @@ impl<'a> EntryRef<'a> {
     pub fn named(&self) -> Option<Tid>
         ensures { result ≡ named_by self.now.event }
     {
-        match self.short.event {
-            ShortEvent::Start { .. } => None,
-            ShortEvent::Step(t) | ShortEvent::Commit(t) | ShortEvent::Quit(t) => Some(t),
+        match self.stored.event {
+            StoredEvent::Start { .. } => None,
+            StoredEvent::Step(t) | StoredEvent::Commit(t) | StoredEvent::Quit(t) => Some(t),
         }
     }
 
@@ -201,8 +185,8 @@ impl<'a> EntryRef<'a> {
     pub fn started(&self) -> Option<Tid>
         ensures { result ≡ started_in self.now.event self.now.reply }
     {
-        match (self.short.event, self.short.reply) {
-            (ShortEvent::Start { .. }, ShortReply::Started(t)) => Some(t),
+        match (self.stored.event, self.stored.reply) {
+            (StoredEvent::Start { .. }, StoredReply::Started(t)) => Some(t),
             _ => None,
         }
     }
@@ -212,10 +196,10 @@ impl<'a> EntryRef<'a> {
     pub fn over(&self) -> Option<Tid>
         ensures { result ≡ over_in self.now.event self.now.reply }
     {
-        match self.short.event {
-            ShortEvent::Start { .. } => None,
-            ShortEvent::Step(t) | ShortEvent::Commit(t) => self.tells_end().then_some(t),
-            ShortEvent::Quit(t) => Some(t),
+        match self.stored.event {
+            StoredEvent::Start { .. } => None,
+            StoredEvent::Step(t) | StoredEvent::Commit(t) => self.tells_end().then_some(t),
+            StoredEvent::Quit(t) => Some(t),
         }
     }
 
@@ -224,11 +208,11 @@ impl<'a> EntryRef<'a> {
         ensures { result ≡ tells_end self.now.reply }
     {
         matches!(
-            self.short.reply,
-            ShortReply::Aborted { .. }
-                | ShortReply::Refused { .. }
-                | ShortReply::Committed(_)
-                | ShortReply::Over(_)
+            self.stored.reply,
+            StoredReply::Aborted { .. }
+                | StoredReply::Refused { .. }
+                | StoredReply::Committed { .. }
+                | StoredReply::Over { .. }
         )
     }
 
@@ -236,7 +220,7 @@ impl<'a> EntryRef<'a> {
     pub fn is_start(&self) -> bool
         ensures { result ≡ is_start self.now.reply }
     {
-        matches!(self.short.reply, ShortReply::Started(_))
+        matches!(self.stored.reply, StoredReply::Started(_))
     }
 
     /// Whether its reply answers a start that starts nothing.
@@ -244,8 +228,8 @@ impl<'a> EntryRef<'a> {
         ensures { result ≡ refuses_start self.now.reply }
     {
         matches!(
-            self.short.reply,
-            ShortReply::NoProcedure | ShortReply::BadArgs | ShortReply::Spent | ShortReply::Full
+            self.stored.reply,
+            StoredReply::NoProcedure | StoredReply::BadArgs | StoredReply::Spent | StoredReply::Full
         )
     }
 
@@ -254,8 +238,8 @@ impl<'a> EntryRef<'a> {
         ensures { result ≡ is_access self.now.reply }
     {
         matches!(
-            self.short.reply,
-            ShortReply::Looked { .. } | ShortReply::Wrote { .. }
+            self.stored.reply,
+            StoredReply::Looked { .. } | StoredReply::Missed { .. } | StoredReply::Wrote { .. }
         )
     }
 
@@ -263,30 +247,30 @@ impl<'a> EntryRef<'a> {
     pub fn is_at_end(&self) -> bool
         ensures { result ≡ is_at_end self.now.reply }
     {
-        matches!(self.short.reply, ShortReply::Ended)
+        matches!(self.stored.reply, StoredReply::Ended)
     }
 
     /// Whether its reply says that a commit must wait.
     pub fn is_wait(&self) -> bool
         ensures { result ≡ is_wait self.now.reply }
     {
-        matches!(self.short.reply, ShortReply::Waits(_))
+        matches!(self.stored.reply, StoredReply::Waits(_))
     }
 
     /// Whether it commits a transaction.
     pub fn is_commit(&self) -> bool
         ensures { result ≡ is_commit self.now.reply }
     {
-        matches!(self.short.reply, ShortReply::Committed(_))
+        matches!(self.stored.reply, StoredReply::Committed { .. })
     }
 
     /// Whether it aborts a transaction whose procedure raised a code, at the step or at the commit.
     pub fn is_ask(&self) -> bool
         ensures { result ≡ is_ask self.now.reply }
     {
-        match self.short.reply {
-            ShortReply::Aborted { cause, .. } => matches!(cause, ShortCause::Asked(_)),
-            ShortReply::Refused { .. } => true,
+        match self.stored.reply {
+            StoredReply::Aborted { cause, .. } => matches!(cause, ShortCause::Asked(_)),
+            StoredReply::Refused { .. } => true,
             _ => false,
         }
     }
@@ -295,8 +279,8 @@ impl<'a> EntryRef<'a> {
     pub fn is_quit(&self) -> bool
         ensures { result ≡ is_quit self.now.reply }
     {
-        match self.short.reply {
-            ShortReply::Aborted { cause, .. } => matches!(cause, ShortCause::Quit),
+        match self.stored.reply {
+            StoredReply::Aborted { cause, .. } => matches!(cause, ShortCause::Quit),
             _ => false,
         }
     }
@@ -305,8 +289,8 @@ impl<'a> EntryRef<'a> {
     pub fn is_by_cycle(&self) -> bool
         ensures { result ≡ is_by_cycle self.now.reply }
     {
-        match self.short.reply {
-            ShortReply::Aborted { cause, .. } => matches!(cause, ShortCause::Cycle(_)),
+        match self.stored.reply {
+            StoredReply::Aborted { cause, .. } => matches!(cause, ShortCause::Cycle),
             _ => false,
         }
     }
@@ -316,8 +300,10 @@ impl<'a> EntryRef<'a> {
         ensures { result ≡ is_ending self.now.reply }
     {
         matches!(
-            self.short.reply,
-            ShortReply::Committed(_) | ShortReply::Aborted { .. } | ShortReply::Refused { .. }
+            self.stored.reply,
+            StoredReply::Committed { .. }
+                | StoredReply::Aborted { .. }
+                | StoredReply::Refused { .. }
         )
     }
 
@@ -325,67 +311,73 @@ impl<'a> EntryRef<'a> {
     pub fn tells_fall(&self) -> bool
         ensures { result ≡ tells_fall self.now.reply }
     {
-        match self.short.reply {
-            ShortReply::Over(fate) => matches!(fate, ShortFate::Fell(_)),
+        match self.stored.reply {
+            StoredReply::Over { fate, .. } => matches!(fate, ShortFate::Fell(_)),
             _ => false,
         }
     }
 
     /// `fell`: those aborted in cascade with the transaction that it aborts, rising. None if it aborts none.
     pub fn fell(&self) -> &'a [Tid]
-        ensures { result.now ≡ fell_in self.now.reply }
+        ensures fell { result.now ≡ fell_in self.now.reply }
+        ensures few { length result.now ≤ 32 }
     {
-        match self.short.reply {
-            ShortReply::Aborted { fell, .. } | ShortReply::Refused { fell, .. } => fell.items(
-                self.tids,
-            ),
-            _ => &[],
-        }
+        self.stored.reply.fell(self.tids)
+    }
+
+    /// The path of the cycle that its reply reports. No transactions if it reports none.
+    pub fn walk(&self) -> &'a [Tid]
+        ensures walk { result.now ≡ walk_in self.now.reply }
+        ensures few { length result.now ≤ 32 }
+    {
+        self.stored.reply.walk(self.tids)
+    }
+
+    /// The answers of its commit. No values if it commits none.
+    pub fn answers(&self) -> &'a [i64]
+        ensures answers { result.now ≡ answers_in self.now.reply }
+        ensures few { length result.now ≤ 8 }
+    {
+        self.stored.reply.answers(self.values)
     }
 
     /// The answers of its commit, if it commits a transaction.
     pub fn committed(&self) -> Option<Answers>
         ensures { result ≡ committed_in self.now.reply }
     {
-        match self.short.reply {
-            ShortReply::Committed(answers) => Some(answers.values(self.values)),
+        match self.stored.reply {
+            StoredReply::Committed { count, from } => Some(Span::new(from, count).values(
+                self.values,
+            )),
             _ => None,
         }
     }
 
-    // The arguments of its start.
-    fn args(&self) -> &'a [i64]
-        ensures { result.now ≡ args_in self.now.event }
+    // The arguments of its start. No values if it is none.
+    pub(crate) fn args(&self) -> &'a [i64]
+        ensures args { result.now ≡ args_in self.now.event }
+        ensures few { length result.now ≤ 4 }
     {
-        match self.short.event {
-            ShortEvent::Start { args, .. } => args.items(self.values),
-            _ => &[],
-        }
+        self.stored.event.args(self.values)
     }
 
-    // The path of the cycle that its reply reports.
-    fn walk(&self) -> &'a [Tid]
-        ensures { result.now ≡ walk_in self.now.reply }
+    // Its event without the arguments.
+    pub(crate) fn bare_event(&self) -> BareEvent
+        ensures { result ≡ bare_event self.now.event }
     {
-        match self.short.reply {
-            ShortReply::Aborted {
-                cause: ShortCause::Cycle(walk),
-                ..
-            }
-            | ShortReply::Over(ShortFate::Aborted(ShortCause::Cycle(walk))) => walk.items(
-                self.tids,
-            ),
-            _ => &[],
-        }
+        self.stored.event.bare()
     }
 
-    // The answers of its commit.
-    fn answers(&self) -> &'a [i64]
-        ensures { result.now ≡ answers_in self.now.reply }
+    // Its lists.
+    pub(crate) fn lists(&self) -> EntryLists<'a>
+        ensures lists { full_entry (bare_event self.now.event) (short_reply self.now.reply) result ≡ self.now }
+        ensures few { AreFew result }
     {
-        match self.short.reply {
-            ShortReply::Committed(answers) => answers.items(self.values),
-            _ => &[],
+        EntryLists {
+            args: self.args(),
+            answers: self.answers(),
+            walk: self.walk(),
+            fell: self.fell(),
         }
     }
 }

@@ -6,16 +6,19 @@ ghost use Rattle.std.specs.Option.{option_map};
 ghost use Rattle.sgt_model.specs.declared.entry.Entry.{Entry};
 ghost use Rattle.sgt_model.specs.declared.event.Event.TheVariants.{Start, Commit};
 ghost use Rattle.sgt_model.specs.declared.reply.Reply.TheVariants.{Started, Committed};
-ghost use Rattle.sgt_log.specs.ShortEntries.{entry_of};
-ghost use Rattle.sgt_log.specs.Plain.{is_plain};
+ghost use Rattle.sgt_model.specs.ShortReplies.{full_reply, reply_with};
+ghost use Rattle.sgt_log.specs.StoredEntries.{bare_of, short_of, HasNoArgs, HasNoLists, HasKey};
+ghost use Rattle.sgt_log.specs.EntryParts.{full_event, full_entry, AreFew};
 
+use crate::bare::{BareEvent, args_of};
+use crate::entry_lists::EntryLists;
 use crate::entry_ref::EntryRef;
-use crate::short_entry::ShortEntry;
-use crate::short_event::ShortEvent;
-use crate::short_reply::ShortReply;
 use crate::span::Span;
+use crate::stored_entry::StoredEntry;
+use crate::stored_event::StoredEvent;
+use crate::stored_reply::StoredReply;
 use crate::touch::touch_ahead;
-use sgt_model::{Entry, Event, NoMemory, Reply, Tid};
+use sgt_model::{Entry, Event, NoMemory, Reply, ReplyLists, ShortReply, Tid};
 use std::alloc::Global;
 use std::marker::Model;
 
@@ -31,13 +34,13 @@ const AHEAD: usize = 64;
 /// The most entries of capacity that can be counted, in the list that takes the most for each.
 const MOST_ROOM: usize = usize::MAX / MOST_TIDS - AHEAD;
 
-/// The entries of a history, oldest first. An entry takes 72 bytes, and the items of its lists: 4 bytes for each
+/// The entries of a history, oldest first. An entry takes 40 bytes, and the items of its lists: 4 bytes for each
 /// transaction, 8 for each value.
 ///
 /// It has capacity for some more entries, of any kind. `reserve` adds capacity, and a `push` uses it without allocating.
 #[derive(Drop)]
 pub struct History {
-    entries: Vec<ShortEntry>,
+    entries: Vec<StoredEntry>,
     tids: Vec<Tid>,
     values: Vec<i64>,
     // How many more entries there is capacity for, in each list.
@@ -48,7 +51,7 @@ impl Model for History {
     ghost use Rattle.std.specs.Prelude.{◌+◌, ◌*◌, ◌≤◌, length, map};
     ghost use Rattle.std.specs.Vec.{vec_len, vec_capacity};
     ghost use Rattle.sgt_log.specs.HistoryView.{HistoryView};
-    ghost use Rattle.sgt_log.specs.ShortEntries.{AreEntries, entry_of};
+    ghost use Rattle.sgt_log.specs.StoredEntries.{AreEntries, entry_of};
 
     ghost Value = { HistoryView };
 
@@ -155,67 +158,97 @@ impl History {
         ensures same { self.new ≡ self.old }
         ensures touched { result ≡ min self.old.capacities.entries (length self.old.entries + most) }
     {
-        let filler = ShortEntry {
-            event: ShortEvent::Quit(Tid(0)),
-            reply: ShortReply::Ended,
+        let filler = StoredEntry {
+            event: StoredEvent::Quit(Tid(0)),
+            reply: StoredReply::Ended,
         };
         touch_ahead(&mut self.entries, most, filler)
     }
 
-    /// Adds an entry, for which there is capacity. It allocates nothing.
-    #[inline]
-    pub fn push(&mut self, event: &Event, reply: &Reply)
+    /// Adds an entry, for which there is capacity: the event, and the reply with these lists. It allocates nothing.
+    #[inline(always)]
+    pub fn push(&mut self, event: &Event, reply: ShortReply, lists: &ReplyLists)
         requires { 0 < self.old.room }
-        ensures entries { self.new.entries ≡ self.old.entries ++ record { event = event.now; reply = reply.now } ∷ [] }
+        ensures entries { self.new.entries
+            ≡ self.old.entries ++ record { event = event.now; reply = reply_with reply lists.now } ∷ [] }
         ensures room { self.new.room + 1 ≡ self.old.room }
         ensures capacities { self.new.capacities ≡ self.old.capacities }
     {
         // The frequent kinds are written straight to their position.
-        match (event, reply) {
-            (Event::Step(t), Reply::Looked { key, value }) => self.push_plain(
-                ShortEvent::Step(*t),
+        match (event, &reply) {
+            (
+                Event::Step(t),
                 ShortReply::Looked {
-                    key: *key,
+                    key,
+                    value: Some(value),
+                },
+            ) => self.push_plain(
+                StoredEvent::Step(*t),
+                StoredReply::Looked {
+                    table: key.table(),
+                    id: key.id(),
                     value: *value,
                 },
             ),
-            (Event::Step(t), Reply::Wrote { key, value }) => self.push_plain(
-                ShortEvent::Step(*t),
-                ShortReply::Wrote {
-                    key: *key,
+            (Event::Step(t), ShortReply::Wrote { key, value }) => self.push_plain(
+                StoredEvent::Step(*t),
+                StoredReply::Wrote {
+                    table: key.table(),
+                    id: key.id(),
                     value: *value,
                 },
             ),
-            (Event::Step(t), Reply::Ended) => {
-                self.push_plain(ShortEvent::Step(*t), ShortReply::Ended)
+            (Event::Step(t), ShortReply::Ended) => {
+                self.push_plain(StoredEvent::Step(*t), StoredReply::Ended)
             }
-            (Event::Start { procedure, args }, Reply::Started(t)) => {
+            (Event::Start { procedure, args }, ShortReply::Started(t)) => {
                 let _count = args.len();
                 self.push_start(*procedure, args.as_slice(), *t)
             }
-            (Event::Commit(t), Reply::Committed(answers)) => {
-                let _count = answers.len();
-                self.push_commit(*t, answers.as_slice())
+            (Event::Commit(t), ShortReply::Committed) => {
+                let _count = lists.answers.len();
+                self.push_commit(*t, lists.answers.as_slice())
             }
-            _ => self.push_any(event, reply),
+            _ => self.push_any(event, &reply, lists),
         }
     }
 
     // Adds an entry of any kind.
     #[inline(never)]
-    fn push_any(&mut self, event: &Event, reply: &Reply)
+    fn push_any(&mut self, event: &Event, reply: &ShortReply, lists: &ReplyLists)
         requires { 0 < self.old.room }
-        ensures entries { self.new.entries ≡ self.old.entries ++ record { event = event.now; reply = reply.now } ∷ [] }
+        ensures entries { self.new.entries
+            ≡ self.old.entries ++ record { event = event.now; reply = reply_with reply.now lists.now } ∷ [] }
         ensures room { self.new.room + 1 ≡ self.old.room }
         ensures capacities { self.new.capacities ≡ self.old.capacities }
     {
-        let ShortEntry { event, reply } = ShortEntry::of(
+        let (_answers, _walk, _fell) = (lists.answers.len(), lists.walk.len(), lists.fell.len());
+        let lists = EntryLists {
+            args: args_of(event),
+            answers: lists.answers.as_slice(),
+            walk: lists.walk.as_slice(),
+            fell: lists.fell.as_slice(),
+        };
+        self.push_parts(BareEvent::of(event), reply, &lists);
+    }
+
+    // Adds an entry in parts, of any kind.
+    #[inline(never)]
+    fn push_parts(&mut self, event: BareEvent, reply: &ShortReply, lists: &EntryLists<'_>)
+        requires room { 0 < self.old.room }
+        requires few { AreFew lists.now }
+        ensures entries { self.new.entries ≡ self.old.entries ++ full_entry event reply.now lists.now ∷ [] }
+        ensures room { self.new.room + 1 ≡ self.old.room }
+        ensures capacities { self.new.capacities ≡ self.old.capacities }
+    {
+        let StoredEntry { event, reply } = StoredEntry::of(
             event,
             reply,
+            lists,
             &mut self.tids,
             &mut self.values,
         );
-        self.entries.push_reserved(ShortEntry { event, reply });
+        self.entries.push_reserved(StoredEntry { event, reply });
         self.room -= 1;
     }
 
@@ -229,10 +262,15 @@ impl History {
         ensures room { self.new.room + 1 ≡ self.old.room }
         ensures capacities { self.new.capacities ≡ self.old.capacities }
     {
-        let args = Span::append(&mut self.values, args);
-        let event = ShortEvent::Start { procedure, args };
-        let reply = ShortReply::Started(t);
-        self.entries.push_reserved(ShortEntry { event, reply });
+        let part = Span::append(&mut self.values, args);
+        self.entries.push_reserved(StoredEntry {
+            event: StoredEvent::Start {
+                procedure,
+                count: part.count,
+                from: part.from,
+            },
+            reply: StoredReply::Started(t),
+        });
         self.room -= 1;
     }
 
@@ -246,24 +284,30 @@ impl History {
         ensures room { self.new.room + 1 ≡ self.old.room }
         ensures capacities { self.new.capacities ≡ self.old.capacities }
     {
-        let answers = Span::append(&mut self.values, answers);
-        let event = ShortEvent::Commit(t);
-        let reply = ShortReply::Committed(answers);
-        self.entries.push_reserved(ShortEntry { event, reply });
+        let part = Span::append(&mut self.values, answers);
+        self.entries.push_reserved(StoredEntry {
+            event: StoredEvent::Commit(t),
+            reply: StoredReply::Committed {
+                count: part.count,
+                from: part.from,
+            },
+        });
         self.room -= 1;
     }
 
     // Adds an entry of a kind that has no lists.
     #[inline(always)]
-    fn push_plain(&mut self, event: ShortEvent, reply: ShortReply)
+    fn push_plain(&mut self, event: StoredEvent, reply: StoredReply)
         requires room { 0 < self.old.room }
-        requires plain { is_plain (record { event = event; reply = reply }) ≡ true }
-        ensures entries { (tids : List ℕ) (values : List ℤ) →
-            self.new.entries ≡ self.old.entries ++ entry_of tids values (record { event = event; reply = reply }) ∷ [] }
+        requires event { HasNoArgs event }
+        requires reply { HasNoLists reply }
+        requires key { HasKey reply }
+        ensures entries { self.new.entries ≡ self.old.entries
+            ++ record { event = full_event (bare_of event) []; reply = full_reply (short_of reply) [] [] [] } ∷ [] }
         ensures room { self.new.room + 1 ≡ self.old.room }
         ensures capacities { self.new.capacities ≡ self.old.capacities }
     {
-        self.entries.push_reserved(ShortEntry { event, reply });
+        self.entries.push_reserved(StoredEntry { event, reply });
         self.room -= 1;
     }
 
@@ -276,8 +320,8 @@ impl History {
         ensures capacities { self.new.capacities ≡ self.old.capacities }
     {
         // Most entries have no lists.
-        if entry.short.is_plain() {
-            self.push_plain(entry.short.event, entry.short.reply);
+        if entry.stored.is_plain() {
+            self.push_plain(entry.stored.event, entry.stored.reply);
         } else {
             self.push_lists(entry);
         }
@@ -290,30 +334,15 @@ impl History {
         ensures room { self.new.room + 1 ≡ self.old.room }
         ensures capacities { self.new.capacities ≡ self.old.capacities }
     {
-        match (&entry.short.event, &entry.short.reply) {
-            (ShortEvent::Start { procedure, args }, ShortReply::Started(t)) => {
-                self.push_start(*procedure, args.items(entry.values), *t)
+        match (&entry.stored.event, &entry.stored.reply) {
+            (StoredEvent::Start { procedure, .. }, StoredReply::Started(t)) => {
+                self.push_start(*procedure, entry.args(), *t)
             }
-            (ShortEvent::Commit(t), ShortReply::Committed(answers)) => {
-                self.push_commit(*t, answers.items(entry.values))
+            (StoredEvent::Commit(t), StoredReply::Committed { .. }) => {
+                self.push_commit(*t, entry.answers())
             }
-            _ => self.push_moved(entry),
+            _ => self.push_parts(entry.bare_event(), &entry.short(), &entry.lists()),
         }
-    }
-
-    // The same, for any kind.
-    #[inline(never)]
-    fn push_moved(&mut self, entry: &EntryRef<'_>)
-        requires { 0 < self.old.room }
-        ensures entries { self.new.entries ≡ self.old.entries ++ entry.now ∷ [] }
-        ensures room { self.new.room + 1 ≡ self.old.room }
-        ensures capacities { self.new.capacities ≡ self.old.capacities }
-    {
-        let ShortEntry { event, reply } = entry
-            .short
-            .moved(entry.tids, entry.values, &mut self.tids, &mut self.values);
-        self.entries.push_reserved(ShortEntry { event, reply });
-        self.room -= 1;
     }
 
     /// The entry at this index, read in place.
@@ -323,7 +352,7 @@ impl History {
         ensures next { take (place + 1) self.now.entries ≡ take place self.now.entries ++ result ∷ [] }
     {
         EntryRef {
-            short: &self.entries[place],
+            stored: &self.entries[place],
             tids: self.tids.as_slice(),
             values: self.values.as_slice(),
         }
@@ -349,6 +378,37 @@ impl History {
         } else {
             Some(self.entry(self.len() - 1))
         }
+    }
+
+    /// Whether the entry at this index is the same as that of another history at another index.
+    #[inline]
+    pub fn is_same_at(&self, place: usize, other: &History, index: usize) -> bool
+        requires here { place < length self.now.entries }
+        requires there { index < length other.now.entries }
+        ensures { IsTrue result ↔ (slice_get self.now.entries place ≡ slice_get other.now.entries index) }
+    {
+        // Most entries have no lists, and are read where they are.
+        self.is_same_plain(place, other, index) || self.is_same_entry(place, other, index)
+    }
+
+    // Whether both entries have no lists and are the same.
+    #[inline(always)]
+    fn is_same_plain(&self, place: usize, other: &History, index: usize) -> bool
+        requires here { place < length self.now.entries }
+        requires there { index < length other.now.entries }
+        ensures { IsTrue result → slice_get self.now.entries place ≡ slice_get other.now.entries index }
+    {
+        self.entries[place].is_same_plain(&other.entries[index])
+    }
+
+    // Whether both entries are the same, of any kind.
+    #[inline(never)]
+    fn is_same_entry(&self, place: usize, other: &History, index: usize) -> bool
+        requires here { place < length self.now.entries }
+        requires there { index < length other.now.entries }
+        ensures { IsTrue result ↔ (slice_get self.now.entries place ≡ slice_get other.now.entries index) }
+    {
+        self.entry(place).is_same(&other.entry(index))
     }
 
     /// The entry at this index.
@@ -401,7 +461,7 @@ impl History {
 
 // Provides capacity in the three lists for so many more entries. Their items stay, and no list loses capacity.
 fn reserve_lists(
-    entries: &mut Vec<ShortEntry>,
+    entries: &mut Vec<StoredEntry>,
     tids: &mut Vec<Tid>,
     values: &mut Vec<i64>,
     room: usize,

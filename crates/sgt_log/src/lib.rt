@@ -10,7 +10,8 @@
 //! ```
 //! let mut history = History::new(alloc);
 //! history.reserve(1)?;
-//! history.push(&Event::Step(Tid(0)), &Reply::Wrote { key, value: 50 });   // allocates nothing
+//! let lists = ReplyLists::new();
+//! history.push(&Event::Step(Tid(0)), ShortReply::Wrote { key, value: 50 }, &lists);   // allocates nothing
 //! for place in 0..history.len() {
 //!     let entry = history.entry(place);
 //!     if entry.is_commit() {
@@ -21,13 +22,13 @@
 #![tactic(auto)]
 
 mod bare;
+mod entry_lists;
 mod entry_ref;
 mod history;
-mod short_cause;
-mod short_entry;
-mod short_event;
-mod short_reply;
 mod span;
+mod stored_entry;
+mod stored_event;
+mod stored_reply;
 mod touch;
 
 pub use entry_ref::EntryRef;

@@ -2,7 +2,7 @@
 ghost use Rattle.std.specs.Prelude.{◌≡◌, ◌+◌, ◌≤◌, ◌++◌, length, vec_len, vec_capacity};
 ghost use Rattle.sgt_log.specs.Spans.{part_of, IsWithin};
 
-use sgt_model::{Bounded, Tid, Tids};
+use sgt_model::Bounded;
 
 /// A part of a list: its first index, and its number of items.
 #[derive(Clone, Copy)]
@@ -12,6 +12,14 @@ pub struct Span {
 }
 
 impl Span {
+    /// The part of `count` items from the index `from`.
+    #[inline]
+    pub fn new(from: usize, count: u8) -> Self
+        ensures { result ≡ record { from = from; count = count } }
+    {
+        Span { from, count }
+    }
+
     /// Adds the items at the end of a list that has capacity for them, and returns their span. It allocates nothing.
     ///
     /// It is not inlined: most entries have no lists, and so pay nothing for it.
@@ -44,17 +52,6 @@ impl Span {
         ensures few { length result.now ≤ 32 }
     {
         &list[self.from..self.from + self.count as usize]
-    }
-
-    /// The transactions of the span.
-    pub fn tids(self, list: &[Tid]) -> Tids
-        requires { IsWithin (length list.now) self }
-        ensures { result ≡ part_of list.now self }
-    {
-        match Tids::from_slice(self.items(list)) {
-            Some(tids) => tids,
-            None => unreachable!(),
-        }
     }
 
     /// The values of the span.

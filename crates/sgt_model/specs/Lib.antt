@@ -35,6 +35,7 @@ pub mod ProcedureTexts
 pub mod Codes
 pub mod Histories
 pub mod Questions
+pub mod ShortReplies
 -- ---- Part 3, laws: what is proved from the definitions of part 1. None has to be trusted. The plain meaning of the language
 -- (`Executions`) is here, because a law connects it to runs.
 pub mod Admissions

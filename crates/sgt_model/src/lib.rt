@@ -15,7 +15,7 @@
 //! `specs/` holds the definitions that contracts cite, in four parts. Read them in the order of `specs/Lib.antt`:
 //!
 //! 1. What a reader has to trust: the 23 files that `Legal` and `Headline` rest on, from `Numbers` to `Headline`.
-//! 2. Terms of single contracts: `Bounds`, `Databases`, `Programs`, `Codes`, `Histories`, `Questions`.
+//! 2. Terms of single contracts: `Bounds`, `Databases`, `Programs`, `Codes`, `Histories`, `Questions`, `ShortReplies`.
 //! 3. Laws, proved from the definitions of part 1: from `Admissions` to `ExecutedReplay`.
 //! 4. The state that a scheduler stores in place of the history, what its calls do to it, and why that is legal. This is
 //!    proved from part 1 too: from `Left` to `Refinement`.
@@ -58,6 +58,7 @@ mod limits;
 mod procedure;
 mod refinement;
 mod reply;
+mod short_reply;
 mod tid;
 mod tids;
 
@@ -81,5 +82,6 @@ pub use limits::{Asks, Limits, MOST_BEGINS, MOST_LIVE};
 pub use procedure::{Cond, Expr, Procedure, Statement};
 pub use refinement::{calls_simulate, new_is_empty, nexts_agree, states_are_sound, verdicts_agree};
 pub use reply::{Cause, Fate, Reply};
+pub use short_reply::{ReplyLists, ShortCause, ShortFate, ShortReply};
 pub use tid::Tid;
 pub use tids::Tids;

@@ -16,14 +16,13 @@ use Rattle.sgt_model.specs.Settings.{Rules}
 use Rattle.sgt_model.specs.Left.{next_left}
 use Rattle.sgt_model.specs.State.{State}
 use Rattle.sgt_model.specs.CallEffects.{IfOpen, CycleAbortEffect, StepOn, StepEffect, CommitOn, CommitEffect, CallEffect}
-use Rattle.sgt_model.specs.declared.reply.Cause.{Cause}
 use Rattle.sgt_model.specs.declared.reply.Reply.TheVariants as reply
-use Rattle.sgt_sched.specs.declared.brief.Brief.{Brief}
-use Rattle.sgt_sched.specs.declared.brief.Brief.TheVariants as brief
+use Rattle.sgt_model.specs.declared.short_reply.ReplyLists.{ReplyLists}
+use Rattle.sgt_model.specs.declared.short_reply.ShortReply.{ShortReply}
 use Rattle.sgt_sched.specs.declared.operation.Operation.{Operation}
 use Rattle.sgt_sched.specs.declared.operation.Operation.TheVariants as operation
 use Rattle.sgt_sched.specs.declared.sched.Sched.{Sched}
-use Rattle.sgt_sched.specs.Briefs.{in_full, InBrief, Unplaced}
+use Rattle.sgt_sched.specs.Replies.{WithLists, WithAnyLists}
 use Rattle.sgt_sched.specs.Operations.{kind_of, next_of}
 use Rattle.sgt_sched.specs.Scheduler.{Tries}
 use Rattle.sgt_sched.specs.Steps.{IsNotLiveBy}
@@ -55,47 +54,26 @@ pub commits_on : (asks : Asks) (t : ℕ) (before : State) (r : Reply) (after : S
 commits_on asks t before r after n begun none next done = if_unended _ _ before r after _ begun none
     (subst (λ m. CommitOn asks t m before r after) next done)
 
--- what a short reply says, of a call that does more
-pub in_brief : {effect more : State → Reply → State → Type 0} {out : Reply} {before after : State} {b : Brief}
-    → (effect before (in_full b out) after → more before (in_full b out) after) → InBrief effect out before b after
-    → InBrief more out before b after
-in_brief also done = record { does = also done.does; short = done.short }
-
 module _ {R A G : Type 0} {r : RecordsGhosts R} {a : AccessesGhosts A} {g : GraphGhosts G} {old : Sched R A G r a g} where
   -- what an access does, as what a step does
-  pub made : (effect more : State → Reply → State → Type 0) {new : Sched R A G r a g} (result : Result Brief NoMemory)
+  pub made : (effect more : State → Reply → State → Type 0) {new : Sched R A G r a g} (result : Result ShortReply NoMemory)
       → ((before : State) (told : Reply) (after : State) → effect before told after → more before told after)
-      → Tries (Unplaced effect) old result new → Tries (Unplaced more) old result new
+      → Tries (WithAnyLists effect) old result new → Tries (WithAnyLists more) old result new
   made effect more result also tries = record {
-    done = IfOk-weaker result _ _ (λ b done out. in_brief (also _ _ _) (done out)) tries.done;
+    done = IfOk-weaker result _ _ (λ r done lists. also _ _ _ (done lists)) tries.done;
     refused = tries.refused;
     kept = tries.kept;
   }
 
-  -- the same effect of the same scheduler, with what is placed
-  pub made_with : (effect : State → Reply → State → Type 0) (out : Reply) {now new : Sched R A G r a g} (result : Result Brief NoMemory)
-      → now ≡ old → Tries (Unplaced effect) now result new → Tries (InBrief effect out) old result new
-  made_with effect out {new = new} result same tries = subst (λ s. Tries (InBrief effect out) s result new) same (record {
-    done = IfOk-weaker result _ _ (λ b done. done out) tries.done;
+  -- the same effect of the same scheduler, with these lists
+  pub made_with : (effect : State → Reply → State → Type 0) (lists : ReplyLists) {now new : Sched R A G r a g}
+      (result : Result ShortReply NoMemory)
+      → now ≡ old → Tries (WithAnyLists effect) now result new → Tries (WithLists effect lists) old result new
+  made_with effect lists {new = new} result same tries = subst (λ s. Tries (WithLists effect lists) s result new) same (record {
+    done = IfOk-weaker result _ _ (λ r done. done lists) tries.done;
     refused = tries.refused;
     kept = tries.kept;
   })
-
--- an abort is reported by what is placed
-pub placed_abort : (b : Brief) (out : Reply) (why : Cause) (fell : List ℕ) → in_full b out ≡ reply.Aborted why fell
-    → out ≡ reply.Aborted why fell
-placed_abort (brief.Started t) out why fell e = absurd (cc)
-placed_abort brief.NoProcedure out why fell e = absurd (cc)
-placed_abort brief.BadArgs out why fell e = absurd (cc)
-placed_abort brief.Spent out why fell e = absurd (cc)
-placed_abort brief.Full out why fell e = absurd (cc)
-placed_abort brief.Unknown out why fell e = absurd (cc)
-placed_abort (brief.Looked k v) out why fell e = absurd (cc)
-placed_abort (brief.Wrote k v) out why fell e = absurd (cc)
-placed_abort brief.Ended out why fell e = absurd (cc)
-placed_abort brief.NotEnded out why fell e = absurd (cc)
-placed_abort (brief.Waits t) out why fell e = absurd (cc)
-placed_abort brief.Placed out why fell e = e
 
 -- what holds holds where there is an error
 pub whatever : {X E P : Type 0} (result : Result X E) → P → OnErr result P

@@ -5,8 +5,8 @@ use Rattle.sgt_model.specs.declared.reply.Reply.TheVariants as reply
 use Rattle.sgt_model.specs.State.{State}
 use Rattle.sgt_model.specs.Settings.{Rules}
 use Rattle.sgt_model.specs.CallEffects.{start_answer, StartEffect}
-use Rattle.sgt_sched.specs.declared.brief.Brief.{Brief}
-use Rattle.sgt_sched.specs.Briefs.{Unplaced}
+use Rattle.sgt_model.specs.declared.short_reply.ShortReply.{ShortReply}
+use Rattle.sgt_sched.specs.Replies.{WithAnyLists}
 
 -- t is the next number, and the limits allow it
 pub record HasRoom (limits : Limits) (c : State) (t : ℕ) : Type 0 where
@@ -15,6 +15,6 @@ pub record HasRoom (limits : Limits) (c : State) (t : ℕ) : Type 0 where
   pub live : length c.live < limits.live
 
 -- the start gets this number, which the limits allow; or it gets this reply, and does nothing
-abbrev pub Admits : Rules → State → ℕ → List ℤ → Result ℕ Brief → Type 0
+abbrev pub Admits : Rules → State → ℕ → List ℤ → Result ℕ ShortReply → Type 0
 Admits rules c procedure args (Ok t) = (reply.Started t ≡ start_answer rules c procedure args) × HasRoom rules.limits c t
-Admits rules c procedure args (Err b) = Unplaced (StartEffect rules procedure args) c b c
+Admits rules c procedure args (Err r) = WithAnyLists (StartEffect rules procedure args) c r c

@@ -2,7 +2,7 @@ pub mod LiveProgress
 pub mod LiveList
 pub mod SchedulerView
 pub mod KeptProp
-pub mod Briefs
+pub mod Replies
 pub mod Admission
 pub mod Operations
 pub mod Steps

@@ -1,9 +1,14 @@
 -- What a step does with a record: its kind, and what the procedure does next.
+use Rattle.std.specs.Prelude.{ℕ}
 use Rattle.sgt_model.specs.declared.kind.Kind.{Kind}
 use Rattle.sgt_model.specs.declared.kind.Kind.TheVariants as kind
 use Rattle.sgt_model.specs.Contents.{Key}
+use Rattle.sgt_model.specs.Left.{next_left}
 use Rattle.sgt_model.specs.Numbers.{IsValue}
+use Rattle.sgt_model.specs.State.{State}
 use Rattle.sgt_model.specs.Traces.{Next, Looks, Puts}
+use Rattle.sgt_proc.specs.declared.next.Ahead.{Ahead}
+use Rattle.sgt_proc.specs.Nexts.{answers_at, seen_with}
 use Rattle.sgt_sched.specs.declared.operation.Operation.{Operation}
 use Rattle.sgt_sched.specs.declared.operation.Operation.TheVariants.{Look, Store}
 
@@ -11,6 +16,10 @@ use Rattle.sgt_sched.specs.declared.operation.Operation.TheVariants.{Look, Store
 abbrev pub kind_of : Operation → Kind
 kind_of Look = kind.Look
 kind_of (Store v) = kind.Store
+
+-- what a live transaction does next, by its next step without the answers
+abbrev pub next_by : State → ℕ → Ahead → Next
+next_by c t ahead = seen_with (answers_at (next_left (c.left t))) ahead
 
 -- the step of a procedure that does so with this record
 abbrev pub next_of : Key → Operation → Next

@@ -7,9 +7,12 @@ use Rattle.sgt_graph.specs.declared.graph.Graph.{Ghosts as GraphGhosts}
 use Rattle.sgt_graph.specs.declared.verdict.Link.{Link}
 use Rattle.sgt_model.specs.declared.limits.Asks.{Asks}
 use Rattle.sgt_model.specs.declared.errors.NoMemory.{NoMemory}
-use Rattle.sgt_model.specs.declared.reply.Reply.{Reply}
+use Rattle.sgt_model.specs.declared.short_reply.ReplyLists.{ReplyLists}
+use Rattle.sgt_model.specs.declared.short_reply.ShortCause.TheVariants as cause
+use Rattle.sgt_model.specs.declared.short_reply.ShortReply.TheVariants as short
 use Rattle.sgt_model.specs.Sameness.{Same}
 use Rattle.sgt_model.specs.Settings.{Rules, rules_from}
+use Rattle.sgt_model.specs.ShortReplies.{reply_with}
 use Rattle.sgt_model.specs.State.{State}
 use Rattle.sgt_sched.specs.Endings.{AbortsByWalk}
 use Rattle.sgt_sched.specs.SchedulerView.{SchedulerView, state_of, view}
@@ -49,11 +52,11 @@ module _ {R A G : Type 0} {r : RecordsGhosts R} {a : AccessesGhosts A} {g : Grap
     pub refused : OnErr result (Same (state old) (state new))
     pub kept : Keeps old new
 
-  -- t was aborted, because a path leads from it to one of these, and the reply is placed; or no path does, nothing has changed,
-  -- and edges from these, if any, can be linked so
-  pub record LinksOrAborts (t : ℕ) (rivals : List ℕ) (old : Sched R A G r a g) (out : Reply) (link : Option Link) (placed : Reply)
-      (new : Sched R A G r a g) : Type 0 where
-    pub closes : IsNone link → AbortsByWalk t rivals (state old) placed (state new)
-    pub free : IfSome link (λ l. (new ≡ old) × (placed ≡ out) × NoWalk (state old).pairs t rivals
+  -- t was aborted, because a path leads from it to one of these, and the lists are those of this reply; or no path does, nothing
+  -- has changed, and edges from these, if any, can be linked so
+  pub record LinksOrAborts (t : ℕ) (rivals : List ℕ) (old : Sched R A G r a g) (before : ReplyLists) (link : Option Link)
+      (lists : ReplyLists) (new : Sched R A G r a g) : Type 0 where
+    pub closes : IsNone link → AbortsByWalk t rivals (state old) (reply_with (short.Aborted cause.Cycle) lists) (state new)
+    pub free : IfSome link (λ l. (new ≡ old) × (lists ≡ before) × NoWalk (state old).pairs t rivals
         × (rivals ≢ [] → g.is_planned old.graph t rivals l))
     pub kept : Keeps old new

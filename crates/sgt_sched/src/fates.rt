@@ -1,9 +1,11 @@
 //! How each started transaction ended.
 ghost use Rattle.std.specs.Prelude.{◌≡◌, ◌+◌, ◌<◌, ◌≤◌, ◌^◌, [], ◌∷◌, ◌++◌, length, Some, None, OnOk, slice_get, slice_set, vec_len, vec_capacity};
+ghost use Rattle.std.specs.Option.{option_map};
+ghost use Rattle.sgt_model.specs.ShortReplies.{full_fate};
 ghost use Rattle.sgt_sched.specs.FateList.{AreKept, HasWalk, HasStartRoom, fate_of_end, live_in};
 ghost use Rattle.sgt_sched.specs.SchedulerView.{fate_at};
 
-use sgt_model::{Cause, Fate, NoMemory, Tid, Tids};
+use sgt_model::{NoMemory, ShortCause, ShortFate, Tid, Tids};
 use std::alloc::Global;
 use std::marker::Model;
 
@@ -36,6 +38,8 @@ pub struct Fates {
 impl Model for Fates {
     ghost use Rattle.std.specs.Prelude.{◌-◌, ◌+◌};
     ghost use Rattle.std.specs.Vec.{vec_len, vec_capacity};
+    ghost use Rattle.std.specs.Option.{option_map};
+    ghost use Rattle.sgt_model.specs.ShortReplies.{full_fate};
     ghost use Rattle.sgt_sched.specs.FateList.{FateList, IsFateList, fates_of_ends};
 
     ghost Value = { FateList };
@@ -97,39 +101,39 @@ impl Fates {
         self.live += 1;
     }
 
-    /// Ends t, which is live. It allocates nothing.
-    pub fn end(&mut self, t: Tid, fate: &Fate)
+    /// Ends t, which is live. The path is that of the cycle, if it was aborted by one. It allocates nothing.
+    pub fn end(&mut self, t: Tid, fate: ShortFate, walk: &Tids)
         requires live { slice_get self.old.fates t ≡ Some None }
-        ensures { self.new.fates ≡ slice_set self.old.fates t (Some fate.now) }
+        ensures { self.new.fates ≡ slice_set self.old.fates t (Some (full_fate fate walk.now)) }
     {
-        let end = end_of(&mut self.walks, fate);
+        let end = end_of(&mut self.walks, &fate, walk);
         self.live -= 1;
         self.ends[t.0 as usize] = end;
     }
 
-    /// How t ended, if it did.
-    pub fn get(&self, t: Tid) -> Option<Fate>
-        ensures { result ≡ fate_at self.now.fates t }
+    /// How t ended, if it did. If a cycle ended it, the path is written to `walk`.
+    pub fn get(&self, t: Tid, walk: &mut Tids) -> Option<ShortFate>
+        ensures { option_map (λ fate. full_fate fate walk.new) result ≡ fate_at self.now.fates t }
     {
         match self.ends.get(t.0 as usize) {
             None | Some(End::Live) => None,
-            Some(End::Committed) => Some(Fate::Committed),
-            Some(End::Quit) => Some(Fate::Aborted(Cause::Quit)),
-            Some(End::Asked(code)) => Some(Fate::Aborted(Cause::Asked(*code))),
-            Some(End::Fell(first)) => Some(Fate::Fell(*first)),
+            Some(End::Committed) => Some(ShortFate::Committed),
+            Some(End::Quit) => Some(ShortFate::Aborted(ShortCause::Quit)),
+            Some(End::Asked(code)) => Some(ShortFate::Aborted(ShortCause::Asked(*code))),
+            Some(End::Fell(first)) => Some(ShortFate::Fell(*first)),
             Some(End::Cycle(index)) => {
-                let walk = &self.walks[*index as usize];
-                Some(Fate::Aborted(Cause::Cycle(walk.copied())))
+                *walk = self.walks[*index as usize].copied();
+                Some(ShortFate::Aborted(ShortCause::Cycle))
             }
         }
     }
 }
 
 // The `End` of a fate. Its cycle, if any, is added to the others, where there is capacity for it.
-fn end_of(walks: &mut Vec<Tids>, fate: &Fate) -> End
+fn end_of(walks: &mut Vec<Tids>, fate: &ShortFate, walk: &Tids) -> End
     requires room { vec_len walks.old < vec_capacity walks.old }
     requires few { length walks.old.items < 2 ^ 32 }
-    ensures fate { fate_of_end walks.new.items result ≡ Some fate.now }
+    ensures fate { fate_of_end walks.new.items result ≡ Some (full_fate fate.now walk.now) }
     ensures ended { live_in result ≡ 0 }
     ensures placed { HasWalk (length walks.new.items) result }
     ensures stay { AreKept walks.old.items walks.new.items }
@@ -137,11 +141,11 @@ fn end_of(walks: &mut Vec<Tids>, fate: &Fate) -> End
     ensures capacity { vec_capacity walks.new ≡ vec_capacity walks.old }
 {
     match fate {
-        Fate::Committed => End::Committed,
-        Fate::Fell(first) => End::Fell(*first),
-        Fate::Aborted(Cause::Quit) => End::Quit,
-        Fate::Aborted(Cause::Asked(code)) => End::Asked(*code),
-        Fate::Aborted(Cause::Cycle(walk)) => {
+        ShortFate::Committed => End::Committed,
+        ShortFate::Fell(first) => End::Fell(*first),
+        ShortFate::Aborted(ShortCause::Quit) => End::Quit,
+        ShortFate::Aborted(ShortCause::Asked(code)) => End::Asked(*code),
+        ShortFate::Aborted(ShortCause::Cycle) => {
             let index = walks.len() as u32;
             walks.push_reserved(walk.copied());
             End::Cycle(index)

@@ -16,7 +16,6 @@
 #![tactic(auto)]
 
 mod arguments;
-mod brief;
 mod fates;
 mod follow;
 mod laws;
@@ -27,6 +26,5 @@ mod reads;
 mod running;
 mod sched;
 
-pub use brief::Brief;
 pub use laws::endings_agree;
 pub use sched::Sched;

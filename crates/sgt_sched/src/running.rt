@@ -1,13 +1,14 @@
 //! One live transaction, and the progress of its procedure.
-ghost use Rattle.std.specs.Prelude.{◌≡◌};
+ghost use Rattle.std.specs.Prelude.{◌≡◌, ℤ, List};
 ghost use Rattle.sgt_model.specs.Left.{next_left};
-ghost use Rattle.sgt_proc.specs.Nexts.{seen, StoresValue};
+ghost use Rattle.sgt_model.specs.Traces.{Ends};
+ghost use Rattle.sgt_proc.specs.Nexts.{answers_at, seen_with, PutsValue};
 ghost use Rattle.sgt_sched.specs.LiveList.{with_look, with_store};
 ghost use Rattle.sgt_sched.specs.LiveProgress.{left_kept};
 ghost use Rattle.sgt_sched.specs.SchedulerView.{IsAlong};
 
-use sgt_model::Tid;
-use sgt_proc::{Checked, Cursor, Next};
+use sgt_model::{Answers, Tid};
+use sgt_proc::{Ahead, Checked, Cursor};
 use std::marker::Model;
 
 /// A live transaction: its number, that of its procedure, and the procedure's progress. It holds no procedure: its calls take
@@ -40,13 +41,21 @@ impl Model for Running {
 }
 
 impl Running {
-    /// What the procedure does next.
-    pub fn next(&self, procedures: &[Checked]) -> Next
-        requires along { IsAlong procedures.now self.now.1 }
-        ensures next { seen result ≡ next_left (left_kept self.now.1) }
-        ensures in_range { StoresValue result }
+    /// What the procedure does next, without its answers.
+    #[inline(always)]
+    pub fn ahead(&self) -> Ahead
+        ensures next { seen_with (answers_at (next_left (left_kept self.now.1))) result ≡ next_left (left_kept self.now.1) }
+        ensures in_range { PutsValue result }
     {
-        self.cursor.next(self.checked(procedures))
+        self.cursor.ahead()
+    }
+
+    /// The answers of a procedure that is at its end.
+    #[inline(always)]
+    pub fn answers(&self) -> &Answers
+        ensures { (answers : List ℤ) → next_left (left_kept self.now.1) ≡ Ends answers → result.now ≡ answers }
+    {
+        self.cursor.answers()
     }
 
     /// Continues after a read, which returned this.

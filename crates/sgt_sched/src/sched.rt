@@ -10,11 +10,13 @@ ghost use Rattle.sgt_model.specs.Left.{next_left};
 ghost use Rattle.sgt_model.specs.NewState.{IsNew};
 ghost use Rattle.sgt_model.specs.State.{State};
 ghost use Rattle.sgt_model.specs.Walks.{AtMost, Rising};
-ghost use Rattle.sgt_proc.specs.Nexts.{seen, StoresValue};
-ghost use Rattle.sgt_sched.specs.Briefs.{in_full, InBrief, IsShort};
+ghost use Rattle.sgt_proc.specs.Nexts.{PutsValue};
+ghost use Rattle.sgt_model.specs.ShortReplies.{reply_with};
+ghost use Rattle.sgt_sched.specs.Replies.{WithLists};
 ghost use Rattle.sgt_model.specs.Questions.{is_ending};
 ghost use Rattle.sgt_sched.specs.Endings.{EndsOne};
 ghost use Rattle.sgt_sched.specs.LiveList.{has_number};
+ghost use Rattle.sgt_sched.specs.Operations.{next_by};
 ghost use Rattle.sgt_sched.specs.SchedulerView.{IsKept, view};
 ghost use Rattle.sgt_sched.specs.KeptProp.{IsKept-prop};
 ghost use Rattle.sgt_sched.specs.Steps.{IsNotLive, IsUnended};
@@ -27,13 +29,12 @@ mod renew;
 mod start;
 mod step;
 
-use crate::brief::Brief;
 use crate::fates::Fates;
 use crate::live::Live;
 use sgt_access::Accesses;
 use sgt_graph::Graph;
-use sgt_model::{Database, Event, Limits, MakeError, NoMemory, Reply, Tid, Tids};
-use sgt_proc::{Checked, Next};
+use sgt_model::{Database, Event, Limits, MakeError, NoMemory, ReplyLists, ShortReply, Tid, Tids};
+use sgt_proc::{Ahead, Checked};
 use sgt_records::Records;
 use std::alloc::Global;
 
@@ -97,20 +98,20 @@ impl<R: Records, A: Accesses, G: Graph> Sched<R, A, G> {
         })
     }
 
-    /// Makes the call of an event: starts, steps, commits or quits. It returns the reply in short; a reply that holds lists is
-    /// written to `out`.
+    /// Makes the call of an event: starts, steps, commits or quits. It returns the reply without its lists, and writes those that
+    /// the reply has to `lists`.
     ///
     /// `NoMemory` if an allocation failed; then nothing has changed. An event that ends a live transaction allocates nothing.
-    pub fn answer(&mut self, event: &Event, out: &mut Reply) -> Result<Brief, NoMemory>
-        ensures done { Tries (InBrief (CallEffect (rules_of self.old) event.now) out.new) self.old result self.new }
-        ensures out { OnErr result (out.new ≡ out.old) }
+    pub fn answer(&mut self, event: &Event, lists: &mut ReplyLists) -> Result<ShortReply, NoMemory>
+        ensures done { Tries (WithLists (CallEffect (rules_of self.old) event.now) lists.new) self.old result self.new }
+        ensures lists { OnErr result (lists.new ≡ lists.old) }
         ensures no_memory { EndsOne (asks_of self.old) event.now (state self.old) → IsOk result }
     {
         match event {
             Event::Start { procedure, args } => self.answer_start(*procedure, args),
-            Event::Step(t) => self.answer_step(*t, out),
-            Event::Commit(t) => Ok(self.answer_commit(*t, out)),
-            Event::Quit(t) => Ok(self.answer_quit(*t, out)),
+            Event::Step(t) => self.answer_step(*t, lists),
+            Event::Commit(t) => Ok(self.answer_commit(*t, lists)),
+            Event::Quit(t) => Ok(self.answer_quit(*t, lists)),
         }
     }
 
@@ -188,41 +189,35 @@ impl<R: Records, A: Accesses, G: Graph> Sched<R, A, G> {
     }
 
     // The reply to an event of a transaction that is not live.
-    fn answer_not_live(&self, t: Tid, out: &mut Reply) -> Brief
+    fn answer_not_live(&self, t: Tid, lists: &mut ReplyLists) -> ShortReply
         requires not_live { IsUnended (state self.now) t → ⊥ }
-        ensures not_live { IsNotLive (state self.now) t (in_full result out.new) }
-        ensures short { IsShort result out.new }
+        ensures { IsNotLive (state self.now) t (reply_with result lists.new) }
     {
-        match self.fates.get(t) {
-            Some(fate) => {
-                *out = Reply::Over(fate);
-                Brief::Placed
-            }
-            None => Brief::Unknown,
+        match self.fates.get(t, &mut lists.walk) {
+            Some(fate) => ShortReply::Over(fate),
+            None => ShortReply::Unknown,
         }
     }
 
-    // What the procedure of the transaction does next, if it is live.
-    fn next(&self, t: Tid) -> Option<Next>
+    // What the procedure of the transaction does next, without its answers, if it is live.
+    fn ahead(&self, t: Tid) -> Option<Ahead>
         ensures live { IsSome result → (state self.now).nodes t ≡ true }
         ensures unended { IsSome result ↔ IsUnended (state self.now) t }
-        ensures next { IfSome result (λ next.
-            seen next ≡ next_left ((state self.now).left t)) }
-        ensures in_range { IfSome result StoresValue }
+        ensures next { IfSome result (λ ahead. next_by (state self.now) t ahead ≡ next_left ((state self.now).left t)) }
     {
         match self.index(t) {
-            Some(index) => Some(self.next_at(t, index)),
+            Some(index) => Some(self.ahead_at(t, index)),
             None => None,
         }
     }
 
     // The same, for a live transaction that has this index among the live ones.
-    fn next_at(&self, t: Tid, index: usize) -> Next
-        requires live { (state self.now).nodes t ≡ true }
-        requires at { position (has_number t) (parts self.now).live ≡ Some index }
-        ensures next { seen result ≡ next_left ((state self.now).left t) }
-        ensures in_range { StoresValue result }
+    #[inline(always)]
+    fn ahead_at(&self, t: Tid, index: usize) -> Ahead
+        requires { position (has_number t) (parts self.now).live ≡ Some index }
+        ensures next { next_by (state self.now) t result ≡ next_left ((state self.now).left t) }
+        ensures in_range { PutsValue result }
     {
-        self.live.at(t, index).next(self.procedures.as_slice())
+        self.live.at(t, index).ahead()
     }
 }

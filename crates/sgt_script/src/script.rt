@@ -4,6 +4,7 @@ ghost use Rattle.std.specs.Io.KnownBytes.{Appends, Consumes};
 ghost use Rattle.sgt_model.specs.declared.entry.Entry.{Entry};
 ghost use Rattle.sgt_model.specs.Legality.{Legal};
 ghost use Rattle.sgt_engine.specs.EngineView.{setting_of};
+ghost use Rattle.sgt_format.specs.ScriptLines.{line_of};
 ghost use Rattle.sgt_input.specs.Lines.{has_break};
 ghost use Rattle.sgt_input.specs.Intake.{NoLineCame, bytes_left, come, cut_left, has_whole_line, taken};
 ghost use Rattle.sgt_input.specs.Ends.{IsOfInput, IsExact};
@@ -20,12 +21,12 @@ use json::Scratch;
 use sgt_assembly::{SgtEngine, open_engine, opened_hold_values};
 use sgt_engine::CutError;
 use sgt_format::{
-    Opening, ScriptLine, append_cut, append_database, append_records, append_reply,
+    LineKind, Opening, ScriptLine, append_cut, append_database, append_records, append_short_reply,
     append_still_live, read_script_line,
 };
 use sgt_input::{Fault, Lines, Sink, Source, at_line, opening_of, read_records, write_all};
 use sgt_model::{
-    Entry, Event, NoMemory, headline_holds, histories_go_on, replays_hold_values,
+    Entry, Event, NoMemory, Tid, headline_holds, histories_go_on, replays_hold_values,
     some_reply_is_legal,
 };
 use sgt_notation::{append_cut_comment, append_operations, transcripts_spell_textbooks};
@@ -33,20 +34,21 @@ use sgt_smallbank::replay_is_bank;
 use sgt_textbook::{legal_are_commit_ordered, legal_are_recoverable, legal_are_serializable};
 use std::alloc::Global;
 
-/// What the next line requests, if there is one.
+/// What the next line requests, if there is one. An event is put into `event`.
 #[inline(always)]
 fn next_script_line<S: Source>(
     alloc: Global,
     scratch: &mut Scratch,
     lines: &mut Lines,
     source: &mut S,
-) -> Result<Option<ScriptLine>, Fault>
+    event: &mut Event,
+) -> Result<Option<LineKind>, Fault>
     requires { S.failures source.old + 1 < 2 ^ 64 }
-    ensures line { IfOk result (λ next. IfSome next (λ asked.
-        BeginWith (lines.old.number + 1) (cut_left lines.old (S.rest source.old)) (asked ∷ [])
+    ensures line { IfOk result (λ next. IfSome next (λ kind.
+        BeginWith (lines.old.number + 1) (cut_left lines.old (S.rest source.old)) (line_of kind event.new ∷ [])
         (lines.new.number + 1) (cut_left lines.new (S.rest source.new)))) }
-    ensures at { IfOk result (λ next. IfSome next (λ asked.
-        script_line_at lines.new.number lines.new.line ≡ Ok asked)) }
+    ensures at { IfOk result (λ next. IfSome next (λ kind.
+        script_line_at lines.new.number lines.new.line ≡ Ok (line_of kind event.new))) }
     ensures taken { IfOk result (λ next. IsSome next → Consumes
         (bytes_left lines.old (S.rest source.old)) (bytes_left lines.new (S.rest source.new))
         (taken lines.new)) }
@@ -71,34 +73,31 @@ fn next_script_line<S: Source>(
     if !lines.next_line(source)? {
         return Ok(None);
     }
-    let asked = at_line(
+    let kind = at_line(
         lines.number(),
-        read_script_line(alloc, scratch, lines.line()),
+        read_script_line(alloc, scratch, lines.line(), event),
     )?;
-    Ok(Some(asked))
+    Ok(Some(kind))
 }
 
 /// Answers an event, and appends the text of the answer.
 #[inline(always)]
 fn answer_event(
     engine: &mut SgtEngine,
-    event: Event,
+    event: &Event,
     output: Output,
     text: &mut Vec<u8>,
 ) -> Result<(), NoMemory>
     ensures setting { setting_of engine.new ≡ setting_of engine.old }
     ensures answered { OnOk result ((entry : Entry) × (engine.new.past ≡ entry ∷ engine.old.past)
-        × (entry.event ≡ event)
+        × (entry.event ≡ event.now)
         × (text.new.items ≡ text.old.items ++ answer_text output (Replied entry))) }
     ensures legal { Legal (setting_of engine.new) engine.new.past }
     ensures kept { OnErr result (text.new.items ≡ text.old.items) }
 {
-    engine.answer(event)?;
+    let reply = engine.answer(event)?;
     match output {
-        Output::Replies => match engine.last_reply() {
-            Some(reply) => append_reply(text, reply),
-            None => unreachable!(),
-        },
+        Output::Replies => append_short_reply(text, &reply, engine.reply_lists()),
         Output::History => append_newest(engine, text),
         Output::Records => Ok(()),
     }
@@ -250,23 +249,24 @@ fn stop<T: Sink>(sink: &mut T, gathered: &mut Vec<u8>, fault: Fault) -> Fault
 fn answer_line<X: Observer>(
     alloc: Global,
     engine: &mut SgtEngine,
-    line: ScriptLine,
+    kind: LineKind,
+    event: &Event,
     number: u64,
     output: Output,
     text: &mut Vec<u8>,
     observer: &mut X,
 ) -> Result<(), NoMemory>
-    ensures answered { OnOk result (AnswersLine output line
+    ensures answered { OnOk result (AnswersLine output (line_of kind event.now)
         (part_at engine.old) (part_at engine.new) text.old.items text.new.items) }
     ensures kept { OnErr result (text.new.items ≡ text.old.items) }
 {
-    match line {
-        ScriptLine::Event(event) => {
+    match kind {
+        LineKind::Event => {
             answer_event(engine, event, output, text)?;
             observer.answered(engine, number);
             Ok(())
         }
-        ScriptLine::Cut => answer_cut(alloc, engine, output, text),
+        LineKind::Cut => answer_cut(alloc, engine, output, text),
     }
 }
 
@@ -310,14 +310,16 @@ fn answer_lines<S: Source, T: Sink, X: Observer>(
 {
     let mut scratch = Scratch::new(alloc);
     let mut gathered = Vec::new(alloc);
+    let mut event = Event::Step(Tid(0));
     loop {
         flush_before_read(lines, sink, &mut gathered)?;
         observer.written(lines);
-        match next_script_line(alloc, &mut scratch, lines, source) {
-            Ok(Some(line)) => match answer_line(
+        match next_script_line(alloc, &mut scratch, lines, source, &mut event) {
+            Ok(Some(kind)) => match answer_line(
                 alloc,
                 engine,
-                line,
+                kind,
+                &event,
                 lines.number(),
                 output,
                 &mut gathered,

@@ -17,7 +17,6 @@ use Rattle.sgt_graph.specs.declared.graph.Graph as graph
 use Rattle.sgt_session.specs.declared.named.Named as named
 use Rattle.std.specs.declared.sync.ledger.Ledger as ledger
 use Rattle.sgt_log.proofs.history.History.TheSendSync as history
-use Rattle.sgt_model.proofs.reply.Reply.TheSendSync as reply
 use Rattle.std.proofs.sync.ledger.Book.TheSendSync as book
 use Rattle.sgt_model.specs.contracts.database.Database as Database
 
@@ -39,7 +38,6 @@ module _ (R A G : RattleType) (r : records.Ghosts R.Denot) (a : accesses.Ghosts 
     sendable,
     crosses,
     history.the_send,
-    reply.the_field_send,
     database_send,
   ) depth 40
 

@@ -191,6 +191,12 @@ pub checks_first : (history : List Entry) (S : List (List Receipt)) → length S
 checks_first history S le =
     let b = begins 64 S le in ((λ m. subst (λ (T : List (List Receipt)). Merge 0 history T) b m), omega (arith, ap total b))
 
+-- the entry with a number below the count
+pub entry_there : (history : List Entry) (n : ℕ) → n < length history → (e : Entry) × (slice_get history n ≡ Some e)
+entry_there [] n within = absurd (omega (arith, within))
+entry_there (e ∷ es) zero within = (e, refl)
+entry_there (e ∷ es) (suc n) within = entry_there es n (omega (arith, within))
+
 pub checks_next : (history : List Entry) (S : List (List Receipt)) (n : ℕ) (at : List ℕ) (i : ℕ) (e : Entry)
     → Checked history S n at → slice_get history n ≡ Some e → i < length S → length S ≤ length at
     → slice_get (slice_index_or S i []) (slice_index at i) ≡ Some (receipt_of n e) → Checked history S (n + 1)

@@ -28,6 +28,10 @@ entry_of r = record { event = r.event; reply = r.reply }
 abbrev pub ReceiptStands : List Entry → Receipt → Type 0
 ReceiptStands history r = slice_get history r.number ≡ Some (entry_of r)
 
+-- the receipt at this index is that of the history's entry with this number
+abbrev pub IsReceiptAt : List Receipt → ℕ → List Entry → ℕ → Type 0
+IsReceiptAt receipts at history number = (e : Entry) → slice_get history number ≡ Some e → slice_get receipts at ≡ Some (receipt_of number e)
+
 -- this is the newest entry of a history that is listed newest first
 abbrev pub IsNewest : Entry → List Entry → Type 0
 IsNewest entry past = (before : List Entry) × (past ≡ entry ∷ before)

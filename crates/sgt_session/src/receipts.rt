@@ -4,7 +4,7 @@ ghost use Rattle.std.specs.Result.{IsOk};
 ghost use Rattle.std.specs.Option.{option_map};
 ghost use Rattle.sgt_model.specs.declared.entry.Entry.{Entry};
 ghost use Rattle.sgt_session.specs.declared.receipt.Receipt.{Receipt};
-ghost use Rattle.sgt_session.specs.Receipts.{receipt_of, entry_of};
+ghost use Rattle.sgt_session.specs.Receipts.{receipt_of, entry_of, IsReceiptAt};
 
 use crate::receipt::Receipt;
 use sgt_log::{EntryRef, History, touch_ahead};
@@ -12,10 +12,10 @@ use sgt_model::NoMemory;
 use std::alloc::Global;
 use std::marker::Model;
 
-/// How many receipts are prefaulted at a time: about 5 MB.
+/// How many receipts are prefaulted at a time: about 3 MB.
 const AT_ONCE: usize = 65_536;
 
-/// The receipts of one session, in the order of its calls. A receipt takes 80 bytes, and its lists take 4 for each
+/// The receipts of one session, in the order of its calls. A receipt takes 48 bytes, and its lists take 4 for each
 /// transaction and 8 for each value.
 ///
 /// There is capacity for some more receipts, whatever they hold: appending one uses that capacity, and allocates
@@ -110,13 +110,14 @@ impl Receipts {
         self.calls.entry(place)
     }
 
-    /// Whether the receipt at an index has this entry and this number.
-    pub(crate) fn is_at(&self, place: usize, number: u64, entry: &EntryRef<'_>) -> bool
-        ensures receipt { IsTrue result → slice_get self.now.receipts place ≡ Some (receipt_of number entry.now) }
+    /// Whether the receipt at an index is that of a history's entry with this number.
+    pub(crate) fn is_at(&self, place: usize, history: &History, number: usize) -> bool
+        requires { number < length history.now.entries }
+        ensures receipt { IsTrue result → IsReceiptAt self.now.receipts place history.now.entries number }
         ensures fits { IsTrue result → place + 1 < 2 ^ 64 }
     {
-        if place < self.len() && self.numbers[place] == number {
-            self.calls.entry(place).is_same(entry)
+        if place < self.len() && self.numbers[place] == number as u64 {
+            self.calls.is_same_at(place, history, number)
         } else {
             false
         }

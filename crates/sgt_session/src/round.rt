@@ -57,13 +57,13 @@ impl<N: Named, R: Records, A: Accesses, G: Graph> Round<N, R, A, G> {
     /// nothing has changed.
     pub fn apply(
         &mut self,
-        event: Event,
+        event: &Event,
         mine: &mut Share<N>,
         receipts: &mut Receipts,
     ) -> Result<(), NoMemory>
         requires part { 0 < mine.old.parts }
         requires room { 0 < receipts.old.room }
-        ensures filed { OnOk result ((r : Receipt) × (r.event ≡ event) × (r.number ≡ length self.old.past)
+        ensures filed { OnOk result ((r : Receipt) × (r.event ≡ event.now) × (r.number ≡ length self.old.past)
             × (self.new ≡ with_entry r.event r.reply self.old)
             × LegalReply (setting_of self.old) self.old.past r.event r.reply
             × (receipts.new.receipts ≡ receipts.old.receipts ++ r ∷ [])) }
@@ -71,7 +71,7 @@ impl<N: Named, R: Records, A: Accesses, G: Graph> Round<N, R, A, G> {
         ensures parts { mine.new.parts ≡ mine.old.parts }
         ensures room { OnOk result (receipts.new.room + 1 ≡ receipts.old.room) }
         ensures unchanged { OnErr result ((self.new ≡ self.old) × (mine.new ≡ mine.old) × (receipts.new ≡ receipts.old)) }
-        ensures quits { (t : ℕ) → event ≡ Quit t → live self.old.past t ≡ true → IsOk result }
+        ensures quits { (t : ℕ) → event.now ≡ Quit t → live self.old.past t ≡ true → IsOk result }
     {
         self.engine.answer(event)?;
         self.calls.add(mine, 1);

@@ -140,7 +140,7 @@ impl<N: Named> Session<N> {
         if shared.sessions > 1 && matches!(event, Event::Start { .. }) {
             self.receipts.touch_room();
         }
-        self.make_one(rt, shared, event, false)?;
+        self.make_one(rt, shared, &event, false)?;
         Ok(())
     }
 
@@ -177,7 +177,7 @@ impl<N: Named> Session<N> {
             (λ _. self.new ≡ self.old ++ waits) }
     {
         for _ in rt.forever() {
-            if !self.make_one(rt, shared, Event::Commit(t), true)? {
+            if !self.make_one(rt, shared, &Event::Commit(t), true)? {
                 return Ok(());
             }
         }
@@ -190,15 +190,15 @@ impl<N: Named> Session<N> {
         &mut self,
         rt: &W,
         shared: &Shared<N, R, A, G>,
-        event: Event,
+        event: &Event,
         may_wait: bool,
     ) -> Result<bool, NoMemory>
         ensures { MatchResult result
-            (λ waited. (r : Receipt) × (r.event ≡ event) × (self.new ≡ self.old ++ r ∷ []) × (waited ≡ (may_wait && is_wait r.reply)))
+            (λ waited. (r : Receipt) × (r.event ≡ event.now) × (self.new ≡ self.old ++ r ∷ []) × (waited ≡ (may_wait && is_wait r.reply)))
             (λ _. self.new ≡ self.old) }
     {
-        let room = make_receipt_room(&mut self.receipts, &mut self.own, &event)?;
-        let (turn, mut round) = shared.lock_policy.lock(rt, &shared.round, &event, room);
+        let room = make_receipt_room(&mut self.receipts, &mut self.own, event)?;
+        let (turn, mut round) = shared.lock_policy.lock(rt, &shared.round, event, room);
         round.apply(event, &mut self.share, &mut self.receipts)?;
         let entry = self.receipts.last_entry();
         let waited = shared.waiters.end_hold(rt, turn, round, &entry, may_wait);

@@ -7,7 +7,7 @@ use json::Scratch;
 use sgt_access::{Accesses, OneList};
 use sgt_format::{Opening, read_event, read_opening};
 use sgt_graph::{Graph, PairGraph};
-use sgt_model::{Event, Key, Kind, NoMemory, Reply, Tid, Tids};
+use sgt_model::{Event, Key, Kind, NoMemory, Reply, ReplyLists, Tid, Tids};
 use sgt_records::{ListRecords, Records};
 use sgt_sched::Sched;
 use std::alloc::{AllocError, Global};
@@ -74,22 +74,23 @@ fn replied(alloc: Global, sched: &mut ListSched, event: &Event) -> Result<String
     Ok(format!(in alloc; "{reply:?}")?)
 }
 
-/// The short form of the reply to an event, and the reply in `place` then.
+/// The short reply to an event, and the answers in the lists then.
 fn shortened(
     alloc: Global,
     sched: &mut ListSched,
-    place: &mut Reply,
+    lists: &mut ReplyLists,
     event: &Event,
 ) -> Result<String, Fail> {
-    let brief = sched.answer(event, place)?;
-    Ok(format!(in alloc; "{brief:?}, {place:?}")?)
+    let reply = sched.answer(event, lists)?;
+    let answers = &lists.answers;
+    Ok(format!(in alloc; "{reply:?}, {answers:?}")?)
 }
 
-/// The response to a line: the observation; or the reply to an event; or, after `short`, the reply in short form.
+/// The response to a line: the observation; or the reply to an event; or, after `short`, the reply in short and the answers.
 fn said(
     alloc: Global,
     sched: &mut ListSched,
-    place: &mut Reply,
+    lists: &mut ReplyLists,
     line: &str,
 ) -> Result<String, Fail> {
     if line == "seen" {
@@ -99,17 +100,17 @@ fn said(
     let line = in_short.unwrap_or(line).as_bytes();
     let event = read_event(alloc, &mut Scratch::new(alloc), line)?;
     if in_short.is_some() {
-        return shortened(alloc, sched, place, &event);
+        return shortened(alloc, sched, lists, &event);
     }
     replied(alloc, sched, &event)
 }
 
 /// The first line whose response differs from the text after its arrow, or nothing.
 fn first_wrong<'a>(alloc: Global, sched: &mut ListSched, lines: &'a str) -> Result<&'a str, Fail> {
-    let mut place = Reply::Full;
+    let mut lists = ReplyLists::new();
     for line in lines.lines() {
         let (event, want) = line.split_once(" -> ").unwrap_or((line, ""));
-        if said(alloc, sched, &mut place, event)?.as_str() != want {
+        if said(alloc, sched, &mut lists, event)?.as_str() != want {
             return Ok(line);
         }
     }
@@ -151,7 +152,7 @@ seen -> [Tid(0), Tid(2)] 2 [false, false] [None, None, None, None, Some(1)] Some
 ["step",0] -> Looked { key: Key { table: 0, id: 7 }, value: Some(1) }
 ["step",0] -> Wrote { key: Key { table: 0, id: 7 }, value: 5 }
 ["step",0] -> Ended
-["commit",0] -> Committed(Bounded { list: [1] })
+["commit",0] -> Committed([1])
 ["step",0] -> Over(Committed)
 "#,
     ),
@@ -187,9 +188,9 @@ seen -> [Tid(0), Tid(2)] 2 [false, false] [None, None, None, None, Some(1)] Some
 ["step",1] -> Looked { key: Key { table: 0, id: 7 }, value: Some(5) }
 ["step",1] -> Wrote { key: Key { table: 0, id: 7 }, value: 5 }
 ["commit",1] -> Waits(Tid(0))
-["commit",0] -> Committed(Bounded { list: [1] })
+["commit",0] -> Committed([1])
 ["commit",0] -> Over(Committed)
-["commit",1] -> Committed(Bounded { list: [5] })
+["commit",1] -> Committed([5])
 seen -> [] 0 [false, false] [None, None, None, None, Some(5)] Some([]) None
 "#,
     ),
@@ -209,14 +210,14 @@ seen -> [] 0 [false, false] [None, None, None, None, Some(5)] Some([]) None
 "#,
     ),
     (
-        "a reply that holds lists is written into the place, and no other one is",
+        "the lists of a reply are written, and a reply that has none leaves them",
         PAY,
-        r#"short ["start",0,[7]] -> Started(Tid(0)), Full
-short ["step",0] -> Looked { key: Key { table: 0, id: 7 }, value: Some(1) }, Full
-short ["step",0] -> Wrote { key: Key { table: 0, id: 7 }, value: 5 }, Full
+        r#"short ["start",0,[7]] -> Started(Tid(0)), []
+short ["step",0] -> Looked { key: Key { table: 0, id: 7 }, value: Some(1) }, []
+short ["step",0] -> Wrote { key: Key { table: 0, id: 7 }, value: 5 }, []
 seen -> [Tid(0)] 1 [true, false] [None, None, None, None, Some(1)] Some([Tid(0)]) None
-short ["commit",0] -> Placed, Committed(Bounded { list: [1] })
-short ["quit",0] -> Placed, Over(Committed)
+short ["commit",0] -> Committed, [1]
+short ["quit",0] -> Over(Committed), [1]
 seen -> [] 0 [false, false] [None, None, None, None, Some(5)] Some([]) None
 "#,
     ),
@@ -246,7 +247,7 @@ seen -> [Tid(0), Tid(1)] 2 [false, false] [None, None, None, None, Some(1)] Some
 ["step",2] -> Wrote { key: Key { table: 0, id: 3 }, value: 5 }
 seen -> [Tid(0), Tid(1), Tid(2)] 3 [true, false] [Some(1), None, None, None, None] Some([]) None
 ["commit",2] -> Waits(Tid(1))
-["commit",0] -> Committed(Bounded { list: [] })
+["commit",0] -> Committed([])
 ["commit",2] -> Waits(Tid(1))
 seen -> [Tid(1), Tid(2)] 2 [false, false] [Some(1), Some(5), None, None, None] Some([]) None
 "#,

@@ -1,42 +1,44 @@
 //! Aborts by a step, a commit or a quit.
 ghost use Rattle.std.specs.Prelude.{◌≡◌, true};
+ghost use Rattle.sgt_model.specs.declared.short_reply.ShortReply.TheVariants.{Aborted};
+ghost use Rattle.sgt_model.specs.ShortReplies.{full_cause, full_fate};
 ghost use Rattle.sgt_model.specs.CallEffects.{AbortEffect, Undo};
 ghost use Rattle.sgt_model.specs.FallsIn.{FallsIn};
-ghost use Rattle.sgt_sched.specs.Briefs.{InBrief};
+ghost use Rattle.sgt_sched.specs.Replies.{WithLists};
 ghost use Rattle.sgt_sched.specs.Endings.{EndsAborted};
 ghost use Rattle.sgt_sched.specs.Scheduler.{state, Keeps, Turns};
 
-use crate::brief::Brief;
 use crate::leave::leave;
 use crate::sched::Sched;
 use sgt_access::Accesses;
 use sgt_cascade::fallers;
 use sgt_commit::unwind;
 use sgt_graph::Graph;
-use sgt_model::{Cause, Fate, Reply, Tid, Tids};
+use sgt_model::{ReplyLists, ShortCause, ShortFate, ShortReply, Tid, Tids};
 use sgt_records::Records;
 
 impl<R: Records, A: Accesses, G: Graph> Sched<R, A, G> {
-    // Aborts a live transaction, and in cascade those that have read from it.
-    pub(super) fn abort(&mut self, t: Tid, cause: Cause, out: &mut Reply) -> Brief
+    // Aborts a live transaction, and in cascade those that have read from it. The path of a cycle is in the lists already.
+    pub(super) fn abort(&mut self, t: Tid, cause: ShortCause, lists: &mut ReplyLists) -> ShortReply
         requires live { (state self.old).nodes t ≡ true }
-        ensures { Turns (InBrief (AbortEffect t cause) out.new) self.old result self.new }
+        ensures aborts { Turns (WithLists (AbortEffect t (full_cause cause lists.old.walk)) lists.new) self.old result self.new }
+        ensures reply { result ≡ Aborted cause }
     {
-        let fell = self.undo(t, &cause);
-        *out = Reply::Aborted { cause, fell };
-        Brief::Placed
+        lists.fell = self.undo(t, cause, &lists.walk);
+        ShortReply::Aborted(cause)
     }
 
-    // Undoes a live transaction for this cause, and in cascade those that have read from it. It returns the latter.
-    pub(super) fn undo(&mut self, t: Tid, cause: &Cause) -> Tids
+    // Undoes a live transaction for this cause, with the path of a cycle, and in cascade those that have read from it. It
+    // returns the latter.
+    pub(super) fn undo(&mut self, t: Tid, cause: ShortCause, walk: &Tids) -> Tids
         requires live { (state self.old).nodes t ≡ true }
-        ensures undone { Undo t cause.now result (state self.old) (state self.new) }
+        ensures undone { Undo t (full_cause cause walk.now) result (state self.old) (state self.new) }
         ensures kept { Keeps self.old self.new }
     {
         let fell = self.falling_with(t);
-        self.end_aborted(t, Fate::Aborted(cause.copied()));
+        self.end_aborted(t, ShortFate::Aborted(cause), walk);
         for reader in fell.as_slice() {
-            self.end_aborted(*reader, Fate::Fell(t));
+            self.end_aborted(*reader, ShortFate::Fell(t), walk);
         }
         fell
     }
@@ -49,14 +51,15 @@ impl<R: Records, A: Accesses, G: Graph> Sched<R, A, G> {
         fallers(self.read_from.as_slice(), &self.live.numbers(), t)
     }
 
-    // Removes a live transaction that is aborted, by itself or in cascade, from all layers. Its readers stay.
-    fn end_aborted(&mut self, t: Tid, fate: Fate)
+    // Removes a live transaction that is aborted, by itself or in cascade, from all layers. Its readers stay. The path is looked
+    // at only if it closed a cycle.
+    fn end_aborted(&mut self, t: Tid, fate: ShortFate, walk: &Tids)
         requires live { (state self.old).nodes t ≡ true }
-        ensures ends { EndsAborted t fate (state self.old) (state self.new) }
+        ensures ends { EndsAborted t (full_fate fate walk.now) (state self.old) (state self.new) }
         ensures kept { Keeps self.old self.new }
     {
         unwind(&mut self.records, &mut self.accesses, &mut self.graph, t);
         leave(&mut self.live, &mut self.read_from, t);
-        self.fates.end(t, &fate);
+        self.fates.end(t, fate, walk);
     }
 }

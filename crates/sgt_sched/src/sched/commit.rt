@@ -1,20 +1,24 @@
 //! Commits, and refusals at a commit.
-ghost use Rattle.std.specs.Prelude.{◌≡◌, ℕ, true, false, IsTrue, ◌↔◌};
+ghost use Rattle.std.specs.Prelude.{◌≡◌, ℕ, true, false, position, Some, IsTrue, ◌↔◌};
 ghost use Rattle.sgt_model.specs.declared.event.Event.TheVariants.{Commit};
 ghost use Rattle.sgt_model.specs.CallEffects.{CommitEffect, CommitOn, CommitsIn, RefusesIn};
+ghost use Rattle.sgt_model.specs.Left.{next_left};
 ghost use Rattle.sgt_model.specs.Traces.{Raises};
-ghost use Rattle.sgt_sched.specs.Briefs.{InBrief};
+ghost use Rattle.sgt_proc.specs.declared.next.Ahead.TheVariants.{Ends};
+ghost use Rattle.sgt_proc.specs.Nexts.{answers_at};
+ghost use Rattle.sgt_sched.specs.Replies.{WithLists};
 ghost use Rattle.sgt_sched.specs.Endings.{EndsOne};
-ghost use Rattle.sgt_sched.specs.Scheduler.{state, asks_of, Turns};
+ghost use Rattle.sgt_sched.specs.LiveList.{has_number};
+ghost use Rattle.sgt_sched.specs.Operations.{next_by};
+ghost use Rattle.sgt_sched.specs.Scheduler.{parts, state, asks_of, Turns};
 
-use crate::brief::Brief;
 use crate::leave::leave;
 use crate::sched::Sched;
 use sgt_access::Accesses;
 use sgt_commit::{decide, finish};
 use sgt_graph::Graph;
-use sgt_model::{Answers, Asks, Cause, Fate, Reply, Tid};
-use sgt_proc::Next;
+use sgt_model::{Asks, Reply, ReplyLists, ShortCause, ShortFate, ShortReply, Tid};
+use sgt_proc::Ahead;
 use sgt_records::Records;
 
 impl<R: Records, A: Accesses, G: Graph> Sched<R, A, G> {
@@ -35,72 +39,76 @@ impl<R: Records, A: Accesses, G: Graph> Sched<R, A, G> {
     pub fn commit(&mut self, t: Tid) -> Reply
         ensures { Turns (CommitEffect (asks_of self.old) t) self.old result self.new }
     {
-        let mut out = Reply::Ended;
-        let brief = self.answer_commit(t, &mut out);
-        brief.reply(&out)
+        let mut lists = ReplyLists::new();
+        let reply = self.answer_commit(t, &mut lists);
+        reply.with_lists(&lists)
     }
 
     // The same, with the reply in short.
-    pub(super) fn answer_commit(&mut self, t: Tid, out: &mut Reply) -> Brief
-        ensures { Turns (InBrief (CommitEffect (asks_of self.old) t) out.new) self.old result self.new }
+    pub(super) fn answer_commit(&mut self, t: Tid, lists: &mut ReplyLists) -> ShortReply
+        ensures { Turns (WithLists (CommitEffect (asks_of self.old) t) lists.new) self.old result self.new }
     {
-        match self.next(t) {
-            Some(Next::Ends(answers)) => match decide(&self.graph, t) {
-                Some(first) => Brief::Waits(first),
-                None => self.finish_commit(t, answers, out),
+        let Some(index) = self.index(t) else {
+            return self.answer_not_live(t, lists);
+        };
+        match self.ahead_at(t, index) {
+            Ahead::Ends => match decide(&self.graph, t) {
+                Some(first) => ShortReply::Waits(first),
+                None => self.finish_commit(t, index, lists),
             },
-            Some(Next::Asks(code)) => self.commit_asked(t, code, out),
-            Some(_) => Brief::NotEnded,
-            None => self.answer_not_live(t, out),
+            Ahead::Asks(code) => self.commit_asked(t, code, lists),
+            _ => ShortReply::NotEnded,
         }
     }
 
     // The same, for a live transaction whose procedure raises this code.
     #[inline(never)]
-    fn commit_asked(&mut self, t: Tid, code: u16, out: &mut Reply) -> Brief
+    fn commit_asked(&mut self, t: Tid, code: u16, lists: &mut ReplyLists) -> ShortReply
         requires live { (state self.old).nodes t ≡ true }
-        ensures { Turns (InBrief (CommitOn (asks_of self.old) t (Raises code)) out.new) self.old result self.new }
+        ensures { Turns (WithLists (CommitOn (asks_of self.old) t (Raises code)) lists.new) self.old result self.new }
     {
         match self.limits.asks {
-            Asks::AtStep => Brief::NotEnded,
+            Asks::AtStep => ShortReply::NotEnded,
             Asks::AtCommit => match decide(&self.graph, t) {
-                Some(predecessor) => Brief::Waits(predecessor),
-                None => self.refuse(t, code, out),
+                Some(predecessor) => ShortReply::Waits(predecessor),
+                None => self.refuse(t, code, lists),
             },
         }
     }
 
     // Refuses a live transaction that has no predecessor, and undoes it.
-    fn refuse(&mut self, t: Tid, code: u16, out: &mut Reply) -> Brief
+    fn refuse(&mut self, t: Tid, code: u16, lists: &mut ReplyLists) -> ShortReply
         requires live { (state self.old).nodes t ≡ true }
         requires first { (u : ℕ) → (state self.old).pairs u t ≡ false }
-        ensures { Turns (InBrief (RefusesIn t code) out.new) self.old result self.new }
+        ensures { Turns (WithLists (RefusesIn t code) lists.new) self.old result self.new }
     {
-        let fell = self.undo(t, &Cause::Asked(code));
-        *out = Reply::Refused { code, fell };
-        Brief::Placed
+        lists.fell = self.undo(t, ShortCause::Asked(code), &lists.walk);
+        ShortReply::Refused(code)
     }
 
-    // Commits a live transaction that has no predecessor.
-    fn finish_commit(&mut self, t: Tid, answers: Answers, out: &mut Reply) -> Brief
+    // Commits a live transaction, which has this index, is at its end and has no predecessor.
+    fn finish_commit(&mut self, t: Tid, index: usize, lists: &mut ReplyLists) -> ShortReply
         requires live { (state self.old).nodes t ≡ true }
+        requires at { position (has_number t) (parts self.old).live ≡ Some index }
+        requires ends { next_by (state self.old) t Ends ≡ next_left ((state self.old).left t) }
         requires first { (u : ℕ) → (state self.old).pairs u t ≡ false }
-        ensures { Turns (InBrief (CommitsIn t answers) out.new) self.old result self.new }
+        ensures { Turns (WithLists (CommitsIn t (answers_at (next_left ((state self.old).left t)))) lists.new)
+            self.old result self.new }
     {
+        lists.answers = self.live.at(t, index).answers().copied();
         finish(&mut self.records, &mut self.accesses, &mut self.graph, t);
         leave(&mut self.live, &mut self.read_from, t);
-        self.fates.end(t, &Fate::Committed);
-        *out = Reply::Committed(answers);
-        Brief::Placed
+        self.fates.end(t, ShortFate::Committed, &lists.walk);
+        ShortReply::Committed
     }
 
     // Whether a commit would end the transaction.
     pub(super) fn commit_ends(&self, t: Tid) -> bool
         ensures { IsTrue result ↔ EndsOne (asks_of self.now) (Commit t) (state self.now) }
     {
-        match self.next(t) {
-            Some(Next::Ends(_)) => decide(&self.graph, t).is_none(),
-            Some(Next::Asks(_)) => match self.limits.asks {
+        match self.ahead(t) {
+            Some(Ahead::Ends) => decide(&self.graph, t).is_none(),
+            Some(Ahead::Asks(_)) => match self.limits.asks {
                 Asks::AtStep => false,
                 Asks::AtCommit => decide(&self.graph, t).is_none(),
             },

@@ -1,13 +1,12 @@
 //! Quits: aborts at the caller's request.
 ghost use Rattle.sgt_model.specs.CallEffects.{QuitEffect};
-ghost use Rattle.sgt_sched.specs.Briefs.{InBrief};
+ghost use Rattle.sgt_sched.specs.Replies.{WithLists};
 ghost use Rattle.sgt_sched.specs.Scheduler.{Turns};
 
-use crate::brief::Brief;
 use crate::sched::Sched;
 use sgt_access::Accesses;
 use sgt_graph::Graph;
-use sgt_model::{Cause, Reply, Tid};
+use sgt_model::{Reply, ReplyLists, ShortCause, ShortReply, Tid};
 use sgt_records::Records;
 
 impl<R: Records, A: Accesses, G: Graph> Sched<R, A, G> {
@@ -19,18 +18,18 @@ impl<R: Records, A: Accesses, G: Graph> Sched<R, A, G> {
     pub fn quit(&mut self, t: Tid) -> Reply
         ensures { Turns (QuitEffect t) self.old result self.new }
     {
-        let mut out = Reply::Ended;
-        let brief = self.answer_quit(t, &mut out);
-        brief.reply(&out)
+        let mut lists = ReplyLists::new();
+        let reply = self.answer_quit(t, &mut lists);
+        reply.with_lists(&lists)
     }
 
     // The same, with the reply in short.
-    pub(super) fn answer_quit(&mut self, t: Tid, out: &mut Reply) -> Brief
-        ensures { Turns (InBrief (QuitEffect t) out.new) self.old result self.new }
+    pub(super) fn answer_quit(&mut self, t: Tid, lists: &mut ReplyLists) -> ShortReply
+        ensures { Turns (WithLists (QuitEffect t) lists.new) self.old result self.new }
     {
         if self.is_live(t) {
-            return self.abort(t, Cause::Quit, out);
+            return self.abort(t, ShortCause::Quit, lists);
         }
-        self.answer_not_live(t, out)
+        self.answer_not_live(t, lists)
     }
 }

@@ -1,15 +1,14 @@
 //! Starts.
 ghost use Rattle.sgt_model.specs.CallEffects.{StartEffect};
 ghost use Rattle.sgt_sched.specs.Admission.{Admits};
-ghost use Rattle.sgt_sched.specs.Briefs.{Unplaced};
+ghost use Rattle.sgt_sched.specs.Replies.{WithAnyLists};
 ghost use Rattle.sgt_sched.specs.Scheduler.{state, rules_of, Tries};
 
 use crate::arguments::args_fit;
-use crate::brief::Brief;
 use crate::sched::Sched;
 use sgt_access::Accesses;
 use sgt_graph::Graph;
-use sgt_model::{Args, NoMemory, Reply, Tid};
+use sgt_model::{Args, NoMemory, Reply, ReplyLists, ShortReply, Tid};
 use sgt_records::Records;
 
 impl<R: Records, A: Accesses, G: Graph> Sched<R, A, G> {
@@ -29,42 +28,46 @@ impl<R: Records, A: Accesses, G: Graph> Sched<R, A, G> {
     pub fn start(&mut self, procedure: u16, args: &Args) -> Result<Reply, NoMemory>
         ensures { Tries (StartEffect (rules_of self.old) procedure args.now) self.old result self.new }
     {
-        let brief = self.answer_start(procedure, args)?;
-        Ok(brief.short())
+        let reply = self.answer_start(procedure, args)?;
+        Ok(reply.with_lists(&ReplyLists::new()))
     }
 
-    // The same, with the reply in short. No reply to a start is placed.
-    pub(super) fn answer_start(&mut self, procedure: u16, args: &Args) -> Result<Brief, NoMemory>
-        ensures { Tries (Unplaced (StartEffect (rules_of self.old) procedure args.now)) self.old result self.new }
+    // The same, with the reply in short. No reply to a start has lists.
+    pub(super) fn answer_start(
+        &mut self,
+        procedure: u16,
+        args: &Args,
+    ) -> Result<ShortReply, NoMemory>
+        ensures { Tries (WithAnyLists (StartEffect (rules_of self.old) procedure args.now)) self.old result self.new }
     {
         let t = match self.admit(procedure, args) {
             Ok(t) => t,
-            Err(brief) => return Ok(brief),
+            Err(refusal) => return Ok(refusal),
         };
         self.fates.reserve()?;
         let cursor = self.procedures[usize::from(procedure)].begin(args);
         self.live.start(t, procedure, cursor)?;
         self.graph.add(t);
         self.fates.start();
-        Ok(Brief::Started(t))
+        Ok(ShortReply::Started(t))
     }
 
     // The number of a transaction that may start, or why it may not.
-    fn admit(&self, procedure: u16, args: &Args) -> Result<Tid, Brief>
+    fn admit(&self, procedure: u16, args: &Args) -> Result<Tid, ShortReply>
         ensures { Admits (rules_of self.now) (state self.now) procedure args.now result }
     {
         let count = match self.procedures.get(usize::from(procedure)) {
             Some(checked) => checked.args(),
-            None => return Err(Brief::NoProcedure),
+            None => return Err(ShortReply::NoProcedure),
         };
         if !args_fit(count, args) {
-            return Err(Brief::BadArgs);
+            return Err(ShortReply::BadArgs);
         }
         if self.fates.len() == self.limits.begins as usize {
-            return Err(Brief::Spent);
+            return Err(ShortReply::Spent);
         }
         if self.live.len() == self.limits.live as usize {
-            return Err(Brief::Full);
+            return Err(ShortReply::Full);
         }
         Ok(Tid(self.fates.len() as u32))
     }

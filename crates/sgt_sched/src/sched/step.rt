@@ -8,22 +8,21 @@ ghost use Rattle.sgt_model.specs.Numbers.{IsValue};
 ghost use Rattle.sgt_model.specs.Traces.{Raises};
 ghost use Rattle.sgt_model.specs.Walks.{Member};
 ghost use Rattle.sgt_cycle.specs.Walk.{NoWalk};
-ghost use Rattle.sgt_sched.specs.Briefs.{InBrief, Unplaced};
+ghost use Rattle.sgt_sched.specs.Replies.{WithLists, WithAnyLists};
 ghost use Rattle.sgt_sched.specs.Endings.{EndsOne, IsBlocked};
 ghost use Rattle.sgt_sched.specs.LiveList.{has_number};
 ghost use Rattle.sgt_sched.specs.Operations.{kind_of, next_of, WritesValue};
 ghost use Rattle.sgt_sched.specs.Scheduler.{parts, state, asks_of, Turns, Tries, LinksOrAborts};
 ghost use Rattle.sgt_sched.specs.Steps.{AreRivals};
 
-use crate::brief::Brief;
 use crate::follow::follow;
 use crate::operation::Operation;
 use crate::reads::note_read;
 use crate::sched::Sched;
 use sgt_access::Accesses;
 use sgt_graph::{Graph, Link, Plan, Verdict};
-use sgt_model::{Asks, Cause, Key, Kind, NoMemory, Reply, Tid, Tids};
-use sgt_proc::Next;
+use sgt_model::{Asks, Key, Kind, NoMemory, Reply, ReplyLists, ShortCause, ShortReply, Tid, Tids};
+use sgt_proc::Ahead;
 use sgt_records::Records;
 
 impl<R: Records, A: Accesses, G: Graph> Sched<R, A, G> {
@@ -45,26 +44,29 @@ impl<R: Records, A: Accesses, G: Graph> Sched<R, A, G> {
         ensures done { Tries (StepEffect (asks_of self.old) t) self.old result self.new }
         ensures no_memory { EndsOne (asks_of self.old) (Step t) (state self.old) → IsOk result }
     {
-        let mut out = Reply::Ended;
-        let brief = self.answer_step(t, &mut out)?;
-        Ok(brief.reply(&out))
+        let mut lists = ReplyLists::new();
+        let reply = self.answer_step(t, &mut lists)?;
+        Ok(reply.with_lists(&lists))
     }
 
     // The same, with the reply in short.
-    pub(super) fn answer_step(&mut self, t: Tid, out: &mut Reply) -> Result<Brief, NoMemory>
-        ensures done { Tries (InBrief (StepEffect (asks_of self.old) t) out.new) self.old result self.new }
-        ensures out { OnErr result (out.new ≡ out.old) }
+    pub(super) fn answer_step(
+        &mut self,
+        t: Tid,
+        lists: &mut ReplyLists,
+    ) -> Result<ShortReply, NoMemory>
+        ensures done { Tries (WithLists (StepEffect (asks_of self.old) t) lists.new) self.old result self.new }
+        ensures lists { OnErr result (lists.new ≡ lists.old) }
         ensures no_memory { EndsOne (asks_of self.old) (Step t) (state self.old) → IsOk result }
     {
         let Some(index) = self.index(t) else {
-            return Ok(self.answer_not_live(t, out));
+            return Ok(self.answer_not_live(t, lists));
         };
-        let next = self.next_at(t, index);
-        match next {
-            Next::Look(key) => self.access(t, index, key, Operation::Look, out),
-            Next::Put(key, value) => self.access(t, index, key, Operation::Store(value), out),
-            Next::Ends(_) => Ok(Brief::Ended),
-            Next::Asks(code) => Ok(self.step_asked(t, code, out)),
+        match self.ahead_at(t, index) {
+            Ahead::Look(key) => self.access(t, index, key, Operation::Look, lists),
+            Ahead::Put(key, value) => self.access(t, index, key, Operation::Store(value), lists),
+            Ahead::Ends => Ok(ShortReply::Ended),
+            Ahead::Asks(code) => Ok(self.step_asked(t, code, lists)),
         }
     }
 
@@ -77,17 +79,17 @@ impl<R: Records, A: Accesses, G: Graph> Sched<R, A, G> {
         index: usize,
         key: Key,
         operation: Operation,
-        out: &mut Reply,
-    ) -> Result<Brief, NoMemory>
+        lists: &mut ReplyLists,
+    ) -> Result<ShortReply, NoMemory>
         requires live { (state self.old).nodes t ≡ true }
         requires at { position (has_number t) (parts self.old).live ≡ Some index }
         requires in_range { WritesValue operation }
-        ensures done { Tries (InBrief (StepOn (asks_of self.old) t (next_of key operation)) out.new) self.old result self.new }
-        ensures out { OnErr result (out.new ≡ out.old) }
+        ensures done { Tries (WithLists (StepOn (asks_of self.old) t (next_of key operation)) lists.new) self.old result self.new }
+        ensures lists { OnErr result (lists.new ≡ lists.old) }
         ensures no_memory { IsBlocked (state self.old) t key (kind_of operation) → IsOk result }
     {
         if self.accesses.has_rival(t, key, operation.kind()) {
-            return self.access_after(t, index, key, operation, out);
+            return self.access_after(t, index, key, operation, lists);
         }
         self.make_access(t, index, key, operation, &Tids::new(), Link::default())
     }
@@ -100,18 +102,18 @@ impl<R: Records, A: Accesses, G: Graph> Sched<R, A, G> {
         index: usize,
         key: Key,
         operation: Operation,
-        out: &mut Reply,
-    ) -> Result<Brief, NoMemory>
+        lists: &mut ReplyLists,
+    ) -> Result<ShortReply, NoMemory>
         requires live { (state self.old).nodes t ≡ true }
         requires at { position (has_number t) (parts self.old).live ≡ Some index }
         requires in_range { WritesValue operation }
-        ensures done { Tries (InBrief (StepOn (asks_of self.old) t (next_of key operation)) out.new) self.old result self.new }
-        ensures out { OnErr result (out.new ≡ out.old) }
+        ensures done { Tries (WithLists (StepOn (asks_of self.old) t (next_of key operation)) lists.new) self.old result self.new }
+        ensures lists { OnErr result (lists.new ≡ lists.old) }
         ensures no_memory { IsBlocked (state self.old) t key (kind_of operation) → IsOk result }
     {
         let rivals = self.accesses.rivals(t, key, operation.kind());
-        let Some(link) = self.plan_or_abort(t, &rivals, out) else {
-            return Ok(Brief::Placed);
+        let Some(link) = self.plan_or_abort(t, &rivals, lists) else {
+            return Ok(ShortReply::Aborted(ShortCause::Cycle));
         };
         self.make_access(t, index, key, operation, &rivals, link)
     }
@@ -126,14 +128,14 @@ impl<R: Records, A: Accesses, G: Graph> Sched<R, A, G> {
         operation: Operation,
         rivals: &Tids,
         link: Link,
-    ) -> Result<Brief, NoMemory>
+    ) -> Result<ShortReply, NoMemory>
         requires live { (state self.old).nodes t ≡ true }
         requires at { position (has_number t) (parts self.old).live ≡ Some index }
         requires in_range { WritesValue operation }
         requires rivals { AreRivals (state self.old) t key (kind_of operation) rivals.now }
         requires free { NoWalk (state self.old).pairs t rivals.now }
         requires planned { rivals.now ≢ [] → G.is_planned (parts self.old).graph t rivals.now link }
-        ensures { Tries (Unplaced (StepOn (asks_of self.old) t (next_of key operation))) self.old result self.new }
+        ensures { Tries (WithAnyLists (StepOn (asks_of self.old) t (next_of key operation))) self.old result self.new }
     {
         match operation {
             Operation::Look => self.make_look(t, index, key, rivals, link),
@@ -150,13 +152,13 @@ impl<R: Records, A: Accesses, G: Graph> Sched<R, A, G> {
         key: Key,
         writers: &Tids,
         link: Link,
-    ) -> Result<Brief, NoMemory>
+    ) -> Result<ShortReply, NoMemory>
         requires live { (state self.old).nodes t ≡ true }
         requires at { position (has_number t) (parts self.old).live ≡ Some index }
         requires writers { AreRivals (state self.old) t key Look writers.now }
         requires free { NoWalk (state self.old).pairs t writers.now }
         requires planned { writers.now ≢ [] → G.is_planned (parts self.old).graph t writers.now link }
-        ensures { Tries (Unplaced (MakesLook t key)) self.old result self.new }
+        ensures { Tries (WithAnyLists (MakesLook t key)) self.old result self.new }
     {
         let top = self.records.top(key);
         let value = top.value();
@@ -166,7 +168,7 @@ impl<R: Records, A: Accesses, G: Graph> Sched<R, A, G> {
         self.accesses.note(t, key, Kind::Look);
         note_read(&mut self.read_from, &top, t);
         self.live.look(t, index, self.procedures.as_slice(), value);
-        Ok(Brief::Looked { key, value })
+        Ok(ShortReply::Looked { key, value })
     }
 
     // Makes a write of a live transaction, which has this index, after these rivals.
@@ -179,14 +181,14 @@ impl<R: Records, A: Accesses, G: Graph> Sched<R, A, G> {
         value: i64,
         rivals: &Tids,
         link: Link,
-    ) -> Result<Brief, NoMemory>
+    ) -> Result<ShortReply, NoMemory>
         requires live { (state self.old).nodes t ≡ true }
         requires at { position (has_number t) (parts self.old).live ≡ Some index }
         requires in_range { IsValue value }
         requires rivals { AreRivals (state self.old) t key Store rivals.now }
         requires free { NoWalk (state self.old).pairs t rivals.now }
         requires planned { rivals.now ≢ [] → G.is_planned (parts self.old).graph t rivals.now link }
-        ensures { Tries (Unplaced (MakesStore t key value)) self.old result self.new }
+        ensures { Tries (WithAnyLists (MakesStore t key value)) self.old result self.new }
     {
         self.records.reserve(key)?;
         self.accesses.reserve(key)?;
@@ -194,20 +196,22 @@ impl<R: Records, A: Accesses, G: Graph> Sched<R, A, G> {
         self.records.write(t, key, value);
         self.accesses.note(t, key, Kind::Store);
         self.live.store(t, index, self.procedures.as_slice());
-        Ok(Brief::Wrote { key, value })
+        Ok(ShortReply::Wrote { key, value })
     }
 
-    // Returns what links edges from these rivals to a live transaction. If they would close a cycle, it aborts the transaction.
+    // Returns what links edges from these rivals to a live transaction. If they would close a cycle, it aborts the transaction;
+    // the lists are then those of the reply.
     #[inline(never)]
-    fn plan_or_abort(&mut self, t: Tid, rivals: &Tids, out: &mut Reply) -> Option<Link>
+    fn plan_or_abort(&mut self, t: Tid, rivals: &Tids, lists: &mut ReplyLists) -> Option<Link>
         requires live { (state self.old).nodes t ≡ true }
         requires others { (u : ℕ) → Member u rivals.now → ((state self.old).nodes u ≡ true) × (u ≢ t) }
-        ensures { LinksOrAborts t rivals.now self.old out.old result out.new self.new }
+        ensures { LinksOrAborts t rivals.now self.old lists.old result lists.new self.new }
     {
         match self.graph.plan(t, rivals) {
             Plan::Free(link) => Some(link),
             Plan::Closes(walk) => {
-                self.abort(t, Cause::Cycle(walk), out);
+                lists.walk = walk;
+                self.abort(t, ShortCause::Cycle, lists);
                 None
             }
         }
@@ -215,13 +219,13 @@ impl<R: Records, A: Accesses, G: Graph> Sched<R, A, G> {
 
     // Aborts a live transaction whose procedure raises this code, or leaves it to its commit.
     #[inline(never)]
-    fn step_asked(&mut self, t: Tid, code: u16, out: &mut Reply) -> Brief
+    fn step_asked(&mut self, t: Tid, code: u16, lists: &mut ReplyLists) -> ShortReply
         requires live { (state self.old).nodes t ≡ true }
-        ensures { Turns (InBrief (StepOn (asks_of self.old) t (Raises code)) out.new) self.old result self.new }
+        ensures { Turns (WithLists (StepOn (asks_of self.old) t (Raises code)) lists.new) self.old result self.new }
     {
         match self.limits.asks {
-            Asks::AtStep => self.abort(t, Cause::Asked(code), out),
-            Asks::AtCommit => Brief::Ended,
+            Asks::AtStep => self.abort(t, ShortCause::Asked(code), lists),
+            Asks::AtCommit => ShortReply::Ended,
         }
     }
 
@@ -229,14 +233,14 @@ impl<R: Records, A: Accesses, G: Graph> Sched<R, A, G> {
     pub(super) fn step_ends(&self, t: Tid) -> bool
         ensures { IsTrue result ↔ EndsOne (asks_of self.now) (Step t) (state self.now) }
     {
-        let Some(next) = self.next(t) else {
+        let Some(ahead) = self.ahead(t) else {
             return false;
         };
-        match next {
-            Next::Look(key) => self.is_blocked(t, key, Kind::Look),
-            Next::Put(key, _) => self.is_blocked(t, key, Kind::Store),
-            Next::Ends(_) => false,
-            Next::Asks(_) => match self.limits.asks {
+        match ahead {
+            Ahead::Look(key) => self.is_blocked(t, key, Kind::Look),
+            Ahead::Put(key, _) => self.is_blocked(t, key, Kind::Store),
+            Ahead::Ends => false,
+            Ahead::Asks(_) => match self.limits.asks {
                 Asks::AtStep => true,
                 Asks::AtCommit => false,
             },

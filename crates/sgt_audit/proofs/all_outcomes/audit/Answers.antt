@@ -1,11 +1,13 @@
-use Rattle.std.proofs.Common.{◌≡◌, ◌↔◌, ℕ, ◌<◌, IsTrue, sym, subst, ◌∙◌, reverse, length, arith}
-use Rattle.std.specs.List.{All, AllZip, flat_map}
+use Rattle.std.proofs.Common.{rules, ◌≡◌, ◌↔◌, ℕ, ◌+◌, ◌<◌, ◌≤◌, IsTrue, sym, subst, ◌∙◌, reverse, length, arith}
+use Rattle.std.specs.List.{All, AllZip, count_by, flat_map}
 use Rattle.std.proofs.lemmas.Bool.{false≢true}
 use Rattle.sgt_model.specs.Fates.{start_count}
 use Rattle.sgt_model.specs.Walks.{Distinct}
+use Rattle.sgt_model.specs.declared.entry.Entry.{Entry}
+use Rattle.sgt_model.specs.Questions.{is_commit, is_quit}
 use Rattle.sgt_audit.specs.Lives.{AreLives}
 use Rattle.sgt_audit.specs.Outcomes.{OutcomeStands}
-use Rattle.sgt_audit.specs.AllOutcomes.{entries_of, transactions_of, CountsAgree, FewLive, AllEnded}
+use Rattle.sgt_audit.specs.AllOutcomes.{entries_of, transactions_of, is_left, is_no_memory, NumbersAgree, FewLive, AllEnded}
 use Rattle.sgt_audit.proofs.Named.{all_started, all_there}
 use Rattle.sgt_audit.proofs.all_outcomes.audit.Goals as goal
 
@@ -17,8 +19,8 @@ none_twice-requires g c =
     let all = all_started h c.args.tries c.args.jobs.now c.args.outcomes.now (stand.0 c.if-not-all_stand.false) in
     let named : c.deref-2.result.now ≡ flat_map (transactions_of h) c.args.outcomes.now = c.deref-2.ensures.value
     ∙ c.in_ok-transactions.ensures in
-    let are : AreLives (reverse h) c.in_ok-lives.lives.items = c.in_ok-lives.ensures in
-    let count : start_count (reverse h) ≡ c.len.result = omega (arith, are.counted, c.in_ok-lives.lives.ok.0, c.len.ensures) in
+    let are : AreLives (reverse h) c.in-Some.field-0.lives.items = search (rules, c.in_ok-lives.ensures.lives) in
+    let count : start_count (reverse h) ≡ c.len.result = omega (arith, are.counted, c.in-Some.field-0.lives.ok.0, c.len.ensures) in
     subst (All (λ t. t < c.len.result)) (sym named)
     (subst (λ (n : ℕ). All (λ t. t < n) (flat_map (transactions_of h) c.args.outcomes.now)) count all)
 
@@ -42,17 +44,33 @@ returns g c =
     let named : c.deref-2.result.now ≡ flat_map (transactions_of h) c.args.outcomes.now = c.deref-2.ensures.value
     ∙ c.in_ok-transactions.ensures in
     let named_too : c.deref-3.result.now ≡ flat_map entries_of c.args.outcomes.now = c.deref-3.ensures.value ∙ c.in_ok-entries.ensures in
-    let counts : IsTrue c.counts_agree.result ↔ CountsAgree h c.args.outcomes.now c.args.workers = c.counts_agree.ensures in
-    let lives : IsTrue c.live_counts_stand.result ↔ (FewLive h c.args.workers × AllEnded h) = c.live_counts_stand.ensures in (
+    let counts : IsTrue c.counts_agree.result ↔ NumbersAgree c.in-Some.field-0.ends.commits c.in-Some.field-0.ends.quits c.args.outcomes.now
+    c.args.workers = c.counts_agree.ensures in
+    let commits : c.in-Some.field-0.ends.commits ≡ count_by (λ (e : Entry). is_commit e.reply) h =
+    search (rules, c.in_ok-lives.ensures.commits) in
+    let quits : c.in-Some.field-0.ends.quits ≡ count_by (λ (e : Entry). is_quit e.reply) h = search (rules, c.in_ok-lives.ensures.quits) in
+    let few : FewLive h c.args.workers × AllEnded h = c.in_ok-lives.ensures.few.0 (search rules) in (
       (λ t. record {
         each = stand.0 c.if-not-all_stand.false;
         transactions_once = subst Distinct named (transactions.0 c.if-not-branch.false);
         entries_once = subst Distinct named_too (entries.0 c.if-not-branch-2.false);
-        counts = counts.0 c.if-not-counts_agree.false;
-        few_live = (lives.0 t).0;
-        all_ended = (lives.0 t).1;
+        counts = record {
+          commits = sym commits ∙ (counts.0 t).commits;
+          quits = subst (λ n. n ≤ count_by is_left c.args.outcomes.now + count_by is_no_memory c.args.outcomes.now) quits
+              (counts.0 t).quits;
+          left = (counts.0 t).left;
+          untaken = (counts.0 t).untaken;
+        };
+        few_live = few.0;
+        all_ended = few.1;
       }),
-      λ o. lives.1 (o.few_live, o.all_ended),
+      λ o. counts.1 (record {
+        commits = commits ∙ o.counts.commits;
+        quits = subst (λ n. n ≤ count_by is_left c.args.outcomes.now + count_by is_no_memory c.args.outcomes.now) (sym quits)
+            o.counts.quits;
+        left = o.counts.left;
+        untaken = o.counts.untaken;
+      }),
     )
 
 pub returns-then-not-all_stand : goal.returns-then-not-all_stand
@@ -76,9 +94,3 @@ returns-then-not-branch-2 g c =
       (λ t. absurd (false≢true t)),
       λ o. absurd (false≢true (sym c.if-not-branch-2.true ∙ once.1 (subst Distinct (sym named) o.entries_once))),
     )
-
-pub returns-then-not-counts_agree : goal.returns-then-not-counts_agree
-returns-then-not-counts_agree g c = (
-  (λ t. absurd (false≢true t)),
-  λ o. absurd (false≢true (sym c.if-not-counts_agree.true ∙ c.counts_agree.ensures.1 o.counts)),
-)

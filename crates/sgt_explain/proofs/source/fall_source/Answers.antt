@@ -10,7 +10,7 @@ returns-then-number-fell-clause-some c =
     let item : slice_get c.fell-fell.result.now c.args.number ≡ Some c.index-fell-number.result =
     slice_get_read c.fell-fell.result.now _ c.args.number c.index-fell-number.result refl (search rules) c.index-fell-number.is in
     some_source c.args.history.now.entries c.args.place c.args.number c.index-fell-number.result c.first_source.result
-    (falls_item c.args.history.now.entries c.args.place c.args.number _ _ _ here c.fell-fell.ensures item) c.first_source.ensures.none
+    (falls_item c.args.history.now.entries c.args.place c.args.number _ _ _ here c.fell-fell.ensures.fell item) c.first_source.ensures.none
 
 pub returns-then-number-fell-clause-all : goal.returns-then-number-fell-clause-all
 returns-then-number-fell-clause-all c =
@@ -20,7 +20,7 @@ returns-then-number-fell-clause-all c =
     λ s legal below.
     all_sources c.args.history.now.entries c.args.place c.args.number c.index-fell-number.result c.first_source.result
     (slice_get_within c.args.history.now.entries c.args.place _ here)
-    (falls_item c.args.history.now.entries c.args.place c.args.number _ _ _ here c.fell-fell.ensures item)
+    (falls_item c.args.history.now.entries c.args.place c.args.number _ _ _ here c.fell-fell.ensures.fell item)
     c.first_source.ensures.none s legal
 
 pub returns-else-number-fell-clause-some : goal.returns-else-number-fell-clause-some

@@ -1,5 +1,6 @@
 use Rattle.std.proofs.Common.{rules, ◌+◌, refl}
 use Rattle.sgt_input.specs.Intake.{bytes_left, cut_left}
+use Rattle.sgt_format.specs.ScriptLines.{line_of}
 use Rattle.sgt_engine.specs.EngineView.{setting_of}
 use Rattle.sgt_script.specs.Parts.{part_at}
 use Rattle.sgt_script.proofs.Beginnings.{all-so, answered-flushed, answered-next, answered-none, fault-stop, some-failed, some-refused, some-stop, some-written}
@@ -27,7 +28,8 @@ loop-gathered-preserved g c =
           c.loop-gathered.lines c.next_script_line.new.lines (g.S.Source.rest c.loop-gathered.source)
           (g.S.Source.rest c.next_script_line.new.source) (g.T.Sink.held c.flush_before_read.new.sink)
           c.flush_before_read.new.gathered.items
-          c.answer_line.new.text.items (part_at c.loop-gathered.engine) (part_at c.answer_line.new.engine) c.in-Ok-Some.line
+          c.answer_line.new.text.items (part_at c.loop-gathered.engine) (part_at c.answer_line.new.engine)
+          (line_of c.in-Ok-Some.kind c.next_script_line.new.event)
           (answered-flushed c.args.output (setting_of c.args.engine.now) (c.args.lines.now.number + 1)
           (cut_left c.args.lines.now (g.S.Source.rest c.args.source.now))
           (bytes_left c.args.lines.now (g.S.Source.rest c.args.source.now)) (g.T.Sink.held c.args.sink.now)

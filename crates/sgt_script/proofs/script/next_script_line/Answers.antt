@@ -1,6 +1,6 @@
 use Rattle.std.proofs.Common.{rules, ◌≡◌, ◌+◌, Err, refl, subst, sym}
 use Rattle.std.specs.Prelude.{IfErr}
-use Rattle.sgt_format.specs.ScriptLines.{script_line_of}
+use Rattle.sgt_format.specs.ScriptLines.{line_of, script_line_of}
 use Rattle.sgt_input.specs.Lines.{AtEnd}
 use Rattle.sgt_input.specs.Intake.{cut_left}
 use Rattle.sgt_input.specs.Ends.{IsOfInput}
@@ -21,9 +21,9 @@ pub returns-then-not-branch-clause-end : goal.returns-then-not-branch-clause-end
 returns-then-not-branch-clause-end g c = λ none.
     no-line-ends (c.args.lines.now.number + 1) AtEnd (cut_left c.args.lines.now (g.S.Source.rest c.args.source.now)) _ (search rules) refl
 
-pub returns-in_err-asked-clause-fault : goal.returns-in_err-asked-clause-fault
-returns-in_err-asked-clause-fault g c =
-    let failed : c.from_residual-in_err-asked.result ≡ Err c.in_err-asked.field-0.0 = search rules in
+pub returns-in_err-kind-clause-fault : goal.returns-in_err-kind-clause-fault
+returns-in_err-kind-clause-fault g c =
+    let failed : c.from_residual-in_err-kind.result ≡ Err c.in_err-kind.field-0.0 = search rules in
     subst (λ r. IfErr r (λ f. IsOfInput f → NoLine (c.args.lines.now.number + 1)
     (cut_left c.args.lines.now (g.S.Source.rest c.args.source.now)) (Err f))) (sym failed)
     (λ exact. line-fails (c.args.lines.now.number + 1) c.next_line.new.self.number
@@ -36,12 +36,12 @@ pub returns-clause-line : goal.returns-clause-line
 returns-clause-line g c =
     line-asks (c.args.lines.now.number + 1) c.next_line.new.self.number
     (cut_left c.args.lines.now (g.S.Source.rest c.args.source.now))
-    (cut_left c.next_line.new.self (g.S.Source.rest c.next_line.new.source)) c.next_line.new.self.line c.in_ok-asked.asked (search rules)
-    (search rules)
-    (spells c.next_line.new.self.number (script_line_of c.next_line.new.self.line) c.read_script_line.result c.in_ok-asked.asked
-    (search rules) (search rules))
+    (cut_left c.next_line.new.self (g.S.Source.rest c.next_line.new.source)) c.next_line.new.self.line
+    (line_of c.in_ok-kind.kind c.read_script_line.new.event) (search rules) (search rules)
+    (spells (λ kind. line_of kind c.read_script_line.new.event) c.next_line.new.self.number
+    (script_line_of c.next_line.new.self.line) c.read_script_line.result c.in_ok-kind.kind (search rules) (search rules))
 
 pub returns-clause-at : goal.returns-clause-at
 returns-clause-at g c =
-    spells c.next_line.new.self.number (script_line_of c.next_line.new.self.line) c.read_script_line.result c.in_ok-asked.asked
-    (search rules) (search rules)
+    spells (λ kind. line_of kind c.read_script_line.new.event) c.next_line.new.self.number
+    (script_line_of c.next_line.new.self.line) c.read_script_line.result c.in_ok-kind.kind (search rules) (search rules)

@@ -1,5 +1,5 @@
 use Rattle.std.proofs.Common.{◌≡◌, length, refl, subst, rules, arith}
-use Rattle.sgt_session.proofs.Merging.{Checked, checks_first, checks_next, checks_last}
+use Rattle.sgt_session.proofs.Merging.{Checked, entry_there, checks_first, checks_next, checks_last}
 use Rattle.sgt_session.proofs.accounts.accounts.Goals as goal
 
 pub loop-p-init : goal.loop-p-init
@@ -8,11 +8,12 @@ loop-p-init g c = (refl, checks_first c.args.history.now.entries c.args.sessions
 pub loop-p-preserved : goal.loop-p-preserved
 loop-p-preserved g c =
     let history = c.args.history.now.entries in
-    let at = c.loop-p.at in (
+    let at = c.loop-p.at in
+    let there = entry_there history c.loop-p.p (search rules) in (
       search rules,
-      checks_next history c.args.sessions.now c.loop-p.p at c.in-Some.i c.entry.result c.loop-p.invariant.1
-          c.entry.ensures.entry c.in-Some.ensures.index
-          (omega (arith, c.requires.0, c.loop-p.invariant.0)) c.in-Some.ensures.receipt,
+      checks_next history c.args.sessions.now c.loop-p.p at c.in-Some.i there.0 c.loop-p.invariant.1
+          there.1 c.in-Some.ensures.index
+          (omega (arith, c.requires.0, c.loop-p.invariant.0)) (c.in-Some.ensures.receipt there.0 there.1),
     )
 
 pub returns : goal.returns

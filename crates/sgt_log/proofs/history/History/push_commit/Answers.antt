@@ -1,21 +1,32 @@
 use Rattle.std.proofs.Common.{◌∷◌, [], ◌++◌, ap, sym, ◌∙◌, map, arith, append-nil}
 use Rattle.sgt_model.specs.declared.event.Event.TheVariants as event
 use Rattle.sgt_model.specs.declared.reply.Reply.TheVariants as reply
-use Rattle.sgt_log.specs.declared.short_event.ShortEvent.TheVariants as short_event
-use Rattle.sgt_log.specs.declared.short_reply.ShortReply.TheVariants as short_reply
-use Rattle.sgt_log.specs.declared.short_entry.ShortEntry.{ShortEntry}
-use Rattle.sgt_log.specs.ShortEntries.{entry_of}
+use Rattle.sgt_log.specs.declared.stored_event.StoredEvent.TheVariants as stored_event
+use Rattle.sgt_log.specs.declared.stored_reply.StoredReply.TheVariants as stored_reply
+use Rattle.sgt_log.specs.declared.stored_entry.StoredEntry.{StoredEntry}
+use Rattle.sgt_log.specs.StoredEntries.{entry_of}
 use Rattle.sgt_log.proofs.Entries.{entries-pushed, entries-after}
 use Rattle.sgt_log.proofs.history.History.push_commit.Goals as goal
 
 pub invariant_of-self : goal.invariant_of-self
 invariant_of-self c =
     let used = ap (λ h. h.room) c.self.view_is in
-    let filed : ShortEntry = record { event = short_event.Commit c.args.t; reply = short_reply.Committed c.append-answers.result } in (
-      entries-pushed c.self.inside.tids.items c.self.inside.tids.items c.self.inside.values.items c.append-answers.new.list.items
+    let filed : StoredEntry = record {
+      event = stored_event.Commit c.args.t;
+      reply = stored_reply.Committed c.append-part.result.count c.append-part.result.from;
+    } in (
+      entries-pushed c.self.inside.tids.items c.self.inside.tids.items c.self.inside.values.items c.append-part.new.list.items
           c.self.inside.entries.items c.push_reserved.new.self.items filed ([], sym (append-nil _))
-          (c.args.answers.now, c.append-answers.ensures.items) c.self.invariant.0
-          (tt, (c.append-answers.ensures.within, omega (arith, c.append-answers.ensures.count, c.requires.few)))
+          (c.args.answers.now, c.append-part.ensures.items) c.self.invariant.0 (
+            record { args = (omega arith, omega arith); few = omega arith },
+            record {
+              answers = c.append-part.ensures.within;
+              few = omega (arith, c.append-part.ensures.count, c.requires.few);
+              walk = (omega arith, omega arith);
+              fell = (omega arith, omega arith);
+              key = tt;
+            },
+          )
           c.push_reserved.ensures.items,
       omega (arith, used, c.requires.room, c.self.invariant.1, c.push_reserved.ensures.len, c.push_reserved.ensures.capacity),
       omega (arith, used, c.requires.room, c.self.invariant.2),
@@ -25,18 +36,21 @@ invariant_of-self c =
         c.requires.room,
         c.requires.few,
         c.self.invariant.3,
-        c.append-answers.ensures.len,
-        c.append-answers.ensures.capacity,
+        c.append-part.ensures.len,
+        c.append-part.ensures.capacity,
       ),
     )
 
 pub returns-clause-entries : goal.returns-clause-entries
 returns-clause-entries c =
-    let filed : ShortEntry = record { event = short_event.Commit c.args.t; reply = short_reply.Committed c.append-answers.result } in
-    entries-after c.self.inside.tids.items c.self.inside.tids.items c.self.inside.values.items c.append-answers.new.list.items
+    let filed : StoredEntry = record {
+      event = stored_event.Commit c.args.t;
+      reply = stored_reply.Committed c.append-part.result.count c.append-part.result.from;
+    } in
+    entries-after c.self.inside.tids.items c.self.inside.tids.items c.self.inside.values.items c.append-part.new.list.items
     c.self.inside.entries.items c.push_reserved.new.self.items filed ([], sym (append-nil _))
-    (c.args.answers.now, c.append-answers.ensures.items) c.self.invariant.0 c.push_reserved.ensures.items
+    (c.args.answers.now, c.append-part.ensures.items) c.self.invariant.0 c.push_reserved.ensures.items
     ∙ ap (λ l. map (entry_of c.self.inside.tids.items c.self.inside.values.items) c.self.inside.entries.items ++
     record { event = event.Commit c.args.t; reply = reply.Committed l } ∷ [])
-    c.append-answers.ensures.part
+    c.append-part.ensures.part
     ∙ ap (λ h. h.entries ++ record { event = event.Commit c.args.t; reply = reply.Committed c.args.answers.now } ∷ []) c.self.view_is

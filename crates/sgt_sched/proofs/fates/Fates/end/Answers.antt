@@ -1,6 +1,7 @@
 use Rattle.std.proofs.Common.{◌≡◌, arith, Some, None, refl, ap, ◌∙◌, slice_set}
 use Rattle.std.specs.Prelude.{slice_get}
 use Rattle.std.proofs.lemmas.List.{length-set}
+use Rattle.sgt_model.specs.ShortReplies.{full_fate}
 use Rattle.sgt_sched.specs.declared.fates.End.TheVariants as end
 use Rattle.sgt_sched.specs.FateList.{fates_of_ends}
 use Rattle.sgt_sched.proofs.FateLists.{fates-set, have-more, have-set, live-set, started}
@@ -56,5 +57,6 @@ returns c =
     fates-set c.self.inside.walks.items c.end_of-end.new.walks.items c.self.inside.ends.items c.t.inside.0 c.end_of-end.result
     c.end_of-end.ensures.stay c.self.invariant.placed
     ∙ ap (λ f. slice_set (fates_of_ends c.self.inside.walks.items c.self.inside.ends.items) c.t.inside.0 f) c.end_of-end.ensures.fate
-    ∙ ap (λ t. slice_set (fates_of_ends c.self.inside.walks.items c.self.inside.ends.items) t (Some c.args.fate.now)) c.t.view_is
-    ∙ ap (λ l. slice_set l.fates c.args.t (Some c.args.fate.now)) c.self.view_is
+    ∙ ap (λ t. slice_set (fates_of_ends c.self.inside.walks.items c.self.inside.ends.items) t (Some
+    (full_fate c.args.fate c.args.walk.now))) c.t.view_is
+    ∙ ap (λ l. slice_set l.fates c.args.t (Some (full_fate c.args.fate c.args.walk.now))) c.self.view_is

@@ -9,8 +9,8 @@ use Rattle.sgt_sched.specs.SchedulerView.{fate_at}
 use Rattle.sgt_sched.proofs.FateLists.{fate_at-found, index_within, read-any}
 use Rattle.sgt_sched.proofs.fates.Fates.get.Goals as goal
 
-pub index-walk-requires : goal.index-walk-requires
-index-walk-requires c =
+pub index-requires : goal.index-requires
+index-requires c =
     let is : slice_get c.self.inside.ends.items c.t.inside.0 ≡ Some
     (end.Cycle c.in-Some-Cycle.index) = slice_get_read c.self.inside.ends.items _ c.t.inside.0 c.in-Some-Cycle.field-0.now refl
     (subst (λ l. c.t.inside.0 < length l) c.deref.ensures.value c.in-Some-Cycle.ensures.lookup.3.0)
@@ -26,9 +26,9 @@ returns-in-Some-Cycle c =
     (c.in-Some-Cycle.ensures.lookup.1 ∙ ap (λ l. slice_index_or l c.t.inside.0 c.in-Some-Cycle.field-0.now) c.deref.ensures.value)
     ∙ ap Some c.in-Some-Cycle.field-0-is in
     let within = index_within _ c.self.inside.ends.items c.t.inside.0 c.in-Some-Cycle.index c.self.invariant.placed is in
-    let walk : c.copied.result ≡ slice_index_or c.self.inside.walks.items c.in-Some-Cycle.index c.index-walk.result.now = search rules in
+    let walk : c.copied.result ≡ slice_index_or c.self.inside.walks.items c.in-Some-Cycle.index c.index.result.now = search rules in
     ap (λ w. Some (fate.Aborted (cause.Cycle w))) (walk
-    ∙ read-any c.self.inside.walks.items c.in-Some-Cycle.index c.index-walk.result.now [] within)
+    ∙ read-any c.self.inside.walks.items c.in-Some-Cycle.index c.index.result.now [] within)
     ∙ sym (fate_at-found c.self.inside.walks.items c.self.inside.ends.items c.t.inside.0 (end.Cycle c.in-Some-Cycle.index) is)
     ∙ ap (λ t. fate_at (fates_of_ends c.self.inside.walks.items c.self.inside.ends.items) t) c.t.view_is
     ∙ ap (λ l. fate_at l.fates c.args.t) c.self.view_is

@@ -28,9 +28,9 @@ make_access-requires-clause-planned g c κs lives some = absurd (some c.new.ensu
 
 pub returns : goal.returns
 returns g c = record {
-  done = made_with (StepOn (asks_of c.args.self.now) c.args.t (next_of c.args.key c.args.operation)) c.args.out.now c.make_access.result
+  done = made_with (StepOn (asks_of c.args.self.now) c.args.t (next_of c.args.key c.args.operation)) c.args.lists.now c.make_access.result
       refl c.make_access.ensures;
-  out = whatever c.make_access.result refl;
+  lists = whatever c.make_access.result refl;
   no_memory = λ b. absurd (true≢false (sym (c.if-has_rival.ensures.exact.1 (
     last_of c.args.t b.0,
     b.1.rival.apart,
@@ -42,6 +42,6 @@ returns g c = record {
 pub returns-then-has_rival : goal.returns-then-has_rival
 returns-then-has_rival g c = record {
   done = c.access_after.ensures.done;
-  out = c.access_after.ensures.out;
+  lists = c.access_after.ensures.lists;
   no_memory = c.access_after.ensures.no_memory;
 }

@@ -3,7 +3,7 @@ use Rattle.sgt_model.specs.CallEffects.{StepOn}
 use Rattle.sgt_cycle.specs.Walk.{NoWalk}
 use Rattle.sgt_sched.specs.LiveList.{has_number}
 use Rattle.sgt_sched.proofs.Stepped.{made_with, whatever, rejected}
-use Rattle.sgt_sched.specs.Briefs.{HoldsLists, InBrief}
+use Rattle.sgt_sched.specs.Replies.{WithLists}
 use Rattle.sgt_sched.specs.Operations.{kind_of, next_of}
 use Rattle.sgt_sched.specs.Scheduler.{parts, state, asks_of, Tries}
 use Rattle.sgt_sched.specs.Steps.{AreRivals}
@@ -25,13 +25,10 @@ returns-in_default-clause-done g c =
     let exact = subst (λ k. AreRivals (state c.args.self.now) c.args.t c.args.key k c.rivals-rivals.result) c.kind.ensures
     c.rivals-rivals.ensures.exact in
     record {
-      done = record {
-        does = rejected (asks_of c.args.self.now) c.args.t c.args.key c.args.operation (state c.args.self.now) _ _
-            (refuses c.args.t c.args.key kind closes.1.0 closes.0 (state c.args.self.now) _ _ closes.1.1
-            (blocks_from_walk c.args.self.now.kept c.args.t c.requires.live c.args.key kind c.rivals-rivals.result
-            exact closes.1.0 closes.1.2) closes.2);
-        short = subst HoldsLists (sym closes.2.reply) tt;
-      };
+      done = rejected (asks_of c.args.self.now) c.args.t c.args.key c.args.operation (state c.args.self.now) _ _
+          (refuses c.args.t c.args.key kind closes.1.0 closes.0 (state c.args.self.now) _ _ closes.1.1
+          (blocks_from_walk c.args.self.now.kept c.args.t c.requires.live c.args.key kind c.rivals-rivals.result
+          exact closes.1.0 closes.1.2) closes.2);
       refused = tt;
       kept = c.in_default.ensures.kept;
     }
@@ -63,11 +60,11 @@ make_access-requires-clause-planned g c κs lives = subst
 pub returns : goal.returns
 returns g c = record {
   done = subst
-      (λ s. Tries (InBrief (StepOn (asks_of s) c.args.t (next_of c.args.key c.args.operation)) c.plan_or_abort.new.out)
+      (λ s. Tries (WithLists (StepOn (asks_of s) c.args.t (next_of c.args.key c.args.operation)) c.plan_or_abort.new.lists)
       c.args.self.now c.make_access.result c.make_access.new.self) c.in-Some.ensures.free.0
-      (made_with (StepOn (asks_of c.plan_or_abort.new.self) c.args.t (next_of c.args.key c.args.operation)) c.plan_or_abort.new.out
+      (made_with (StepOn (asks_of c.plan_or_abort.new.self) c.args.t (next_of c.args.key c.args.operation)) c.plan_or_abort.new.lists
       c.make_access.result c.in-Some.ensures.free.0 c.make_access.ensures);
-  out = whatever c.make_access.result c.in-Some.ensures.free.1;
+  lists = whatever c.make_access.result c.in-Some.ensures.free.1;
   no_memory = λ b. absurd (free_seen c.args.self.now.kept c.args.t c.requires.live c.args.key (kind_of c.args.operation)
       c.rivals-rivals.result
       (subst (λ k. AreRivals (state c.args.self.now) c.args.t c.args.key k c.rivals-rivals.result) c.kind.ensures

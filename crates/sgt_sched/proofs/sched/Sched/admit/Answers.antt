@@ -36,51 +36,39 @@ module _ (limits : Limits) (begun living p : ℕ) (args : List ℤ) (programs re
         ∙ ap (λ b. cond (nat_eq begun limits.begins) reply.Spent (cond b reply.Full (reply.Started begun))) is_full ∙ told_named true fits
 
 pub returns-in-None : goal.returns-in-None
-returns-in-None g c = let looked = c.in-None.ensures.lookup in λ out. record {
-  does = record {
-    reply = told_unnamed c.args.self.now.limits _ _ c.args.procedure c.args.args.now c.args.self.now.procedures.items
-        c.deref.result.now c.from.result c.deref.ensures.value c.from.ensures looked.3;
-    does = refl;
-  };
-  short = tt;
+returns-in-None g c = let looked = c.in-None.ensures.lookup in λ lists. record {
+  reply = told_unnamed c.args.self.now.limits _ _ c.args.procedure c.args.args.now c.args.self.now.procedures.items
+      c.deref.result.now c.from.result c.deref.ensures.value c.from.ensures looked.3;
+  does = refl;
 }
 
 pub returns-then-not-args_fit : goal.returns-then-not-args_fit
-returns-then-not-args_fit g c = let looked = c.in-Some.ensures.lookup in λ out. record {
-  does = record {
-    reply = told_named c.args.self.now.limits _ _ c.args.procedure c.args.args.now c.args.self.now.procedures.items
-        c.deref.result.now c.from.result c.deref.ensures.value c.from.ensures
-        c.in-Some.checked.now c.args-count.result looked.1 looked.3.0 c.args-count.ensures.value
-        false (sym c.if-not-args_fit.true ∙ c.args_fit.ensures);
-    does = refl;
-  };
-  short = tt;
+returns-then-not-args_fit g c = let looked = c.in-Some.ensures.lookup in λ lists. record {
+  reply = told_named c.args.self.now.limits _ _ c.args.procedure c.args.args.now c.args.self.now.procedures.items
+      c.deref.result.now c.from.result c.deref.ensures.value c.from.ensures
+      c.in-Some.checked.now c.args-count.result looked.1 looked.3.0 c.args-count.ensures.value
+      false (sym c.if-not-args_fit.true ∙ c.args_fit.ensures);
+  does = refl;
 }
 
 pub returns-then-len-self : goal.returns-then-len-self
-returns-then-len-self g c = let looked = c.in-Some.ensures.lookup in λ out. record {
-  does = record {
-    reply = told_room c.args.self.now.limits _ _ c.args.procedure c.args.args.now c.args.self.now.procedures.items
-        c.deref.result.now c.from.result c.deref.ensures.value c.from.ensures
-        c.in-Some.checked.now c.args-count.result looked.1 looked.3.0 c.args-count.ensures.value
-        (sym c.if-not-args_fit.false ∙ c.args_fit.ensures) true _ (sym (eq-eqb _ _ (sym c.len.ensures ∙ c.if-len-self.true))) refl;
-    does = refl;
-  };
-  short = tt;
+returns-then-len-self g c = let looked = c.in-Some.ensures.lookup in λ lists. record {
+  reply = told_room c.args.self.now.limits _ _ c.args.procedure c.args.args.now c.args.self.now.procedures.items
+      c.deref.result.now c.from.result c.deref.ensures.value c.from.ensures
+      c.in-Some.checked.now c.args-count.result looked.1 looked.3.0 c.args-count.ensures.value
+      (sym c.if-not-args_fit.false ∙ c.args_fit.ensures) true _ (sym (eq-eqb _ _ (sym c.len.ensures ∙ c.if-len-self.true))) refl;
+  does = refl;
 }
 
 pub returns-then-len-self-2 : goal.returns-then-len-self-2
-returns-then-len-self-2 g c = let looked = c.in-Some.ensures.lookup in λ out. record {
-  does = record {
-    reply = told_room c.args.self.now.limits _ _ c.args.procedure c.args.args.now c.args.self.now.procedures.items
-        c.deref.result.now c.from.result c.deref.ensures.value c.from.ensures
-        c.in-Some.checked.now c.args-count.result looked.1 looked.3.0 c.args-count.ensures.value
-        (sym c.if-not-args_fit.false ∙ c.args_fit.ensures) false true
-        (sym (ne_eqb _ _ (λ e. c.if-len-self.false (c.len.ensures ∙ e))))
-        (sym (eq-eqb _ _ (length-map c.args.self.now.live _ ∙ (sym c.len-2.ensures ∙ c.if-len-self-2.true))));
-    does = refl;
-  };
-  short = tt;
+returns-then-len-self-2 g c = let looked = c.in-Some.ensures.lookup in λ lists. record {
+  reply = told_room c.args.self.now.limits _ _ c.args.procedure c.args.args.now c.args.self.now.procedures.items
+      c.deref.result.now c.from.result c.deref.ensures.value c.from.ensures
+      c.in-Some.checked.now c.args-count.result looked.1 looked.3.0 c.args-count.ensures.value
+      (sym c.if-not-args_fit.false ∙ c.args_fit.ensures) false true
+      (sym (ne_eqb _ _ (λ e. c.if-len-self.false (c.len.ensures ∙ e))))
+      (sym (eq-eqb _ _ (length-map c.args.self.now.live _ ∙ (sym c.len-2.ensures ∙ c.if-len-self-2.true))));
+  does = refl;
 }
 
 pub returns : goal.returns

@@ -1,13 +1,13 @@
 use Rattle.std.proofs.lemmas.Result.{IfOk-weaker}
-use Rattle.sgt_sched.specs.Briefs.{in_full}
-use Rattle.sgt_sched.proofs.Stepped.{called, in_brief}
+use Rattle.sgt_model.specs.ShortReplies.{reply_with}
+use Rattle.sgt_sched.proofs.Stepped.{called}
 use Rattle.sgt_sched.specs.Scheduler.{state, rules_of}
 use Rattle.sgt_sched.proofs.sched.Sched.answer.Goals as goal
 
 pub returns-in-Start-clause-done : goal.returns-in-Start-clause-done
 returns-in-Start-clause-done g c = record {
   done = IfOk-weaker c.answer_start.result _ _
-      (λ b done. in_brief (called (rules_of c.args.self.now) (state c.args.self.now) _
+      (λ b done. (called (rules_of c.args.self.now) (state c.args.self.now) _
       (state c.answer_start.new.self) c.args.event.now _ c.in-Start.is) (done _)) c.answer_start.ensures.done;
   refused = c.answer_start.ensures.refused;
   kept = c.answer_start.ensures.kept;
@@ -16,7 +16,7 @@ returns-in-Start-clause-done g c = record {
 pub returns-in-Step-clause-done : goal.returns-in-Step-clause-done
 returns-in-Step-clause-done g c = record {
   done = IfOk-weaker c.answer_step.result _ _
-      (λ b done. in_brief (called (rules_of c.args.self.now) (state c.args.self.now) (in_full b c.answer_step.new.out)
+      (λ b done. (called (rules_of c.args.self.now) (state c.args.self.now) (reply_with b c.answer_step.new.lists)
       (state c.answer_step.new.self) c.args.event.now _ c.in-Step.is) done) c.answer_step.ensures.done.done;
   refused = c.answer_step.ensures.done.refused;
   kept = c.answer_step.ensures.done.kept;
@@ -24,8 +24,7 @@ returns-in-Step-clause-done g c = record {
 
 pub returns-in-Commit-clause-done : goal.returns-in-Commit-clause-done
 returns-in-Commit-clause-done g c = record {
-  done = in_brief
-      (called (rules_of c.args.self.now) (state c.args.self.now) (in_full c.answer_commit.result c.answer_commit.new.out)
+  done = (called (rules_of c.args.self.now) (state c.args.self.now) (reply_with c.answer_commit.result c.answer_commit.new.lists)
       (state c.answer_commit.new.self) c.args.event.now _ c.in-Commit.is) c.answer_commit.ensures.turn;
   refused = tt;
   kept = c.answer_commit.ensures.kept;
@@ -33,8 +32,7 @@ returns-in-Commit-clause-done g c = record {
 
 pub returns-in-Quit-clause-done : goal.returns-in-Quit-clause-done
 returns-in-Quit-clause-done g c = record {
-  done = in_brief
-      (called (rules_of c.args.self.now) (state c.args.self.now) (in_full c.answer_quit.result c.answer_quit.new.out)
+  done = (called (rules_of c.args.self.now) (state c.args.self.now) (reply_with c.answer_quit.result c.answer_quit.new.lists)
       (state c.answer_quit.new.self) c.args.event.now _ c.in-Quit.is) c.answer_quit.ensures.turn;
   refused = tt;
   kept = c.answer_quit.ensures.kept;

@@ -51,7 +51,7 @@ returns g c =
     ∷ []) c.begin-cursor.ensures) (c.start-2.ensures ∙ ap (λ l. l ++ None ∷ []) c.reserve.ensures.same) named admitted.live
     admitted.begins in
     record {
-      done = λ _. record { does = record { reply = c.in-Ok.ensures.0; does = done.1 }; short = tt };
+      done = λ _. record { reply = c.in-Ok.ensures.0; does = done.1 };
       refused = tt;
       kept = (refl, refl);
     }

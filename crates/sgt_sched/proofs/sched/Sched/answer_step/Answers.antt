@@ -3,9 +3,11 @@ use Rattle.std.proofs.lemmas.Int.{to_z-of_z}
 use Rattle.std.proofs.lemmas.Result.{IfOk-weaker}
 use Rattle.sgt_model.specs.declared.reply.Reply.TheVariants as reply
 use Rattle.sgt_model.specs.Traces.{Puts, Ends, Raises}
-use Rattle.sgt_sched.specs.Briefs.{in_full}
-use Rattle.sgt_proc.specs.Nexts.{seen}
-use Rattle.sgt_sched.proofs.Stepped.{steps_on, in_brief, not_live}
+use Rattle.sgt_model.specs.ShortReplies.{reply_with}
+use Rattle.sgt_model.specs.Left.{next_left}
+use Rattle.sgt_proc.specs.Nexts.{answers_at}
+use Rattle.sgt_sched.specs.Operations.{next_by}
+use Rattle.sgt_sched.proofs.Stepped.{steps_on, not_live}
 use Rattle.sgt_sched.specs.Endings.{StepEnds}
 use Rattle.sgt_sched.specs.Scheduler.{state}
 use Rattle.sgt_sched.proofs.sched.Sched.answer_step.Goals as goal
@@ -13,9 +15,10 @@ use Rattle.sgt_sched.proofs.sched.Sched.answer_step.Goals as goal
 pub returns-in-Look-clause-done : goal.returns-in-Look-clause-done
 returns-in-Look-clause-done g c = record {
   done = IfOk-weaker c.access.result _ _
-      (λ b done. in_brief (steps_on c.args.self.now.limits.asks c.args.t _ (in_full b c.access.new.out) _ _
+      (λ b done. (steps_on c.args.self.now.limits.asks c.args.t _ (reply_with b c.access.new.lists) _ _
       (c.in-Some.ensures.unended.0 refl).begun
-      (c.in-Some.ensures.unended.0 refl).unended (ap seen (sym c.in-Look.is) ∙ c.next_at-next.ensures.next)) done)
+      (c.in-Some.ensures.unended.0 refl).unended (ap (next_by (state c.args.self.now) c.args.t) (sym c.in-Look.is)
+      ∙ c.ahead_at.ensures.next)) done)
       c.access.ensures.done.done;
   refused = c.access.ensures.done.refused;
   kept = c.access.ensures.done.kept;
@@ -24,10 +27,11 @@ returns-in-Look-clause-done g c = record {
 pub returns-in-Put-clause-done : goal.returns-in-Put-clause-done
 returns-in-Put-clause-done g c =
     let fits : SFits w64 c.in-Put.value = search rules in
-    let next = ap (Puts c.in-Put.key) (to_z-of_z w64 c.in-Put.value fits) ∙ (ap seen (sym c.in-Put.is) ∙ c.next_at-next.ensures.next) in
+    let next = ap (Puts c.in-Put.key) (to_z-of_z w64 c.in-Put.value fits) ∙ (ap (next_by (state c.args.self.now) c.args.t)
+    (sym c.in-Put.is) ∙ c.ahead_at.ensures.next) in
     record {
-      done = IfOk-weaker c.access-in-Put.result _ _ (λ b done. in_brief
-          (steps_on c.args.self.now.limits.asks c.args.t (state c.args.self.now) (in_full b c.access-in-Put.new.out) _
+      done = IfOk-weaker c.access-in-Put.result _ _ (λ b done.
+          (steps_on c.args.self.now.limits.asks c.args.t (state c.args.self.now) (reply_with b c.access-in-Put.new.lists) _
           (Puts c.in-Put.key (to_z w64 (of_z w64 c.in-Put.value)))
           (c.in-Some.ensures.unended.0 refl).begun (c.in-Some.ensures.unended.0 refl).unended next) done)
           c.access-in-Put.ensures.done.done;
@@ -37,50 +41,43 @@ returns-in-Put-clause-done g c =
 
 pub returns-in-Ends-clause-done : goal.returns-in-Ends-clause-done
 returns-in-Ends-clause-done g c = record {
-  done = record {
-    does = steps_on c.args.self.now.limits.asks c.args.t (state c.args.self.now) reply.Ended (state c.args.self.now)
-        (Ends c.in-Ends.field-0)
-        (c.in-Some.ensures.unended.0 refl).begun (c.in-Some.ensures.unended.0 refl).unended
-        (ap seen (sym c.in-Ends.is) ∙ c.next_at-next.ensures.next) (record { reply = refl; same = refl });
-    short = tt;
-  };
+  done = steps_on c.args.self.now.limits.asks c.args.t (state c.args.self.now) reply.Ended (state c.args.self.now)
+      (Ends (answers_at (next_left ((state c.args.self.now).left c.args.t))))
+      (c.in-Some.ensures.unended.0 refl).begun (c.in-Some.ensures.unended.0 refl).unended
+      (ap (next_by (state c.args.self.now) c.args.t) (sym c.in-Ends.is) ∙ c.ahead_at.ensures.next) (record { reply = refl; same = refl });
   refused = tt;
   kept = (refl, refl);
 }
 
 pub returns-in-Asks-clause-done : goal.returns-in-Asks-clause-done
 returns-in-Asks-clause-done g c = record {
-  done = in_brief
-      (steps_on c.args.self.now.limits.asks c.args.t (state c.args.self.now) (in_full c.step_asked.result c.step_asked.new.out) _
+  done = (steps_on c.args.self.now.limits.asks c.args.t (state c.args.self.now) (reply_with c.step_asked.result c.step_asked.new.lists) _
       (Raises c.in-Asks.code)
       (c.in-Some.ensures.unended.0 refl).begun (c.in-Some.ensures.unended.0 refl).unended
-      (ap seen (sym c.in-Asks.is) ∙ c.next_at-next.ensures.next)) c.step_asked.ensures.turn;
+      (ap (next_by (state c.args.self.now) c.args.t) (sym c.in-Asks.is) ∙ c.ahead_at.ensures.next)) c.step_asked.ensures.turn;
   refused = tt;
   kept = c.step_asked.ensures.kept;
 }
 
-pub returns-in-Look-clause-out : goal.returns-in-Look-clause-out
-returns-in-Look-clause-out g c = c.access.ensures.out
+pub returns-in-Look-clause-lists : goal.returns-in-Look-clause-lists
+returns-in-Look-clause-lists g c = c.access.ensures.lists
 
 pub returns-in-Look-clause-no_memory : goal.returns-in-Look-clause-no_memory
 returns-in-Look-clause-no_memory g c e = c.access.ensures.no_memory
     (subst (λ n. StepEnds c.args.self.now.limits.asks c.args.t n (state c.args.self.now))
-    (sym (ap seen (sym c.in-Look.is) ∙ c.next_at-next.ensures.next)) e.1)
+    (sym (ap (next_by (state c.args.self.now) c.args.t) (sym c.in-Look.is) ∙ c.ahead_at.ensures.next)) e.1)
 
-pub returns-in-Put-clause-out : goal.returns-in-Put-clause-out
-returns-in-Put-clause-out g c = c.access-in-Put.ensures.out
+pub returns-in-Put-clause-lists : goal.returns-in-Put-clause-lists
+returns-in-Put-clause-lists g c = c.access-in-Put.ensures.lists
 
 pub returns-in-Put-clause-no_memory : goal.returns-in-Put-clause-no_memory
 returns-in-Put-clause-no_memory g c e = c.access-in-Put.ensures.no_memory
     (subst (λ n. StepEnds c.args.self.now.limits.asks c.args.t n (state c.args.self.now))
-    (sym (ap seen (sym c.in-Put.is) ∙ c.next_at-next.ensures.next)) e.1)
+    (sym (ap (next_by (state c.args.self.now) c.args.t) (sym c.in-Put.is) ∙ c.ahead_at.ensures.next)) e.1)
 
 pub returns-in_default-clause-done : goal.returns-in_default-clause-done
 returns-in_default-clause-done g c = record {
-  done = record {
-    does = not_live _ _ _ _ _ c.answer_not_live.ensures.not_live;
-    short = c.answer_not_live.ensures.short;
-  };
+  done = not_live _ _ _ _ _ c.answer_not_live.ensures;
   refused = tt;
   kept = (refl, refl);
 }

@@ -5,8 +5,8 @@ use Rattle.sgt_sched.proofs.sched.Sched.commit.Goals as goal
 
 pub returns : goal.returns
 returns g c =
-    let done = c.answer_commit-brief in record {
+    let done = c.answer_commit-reply in record {
       turn = subst (λ r. CommitEffect (asks_of c.args.self.now) c.args.t (state c.args.self.now) r (state done.new.self))
-          (sym c.reply.ensures) done.ensures.turn.does;
+          (sym c.with_lists.ensures) done.ensures.turn;
       kept = done.ensures.kept;
     }

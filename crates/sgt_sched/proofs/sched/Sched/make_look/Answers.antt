@@ -26,18 +26,15 @@ invariant_of-self-2 g c = record {
 
 pub returns : goal.returns
 returns g c = record {
-  done = λ out. record {
-    does = makes_look refl c.args.self.now.kept c.args.t c.requires.live c.args.key c.args.writers.now c.requires.free
-        c.requires.writers
-        c.note.new.self c.follow.new.graph c.look.new.self c.note_read.new.read_from.items c.value-value.result
-        (c.note.ensures.noted ∙ ap (λ l. l ++ record { by = c.args.t; key = c.args.key; kind = Look } ∷ []) c.reserve.ensures.same)
-        c.follow.ensures.nodes
-        c.follow.ensures.pairs
-        (c.value-value.ensures ∙ ap value_of_top c.top-top.ensures.top) c.look.ensures
-        (c.note_read.ensures ∙ ap (with_source c.top-top.result c.args.t) c.reserve-2.ensures.items
-        ∙ ap (λ top. with_source top c.args.t c.args.self.now.read_from.items) c.top-top.ensures.top);
-    short = tt;
-  };
+  done = λ lists. makes_look refl c.args.self.now.kept c.args.t c.requires.live c.args.key c.args.writers.now c.requires.free
+      c.requires.writers
+      c.note.new.self c.follow.new.graph c.look.new.self c.note_read.new.read_from.items c.value-value.result
+      (c.note.ensures.noted ∙ ap (λ l. l ++ record { by = c.args.t; key = c.args.key; kind = Look } ∷ []) c.reserve.ensures.same)
+      c.follow.ensures.nodes
+      c.follow.ensures.pairs
+      (c.value-value.ensures ∙ ap value_of_top c.top-top.ensures.top) c.look.ensures
+      (c.note_read.ensures ∙ ap (with_source c.top-top.result c.args.t) c.reserve-2.ensures.items
+      ∙ ap (λ top. with_source top c.args.t c.args.self.now.read_from.items) c.top-top.ensures.top);
   refused = tt;
   kept = (refl, refl);
 }

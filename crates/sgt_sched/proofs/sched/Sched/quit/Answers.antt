@@ -5,8 +5,8 @@ use Rattle.sgt_sched.proofs.sched.Sched.quit.Goals as goal
 
 pub returns : goal.returns
 returns g c =
-    let done = c.answer_quit-brief in record {
+    let done = c.answer_quit-reply in record {
       turn = subst (λ r. QuitEffect c.args.t (state c.args.self.now) r (state done.new.self))
-          (sym c.reply.ensures) done.ensures.turn.does;
+          (sym c.with_lists.ensures) done.ensures.turn;
       kept = done.ensures.kept;
     }

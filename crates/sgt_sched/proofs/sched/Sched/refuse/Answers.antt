@@ -5,13 +5,10 @@ use Rattle.sgt_sched.proofs.sched.Sched.refuse.Goals as goal
 pub returns : goal.returns
 returns g c = record {
   turn = record {
-    does = record {
-      first = λ u h. true≢false (sym h ∙ c.requires.first u);
-      fell = c.undo-fell.result;
-      undo = c.undo-fell.ensures.undone;
-      reply = refl;
-    };
-    short = tt;
+    first = λ u h. true≢false (sym h ∙ c.requires.first u);
+    fell = c.undo-lists.result;
+    undo = c.undo-lists.ensures.undone;
+    reply = refl;
   };
-  kept = c.undo-fell.ensures.kept;
+  kept = c.undo-lists.ensures.kept;
 }

@@ -10,21 +10,21 @@ index-requires c =
     let is = ap (λ r. length r.receipts) c.self.view_is in
     omega (arith, long, is, c.len.ensures, c.if-place-len.true, c.self.inside.numbers.ok.0)
 
-pub entry-requires : goal.entry-requires
-entry-requires c =
+pub is_same_at-requires-clause-here : goal.is_same_at-requires-clause-here
+is_same_at-requires-clause-here c =
     let long = receipts-length c.self.inside.numbers.items c.self.inside.calls.entries c.self.invariant in
     let is = ap (λ r. length r.receipts) c.self.view_is in
     omega (arith, long, is, c.len.ensures, c.if-place-len.true, c.self.invariant)
 
 pub returns-then-index-number-clause-receipt : goal.returns-then-index-number-clause-receipt
-returns-then-index-number-clause-receipt c t =
+returns-then-index-number-clause-receipt c t e there =
     let long = receipts-length c.self.inside.numbers.items c.self.inside.calls.entries c.self.invariant in
     let is = ap (λ r. length r.receipts) c.self.view_is in
     let number : slice_get c.self.inside.numbers.items c.args.place ≡ Some c.index.result.now =
     slice_get-get_or c.self.inside.numbers.items c.args.place c.index.result.now
     (omega (arith, long, is, c.len.ensures, c.if-place-len.true)) ∙ ap Some (sym c.index.ensures) in
-    let same : receipt_of c.index.result.now c.entry.result ≡ receipt_of c.args.number c.args.entry.now = search rules in
+    let same : c.index.result.now ≡ c.args.number = search rules in
     sym (ap (λ r. slice_get r.receipts c.args.place) c.self.view_is)
-    ∙ receipts-at c.self.inside.numbers.items c.self.inside.calls.entries c.args.place c.index.result.now c.entry.result number
-    c.entry.ensures.entry
-    ∙ ap Some same
+    ∙ receipts-at c.self.inside.numbers.items c.self.inside.calls.entries c.args.place c.index.result.now e number
+    (c.is_same_at.ensures.0 t ∙ there)
+    ∙ ap (λ n. Some (receipt_of n e)) same

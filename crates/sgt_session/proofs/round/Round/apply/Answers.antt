@@ -5,12 +5,12 @@ use Rattle.sgt_session.proofs.round.Round.apply.Goals as goal
 pub returns-clause-filed : goal.returns-clause-filed
 returns-clause-filed g c =
     let added = c.in_ok-answer.ensures.adds in (
-      receipt_of _ (record { event = c.args.event; reply = added.0 }),
+      receipt_of _ (record { event = c.args.event.now; reply = added.reply }),
       refl,
       refl,
-      search (rules, added.1),
-      search (rules, added.2),
-      c.file_newest.ensures.filed _ _ (search (rules, added.1)),
+      search (rules, added.adds),
+      search (rules, added.legal),
+      c.file_newest.ensures.filed _ _ (search (rules, added.adds)),
     )
 
 pub returns-clause-counted : goal.returns-clause-counted

@@ -1,0 +1,112 @@
+//! An event in few bytes, as the history stores it.
+ghost use Rattle.std.specs.Prelude.{◌≡◌, ◌+◌, ◌≤◌, ◌↔◌, IsTrue, length, vec_len, vec_capacity};
+ghost use Rattle.sgt_log.specs.Spans.{part_of, HasMore};
+ghost use Rattle.sgt_log.specs.StoredEntries.{bare_of, args_at, event_of, IsEvent, HasNoArgs};
+ghost use Rattle.sgt_log.specs.EntryParts.{full_event};
+
+use crate::bare::BareEvent;
+use crate::span::Span;
+use sgt_model::{Event, Tid};
+
+/// An event. Its arguments are in the list of values: as many as `count`, from the index `from`.
+#[derive(Clone, Copy, PartialEq, Eq)]
+pub enum StoredEvent {
+    Start {
+        procedure: u16,
+        count: u8,
+        from: usize,
+    },
+    Step(Tid),
+    Commit(Tid),
+    Quit(Tid),
+}
+
+// It takes as few bytes as a start's fields.
+const _: () = prove!(size_of::<StoredEvent>() == 16);
+
+impl StoredEvent {
+    /// The stored form of an event with these arguments. They are appended to the list of values, which has capacity for them.
+    pub fn of(event: BareEvent, args: &[i64], values: &mut Vec<i64>) -> Self
+        requires few { length args.now ≤ 4 }
+        requires room { vec_len values.old + 4 ≤ vec_capacity values.old }
+        ensures event { event_of values.new.items result ≡ full_event event args.now }
+        ensures within { IsEvent (length values.new.items) result }
+        ensures more { HasMore values.old.items values.new.items }
+        ensures len { vec_len values.new ≤ vec_len values.old + 4 }
+        ensures capacity { vec_capacity values.new ≡ vec_capacity values.old }
+    {
+        match event {
+            BareEvent::Start(procedure) => {
+                let Span { from, count } = Span::append(values, args);
+                StoredEvent::Start {
+                    procedure,
+                    count,
+                    from,
+                }
+            }
+            BareEvent::Step(t) => StoredEvent::Step(t),
+            BareEvent::Commit(t) => StoredEvent::Commit(t),
+            BareEvent::Quit(t) => StoredEvent::Quit(t),
+        }
+    }
+
+    /// Whether it is of a kind that has no arguments.
+    #[inline]
+    pub fn is_plain(&self) -> bool
+        ensures { IsTrue result → HasNoArgs self.now }
+    {
+        !matches!(self, StoredEvent::Start { .. })
+    }
+
+    /// Whether both are the same in all that is stored. If they are of one history, they are the same event.
+    #[inline(always)]
+    pub fn is_same(&self, other: &Self) -> bool
+        ensures { IsTrue result ↔ (self.now ≡ other.now) }
+    {
+        self == other
+    }
+
+    /// The event without its arguments.
+    pub fn bare(&self) -> BareEvent
+        ensures { result ≡ bare_of self.now }
+    {
+        match self {
+            StoredEvent::Start { procedure, .. } => BareEvent::Start(*procedure),
+            StoredEvent::Step(t) => BareEvent::Step(*t),
+            StoredEvent::Commit(t) => BareEvent::Commit(*t),
+            StoredEvent::Quit(t) => BareEvent::Quit(*t),
+        }
+    }
+
+    /// Its arguments. An event of another kind has none.
+    pub fn args<'a>(&self, values: &'a [i64]) -> &'a [i64]
+        requires { IsEvent (length values.now) self.now }
+        ensures args { result.now ≡ part_of values.now (args_at self.now) }
+        ensures few { length result.now ≤ 4 }
+    {
+        match self {
+            StoredEvent::Start { count, from, .. } => Span::new(*from, *count).items(values),
+            _ => &[],
+        }
+    }
+
+    /// The event in full.
+    pub fn in_full(&self, values: &[i64]) -> Event
+        requires { IsEvent (length values.now) self.now }
+        ensures { result ≡ event_of values.now self.now }
+    {
+        match self {
+            StoredEvent::Start {
+                procedure,
+                count,
+                from,
+            } => Event::Start {
+                procedure: *procedure,
+                args: Span::new(*from, *count).values(values),
+            },
+            StoredEvent::Step(t) => Event::Step(*t),
+            StoredEvent::Commit(t) => Event::Commit(*t),
+            StoredEvent::Quit(t) => Event::Quit(*t),
+        }
+    }
+}
