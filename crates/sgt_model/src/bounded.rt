@@ -2,23 +2,24 @@
 ghost use Rattle.std.specs.Prelude.{◌≡◌, ◌<◌, ◌≤◌, ◌↔◌, [], ◌∷◌, ◌++◌, length, IsSome, IfSome, IsTrue};
 ghost use Rattle.std.specs.Cmp.Lexicographic.{pointwise, lists_per, lists_equiv};
 
-use arrayvec::ArrayVec;
+use std::fmt;
 use std::marker::Model;
 
-/// A list of at most N items, stored inline: it never allocates. `copied` copies it item by item.
-#[derive(Debug, Drop)]
+/// A list of at most N items, stored inline: it never allocates. `copied` copies it as one block of memory.
+#[derive(Drop)]
 pub struct Bounded<T: Copy + Default, const N: usize> {
-    list: ArrayVec<T, N>,
+    items: [T; N],
+    count: usize,
 }
 
 impl<T: Copy + Default, const N: usize> Model for Bounded<T, N> {
-    ghost use Rattle.std.specs.Prelude.{List};
+    ghost use Rattle.std.specs.Prelude.{◌≡◌, ◌≤◌, List, length, take};
 
     ghost Value = { List T };
 
-    ghost view = { λ b. b.list.items };
+    ghost view = { λ b. take b.count b.items };
 
-    ghost inverse = { λ v. record { list = record { items = v } } };
+    ghost invariant = { λ b. (b.count ≤ N) × (length b.items ≡ N) };
 }
 
 impl<T: Copy + Default, const N: usize> Bounded<T, N> {
@@ -27,7 +28,8 @@ impl<T: Copy + Default, const N: usize> Bounded<T, N> {
         ensures { result ≡ [] }
     {
         Bounded {
-            list: ArrayVec::new(),
+            items: [T::default(); N],
+            count: 0,
         }
     }
 
@@ -36,14 +38,14 @@ impl<T: Copy + Default, const N: usize> Bounded<T, N> {
         ensures count { result ≡ length self.now }
         ensures few { length self.now ≤ N }
     {
-        self.list.len()
+        self.count
     }
 
     /// Whether there are no items.
     pub fn is_empty(&self) -> bool
         ensures { IsTrue result ↔ (self.now ≡ []) }
     {
-        self.list.is_empty()
+        self.count == 0
     }
 
     /// Whether no further item fits.
@@ -51,7 +53,7 @@ impl<T: Copy + Default, const N: usize> Bounded<T, N> {
         ensures full { IsTrue result ↔ (length self.now ≡ N) }
         ensures few { length self.now ≤ N }
     {
-        self.list.is_full()
+        self.count == N
     }
 
     /// Adds an item at the end.
@@ -59,14 +61,22 @@ impl<T: Copy + Default, const N: usize> Bounded<T, N> {
         requires { length self.old < N }
         ensures { self.new ≡ self.old ++ item ∷ [] }
     {
-        self.list.push(item);
+        self.items[self.count] = item;
+        self.count += 1;
+    }
+
+    /// Removes all items.
+    pub fn clear(&mut self)
+        ensures { self.new ≡ [] }
+    {
+        self.count = 0;
     }
 
     /// The items, in order.
     pub fn as_slice(&self) -> &[T]
         ensures { result.now ≡ self.now }
     {
-        self.list.as_slice()
+        &self.items[..self.count]
     }
 
     /// A list of these items, or `None` if there are more than N.
@@ -74,19 +84,24 @@ impl<T: Copy + Default, const N: usize> Bounded<T, N> {
         ensures some { IsSome result ↔ (length items.now ≤ N) }
         ensures items { IfSome result (λ list. list ≡ items.now) }
     {
-        match ArrayVec::try_from(items) {
-            Ok(list) => Some(Bounded { list }),
-            Err(_) => None,
+        if items.len() > N {
+            return None;
         }
+        let mut list = [T::default(); N];
+        list[..items.len()].copy_from_slice(items);
+        Some(Bounded {
+            items: list,
+            count: items.len(),
+        })
     }
 
     /// A copy. It allocates nothing.
     pub fn copied(&self) -> Self
         ensures { result ≡ self.now }
     {
-        match ArrayVec::try_from(self.list.as_slice()) {
-            Ok(list) => Bounded { list },
-            Err(_) => unreachable!(),
+        Bounded {
+            items: self.items,
+            count: self.count,
         }
     }
 }
@@ -103,4 +118,10 @@ impl<T: Copy + Default + PartialEq, const N: usize> PartialEq for Bounded<T, N> 
 
 impl<T: Copy + Default + Eq, const N: usize> Eq for Bounded<T, N> {
     ghost laws = { lists_equiv T.Eq.laws };
+}
+
+impl<T: Copy + Default + fmt::Debug, const N: usize> fmt::Debug for Bounded<T, N> {
+    fn fmt<W: fmt::Write>(&self, f: &mut fmt::Formatter<W>) -> fmt::Result {
+        f.debug_list().entries(self.as_slice()).finish()
+    }
 }

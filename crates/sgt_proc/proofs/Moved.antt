@@ -3,7 +3,8 @@ use Rattle.std.proofs.Common.{◌≡◌, refl, ap, ◌∙◌, ℕ, ◌+◌, ℤ,
 use Rattle.sgt_model.specs.Contents.{Key}
 use Rattle.sgt_model.specs.Syntax.{Block, ProcedureText}
 use Rattle.sgt_model.specs.Meaning.{fresh}
-use Rattle.sgt_model.specs.Left.{ToRun, left_at_start, reached, behind_look, behind_store, after_look, after_store}
+use Rattle.sgt_model.specs.Traces.{Ends}
+use Rattle.sgt_model.specs.Left.{ToRun, left_at_start, reached, next_of_reached, behind_look, behind_store, after_look, after_store}
 use Rattle.sgt_proc.specs.declared.place.Place.{Place}
 use Rattle.sgt_proc.specs.declared.place.Stop.{Stop}
 use Rattle.sgt_proc.specs.declared.place.Stop.TheVariants as stop
@@ -18,6 +19,18 @@ left_to_run b m (stop.Put key v) h = refl
 left_to_run b m stop.End h = refl
 left_to_run b m (stop.Asks code) h = refl
 left_to_run b m (stop.Absent code) h = absurd h
+
+-- at the end
+pub given_at_end : (b : Block) (behind now : Place) (s : Stop) (answers : List ℤ) → reached_at b now s ≡ reached (left_behind b behind s)
+    → next_of_reached (reached (left_behind b behind s)) ≡ Ends answers → now.answers ≡ answers
+given_at_end b behind now s answers same e = given s (ap next_of_reached same ∙ e) where
+  given : (s : Stop) → next_of_reached (reached_at b now s) ≡ Ends answers → now.answers ≡ answers
+  given (stop.Look key to absent) e = cc
+  given (stop.Find key to absent) e = cc
+  given (stop.Put key v) e = cc
+  given stop.End e = cc
+  given (stop.Asks code) e = cc
+  given (stop.Absent code) e = cc
 
 -- at the start
 pub begun : (p : ProcedureText) (args : List ℤ) (m : Place) (s : Stop) → HasFound s → m.args ≡ args → m.registers ≡ fresh → m.answers ≡ []

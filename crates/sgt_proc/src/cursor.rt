@@ -1,10 +1,11 @@
 //! A run of a procedure, from one access to the next.
-ghost use Rattle.std.specs.Prelude.{◌≡◌};
+ghost use Rattle.std.specs.Prelude.{◌≡◌, ℤ, List};
 ghost use Rattle.sgt_model.specs.Left.{next_left, left_at_start, after_look, after_store};
-ghost use Rattle.sgt_proc.specs.Nexts.{seen, StoresValue};
+ghost use Rattle.sgt_model.specs.Traces.{Ends};
+ghost use Rattle.sgt_proc.specs.Nexts.{seen, StoresValue, answers_at, seen_with, PutsValue};
 
 use crate::checked::Checked;
-use crate::next::Next;
+use crate::next::{Ahead, Next};
 use crate::place::{Place, Stop};
 use crate::value::found_or;
 use arrayvec::ArrayVec;
@@ -53,6 +54,28 @@ impl Cursor {
             Stop::End => Next::Ends(self.place.answers.copied()),
             Stop::Asks(code) | Stop::Absent(code) => Next::Asks(code),
         }
+    }
+
+    /// The next step without the answers, which is a few bytes.
+    #[inline(always)]
+    pub fn ahead(&self) -> Ahead
+        ensures next { seen_with (answers_at (next_left self.now.1)) result ≡ next_left self.now.1 }
+        ensures in_range { PutsValue result }
+    {
+        match self.stop {
+            Stop::Look { key, .. } | Stop::Find { key, .. } => Ahead::Look(key),
+            Stop::Put(key, value) => Ahead::Put(key, value),
+            Stop::End => Ahead::Ends,
+            Stop::Asks(code) | Stop::Absent(code) => Ahead::Asks(code),
+        }
+    }
+
+    /// The answers of a procedure that is at its end.
+    #[inline(always)]
+    pub fn answers(&self) -> &Answers
+        ensures { (answers : List ℤ) → next_left self.now.1 ≡ Ends answers → result.now ≡ answers }
+    {
+        &self.place.answers
     }
 
     /// Continues after the read that is next, which returned this value. If the next step is no read, it does

@@ -33,6 +33,6 @@ pub use cursor::Cursor;
 pub use depths::DEEPEST;
 pub use flaw::{Flaw, Flawed, MOST_ARGUMENTS};
 pub use laws::flawless_is_sound;
-pub use next::Next;
+pub use next::{Ahead, Next};
 pub use numbers::{LAST_CODE, LAST_REGISTER};
 pub use sizes::MOST_STATEMENTS;

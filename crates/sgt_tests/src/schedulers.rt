@@ -151,7 +151,7 @@ seen -> [Tid(0), Tid(2)] 2 [false, false] [None, None, None, None, Some(1)] Some
 ["step",0] -> Looked { key: Key { table: 0, id: 7 }, value: Some(1) }
 ["step",0] -> Wrote { key: Key { table: 0, id: 7 }, value: 5 }
 ["step",0] -> Ended
-["commit",0] -> Committed(Bounded { list: [1] })
+["commit",0] -> Committed([1])
 ["step",0] -> Over(Committed)
 "#,
     ),
@@ -187,9 +187,9 @@ seen -> [Tid(0), Tid(2)] 2 [false, false] [None, None, None, None, Some(1)] Some
 ["step",1] -> Looked { key: Key { table: 0, id: 7 }, value: Some(5) }
 ["step",1] -> Wrote { key: Key { table: 0, id: 7 }, value: 5 }
 ["commit",1] -> Waits(Tid(0))
-["commit",0] -> Committed(Bounded { list: [1] })
+["commit",0] -> Committed([1])
 ["commit",0] -> Over(Committed)
-["commit",1] -> Committed(Bounded { list: [5] })
+["commit",1] -> Committed([5])
 seen -> [] 0 [false, false] [None, None, None, None, Some(5)] Some([]) None
 "#,
     ),
@@ -215,7 +215,7 @@ seen -> [] 0 [false, false] [None, None, None, None, Some(5)] Some([]) None
 short ["step",0] -> Looked { key: Key { table: 0, id: 7 }, value: Some(1) }, Full
 short ["step",0] -> Wrote { key: Key { table: 0, id: 7 }, value: 5 }, Full
 seen -> [Tid(0)] 1 [true, false] [None, None, None, None, Some(1)] Some([Tid(0)]) None
-short ["commit",0] -> Placed, Committed(Bounded { list: [1] })
+short ["commit",0] -> Placed, Committed([1])
 short ["quit",0] -> Placed, Over(Committed)
 seen -> [] 0 [false, false] [None, None, None, None, Some(5)] Some([]) None
 "#,
@@ -246,7 +246,7 @@ seen -> [Tid(0), Tid(1)] 2 [false, false] [None, None, None, None, Some(1)] Some
 ["step",2] -> Wrote { key: Key { table: 0, id: 3 }, value: 5 }
 seen -> [Tid(0), Tid(1), Tid(2)] 3 [true, false] [Some(1), None, None, None, None] Some([]) None
 ["commit",2] -> Waits(Tid(1))
-["commit",0] -> Committed(Bounded { list: [] })
+["commit",0] -> Committed([])
 ["commit",2] -> Waits(Tid(1))
 seen -> [Tid(1), Tid(2)] 2 [false, false] [Some(1), Some(5), None, None, None] Some([]) None
 "#,
