@@ -173,3 +173,9 @@ fallen_exact read_from live t standing fell is closed members u = (
         go : (b : Bool) → nat_eq t u ≡ b → not b ≡ true
         go true e = absurd (other (sym (eqb-true t u e)))
         go false e = refl
+
+-- where none has read from t, none is reached but t
+pub none_reached : (read_from : List (ℕ × ℕ)) (t : ℕ) → ((v : ℕ) → has_read read_from t v ≡ false) → (u : ℕ) → u ≢ t
+    → Reaches (Has read_from) t u → ⊥
+none_reached read_from t none u other ([], path, ends) = other (sym ends)
+none_reached read_from t none u other (b ∷ rest, path, ends) = true≢false (sym (has_found read_from t b path.0) ∙ none b)

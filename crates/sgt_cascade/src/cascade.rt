@@ -3,14 +3,15 @@ ghost use Rattle.std.specs.Prelude.{◌≡◌, ◌≢◌, ◌↔◌, ℕ};
 ghost use Rattle.sgt_model.specs.State.{Has};
 ghost use Rattle.sgt_model.specs.Walks.{Member, Reaches, Rising};
 
-use crate::standing::{fallen, next_fall, without};
+use crate::standing::{fallen, has_reader, next_fall, without};
 use sgt_model::{Tid, Tids};
 
 /// Those aborted in cascade with t: the live ones other than t that have read from it, directly or through others.
 /// The result rises, whatever the order of the live ones.
 ///
-/// Each pair in `read_from` is of two live ones: the source, and its reader. The call allocates nothing. It goes through
-/// the pairs once more than transactions are aborted in cascade, and for each pair through the live ones.
+/// Each pair in `read_from` is of two live ones: the source, and its reader. The call allocates nothing. If none has read from
+/// t, it goes once through the pairs. Else it goes through them once more than transactions are aborted in cascade, and for each
+/// pair through the live ones.
 ///
 /// Bernstein, Hadzilacos and Goodman (1987), chapter 1: cascading abort.
 pub fn fallers(read_from: &[(Tid, Tid)], live: &Tids, t: Tid) -> Tids
@@ -21,6 +22,9 @@ pub fn fallers(read_from: &[(Tid, Tid)], live: &Tids, t: Tid) -> Tids
         ↔ (Member u live.now × (u ≢ t) × Reaches (Has read_from.now) t u) }
     ensures rising { Rising result }
 {
+    if !has_reader(read_from, t) {
+        return Tids::new();
+    }
     let others = without(live, t);
     let mut standing = others.copied();
     while let Some(pair) = next_fall(read_from, standing.as_slice()) {

@@ -6,6 +6,18 @@ ghost use Rattle.sgt_cascade.specs.Standing.{stands, has_read, with_member};
 
 use sgt_model::{Tid, Tids};
 
+/// Whether a transaction has read from t.
+pub fn has_reader(read_from: &[(Tid, Tid)], t: Tid) -> bool
+    ensures { result ≡ false → (v : ℕ) → has_read read_from.now t v ≡ false }
+{
+    for pair in read_from {
+        if pair.0 == t {
+            return true;
+        }
+    }
+    false
+}
+
 /// The list without t.
 pub fn without(list: &Tids, t: Tid) -> Tids
     ensures { result ≡ filter (λ u. not (nat_eq t u)) list.now }
@@ -29,7 +41,7 @@ pub fn next_fall(read_from: &[(Tid, Tid)], standing: &[Tid]) -> Option<(Tid, Tid
         → stands standing.now v ≡ true → stands standing.now u ≡ true }
 {
     for pair in read_from {
-        if standing.contains(&pair.1) && !standing.contains(&pair.0) {
+        if !standing.contains(&pair.0) && standing.contains(&pair.1) {
             return Some(*pair);
         }
     }

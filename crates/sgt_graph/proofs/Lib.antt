@@ -2,6 +2,7 @@ pub mod Lists
 pub mod Room
 pub mod Kept
 pub mod Insertion
+pub mod AtIndices
 pub mod Least
 pub mod RowSteps
 pub mod Placed

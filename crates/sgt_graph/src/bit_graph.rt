@@ -4,6 +4,7 @@ ghost use Rattle.sgt_cycle.specs.Indices.{is_set, is_bit};
 ghost use Rattle.sgt_graph.specs.BitGraphs.{is_placed, is_pair, IsIndexVerdict, IsBitGraph, IsLinkOf};
 
 use crate::graph::Graph;
+use crate::guesses::Guesses;
 use crate::rows::{Rows, add, closure, meeting, take_out};
 use crate::tids::{index_of, indices_of, least_at, tids_at};
 use crate::verdict::{Link, Plan, Verdict};
@@ -13,13 +14,14 @@ use sgt_model::{Tid, Tids};
 use std::marker::Model;
 
 /// A graph as 32 indices, each with a transaction or free. Beside the edges it stores what is reached along them, so that a
-/// verdict needs no search. Only if there is a cycle, a path is searched for.
+/// verdict needs no search. Only if there is a cycle, a path is searched for. The index of a transaction is mostly guessed.
 #[derive(Drop)]
 pub struct BitGraph {
     taken: u32,
     tids: [Tid; 32],
     pairs: Rows,
     reached: Rows,
+    guesses: Guesses,
 }
 
 impl Model for BitGraph {
@@ -46,6 +48,7 @@ impl Graph for BitGraph {
             tids: [Tid(0); 32],
             pairs: [0; 32],
             reached: [0; 32],
+            guesses: Guesses::new(),
         }
     }
 
@@ -54,15 +57,16 @@ impl Graph for BitGraph {
             unreachable!();
         };
         self.tids[usize::from(index)] = t;
+        self.guesses.note(t, index);
         self.taken = joined(self.taken, only(index));
     }
 
     fn plan(&self, t: Tid, preds: &Tids) -> Plan {
         let taken = self.taken;
-        let Some(to) = index_of(taken, &self.tids, t) else {
+        let Some(to) = index_of(taken, &self.tids, &self.guesses, t) else {
             unreachable!();
         };
-        let from = indices_of(taken, &self.tids, preds);
+        let from = indices_of(taken, &self.tids, &self.guesses, preds);
         match self.verdict(to, from) {
             Verdict::Accepted => Plan::Free(Link { to, from }),
             Verdict::Closes(walk) => Plan::Closes(walk),
@@ -74,7 +78,7 @@ impl Graph for BitGraph {
     }
 
     fn least_pred(&self, t: Tid) -> Option<Tid> {
-        let index = index_of(self.taken, &self.tids, t)?;
+        let index = index_of(self.taken, &self.tids, &self.guesses, t)?;
         if self.is_alone(index) {
             return None;
         }
@@ -82,7 +86,7 @@ impl Graph for BitGraph {
     }
 
     fn remove(&mut self, t: Tid) {
-        if let Some(index) = index_of(self.taken, &self.tids, t) {
+        if let Some(index) = index_of(self.taken, &self.tids, &self.guesses, t) {
             self.free(index);
         }
     }

@@ -19,6 +19,7 @@
 
 mod bit_graph;
 mod graph;
+mod guesses;
 mod pair_graph;
 mod rows;
 mod tids;

@@ -53,9 +53,11 @@ pub fn closure(rows: &Rows) -> Rows
 {
     let mut reached = *rows;
     for index in 0..32u8 {
-        let from = meeting(&reached, only(index));
         let more = reached[usize::from(index)];
-        add(&mut reached, from, more);
+        if more != 0 {
+            let from = meeting(&reached, only(index));
+            add(&mut reached, from, more);
+        }
     }
     reached
 }

@@ -4,12 +4,27 @@ ghost use Rattle.sgt_model.specs.Walks.{Member};
 ghost use Rattle.sgt_cycle.specs.Indices.{is_set};
 ghost use Rattle.sgt_graph.specs.BitGraphs.{is_at, IsLeastAt};
 
+use crate::guesses::Guesses;
 use crate::pair_graph::smaller;
 use sgt_cycle::indices::{has, joined, only};
 use sgt_model::{Tid, Tids};
 
 /// The index of a transaction, if it has one.
-pub fn index_of(taken: u32, tids: &[Tid; 32], t: Tid) -> Option<u8>
+#[inline(always)]
+pub fn index_of(taken: u32, tids: &[Tid; 32], guesses: &Guesses, t: Tid) -> Option<u8>
+    ensures some { IfSome result (λ i. (i < 32) × (is_at taken tids.now t i ≡ true)) }
+    ensures none { IsNone result → (i : ℕ) → is_at taken tids.now t i ≡ false }
+{
+    let guess = guesses.guess(t);
+    if tids[usize::from(guess)] == t && has(taken, guess) {
+        return Some(guess);
+    }
+    search(taken, tids, t)
+}
+
+// The same, without a guess.
+#[inline(never)]
+fn search(taken: u32, tids: &[Tid; 32], t: Tid) -> Option<u8>
     ensures some { IfSome result (λ i. (i < 32) × (is_at taken tids.now t i ≡ true)) }
     ensures none { IsNone result → (i : ℕ) → is_at taken tids.now t i ≡ false }
 {
@@ -21,25 +36,18 @@ pub fn index_of(taken: u32, tids: &[Tid; 32], t: Tid) -> Option<u8>
     None
 }
 
-/// The indices of those of these transactions that have one.
-pub fn indices_of(taken: u32, tids: &[Tid; 32], among: &Tids) -> u32
+/// The indices of those of these transactions that have one. No transaction has two.
+pub fn indices_of(taken: u32, tids: &[Tid; 32], guesses: &Guesses, among: &Tids) -> u32
+    requires apart { (i j t : ℕ) → is_at taken tids.now t i ≡ true → is_at taken tids.now t j ≡ true → i ≡ j }
     ensures { (i : ℕ) → (is_set result i ≡ true) ↔ ((is_set taken i ≡ true) × Member (slice_index tids.now i) among.now) }
 {
     let mut found = 0;
-    for index in 0..32u8 {
-        if has(taken, index) && is_among(tids[usize::from(index)], among) {
+    for t in among.as_slice() {
+        if let Some(index) = index_of(taken, tids, guesses, *t) {
             found = joined(found, only(index));
         }
     }
     found
-}
-
-/// Whether the transaction is one of these.
-fn is_among(t: Tid, among: &Tids) -> bool
-    ensures yes { result ≡ true → Member t among.now }
-    ensures no { result ≡ false → Member t among.now → ⊥ }
-{
-    among.as_slice().contains(&t)
 }
 
 /// The transactions at these indices.

@@ -71,6 +71,6 @@ impl Hints {
 #[inline(always)]
 fn spot_of(key: Key, count: usize) -> usize {
     let number = (key.id() - LEAST) as u64 * 8 + u64::from(key.table());
-    let mixed = number.wrapping_mul(0x9E37_79B9_7F4A_7C15) >> 32;
+    let mixed = (number ^ (number >> 32)).wrapping_mul(0xD6E8_FEB8_6659_FD93) >> 32;
     mixed as usize & count.wrapping_sub(1)
 }

@@ -1,7 +1,14 @@
 use Rattle.std.proofs.Common.{rules, ◌≡◌, ℕ, List, true, false, sym, subst, ◌∙◌}
+use Rattle.sgt_model.specs.Walks.{Member}
 use Rattle.sgt_cascade.specs.Standing.{stands, has_read}
-use Rattle.sgt_cascade.proofs.Fallen.{IsStanding, standing_first, standing_next, fewer_stand, fallen_exact}
+use Rattle.sgt_cascade.proofs.Fallen.{IsStanding, standing_first, standing_next, fewer_stand, fallen_exact, none_reached}
 use Rattle.sgt_cascade.proofs.cascade.fallers.Goals as goal
+
+pub returns-then-not-has_reader-clause-exact : goal.returns-then-not-has_reader-clause-exact
+returns-then-not-has_reader-clause-exact c u = (
+  (λ m. absurd (subst (λ l. Member u l) c.new.ensures m)),
+  (λ h. absurd (none_reached c.args.read_from.now c.args.t (search rules) u h.1 h.2)),
+)
 
 pub loop-pair-init : goal.loop-pair-init
 loop-pair-init c = subst (λ l. IsStanding c.args.read_from.now c.args.live.now c.args.t l)

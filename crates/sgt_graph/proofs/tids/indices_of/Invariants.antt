@@ -1,8 +1,6 @@
-use Rattle.std.proofs.Common.{◌≡◌, true, slice_index}
-use Rattle.sgt_model.specs.Walks.{Member}
-use Rattle.sgt_cycle.specs.Indices.{is_set}
-use Rattle.sgt_graph.proofs.RowSteps.{Found}
+use Rattle.std.proofs.Common.{take}
+use Rattle.sgt_graph.proofs.AtIndices.{AreIndices}
 use Rattle.sgt_graph.proofs.tids.indices_of.Given as goal
 
-abbrev pub invariant-loop-index : goal.invariant-loop-index
-invariant-loop-index l = Found (λ i. (is_set l.taken i ≡ true) × Member (slice_index l.tids i) l.among) l.index l.found
+abbrev pub invariant-loop-t : goal.invariant-loop-t
+invariant-loop-t l = AreIndices l.taken l.tids (take l.t-index l.among) l.found

@@ -2,7 +2,7 @@ use Rattle.std.proofs.Common.{ap, inl, inr, arith, nat_eq, slice_index}
 use Rattle.std.specs.Prelude.{◌&&◌}
 use Rattle.std.proofs.lemmas.Bool.{cases_lt}
 use Rattle.sgt_graph.proofs.RowSteps.{none_above}
-use Rattle.sgt_graph.proofs.tids.index_of.Goals as goal
+use Rattle.sgt_graph.proofs.tids.search.Goals as goal
 
 pub returns-clause-none : goal.returns-clause-none
 returns-clause-none c none i = elim (cases_lt i 32) [
