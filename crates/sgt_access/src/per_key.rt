@@ -27,7 +27,6 @@ use std::marker::Model;
 ///
 /// Nothing is stored of a key without accesses. The order in which accesses of different keys were recorded exists for
 /// proofs alone.
-/// for proofs alone.
 #[derive(Drop)]
 pub struct PerKey {
     by_key: Vec<Access>,

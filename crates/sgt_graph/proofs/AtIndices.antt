@@ -18,7 +18,8 @@ module _ (taken : ℕ) (tids : List ℕ) where
   pub indices_none : AreIndices [] 0
   indices_none i = ((λ h. absurd (both_ways _ (none_in i) h)), (λ h. absurd h.1))
 
-  module _ (among : List ℕ) (k t found : ℕ) (below : k < length among) (is : t ≡ slice_index_or among k t) (before : AreIndices (take k among) found) where
+  module _ (among : List ℕ) (k t found : ℕ) (below : k < length among) (is : t ≡ slice_index_or among k t)
+      (before : AreIndices (take k among) found) where
     next : take (k + 1) among ≡ take k among ++ t ∷ []
     next = rw (add-one k) (take-suc among k t below ∙ ap (λ x. take k among ++ x ∷ []) (sym is))
 

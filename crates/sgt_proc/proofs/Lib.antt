@@ -2,7 +2,6 @@ pub mod StatementTexts
 pub mod Ifs
 pub mod StatementLists
 pub mod Caps
-pub mod Accesses
 pub mod AllFlaws
 pub mod Clean
 pub mod Sounds

@@ -1,5 +1,5 @@
 -- The rest of a procedure at a position, and how a cursor moves from position to position.
-use Rattle.std.specs.Prelude.{◌≡◌, ℕ, ℤ, ◌+◌, ◌*◌, ◌<◌, ◌≤◌, length, Some, Result, Ok, Err, slice_set}
+use Rattle.std.specs.Prelude.{◌≡◌, ℕ, ℤ, ◌+◌, ◌*◌, ◌<◌, ◌≤◌, length, Some, Ok, Err, slice_set}
 use Rattle.sgt_model.specs.Numbers.{IsValue}
 use Rattle.sgt_model.specs.Syntax.{Block}
 use Rattle.sgt_model.specs.Executions.{OrCode}
@@ -9,6 +9,8 @@ use Rattle.sgt_model.specs.ProcedureTexts.{in_front}
 use Rattle.sgt_proc.specs.declared.place.Place.{Place}
 use Rattle.sgt_proc.specs.declared.place.Stop.{Stop}
 use Rattle.sgt_proc.specs.declared.place.Stop.TheVariants as stop
+use Rattle.sgt_proc.specs.declared.place.Went.{Went}
+use Rattle.sgt_proc.specs.declared.place.Went.TheVariants.{Stopped, On, Inside}
 use Rattle.sgt_proc.specs.Flaws.{size}
 use Rattle.sgt_proc.specs.Paths.{behind, IsPath, inner, to_come}
 
@@ -72,11 +74,12 @@ pub record Passes (b : Block) (old new : Place) : Type 0 where
   pub inside : IsIn b new
   pub nearer : distance b new < distance b old
 
--- it continued or stopped
-abbrev pub GoesOn : Block → Place → Result Unit Stop → Place → Type 0
-GoesOn b old (Ok _) new = Passes b old new
-GoesOn b old (Err s) new = Stops b old s new
+-- it stopped or continued
+abbrev pub GoesOn : Block → Place → Went → Stop → Place → Type 0
+GoesOn b old Stopped s new = Stops b old s new
+GoesOn b old On s new = Passes b old new
+GoesOn b old Inside s new = Passes b old new
 
 -- a statement was executed that is the next one of a text
-abbrev pub Steps : Block → Statement → Place → Result Unit Stop → Place → Type 0
-Steps b s old result new = IsIn b old → behind old.at (inner old.path.items b) ≡ in_front s (behind (old.at + 1) (inner old.path.items b)) → GoesOn b old result new
+abbrev pub Steps : Block → Statement → Place → Went → Stop → Place → Type 0
+Steps b s old went stop new = IsIn b old → behind old.at (inner old.path.items b) ≡ in_front s (behind (old.at + 1) (inner old.path.items b)) → GoesOn b old went stop new

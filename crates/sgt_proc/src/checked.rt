@@ -96,12 +96,12 @@ impl Checked {
         cursor.next(self)
     }
 
-    /// Continues from a position to the next access, or to the end or a code.
-    pub(crate) fn advance(&self, place: &mut Place) -> Stop
+    /// Continues from a position to the next access, or to the end or a code, and writes to `stop` which.
+    pub(crate) fn advance(&self, place: &mut Place, stop: &mut Stop)
         requires inside { IsIn self.now.body place.old }
-        ensures stops { Stops self.now.body place.old result place.new }
-        ensures in_range { StopsAtValue result }
+        ensures stops { Stops self.now.body place.old stop.new place.new }
+        ensures in_range { StopsAtValue stop.new }
     {
-        place.advance(&self.procedure.body)
+        place.advance(&self.procedure.body, stop);
     }
 }

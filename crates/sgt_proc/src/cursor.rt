@@ -91,7 +91,7 @@ impl Cursor {
                         self.place.at += 1;
                         self.place.set(reg, found);
                         self.behind = Snapshot::of(&self.place);
-                        self.stop = procedure.advance(&mut self.place);
+                        procedure.advance(&mut self.place, &mut self.stop);
                     }
                     None => self.stop = Stop::Absent(absent),
                 }
@@ -100,7 +100,7 @@ impl Cursor {
                 self.place.at += 1;
                 self.place.set(reg, found_or(absent, value));
                 self.behind = Snapshot::of(&self.place);
-                self.stop = procedure.advance(&mut self.place);
+                procedure.advance(&mut self.place, &mut self.stop);
             }
             Stop::Put(..) | Stop::End | Stop::Asks(_) | Stop::Absent(_) => {}
         }
@@ -114,7 +114,7 @@ impl Cursor {
         if let Stop::Put(..) = self.stop {
             self.place.at += 1;
             self.behind = Snapshot::of(&self.place);
-            self.stop = procedure.advance(&mut self.place);
+            procedure.advance(&mut self.place, &mut self.stop);
         }
     }
 }
@@ -132,12 +132,23 @@ impl Checked {
             at: 0,
         };
         let behind = Snapshot::of(&place);
-        let stop = self.advance(&mut place);
+        let mut stop = Stop::End;
+        self.advance(&mut place, &mut stop);
         Cursor {
             place,
             stop,
             procedure: Snapshot::of(self),
             behind,
         }
+    }
+
+    /// The same, in place of another run.
+    pub fn restart(&self, cursor: &mut Cursor, args: &Args)
+        ensures { cursor.new ≡ (self.now, left_at_start self.now args.now) }
+    {
+        cursor.place.restart(args);
+        cursor.behind = Snapshot::of(&cursor.place);
+        cursor.procedure = Snapshot::of(self);
+        self.advance(&mut cursor.place, &mut cursor.stop);
     }
 }

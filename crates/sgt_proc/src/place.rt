@@ -1,11 +1,12 @@
 //! A position in a procedure, with the registers and answers there.
-ghost use Rattle.std.specs.Prelude.{◌≡◌, ◌≤◌, ◌<◌, Ok, IfErr};
+ghost use Rattle.std.specs.Prelude.{◌≡◌, ◌≤◌, ◌<◌, [], Ok};
 ghost use Rattle.arrayvec.specs.ArrayVec.{array_vec_len};
 ghost use Rattle.sgt_model.specs.Syntax.{Block};
 ghost use Rattle.sgt_model.specs.ProcedureTexts.{expr_text, in_front, block_of};
-ghost use Rattle.sgt_model.specs.Meaning.{value_of};
+ghost use Rattle.sgt_model.specs.Meaning.{fresh, value_of};
 ghost use Rattle.sgt_model.specs.Executions.{and_then, in_turn, key_of};
 ghost use Rattle.sgt_model.specs.Left.{number_or_code};
+ghost use Rattle.sgt_proc.specs.declared.place.Went.TheVariants.{Stopped, On};
 ghost use Rattle.sgt_proc.specs.Flaws.{depth, size};
 ghost use Rattle.sgt_proc.specs.Paths.{behind, branch, inner};
 ghost use Rattle.sgt_proc.specs.Places.{with_found_in, IsIn, Steps, Stops, StopsAtValue};
@@ -41,14 +42,27 @@ pub enum Stop {
     Absent(u16),
 }
 
-impl From<u16> for Stop {
-    ghost use Rattle.sgt_proc.specs.declared.place.Stop.TheVariants.{Asks};
-
-    ghost from_gives = { λ code stop. stop ≡ Asks code };
-
-    fn from(code: u16) -> Self {
-        Stop::Asks(code)
+impl Stop {
+    // Writes where a procedure stopped.
+    #[inline(always)]
+    fn stand(&mut self, stop: Stop) -> Went
+        ensures stop { self.new ≡ stop }
+        ensures stopped { result ≡ Stopped }
+    {
+        *self = stop;
+        Went::Stopped
     }
+}
+
+/// What the execution of a statement led to.
+#[derive(Clone, Copy)]
+enum Went {
+    /// The procedure stopped there.
+    Stopped,
+    /// It continues in the same list.
+    On,
+    /// It entered a branch.
+    Inside,
 }
 
 /// A position in a procedure, and the state of the procedure there.
@@ -64,36 +78,62 @@ pub struct Place {
 }
 
 impl Place {
-    /// Continues to the next access, or to the end or a code.
-    pub fn advance(&mut self, body: &[Statement]) -> Stop
+    /// Starts a procedure with these arguments: nothing is executed, no register is set, and there are no answers.
+    #[inline(always)]
+    pub fn restart(&mut self, args: &Args)
+        ensures args { self.new.args ≡ args.now }
+        ensures registers { self.new.registers ≡ fresh }
+        ensures answers { self.new.answers ≡ [] }
+        ensures path { self.new.path.items ≡ [] }
+        ensures at { self.new.at ≡ 0 }
+    {
+        self.args = args.copied();
+        self.registers = [None; 16];
+        self.answers.clear();
+        self.path = ArrayVec::new();
+        self.at = 0;
+    }
+
+    /// Continues to the next access, or to the end or a code, and writes to `stop` which.
+    pub fn advance(&mut self, body: &[Statement], stop: &mut Stop)
         requires shallow { depth (block_of body.now) ≤ 16 }
         requires short { size (block_of body.now) ≤ 64 }
         requires inside { IsIn (block_of body.now) self.old }
-        ensures stops { Stops (block_of body.now) self.old result self.new }
-        ensures in_range { StopsAtValue result }
+        ensures stops { Stops (block_of body.now) self.old stop.new self.new }
+        ensures in_range { StopsAtValue stop.new }
     {
+        let mut list = list_at(body, self.path.as_slice());
         loop {
-            let list = list_at(body, self.path.as_slice());
             let at = usize::from(self.at);
             if at < list.len() {
-                if let Err(stop) = self.step(&list[at]) {
-                    return stop;
+                match self.step(&list[at], stop) {
+                    Went::Stopped => return,
+                    Went::On => {}
+                    Went::Inside => list = list_at(body, self.path.as_slice()),
                 }
             } else {
                 match self.path.pop() {
-                    Some(turn) => self.at = turn.at + 1,
-                    None => return Stop::End,
+                    Some(turn) => {
+                        self.at = turn.at + 1;
+                        list = list_at(body, self.path.as_slice());
+                    }
+                    None => {
+                        *stop = Stop::End;
+                        return;
+                    }
                 }
             }
         }
     }
 
     // Executes the statement there, unless it is an access: then it stops.
-    fn step(&mut self, statement: &Statement) -> Result<(), Stop>
+    #[inline(always)]
+    fn step(&mut self, statement: &Statement, stop: &mut Stop) -> Went
         requires room { array_vec_len self.old.path < 16 }
         requires few { self.old.at < 64 }
-        ensures steps { (b : Block) → Steps b statement.now self.old result self.new }
-        ensures in_range { IfErr result StopsAtValue }
+        ensures steps { (b : Block) → Steps b statement.now self.old result stop.new self.new }
+        ensures in_range { result ≡ Stopped → StopsAtValue stop.new }
+        ensures same_list { result ≡ On → self.new.path ≡ self.old.path }
     {
         match statement {
             Statement::Look {
@@ -101,56 +141,64 @@ impl Place {
                 table,
                 id,
                 absent,
-            } => {
-                let key = self.key(*table, id)?;
-                Err(Stop::Look {
+            } => match self.key(*table, id) {
+                Ok(key) => stop.stand(Stop::Look {
                     key,
                     reg: *reg,
                     absent: *absent,
-                })
-            }
+                }),
+                Err(code) => stop.stand(Stop::Asks(code)),
+            },
             Statement::Find {
                 reg,
                 table,
                 id,
                 absent,
-            } => {
-                let (key, absent) = self.key_and_value(*table, id, absent)?;
-                Err(Stop::Find {
+            } => match self.key_and_value(*table, id, absent) {
+                Ok((key, absent)) => stop.stand(Stop::Find {
                     key,
                     reg: *reg,
                     absent,
-                })
-            }
-            Statement::Put { table, id, value } => {
-                let (key, stored) = self.key_and_value(*table, id, value)?;
-                if !is_value(stored) {
-                    return Err(Stop::Asks(WRONG));
+                }),
+                Err(code) => stop.stand(Stop::Asks(code)),
+            },
+            Statement::Put { table, id, value } => match self.key_and_value(*table, id, value) {
+                Ok((key, stored)) => {
+                    if !is_value(stored) {
+                        return stop.stand(Stop::Asks(WRONG));
+                    }
+                    stop.stand(Stop::Put(key, stored))
                 }
-                Err(Stop::Put(key, stored))
-            }
-            Statement::Let { reg, value } => {
-                let given = self.value(value)?;
-                self.set(*reg, given);
-                self.at += 1;
-                Ok(())
-            }
-            Statement::Ask { code } => Err(Stop::Asks(*code)),
-            Statement::If { cond, .. } => {
-                let held = test(cond, self.args.as_slice(), &self.registers)?;
-                self.path.push(Turn { at: self.at, held });
-                self.at = 0;
-                Ok(())
-            }
-            Statement::Answer { value } => {
-                let given = self.value(value)?;
-                if self.answers.len() >= usize::from(MOST_ANSWERS) {
-                    return Err(Stop::Asks(WRONG));
+                Err(code) => stop.stand(Stop::Asks(code)),
+            },
+            Statement::Let { reg, value } => match self.value(value) {
+                Ok(given) => {
+                    self.set(*reg, given);
+                    self.at += 1;
+                    Went::On
                 }
-                self.answers.push(given);
-                self.at += 1;
-                Ok(())
-            }
+                Err(code) => stop.stand(Stop::Asks(code)),
+            },
+            Statement::Ask { code } => stop.stand(Stop::Asks(*code)),
+            Statement::If { cond, .. } => match test(cond, self.args.as_slice(), &self.registers) {
+                Ok(held) => {
+                    self.path.push(Turn { at: self.at, held });
+                    self.at = 0;
+                    Went::Inside
+                }
+                Err(code) => stop.stand(Stop::Asks(code)),
+            },
+            Statement::Answer { value } => match self.value(value) {
+                Ok(given) => {
+                    if self.answers.len() >= usize::from(MOST_ANSWERS) {
+                        return stop.stand(Stop::Asks(WRONG));
+                    }
+                    self.answers.push(given);
+                    self.at += 1;
+                    Went::On
+                }
+                Err(code) => stop.stand(Stop::Asks(code)),
+            },
         }
     }
 

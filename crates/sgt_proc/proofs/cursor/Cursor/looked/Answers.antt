@@ -16,7 +16,7 @@ returns-in-Some c =
     subst (λ (s : Stop). reached_at c.self.inside.procedure.value.body c.self.inside.place s ≡ reached
     (left_behind c.self.inside.procedure.value.body c.self.inside.behind.value s)) c.in-Look.is c.self.invariant.same in
     let moved = looked_on c.self.inside.procedure.value.body c.self.inside.behind.value c.self.inside.place c.in-Look.key c.in-Look.reg
-    c.in-Look.absent c.in-Some.found c.of.result.value c.advance-self-inside.result same
+    c.in-Look.absent c.in-Some.found c.of.result.value c.advance.new.stop same
     (c.of.ensures ∙ (c.set.ensures ∙ ap (with_found_in
     (record {
       args = c.self.inside.place.args;
@@ -26,7 +26,7 @@ returns-in-Some c =
           c.self.inside.place.path;
       at = c.self.inside.place.at + 1;
     }) c.in-Look.reg) (to_z-of_z w64 c.in-Some.found fits)))
-    c.advance-self-inside.ensures.stops.found in
+    c.advance.ensures.stops.found in
     ap (λ l. (c.self.inside.procedure.value, l)) (moved
     ∙ ap (λ (s : Stop). after_look (Some c.in-Some.found) (left_behind c.self.inside.procedure.value.body c.self.inside.behind.value s))
     (sym c.in-Look.is))

@@ -13,7 +13,7 @@ returns-in-Put c =
     subst (λ (s : Stop). reached_at c.self.inside.procedure.value.body c.self.inside.place s ≡ reached
     (left_behind c.self.inside.procedure.value.body c.self.inside.behind.value s)) c.in-Put.is c.self.invariant.same in
     let moved = stored_on c.self.inside.procedure.value.body c.self.inside.behind.value c.self.inside.place c.in-Put.field-0
-    c.in-Put.field-1 c.of.result.value c.advance-self-inside.result same c.of.ensures c.advance-self-inside.ensures.stops.found in
+    c.in-Put.field-1 c.of.result.value c.advance.new.stop same c.of.ensures c.advance.ensures.stops.found in
     ap (λ l. (c.self.inside.procedure.value, l)) (moved
     ∙ ap (λ (s : Stop). after_store (left_behind c.self.inside.procedure.value.body c.self.inside.behind.value s)) (sym c.in-Put.is))
     ∙ ap (λ (w : ProcedureText × Left). (w.0, after_store w.1)) c.self.view_is
