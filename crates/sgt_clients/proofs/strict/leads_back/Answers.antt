@@ -1,0 +1,15 @@
+use Rattle.std.proofs.Common.{rules, ◌≡◌, slice_index_or}
+use Rattle.sgt_clients.specs.declared.finding.Step.{Step}
+use Rattle.sgt_clients.specs.declared.finding.Why.TheVariants.{Observed}
+use Rattle.sgt_appends.specs.declared.witness.Reason.TheVariants.{Seen}
+use Rattle.sgt_clients.proofs.RealTime.{climb_one}
+use Rattle.sgt_clients.proofs.strict.leads_back.Goals as goal
+
+pub loop-step-preserved : goal.loop-step-preserved
+loop-step-preserved c =
+    let none : Step = record { from = 0; to = 0; why = Observed (Seen 0 0) } in
+    let s : Step = slice_index_or c.args.steps.now c.loop-step.step-index none in
+    let first : Step = slice_index_or c.args.steps.now 0 none in
+    let same : s.from ≡ c.loop-step.at = search rules in
+    climb_one c.args.history.now c.args.spans.now c.loop-step.step-index first.from c.loop-step.at s.from s.to s.why
+    c.loop-step.invariant same (c.holds.ensures c.if-not-holds.false)
