@@ -1,16 +1,10 @@
 -- The verdict of a finding.
-use Rattle.std.proofs.Common.{◌≡◌, ◌↔◌, Bool, true, false, List, refl}
+use Rattle.std.proofs.Common.{Bool, refl}
 use Rattle.sgt_clients.specs.declared.clients.Clients.{Clients}
 use Rattle.sgt_clients.specs.declared.finding.Finding.{Finding}
 use Rattle.sgt_clients.specs.declared.finding.Finding.TheVariants.{Serial, Cycle, Fault}
-use Rattle.sgt_clients.specs.Findings.{HasOrder, IsFound}
-use Rattle.sgt_clients.specs.Checks.{IsVerdict}
-
--- whether it is an order
-abbrev pub is_order : Finding → Bool
-is_order (Serial order) = true
-is_order (Cycle steps name) = false
-is_order (Fault reader read fault name) = false
+use Rattle.sgt_clients.specs.Findings.{IsFound}
+use Rattle.sgt_clients.specs.Checks.{IsVerdict, is_order}
 
 pub verdict_of : (strict : Bool) (clients : Clients) (f : Finding) → IsFound strict clients.transactions.items clients.spans.items f
     → IsVerdict strict clients (is_order f)

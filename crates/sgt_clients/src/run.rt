@@ -4,7 +4,7 @@ ghost use Rattle.sgt_check.specs.declared.fault.CheckFault.TheVariants as check_
 ghost use Rattle.sgt_clients.specs.declared.clients.Clients.{Clients};
 ghost use Rattle.sgt_clients.specs.declared.fault.ClientsFault.{ClientsFault};
 ghost use Rattle.sgt_clients.specs.declared.fault.ClientsFault.TheVariants as fault;
-ghost use Rattle.sgt_clients.specs.Checks.{IsVerdict};
+ghost use Rattle.sgt_clients.specs.Checks.{IsVerdict, is_order};
 ghost use Rattle.sgt_clients.specs.Findings.{IsFound};
 
 use crate::clients::{Clients, read_clients};
@@ -65,10 +65,8 @@ pub fn run_clients<S: Source, T: Sink>(
 }
 
 /// Whether an order was found.
-#[tactic(auto, using(crate::proofs::Verdicts::verdict_of))]
 fn is_serial(finding: &Finding) -> bool
-    ensures { (strict : Bool) (clients : Clients) → IsFound strict clients.transactions.items clients.spans.items finding.now
-        → IsVerdict strict clients result }
+    ensures { result ≡ is_order finding.now }
 {
     matches!(finding, Finding::Serial(_))
 }

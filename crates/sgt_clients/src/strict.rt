@@ -34,7 +34,12 @@ pub fn check_strictly(alloc: Global, clients: &Clients) -> Result<Finding, Clien
     match check_appends(alloc, history.as_slice())? {
         Verdict::Serial(order) => serial_finding(alloc, clients, order.as_slice()),
         Verdict::Violated(Witness::Cycle(edges)) if has_barrier(clients, edges.as_slice()) => {
-            cycle_finding(alloc, clients, edges.as_slice())
+            cycle_finding(
+                alloc,
+                clients.transactions.as_slice(),
+                clients.spans.as_slice(),
+                edges.as_slice(),
+            )
         }
         _ => violated(check_clients(alloc, clients)?),
     }
@@ -117,18 +122,22 @@ fn latest_after(spans: &[Span], number: usize, latest: usize) -> Option<usize>
 }
 
 /// The finding of a cycle. What leads through barriers is a step of real time.
-fn cycle_finding(alloc: Global, clients: &Clients, edges: &[Edge]) -> Result<Finding, ClientsFault>
-    ensures { IfOk result (IsFound true clients.now.transactions.items clients.now.spans.items) }
+fn cycle_finding(
+    alloc: Global,
+    history: &[Transaction],
+    spans: &[Span],
+    edges: &[Edge],
+) -> Result<Finding, ClientsFault>
+    ensures { IfOk result (IsFound true history.now spans.now) }
 {
-    let history = clients.transactions.as_slice();
-    let number = history.len();
-    let steps = steps_of(alloc, edges, number)?;
-    let shown = appends_once(alloc, history)?
-        && leads_back(history, clients.spans.as_slice(), steps.as_slice());
-    if !shown {
+    let steps = steps_of(alloc, edges, history.len())?;
+    if !appends_once(alloc, history)? {
         return Err(ClientsFault::Undecided);
     }
-    let witness = Witness::Cycle(observed_of(alloc, edges, number)?);
+    if !leads_back(history, spans, steps.as_slice()) {
+        return Err(ClientsFault::Undecided);
+    }
+    let witness = Witness::Cycle(observed_of(alloc, edges, history.len())?);
     let name = strict_name_text(name_of(history, &witness));
     Ok(Finding::Cycle(steps, name))
 }
