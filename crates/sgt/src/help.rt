@@ -188,8 +188,44 @@ below. The conflicts of the cycle are red. Without a cycle, the first violation 
 report is orange. If there are more than 400 operations, it draws those of the transactions
 involved.
 
-The status is 0 if the history is serializable and recoverable, 1 if not, and 2 after an error. The
-error is on standard error, and nothing is written to standard output. An input has at most
-268435456 bytes.
+With --model list-append the history is what the clients of a database saw. Their transactions
+append unique values to lists and read lists. The input has objects of JSON, as Jepsen writes them,
+one after another, or in one array:
+
+  {"type":"invoke","process":0,"f":"txn","value":[["r",8,null],["append",9,1]]}
+  {"type":"invoke","process":1,"f":"txn","value":[["r",9,null],["append",8,2]]}
+  {"type":"ok","process":0,"f":"txn","value":[["r",8,[]],["append",9,1]]}
+  {"type":"ok","process":1,"f":"txn","value":[["r",9,[]],["append",8,2]]}
+
+  type        invoke: a transaction begins. ok: it committed, and its reads saw these lists.
+              fail: it aborted. info, or no end: unknown
+  process     a whole number; each process runs one transaction at a time. Entries whose process is
+              a text are skipped
+  value       append key value, read (r) key list. A key is a whole number, or a text like an item.
+              A value is a whole number up to 4294967295, and appended once to its key
+
+Transactions are t1, t2, .. in the order in which they begin. After a transaction, the report names
+the line of its end, or of its beginning if its end is unknown:
+
+  transactions 2: 2 committed, 0 aborted, 0 unknown
+  serializable no: G2-item
+    t1 (line 3) before t2 (line 4): t1 read key 8 as [], without 2, which t2 appended
+    t2 (line 4) before t1 (line 3): t2 read key 9 as [], without 1, which t1 appended
+
+  yes         with a serial order: run in this order from empty lists, each committed transaction
+              reads what its client saw. Unknown transactions may take part, aborted ones do not
+  no          there is none: a cycle, or a read that fits no order. The name is that of Adya (1999)
+              and Elle (2020): G0, G1a, G1b, G1c, G-single, G2-item, incompatible-order, internal,
+              unwritten (nobody appended the value), duplicate-elements
+
+With --strict the order also keeps real time: if one transaction ended before another began, it
+comes first. Time is the order of the objects. With --json the report is one object of JSON. --graph
+and --timeline show the cycle. If the objects are not one a line, 'entry 3' in place of 'line 3'
+names the third object.
+
+The status is 0 if the history is serializable and recoverable (list-append: serializable), 1 if
+not, and 2 after an error. The error is on standard error, and nothing is written to standard
+output. An input has at most 268435456 bytes.
 The classes are those of Bernstein, Hadzilacos and Goodman (1987), chapter 2.
-In the repository: docs/FORMATS.md has each line, and examples/histories more histories."#;
+In the repository: docs/FORMATS.md has each line, examples/histories more histories, and
+examples/clients what clients saw of PostgreSQL."#;

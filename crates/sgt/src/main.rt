@@ -5,13 +5,14 @@
 //! - `sgt bank` runs jobs on worker threads. It writes a line for each job's outcome, and then the committed
 //!   database. On request it reports on standard error how often each job was tried.
 //! - `sgt check` reads a history. It writes the classes that the history belongs to, its serialization graph, or a
-//!   picture of it.
+//!   picture of it. With `--model list-append` the history is what the clients of a database saw.
 //!
 //! Each reports an error on standard error and exits with status 2. The first two can also explain what is wrong with
 //! the line.
 //!
 //! The crate holds the command line only. `sgt_script` says and proves what a script's run writes, `sgt_bank` what a
-//! bank's run writes, and `sgt_check` what a check writes. `sgt_line_errors` explains a faulty line.
+//! bank's run writes, `sgt_check` what a check writes, and `sgt_clients` what a check of a client history writes.
+//! `sgt_line_errors` explains a faulty line.
 #![tactic(auto)]
 
 mod help;
@@ -23,7 +24,8 @@ use clap::error::ErrorKind;
 use clap::{Arg, ArgAction, ArgMatches, Command};
 use help::{BANK_HELP, CHECK_HELP, HELP, SCRIPT_HELP};
 use sgt_bank::{Explanations, MOST_TRIES, MOST_WORKERS, run_bank};
-use sgt_check::{CheckFault, run_check};
+use sgt_check::run_check;
+use sgt_clients::{ClientsOutput, run_clients};
 use sgt_input::{Fault, Reader, Source, Writer};
 use sgt_line_errors::{Remembering, explain};
 use sgt_script::Output;
@@ -48,6 +50,13 @@ const TRIES: &str = "100";
 const NO_TEXT: &str = "error: invalid UTF-8 was detected in one or more arguments
 
 Usage: sgt <COMMAND>
+
+For more information, try '--help'.";
+
+/// The message for options that only one model has, as `clap` would write it.
+const NEEDS_MODEL: &str = "error: the options '--strict' and '--json' need '--model list-append'
+
+Usage: sgt check [OPTIONS]
 
 For more information, try '--help'.";
 
@@ -149,6 +158,19 @@ fn bank_options<'a>(alloc: Global) -> Result<Vec<Arg<'a>>, AllocError> {
     Ok(options)
 }
 
+/// The models of a history: the operations of a scheduler, or what clients saw of lists.
+const MODELS: [&str; 2] = ["operations", "list-append"];
+
+/// The option that names the model of a history.
+fn model_option<'a>(alloc: Global) -> Arg<'a> {
+    Arg::new(alloc, "model")
+        .long("model")
+        .help("The model of the history: operations or list-append")
+        .value_parser(ValueParser::Names(&MODELS))
+        .hide_possible_values(true)
+        .default_value("operations")
+}
+
 /// The options of `sgt check`.
 fn check_options<'a>(alloc: Global) -> Result<Vec<Arg<'a>>, AllocError> {
     let mut options = Vec::new(alloc);
@@ -163,6 +185,21 @@ fn check_options<'a>(alloc: Global) -> Result<Vec<Arg<'a>>, AllocError> {
         "Writes a picture of the history in SVG, instead of the report",
     )
     .conflicts_with("graph")?)?;
+    options.push(
+        flag(
+            alloc,
+            "json",
+            "Writes the report as one object of JSON (list-append only)",
+        )
+        .conflicts_with("graph")?
+        .conflicts_with("timeline")?,
+    )?;
+    options.push(flag(
+        alloc,
+        "strict",
+        "The serial order has to keep real time (list-append only)",
+    ))?;
+    options.push(model_option(alloc))?;
     Ok(options)
 }
 
@@ -380,22 +417,49 @@ fn bank<R: Print + Eprint + Input + Clock + Threads + Wait + Sync>(
     unexplained(run_bank(rt, alloc, &mut reader, &mut writer, &mut errors, chosen))
 }
 
-/// Checks a history from standard input to standard output, and returns whether it is serializable and recoverable.
-fn check<R: Print + Input>(
-    rt: &R,
-    alloc: Global,
-    options: &ArgMatches<'_>,
-) -> Result<bool, CheckFault> {
+/// Checks a history from standard input to standard output, and returns the exit status.
+fn check<R: Print + Eprint + Input>(rt: &R, alloc: Global, options: &ArgMatches<'_>) -> ExitCode {
     let mut reader = Reader::new(rt.reader());
     let mut writer = Writer::new(io::writer(rt));
-    let output = if options.get_flag("graph") {
+    let strict = options.get_flag("strict");
+    if options.get_str("model") == Some("list-append") {
+        let output = clients_output(options);
+        return checked(
+            rt,
+            run_clients(alloc, &mut reader, &mut writer, output, strict),
+        );
+    }
+    if strict || options.get_flag("json") {
+        return tell(rt, NEEDS_MODEL);
+    }
+    checked(
+        rt,
+        run_check(alloc, &mut reader, &mut writer, check_output(options)),
+    )
+}
+
+/// The output of a check that the options name.
+fn check_output(options: &ArgMatches<'_>) -> sgt_check::Output {
+    if options.get_flag("graph") {
         sgt_check::Output::Graph
     } else if options.get_flag("timeline") {
         sgt_check::Output::Timeline
     } else {
         sgt_check::Output::Report
-    };
-    run_check(alloc, &mut reader, &mut writer, output)
+    }
+}
+
+/// The output of a check of a client history that the options name.
+fn clients_output(options: &ArgMatches<'_>) -> ClientsOutput {
+    if options.get_flag("graph") {
+        ClientsOutput::Graph
+    } else if options.get_flag("timeline") {
+        ClientsOutput::Timeline
+    } else if options.get_flag("json") {
+        ClientsOutput::Json
+    } else {
+        ClientsOutput::Report
+    }
 }
 
 /// Runs the subcommand, and returns the exit status.
@@ -406,7 +470,7 @@ fn run<R: Print + Eprint + Input + Clock + Threads + Wait + Sync>(
     matches: &ArgMatches<'_>,
 ) -> ExitCode {
     match matches.subcommand() {
-        Some(("check", options)) => checked(rt, check(rt, alloc, options)),
+        Some(("check", options)) => check(rt, alloc, options),
         Some(("bank", options)) => ended(rt, bank(rt, alloc, stderr, options)),
         Some((_, options)) => ended(rt, script(rt, alloc, stderr, options)),
         None => ExitCode::SUCCESS,
@@ -414,7 +478,7 @@ fn run<R: Print + Eprint + Input + Clock + Threads + Wait + Sync>(
 }
 
 /// The exit status of a check.
-fn checked<R: Eprint>(rt: &R, ran: Result<bool, CheckFault>) -> ExitCode {
+fn checked<R: Eprint, E: Display + Drop>(rt: &R, ran: Result<bool, E>) -> ExitCode {
     match ran {
         Ok(true) => ExitCode::SUCCESS,
         Ok(false) => ExitCode::from(1),

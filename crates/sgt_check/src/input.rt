@@ -20,7 +20,7 @@ const ROOM: usize = 65_536;
 /// # Errors
 ///
 /// `TooLong` if there are more bytes than an input may have, `Reading` if a read failed, and `NoMemory`.
-pub(crate) fn read_input<S: Source>(alloc: Global, source: &mut S) -> Result<Vec<u8>, CheckFault>
+pub fn read_input<S: Source>(alloc: Global, source: &mut S) -> Result<Vec<u8>, CheckFault>
     requires { S.failures source.old + 1 < 2 ^ 64 }
     ensures bytes { IfOk result (λ text. IfSome (S.rest source.old) (λ bytes. bytes ≡ text.items)) }
     ensures short { IfOk result (λ text. length text.items ≤ 268435456) }

@@ -31,6 +31,7 @@ mod timeline;
 pub use checked::Output;
 pub use fault::CheckFault;
 pub use graph_text::append_graph;
+pub use input::read_input;
 pub use report::{Counts, Report, check_history};
 pub use report_text::append_report;
 pub use run::run_check;

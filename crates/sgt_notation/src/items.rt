@@ -9,7 +9,7 @@ use std::collections::HashMap;
 
 /// The items of a history, each with a number of its own.
 #[derive(Drop)]
-pub(crate) struct Items {
+pub struct Items {
     /// The number of an item, by its text.
     numbers: HashMap<Vec<u8>, u32>,
     /// The texts of the items, by number.

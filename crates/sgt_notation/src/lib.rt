@@ -34,6 +34,7 @@ mod words;
 
 pub use fault::{NotationFault, Shown};
 pub use history::History;
+pub use items::Items;
 pub use laws::transcripts_spell_textbooks;
 pub use operations::{append_cut_comment, append_operations};
 pub use reader::read_history;

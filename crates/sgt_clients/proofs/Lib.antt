@@ -1,0 +1,3 @@
+pub mod RealTime
+pub mod Spelled
+pub mod Verdicts

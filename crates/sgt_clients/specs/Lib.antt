@@ -1,0 +1,4 @@
+pub mod Checks
+pub mod Entries
+pub mod Findings
+pub mod Times

@@ -1,0 +1,88 @@
+//! The errors that can end a check of what clients saw.
+ghost use Rattle.std.specs.Prelude.{◌≡◌};
+ghost use Rattle.sgt_clients.specs.declared.fault.ClientsFault.TheVariants as fault;
+ghost use Rattle.sgt_clients.specs.declared.fault.ReadError.TheVariants as error;
+ghost use Rattle.sgt_check.specs.declared.fault.CheckFault.TheVariants as check_fault;
+
+use sgt_check::CheckFault;
+use sgt_notation::Shown;
+use thiserror::Error;
+
+/// What is wrong with an entry. Operations are counted from 1.
+#[derive(Clone, Copy, Debug, PartialEq, Eq, Error)]
+pub enum Flaw {
+    /// The text is not JSON from this column on.
+    #[error("no JSON from column {0} on")]
+    NotJson(usize),
+    /// The entry is not an object.
+    #[error("no object")]
+    NoObject,
+    #[error("the type is not invoke, ok, fail or info")]
+    Type,
+    #[error("the process is not a whole number or a text")]
+    Process,
+    #[error("f is not txn")]
+    Function,
+    #[error("the value is not a list of operations")]
+    Value,
+    #[error("operation {0} is not [\"append\",key,value] or [\"r\",key,values]")]
+    Operation(usize),
+    #[error("the key of operation {0} is not a whole number, or a text of 1 to 64 letters, digits and _ . / : -")]
+    Key(usize),
+    #[error("operation {0} has a value that is not a whole number from 0 to 4294967295")]
+    Number(usize),
+    #[error("process {0} has invoked another transaction, and has not ended it")]
+    Invoked(u64),
+    #[error("more than 16777216 keys")]
+    TooManyKeys,
+}
+
+/// Why an entry was not read.
+#[derive(Clone, Copy, Debug, PartialEq, Eq)]
+pub(crate) enum ReadError {
+    /// The entry is wrong.
+    Flaw(Flaw),
+    /// An allocation failed.
+    NoMemory,
+}
+
+impl From<sgt_model::NoMemory> for ReadError {
+    ghost from_gives = { λ _ f. f ≡ error.NoMemory };
+
+    fn from(_: sgt_model::NoMemory) -> Self {
+        ReadError::NoMemory
+    }
+}
+
+/// Why a check of what clients saw ended without a report. Lines and entries are counted from 1.
+#[derive(Debug, Drop, PartialEq, Eq, Error)]
+pub enum ClientsFault {
+    /// The entry, which starts on the line, is wrong.
+    #[error("line {0}, entry {1}: {2}")]
+    Entry(u64, usize, Flaw),
+    /// The transaction that ended or began at this entry appends the value to the key, which has it already.
+    #[error("entry {0} appends {1} to key {2} a second time")]
+    Twice(usize, u32, Shown),
+    /// Neither an order nor a violation was found.
+    #[error("undecided")]
+    Undecided,
+    /// The input is too long, a read or a write failed, or an allocation.
+    #[error("{0}")]
+    Check(CheckFault),
+}
+
+impl From<sgt_model::NoMemory> for ClientsFault {
+    ghost from_gives = { λ _ f. f ≡ fault.Check check_fault.NoMemory };
+
+    fn from(_: sgt_model::NoMemory) -> Self {
+        ClientsFault::Check(CheckFault::NoMemory)
+    }
+}
+
+impl From<CheckFault> for ClientsFault {
+    ghost from_gives = { λ f g. g ≡ fault.Check f };
+
+    fn from(fault: CheckFault) -> Self {
+        ClientsFault::Check(fault)
+    }
+}

@@ -1,0 +1,99 @@
+//! What a check finds of what clients saw.
+ghost use Rattle.std.specs.Prelude.{List, false, IfOk};
+ghost use Rattle.sgt_appends.specs.declared.transaction.Transaction.{Transaction};
+ghost use Rattle.sgt_appends.specs.Runs.{IsSerializable};
+ghost use Rattle.sgt_clients.specs.declared.clients.Span.{Span};
+ghost use Rattle.sgt_clients.specs.Findings.{IsFound};
+
+use crate::clients::Clients;
+use crate::fault::ClientsFault;
+use crate::names::name_text;
+use crate::twice::twice_fault;
+use sgt_appends::{Edge, Fault, Reason, Verdict, Witness, check_appends, name_of};
+use sgt_model::NoMemory;
+use std::alloc::Global;
+
+/// Why one transaction comes before another in each order.
+#[derive(Clone, Copy, Debug, PartialEq, Eq)]
+pub enum Why {
+    /// By what was observed.
+    Observed(Reason),
+    /// It ended before the other began.
+    RealTime,
+}
+
+/// A step of a cycle: one transaction comes before another.
+#[derive(Clone, Copy, Debug, PartialEq, Eq)]
+pub struct Step {
+    pub from: usize,
+    pub to: usize,
+    pub why: Why,
+}
+
+/// What a check finds.
+#[derive(Drop)]
+pub enum Finding {
+    /// A serial order.
+    Serial(Vec<usize>),
+    /// A cycle of transactions, each of which comes before the next, and the name of the anomaly.
+    Cycle(Vec<Step>, &'static str),
+    /// A read that no order explains: its transaction, its position there, and the name of the anomaly.
+    Fault {
+        reader: usize,
+        read: usize,
+        fault: Fault,
+        name: &'static str,
+    },
+}
+
+/// Checks what clients saw.
+///
+/// # Errors
+///
+/// `Twice` if a value is appended twice to a key, and `Check` if an allocation failed.
+pub fn check_clients(alloc: Global, clients: &Clients) -> Result<Finding, ClientsFault>
+    ensures { IfOk result (IsFound false clients.now.transactions.items clients.now.spans.items) }
+{
+    let history = clients.transactions.as_slice();
+    match check_appends(alloc, history)? {
+        Verdict::Serial(order) => Ok(Finding::Serial(order)),
+        Verdict::Violated(witness) => {
+            let name = name_text(name_of(history, &witness));
+            Ok(finding_of(alloc, witness, name)?)
+        }
+        Verdict::AppendedTwice => Err(twice_fault(alloc, clients)?),
+        Verdict::UnknownReads { .. } => Err(ClientsFault::Undecided),
+    }
+}
+
+/// The finding of the witness.
+fn finding_of(alloc: Global, witness: Witness, name: &'static str) -> Result<Finding, NoMemory>
+    ensures { IfOk result (λ found. (h : List Transaction) (spans : List Span) → ¬ IsSerializable h → IsFound false h spans found) }
+{
+    match witness {
+        Witness::Cycle(edges) => Ok(Finding::Cycle(steps_of(alloc, edges.as_slice())?, name)),
+        Witness::Fault {
+            reader,
+            read,
+            fault,
+        } => Ok(Finding::Fault {
+            reader,
+            read,
+            fault,
+            name,
+        }),
+    }
+}
+
+/// The edges as steps.
+fn steps_of(alloc: Global, edges: &[Edge]) -> Result<Vec<Step>, NoMemory> {
+    let mut steps = Vec::with_capacity(alloc, edges.len())?;
+    for edge in edges {
+        steps.push(Step {
+            from: edge.from,
+            to: edge.to,
+            why: Why::Observed(edge.reason),
+        })?;
+    }
+    Ok(steps)
+}

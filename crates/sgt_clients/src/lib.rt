@@ -1,0 +1,49 @@
+//! The check of what the clients of a database saw, in the list-append model of Elle: is it serializable?
+//!
+//! - [`read_clients`] reads a history as Jepsen writes it in JSON: an object for each invocation and each completion of
+//!   a transaction. The transactions become those of `sgt_appends`.
+//! - [`check_clients`] checks it by `check_appends` of `sgt_appends`, which defines serializability. [`check_strictly`]
+//!   also keeps real time.
+//! - [`append_report`], [`append_json`], [`append_graph`] and [`append_timeline`] write what was found.
+//! - [`run_clients`] does all this, from the bytes of a source to those of a sink.
+//!
+//! Proved: the answer, for the transactions that were read, strict or not (`specs/Findings.antt`); and which operations and
+//! which kind of entry an object spells (`specs/Entries.antt`). Tested: how entries become transactions, and the texts.
+//!
+//! ```
+//! let clients = read_clients(alloc, text)?;
+//! let finding = check_clients(alloc, &clients)?;      // Finding::Serial(order), or a witness that there is none
+//! ```
+#![tactic(auto)]
+
+mod barriers;
+mod clients;
+mod counts;
+mod entry;
+mod evidence;
+mod fault;
+mod finding;
+mod graph_text;
+mod json_text;
+mod names;
+mod operations;
+mod picture;
+mod piece;
+mod pieces;
+mod report_text;
+mod run;
+mod scene;
+mod strict;
+mod stroke_text;
+mod twice;
+mod witness_text;
+
+pub use clients::{Clients, Event, Span, read_clients};
+pub use fault::{ClientsFault, Flaw};
+pub use finding::{Finding, Step, Why, check_clients};
+pub use graph_text::append_graph;
+pub use json_text::append_json;
+pub use picture::append_timeline;
+pub use report_text::append_report;
+pub use run::{ClientsOutput, run_clients};
+pub use strict::check_strictly;

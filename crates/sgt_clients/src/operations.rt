@@ -1,0 +1,225 @@
+//! The operations of an entry.
+ghost use Rattle.std.specs.Prelude.{◌≡◌, ◌<◌, ◌+◌, ◌^◌, ◌++◌, ℕ, List, Some, map, length, option_map, slice_get, IfOk, IfSome, IsSome, None, OnOk, [], ◌∷◌, codes};
+ghost use Rattle.std.specs.Fmt.{decimal};
+ghost use Rattle.serde_json.specs.Data.{null};
+ghost use Rattle.serde_json.specs.View.{view};
+ghost use Rattle.sgt_notation.specs.Numbering.{KnowsItems, texts_of};
+ghost use Rattle.sgt_clients.specs.Entries.{Names, value_tree, SpellsOrNone, counted, SpellAll, SpellsAs, IsUnknownRead};
+
+use crate::fault::{Flaw, ReadError};
+use serde_json::Value;
+use sgt_appends::Operation;
+use sgt_format::{append_number, items};
+use sgt_model::NoMemory;
+use sgt_notation::Items;
+use std::alloc::Global;
+
+/// How many keys a history may have.
+const MOST_KEYS: usize = 16_777_216;
+
+/// How many bytes the text of a key may have.
+const LONGEST_KEY: usize = 64;
+
+/// Reads the operations of an entry. Only a transaction that committed has reads.
+pub(crate) fn read_operations(
+    alloc: Global,
+    keys: &mut Items,
+    items: &[Value],
+    committed: bool,
+) -> Result<Vec<Operation>, ReadError>
+    requires { KnowsItems keys.old }
+    ensures known { OnOk result (KnowsItems keys.new) }
+    ensures more { OnOk result ((more : List (List ℕ)) × (texts_of keys.new ≡ texts_of keys.old ++ more)) }
+    ensures spelled { IfOk result (λ os. SpellAll committed (texts_of keys.new) (map view items.now) os.items) }
+{
+    let mut operations = Vec::new(alloc);
+    for (place, item) in items.iter().enumerate() {
+        let operation = read_operation(alloc, keys, place, item)?;
+        add_operation(&mut operations, operation, committed)?;
+    }
+    Ok(operations)
+}
+
+/// Adds the operation, if there is one. A read counts only if its transaction committed.
+fn add_operation(
+    operations: &mut Vec<Operation>,
+    operation: Option<Operation>,
+    committed: bool,
+) -> Result<(), NoMemory>
+    ensures { OnOk result (operations.new.items ≡ operations.old.items ++ counted committed operation) }
+{
+    match operation {
+        Some(Operation::Append { key, value }) => {
+            operations.push(Operation::Append { key, value })?;
+        }
+        Some(Operation::Read { key, values }) if committed => {
+            operations.push(Operation::Read { key, values })?;
+        }
+        _ => (),
+    }
+    Ok(())
+}
+
+/// Reads an operation, at the place from 0. A read of unknown values is none.
+fn read_operation(
+    alloc: Global,
+    keys: &mut Items,
+    place: usize,
+    item: &Value,
+) -> Result<Option<Operation>, ReadError>
+    requires { KnowsItems keys.old }
+    ensures known { OnOk result (KnowsItems keys.new) }
+    ensures more { OnOk result ((more : List (List ℕ)) × (texts_of keys.new ≡ texts_of keys.old ++ more)) }
+    ensures spelled { IfOk result (SpellsOrNone (texts_of keys.new) (view item.now)) }
+{
+    let Some(parts) = items(item) else {
+        return Err(ReadError::Flaw(Flaw::Operation(place.saturating_add(1))));
+    };
+    match parts {
+        [word, key, argument] => match word.as_str() {
+            Some("append") => read_append(alloc, keys, place, key, argument),
+            Some("r") => read_read(alloc, keys, place, key, argument),
+            _ => Err(ReadError::Flaw(Flaw::Operation(place.saturating_add(1)))),
+        },
+        _ => Err(ReadError::Flaw(Flaw::Operation(place.saturating_add(1)))),
+    }
+}
+
+/// Reads an append.
+fn read_append(
+    alloc: Global,
+    keys: &mut Items,
+    place: usize,
+    key: &Value,
+    argument: &Value,
+) -> Result<Option<Operation>, ReadError>
+    requires { KnowsItems keys.old }
+    ensures known { OnOk result (KnowsItems keys.new) }
+    ensures more { OnOk result ((more : List (List ℕ)) × (texts_of keys.new ≡ texts_of keys.old ++ more)) }
+    ensures spelled { IfOk result (λ o. IfSome o (SpellsAs (texts_of keys.new) (codes "append") (view key.now) (view argument.now))) }
+    ensures some { IfOk result (λ o. IsSome o) }
+{
+    let key = read_key(alloc, keys, place, key)?;
+    match number_of(argument) {
+        Some(value) => Ok(Some(Operation::Append { key, value })),
+        None => Err(ReadError::Flaw(Flaw::Number(place.saturating_add(1)))),
+    }
+}
+
+/// Reads a read.
+fn read_read(
+    alloc: Global,
+    keys: &mut Items,
+    place: usize,
+    key: &Value,
+    argument: &Value,
+) -> Result<Option<Operation>, ReadError>
+    requires { KnowsItems keys.old }
+    ensures known { OnOk result (KnowsItems keys.new) }
+    ensures more { OnOk result ((more : List (List ℕ)) × (texts_of keys.new ≡ texts_of keys.old ++ more)) }
+    ensures spelled { IfOk result (λ o. IfSome o (SpellsAs (texts_of keys.new) (codes "r") (view key.now) (view argument.now))) }
+    ensures none { IfOk result (λ o. o ≡ None → view argument.now ≡ null) }
+{
+    let key = read_key(alloc, keys, place, key)?;
+    if let Value::Null = argument {
+        return Ok(None);
+    }
+    match items(argument) {
+        Some(items) => {
+            let values = read_values(alloc, place, items)?;
+            Ok(Some(Operation::Read { key, values }))
+        }
+        None => Err(ReadError::Flaw(Flaw::Operation(place.saturating_add(1)))),
+    }
+}
+
+/// Reads the values that a read saw.
+fn read_values(alloc: Global, place: usize, items: &[Value]) -> Result<Vec<u32>, ReadError>
+    ensures { IfOk result (λ values. map view items.now ≡ map value_tree values.items) }
+{
+    let mut values = reserved(alloc, items.len())?;
+    for item in items {
+        let Some(value) = number_of(item) else {
+            return Err(ReadError::Flaw(Flaw::Number(place.saturating_add(1))));
+        };
+        push(&mut values, value)?;
+    }
+    Ok(values)
+}
+
+/// An empty list with this capacity.
+fn reserved(alloc: Global, len: usize) -> Result<Vec<u32>, NoMemory>
+    ensures { IfOk result (λ values. values.items ≡ []) }
+{
+    Ok(Vec::with_capacity(alloc, len)?)
+}
+
+/// Appends the value.
+fn push(values: &mut Vec<u32>, value: u32) -> Result<(), NoMemory>
+    ensures { OnOk result (values.new.items ≡ values.old.items ++ value ∷ []) }
+{
+    Ok(values.push(value)?)
+}
+
+/// The value of an append: a whole number from 0 to 4,294,967,295.
+fn number_of(tree: &Value) -> Option<u32>
+    ensures { IfSome result (λ value. view tree.now ≡ value_tree value) }
+{
+    u32::try_from(tree.as_u64()?).ok()
+}
+
+/// The number of the key with this text.
+fn read_key(alloc: Global, keys: &mut Items, place: usize, tree: &Value) -> Result<u32, ReadError>
+    requires { KnowsItems keys.old }
+    ensures known { OnOk result (KnowsItems keys.new) }
+    ensures more { OnOk result ((more : List (List ℕ)) × (texts_of keys.new ≡ texts_of keys.old ++ more)) }
+    ensures named { IfOk result (Names (texts_of keys.new) (view tree.now)) }
+{
+    if keys.texts.len() >= MOST_KEYS {
+        return Err(ReadError::Flaw(Flaw::TooManyKeys));
+    }
+    match tree {
+        Value::String(text) => {
+            let text = text.as_bytes();
+            if !is_key(text) {
+                return Err(ReadError::Flaw(Flaw::Key(place.saturating_add(1))));
+            }
+            Ok(keys.number(alloc, text)?)
+        }
+        _ => match tree.as_u64() {
+            Some(number) => Ok(number_key(alloc, keys, number)?),
+            None => Err(ReadError::Flaw(Flaw::Key(place.saturating_add(1)))),
+        },
+    }
+}
+
+/// The number of the key with this number as its text.
+fn number_key(alloc: Global, keys: &mut Items, number: u64) -> Result<u32, NoMemory>
+    requires known { KnowsItems keys.old }
+    requires few { length (texts_of keys.old) + 1 < 2 ^ 32 }
+    ensures known { OnOk result (KnowsItems keys.new) }
+    ensures more { OnOk result ((more : List (List ℕ)) × (texts_of keys.new ≡ texts_of keys.old ++ more)) }
+    ensures number { IfOk result (λ k. slice_get (texts_of keys.new) k ≡ Some (decimal number)) }
+{
+    let mut text = Vec::new(alloc);
+    append_number(&mut text, number)?;
+    keys.number(alloc, text.as_slice())
+}
+
+/// Whether the text may be that of a key.
+fn is_key(text: &[u8]) -> bool {
+    if text.is_empty() || text.len() > LONGEST_KEY {
+        return false;
+    }
+    for byte in text {
+        if !is_key_byte(*byte) {
+            return false;
+        }
+    }
+    true
+}
+
+/// Whether a key may contain the byte.
+fn is_key_byte(byte: u8) -> bool {
+    matches!(byte, b'A'..=b'Z' | b'a'..=b'z' | b'0'..=b'9' | b'_' | b'.' | b'/' | b':' | b'-')
+}

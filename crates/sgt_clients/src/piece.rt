@@ -1,0 +1,100 @@
+//! Texts made of pieces.
+
+use crate::clients::Clients;
+use sgt_format::{append_number, append_numbered};
+use sgt_model::NoMemory;
+
+/// How many values of a long list are shown: the last ones.
+const MOST_SHOWN: usize = 16;
+
+/// A piece of a text on what clients saw.
+#[derive(Clone, Copy)]
+pub(crate) enum Piece<'a> {
+    /// These words.
+    Words(&'a [u8]),
+    /// The number.
+    Number(usize),
+    /// The transaction: `t3`.
+    Transaction(usize),
+    /// The transaction and its entry: `t3 (line 7)`.
+    Placed(usize),
+    /// The text of the key.
+    Key(u32),
+    /// The values in brackets, separated by spaces: `[1 2]`. Of a long list only the last ones are shown.
+    Values(&'a [u32]),
+}
+
+/// Appends the pieces in order.
+pub(crate) fn append_pieces(
+    text: &mut Vec<u8>,
+    clients: &Clients,
+    pieces: &[Piece<'_>],
+) -> Result<(), NoMemory> {
+    for piece in pieces {
+        append_piece(text, clients, piece)?;
+    }
+    Ok(())
+}
+
+/// Appends the piece.
+fn append_piece(text: &mut Vec<u8>, clients: &Clients, piece: &Piece<'_>) -> Result<(), NoMemory> {
+    match piece {
+        Piece::Words(words) => Ok(text.extend_from_slice(words)?),
+        Piece::Number(number) => Ok(append_number(text, *number)?),
+        Piece::Transaction(number) => Ok(append_numbered(text, b"t", number.saturating_add(1))?),
+        Piece::Placed(number) => append_placed(text, clients, *number),
+        Piece::Key(key) => append_key(text, clients, *key),
+        Piece::Values(values) => append_values(text, values),
+    }
+}
+
+/// Appends the transaction and its entry.
+fn append_placed(text: &mut Vec<u8>, clients: &Clients, number: usize) -> Result<(), NoMemory> {
+    append_numbered(text, b"t", number.saturating_add(1))?;
+    let words: &[u8] = if clients.by_line {
+        b" (line "
+    } else {
+        b" (entry "
+    };
+    append_numbered(text, words, entry_of(clients, number))?;
+    text.extend_from_slice(b")")?;
+    Ok(())
+}
+
+/// The entry at which the transaction ended, or else the one at which it began.
+pub(crate) fn entry_of(clients: &Clients, number: usize) -> usize {
+    match clients.spans.get(number) {
+        Some(span) => span.ended.unwrap_or(span.began),
+        None => 0,
+    }
+}
+
+/// Appends the text of the key.
+fn append_key(text: &mut Vec<u8>, clients: &Clients, key: u32) -> Result<(), NoMemory> {
+    if let Some(name) = clients.keys.get(key as usize) {
+        text.extend_from_slice(name.as_slice())?;
+    }
+    Ok(())
+}
+
+/// Appends the values in brackets.
+fn append_values(text: &mut Vec<u8>, values: &[u32]) -> Result<(), NoMemory> {
+    text.extend_from_slice(b"[")?;
+    if values.len() > MOST_SHOWN {
+        text.extend_from_slice(b"..")?;
+        append_each(text, &values[values.len() - MOST_SHOWN..])?;
+    } else if !values.is_empty() {
+        append_number(text, values[0])?;
+        append_each(text, &values[1..])?;
+    }
+    text.extend_from_slice(b"]")?;
+    Ok(())
+}
+
+/// Appends each value after a space.
+fn append_each(text: &mut Vec<u8>, values: &[u32]) -> Result<(), NoMemory> {
+    for value in values {
+        append_numbered(text, b" ", *value)?;
+    }
+    Ok(())
+}

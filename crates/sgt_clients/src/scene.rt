@@ -1,0 +1,140 @@
+//! The operations that a picture draws, and which pairs of them stand out.
+
+use crate::clients::Clients;
+use sgt_appends::Status;
+use sgt_model::NoMemory;
+use std::alloc::Global;
+
+/// An operation that is drawn: its transaction, and its position there. The end of a transaction comes after all positions.
+#[derive(Clone, Copy, Debug, PartialEq, Eq)]
+pub(crate) struct Stroke {
+    pub transaction: usize,
+    pub position: usize,
+}
+
+impl Stroke {
+    /// The end of the transaction.
+    pub fn end_of(transaction: usize) -> Self {
+        Stroke {
+            transaction,
+            position: usize::MAX,
+        }
+    }
+
+    /// Whether it comes before the other in their transaction.
+    fn is_before(self, other: Stroke) -> bool {
+        self.transaction == other.transaction && self.position < other.position
+    }
+}
+
+/// Two operations that stand out, the earlier one first.
+#[derive(Clone, Copy, Debug, PartialEq, Eq)]
+pub(crate) struct Pair {
+    pub earlier: Stroke,
+    pub later: Stroke,
+}
+
+/// What is drawn.
+#[derive(Drop)]
+pub(crate) struct Scene {
+    pub strokes: Vec<Stroke>,
+    pub pairs: Vec<Pair>,
+}
+
+impl Scene {
+    /// Nothing is drawn.
+    pub fn new(alloc: Global) -> Self {
+        Scene {
+            strokes: Vec::new(alloc),
+            pairs: Vec::new(alloc),
+        }
+    }
+
+    /// Adds the operation, unless it is there.
+    pub fn add(&mut self, stroke: Stroke) -> Result<(), NoMemory> {
+        if place_of(self.strokes.as_slice(), stroke).is_none() {
+            self.strokes.push(stroke)?;
+        }
+        Ok(())
+    }
+
+    /// Adds the pair and its operations.
+    pub fn add_pair(&mut self, earlier: Stroke, later: Stroke) -> Result<(), NoMemory> {
+        self.add(earlier)?;
+        self.add(later)?;
+        self.pairs.push(Pair { earlier, later })?;
+        Ok(())
+    }
+
+    /// Adds the known ends of the transactions that are drawn.
+    pub fn add_ends(&mut self, alloc: Global, clients: &Clients) -> Result<(), NoMemory> {
+        let strokes = copy_of(alloc, self.strokes.as_slice())?;
+        for stroke in &strokes {
+            self.add_end(clients, stroke.transaction)?;
+        }
+        Ok(())
+    }
+
+    /// Adds the end of the transaction, unless it is unknown.
+    pub fn add_end(&mut self, clients: &Clients, transaction: usize) -> Result<(), NoMemory> {
+        match clients.transactions.get(transaction) {
+            Some(one) if one.status != Status::Unknown => self.add(Stroke::end_of(transaction)),
+            _ => Ok(()),
+        }
+    }
+
+    /// Puts the operations in order: the earlier one of each pair first, and those of a transaction as they came, if that
+    /// can be.
+    pub fn sort(&mut self, alloc: Global) -> Result<(), NoMemory> {
+        let mut left = copy_of(alloc, self.strokes.as_slice())?;
+        let mut sorted = Vec::with_capacity(alloc, left.len())?;
+        for _ in 0..self.strokes.len() {
+            let next = first_free(left.as_slice(), self.pairs.as_slice());
+            if next < left.len() {
+                sorted.push(left.remove(next))?;
+            }
+        }
+        self.strokes = sorted;
+        Ok(())
+    }
+}
+
+/// The same operations.
+fn copy_of(alloc: Global, strokes: &[Stroke]) -> Result<Vec<Stroke>, NoMemory> {
+    Ok(Vec::from_slice(alloc, strokes)?)
+}
+
+/// The position of the operation among these.
+pub(crate) fn place_of(strokes: &[Stroke], stroke: Stroke) -> Option<usize> {
+    for (place, other) in strokes.iter().enumerate() {
+        if *other == stroke {
+            return Some(place);
+        }
+    }
+    None
+}
+
+/// The position of the first operation that none of the others has to come before, or else of the first.
+fn first_free(left: &[Stroke], pairs: &[Pair]) -> usize {
+    for (place, stroke) in left.iter().enumerate() {
+        if is_free(left, pairs, *stroke) {
+            return place;
+        }
+    }
+    0
+}
+
+/// Whether none of these has to come before the operation.
+fn is_free(left: &[Stroke], pairs: &[Pair], stroke: Stroke) -> bool {
+    for other in left {
+        if other.is_before(stroke) {
+            return false;
+        }
+    }
+    for pair in pairs {
+        if pair.later == stroke && place_of(left, pair.earlier).is_some() {
+            return false;
+        }
+    }
+    true
+}

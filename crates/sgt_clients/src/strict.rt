@@ -1,0 +1,256 @@
+//! The check that keeps real time: who ended before another began has to come first.
+//!
+//! What is found of the history with its barriers is tested on what clients saw, and on when they saw it.
+ghost use Rattle.std.specs.Prelude.{◌≡◌, ◌≢◌, ◌<◌, ◌≤◌, ℕ, List, true, false, IsTrue, IfOk, IfSome, Some};
+ghost use Rattle.sgt_appends.specs.declared.transaction.Transaction.{Transaction};
+ghost use Rattle.sgt_appends.specs.declared.transaction.Status.TheVariants.{Committed};
+ghost use Rattle.sgt_appends.specs.Precedences.{AppendsOnce};
+ghost use Rattle.sgt_appends.specs.Runs.{Ended};
+ghost use Rattle.sgt_clients.specs.declared.clients.Span.{Span};
+ghost use Rattle.sgt_clients.specs.Findings.{EndedBefore, KeepsTime, HasOrder, Shows, IsFound};
+ghost use Rattle.sgt_clients.specs.Times.{ComesAfter};
+
+use crate::barriers::with_barriers;
+use crate::clients::{Clients, Span};
+use crate::fault::ClientsFault;
+use crate::finding::{Finding, Step, Why, check_clients};
+use crate::names::strict_name_text;
+use sgt_appends::{
+    Edge, Status, Transaction, Verdict, Witness, all_hold, appends_once, check_appends,
+    is_serial_run, name_of,
+};
+use sgt_model::NoMemory;
+use std::alloc::Global;
+
+/// Checks what clients saw, and keeps real time.
+///
+/// # Errors
+///
+/// As `check_clients`.
+pub fn check_strictly(alloc: Global, clients: &Clients) -> Result<Finding, ClientsFault>
+    ensures { IfOk result (IsFound true clients.now.transactions.items clients.now.spans.items) }
+{
+    let history = with_barriers(alloc, clients)?;
+    match check_appends(alloc, history.as_slice())? {
+        Verdict::Serial(order) => serial_finding(alloc, clients, order.as_slice()),
+        Verdict::Violated(Witness::Cycle(edges)) if has_barrier(clients, edges.as_slice()) => {
+            cycle_finding(
+                alloc,
+                clients.transactions.as_slice(),
+                clients.spans.as_slice(),
+                edges.as_slice(),
+            )
+        }
+        _ => violated(check_clients(alloc, clients)?),
+    }
+}
+
+/// The finding, unless it is an order.
+#[tactic(auto, using(crate::proofs::RealTime::not_strictly))]
+fn violated(finding: Finding) -> Result<Finding, ClientsFault>
+    ensures { (h : List Transaction) (spans : List Span) → IsFound false h spans finding → IfOk result (IsFound true h spans) }
+{
+    match finding {
+        Finding::Serial(_) => Err(ClientsFault::Undecided),
+        other => Ok(other),
+    }
+}
+
+/// Whether an edge leads to a barrier.
+fn has_barrier(clients: &Clients, edges: &[Edge]) -> bool {
+    for edge in edges {
+        if edge.to >= clients.transactions.len() {
+            return true;
+        }
+    }
+    false
+}
+
+/// The finding of a serial order, without its barriers.
+fn serial_finding(
+    alloc: Global,
+    clients: &Clients,
+    order: &[usize],
+) -> Result<Finding, ClientsFault>
+    ensures { IfOk result (IsFound true clients.now.transactions.items clients.now.spans.items) }
+{
+    let own = below(alloc, order, clients.transactions.len())?;
+    if keeps_time(clients.spans.as_slice(), own.as_slice())
+        && is_serial_run(alloc, clients.transactions.as_slice(), own.as_slice())?
+    {
+        Ok(Finding::Serial(own))
+    } else {
+        Err(ClientsFault::Undecided)
+    }
+}
+
+/// The numbers below the bound.
+fn below(alloc: Global, order: &[usize], bound: usize) -> Result<Vec<usize>, NoMemory> {
+    let mut own = Vec::new(alloc);
+    for number in order {
+        if *number < bound {
+            own.push(*number)?;
+        }
+    }
+    Ok(own)
+}
+
+/// Whether each transaction of the order ends after all that stand before it, and itself, began.
+fn keeps_time(spans: &[Span], order: &[usize]) -> bool
+    ensures { IsTrue result → KeepsTime spans.now order.now }
+{
+    let mut latest = 0;
+    for number in order {
+        let Some(later) = latest_after(spans, *number, latest) else {
+            return false;
+        };
+        latest = later;
+    }
+    true
+}
+
+/// When the last of those before and of the transaction began, if it did not end before.
+fn latest_after(spans: &[Span], number: usize, latest: usize) -> Option<usize>
+    ensures { IfSome result (ComesAfter spans.now number latest) }
+{
+    let span = spans.get(number)?;
+    let later = latest.max(span.began);
+    match span.ended {
+        Some(ended) if ended < later => None,
+        _ => Some(later),
+    }
+}
+
+/// The finding of a cycle. What leads through barriers is a step of real time.
+fn cycle_finding(
+    alloc: Global,
+    history: &[Transaction],
+    spans: &[Span],
+    edges: &[Edge],
+) -> Result<Finding, ClientsFault>
+    ensures { IfOk result (IsFound true history.now spans.now) }
+{
+    let steps = steps_of(alloc, edges, history.len())?;
+    if !appends_once(alloc, history)? {
+        return Err(ClientsFault::Undecided);
+    }
+    if !leads_back(history, spans, steps.as_slice()) {
+        return Err(ClientsFault::Undecided);
+    }
+    let witness = Witness::Cycle(observed_of(alloc, edges, history.len())?);
+    let name = strict_name_text(name_of(history, &witness));
+    Ok(Finding::Cycle(steps, name))
+}
+
+/// The edges between transactions of the clients.
+fn observed_of(alloc: Global, edges: &[Edge], number: usize) -> Result<Vec<Edge>, NoMemory> {
+    let mut observed = Vec::new(alloc);
+    for edge in edges {
+        if edge.from < number && edge.to < number {
+            observed.push(*edge)?;
+        }
+    }
+    Ok(observed)
+}
+
+/// The steps between transactions of the clients.
+fn steps_of(alloc: Global, edges: &[Edge], number: usize) -> Result<Vec<Step>, NoMemory> {
+    let mut steps = Vec::new(alloc);
+    let mut left = last_left(edges, number);
+    for edge in edges {
+        if edge.from < number {
+            left = edge.from;
+        }
+        if edge.to < number {
+            steps.push(step_of(edge, left, number))?;
+        }
+    }
+    Ok(steps)
+}
+
+/// The step to the end of the edge, which leads from a barrier or not, from the transaction that was left last.
+fn step_of(edge: &Edge, left: usize, number: usize) -> Step {
+    let why = if edge.from < number {
+        Why::Observed(edge.reason)
+    } else {
+        Why::RealTime
+    };
+    Step {
+        from: left,
+        to: edge.to,
+        why,
+    }
+}
+
+/// The transaction of the clients that the edges leave last.
+fn last_left(edges: &[Edge], number: usize) -> usize {
+    let mut left = 0;
+    for edge in edges {
+        if edge.from < number {
+            left = edge.from;
+        }
+    }
+    left
+}
+
+/// Whether the steps are a cycle, and each holds.
+fn leads_back(history: &[Transaction], spans: &[Span], steps: &[Step]) -> bool
+    ensures { IsTrue result → AppendsOnce history.now → ¬ HasOrder true history.now spans.now }
+{
+    if steps.is_empty() {
+        return false;
+    }
+    let start = steps[0].from;
+    let mut at = start;
+    for step in steps {
+        if step.from != at || !holds(history, spans, step) {
+            return false;
+        }
+        at = step.to;
+    }
+    at == start
+}
+
+/// Whether what was observed, or real time, shows the step.
+fn holds(history: &[Transaction], spans: &[Span], step: &Step) -> bool
+    ensures { IsTrue result → Shows history.now spans.now step.now.from step.now.to step.now.why }
+{
+    match step.why {
+        Why::Observed(reason) => all_hold(
+            history,
+            &[Edge {
+                from: step.from,
+                to: step.to,
+                reason,
+            }],
+        ),
+        Why::RealTime => {
+            step.from != step.to
+                && is_committed(history, step.from)
+                && ended_before(spans, step.from, step.to)
+        }
+    }
+}
+
+/// Whether the transaction committed.
+fn is_committed(history: &[Transaction], number: usize) -> bool
+    ensures { IsTrue result → Ended history.now number Committed }
+{
+    match history.get(number) {
+        Some(transaction) => transaction.status == Status::Committed,
+        None => false,
+    }
+}
+
+/// Whether the first transaction ended before the second began.
+fn ended_before(spans: &[Span], first: usize, second: usize) -> bool
+    ensures { IsTrue result → EndedBefore spans.now first second }
+{
+    let (Some(first), Some(second)) = (spans.get(first), spans.get(second)) else {
+        return false;
+    };
+    match first.ended {
+        Some(ended) => ended < second.began,
+        None => false,
+    }
+}

@@ -1,0 +1,255 @@
+//! The words of a witness.
+
+use crate::clients::Clients;
+use crate::evidence::{put_at, seen_at};
+use crate::finding::Step;
+use crate::piece::{Piece, append_pieces};
+use sgt_appends::{Fault, Reason};
+use sgt_model::NoMemory;
+
+/// Appends what was observed that makes the step.
+pub(crate) fn append_reason(
+    text: &mut Vec<u8>,
+    clients: &Clients,
+    step: &Step,
+    reason: &Reason,
+) -> Result<(), NoMemory> {
+    match reason {
+        Reason::Seen { append, read } => append_seen(text, clients, step, *append, *read),
+        Reason::Missed { read, append } => append_missed(text, clients, step, *read, *append),
+        Reason::InOrder {
+            first,
+            second,
+            reader,
+            read,
+        } => {
+            append_placed_read(text, clients, *reader, *read)?;
+            append_in_order(text, clients, step, *first, *second)
+        }
+    }
+}
+
+/// Appends the transaction with its entry, and the read at its position.
+fn append_placed_read(
+    text: &mut Vec<u8>,
+    clients: &Clients,
+    reader: usize,
+    read: usize,
+) -> Result<(), NoMemory> {
+    append_pieces(text, clients, &[Piece::Placed(reader)])?;
+    append_seen_values(text, clients, reader, read)
+}
+
+/// Appends the transaction, and the read at its position.
+fn append_read(
+    text: &mut Vec<u8>,
+    clients: &Clients,
+    reader: usize,
+    read: usize,
+) -> Result<(), NoMemory> {
+    append_pieces(text, clients, &[Piece::Transaction(reader)])?;
+    append_seen_values(text, clients, reader, read)
+}
+
+/// Appends the key and the values of the read.
+fn append_seen_values(
+    text: &mut Vec<u8>,
+    clients: &Clients,
+    reader: usize,
+    read: usize,
+) -> Result<(), NoMemory> {
+    let Some(seen) = seen_at(clients, reader, read) else {
+        return Ok(());
+    };
+    append_pieces(
+        text,
+        clients,
+        &[
+            Piece::Words(b" read key "),
+            Piece::Key(seen.key),
+            Piece::Words(b" as "),
+            Piece::Values(seen.values),
+        ],
+    )
+}
+
+/// Appends that the later transaction saw a value of the earlier one.
+fn append_seen(
+    text: &mut Vec<u8>,
+    clients: &Clients,
+    step: &Step,
+    append: usize,
+    read: usize,
+) -> Result<(), NoMemory> {
+    append_read(text, clients, step.to, read)?;
+    let Some(put) = put_at(clients, step.from, append) else {
+        return Ok(());
+    };
+    append_pieces(
+        text,
+        clients,
+        &[
+            Piece::Words(b", with "),
+            Piece::Number(put.value as usize),
+            Piece::Words(b", which "),
+            Piece::Transaction(step.from),
+            Piece::Words(b" appended"),
+        ],
+    )
+}
+
+/// Appends that the earlier transaction missed a value of the later one.
+fn append_missed(
+    text: &mut Vec<u8>,
+    clients: &Clients,
+    step: &Step,
+    read: usize,
+    append: usize,
+) -> Result<(), NoMemory> {
+    append_read(text, clients, step.from, read)?;
+    let Some(put) = put_at(clients, step.to, append) else {
+        return Ok(());
+    };
+    append_pieces(
+        text,
+        clients,
+        &[
+            Piece::Words(b", without "),
+            Piece::Number(put.value as usize),
+            Piece::Words(b", which "),
+            Piece::Transaction(step.to),
+            Piece::Words(b" appended"),
+        ],
+    )
+}
+
+/// Appends that a value of the earlier transaction stands before one of the later one.
+fn append_in_order(
+    text: &mut Vec<u8>,
+    clients: &Clients,
+    step: &Step,
+    first: usize,
+    second: usize,
+) -> Result<(), NoMemory> {
+    let Some(put) = put_at(clients, step.from, first) else {
+        return Ok(());
+    };
+    let Some(other) = put_at(clients, step.to, second) else {
+        return Ok(());
+    };
+    append_pieces(
+        text,
+        clients,
+        &[
+            Piece::Words(b", with "),
+            Piece::Number(put.value as usize),
+            Piece::Words(b" of "),
+            Piece::Transaction(step.from),
+            Piece::Words(b" before "),
+            Piece::Number(other.value as usize),
+            Piece::Words(b" of "),
+            Piece::Transaction(step.to),
+        ],
+    )
+}
+
+/// Appends the read and its fault.
+pub(crate) fn append_fault(
+    text: &mut Vec<u8>,
+    clients: &Clients,
+    reader: usize,
+    read: usize,
+    fault: &Fault,
+) -> Result<(), NoMemory> {
+    append_placed_read(text, clients, reader, read)?;
+    match fault {
+        Fault::Unwritten(value) => append_value(
+            text,
+            clients,
+            b", but no transaction that may have committed appends ",
+            *value,
+        ),
+        Fault::Twice(value) => append_value(text, clients, b", with a value twice: ", *value),
+        Fault::EndsOtherwise => append_pieces(
+            text,
+            clients,
+            &[
+                Piece::Words(b", which does not end with what "),
+                Piece::Transaction(reader),
+                Piece::Words(b" had appended"),
+            ],
+        ),
+        Fault::Ahead { append } => append_ahead(text, clients, reader, *append),
+        Fault::Swapped { by, first, second } => {
+            append_swapped(text, clients, *by, *first, *second)
+        }
+    }
+}
+
+/// Appends words and a value.
+fn append_value(
+    text: &mut Vec<u8>,
+    clients: &Clients,
+    words: &[u8],
+    value: u32,
+) -> Result<(), NoMemory> {
+    append_pieces(
+        text,
+        clients,
+        &[Piece::Words(words), Piece::Number(value as usize)],
+    )
+}
+
+/// Appends that the reader saw a value of its own too early.
+fn append_ahead(
+    text: &mut Vec<u8>,
+    clients: &Clients,
+    reader: usize,
+    append: usize,
+) -> Result<(), NoMemory> {
+    let Some(put) = put_at(clients, reader, append) else {
+        return Ok(());
+    };
+    append_pieces(
+        text,
+        clients,
+        &[
+            Piece::Words(b", with "),
+            Piece::Number(put.value as usize),
+            Piece::Words(b", which "),
+            Piece::Transaction(reader),
+            Piece::Words(b" appended only later"),
+        ],
+    )
+}
+
+/// Appends that two values stand in the wrong order.
+fn append_swapped(
+    text: &mut Vec<u8>,
+    clients: &Clients,
+    by: usize,
+    first: usize,
+    second: usize,
+) -> Result<(), NoMemory> {
+    let Some(put) = put_at(clients, by, first) else {
+        return Ok(());
+    };
+    let Some(other) = put_at(clients, by, second) else {
+        return Ok(());
+    };
+    append_pieces(
+        text,
+        clients,
+        &[
+            Piece::Words(b", with "),
+            Piece::Number(other.value as usize),
+            Piece::Words(b" before "),
+            Piece::Number(put.value as usize),
+            Piece::Words(b", but "),
+            Piece::Placed(by),
+            Piece::Words(b" appended "),
+            Piece::Number(put.value as usize),
+            Piece::Words(b" first"),
+        ],
+    )
+}

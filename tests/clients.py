@@ -1,0 +1,316 @@
+#!/usr/bin/env python3
+"""Compares the reports of `sgt check --model list-append` with the definitions, as `helpers/appends.py` has them.
+
+    tests/clients.py crates/sgt/out/sgt
+    tests/clients.py crates/sgt/out/sgt 100000      # draws so many histories
+
+Every order of the transactions is tried: the report has to say yes, and one of these orders, exactly where there is one. Of each no
+the witness is tested by what was observed. The last line counts the cases.
+"""
+
+import itertools
+import json
+import os
+import random
+import re
+import subprocess
+import sys
+import xml.etree.ElementTree as ElementTree
+from concurrent.futures import ThreadPoolExecutor
+
+sys.dont_write_bytecode = True
+from helpers.appends import COMMITTED, Transaction, all_small, drawn, entries_of, keeps_time, lines_of, serial_orders  # noqa: E402
+from helpers.cases import SECONDS, TESTS, Differs, same, tell  # noqa: E402
+
+CLIENTS = TESTS.parent / "examples" / "clients"
+DRAWN = int(sys.argv[2]) if len(sys.argv) > 2 else 3_000
+
+
+def check(program, given, *options):
+    """Status, standard output and standard error."""
+    words = [program, "check", "--model", "list-append", *options]
+    given = given.encode() if isinstance(given, str) else given
+    ran = subprocess.run(words, input=given, capture_output=True, timeout=SECONDS, close_fds=False, check=False)
+    return ran.returncode, ran.stdout.decode(), ran.stderr.decode()
+
+
+# A report, by the definitions
+
+PLACED = r"t(\d+)(?: \((?:line|entry) \d+\))?"
+STEP = re.compile(f"  {PLACED} before {PLACED}: (.*)")
+READ = rf"{PLACED} read key (\S+) as \[([0-9 ]*)\]"
+
+
+class Told:
+    """What a report says of a history, tested by what was observed."""
+
+    def __init__(self, history, spans, strict):
+        self.history, self.spans, self.strict = history, spans, strict
+
+    def compare(self, status, text, orders):
+        lines = text.splitlines()
+        counts = [sum(it.status == status for it in self.history) for status in ("ok", "fail", "info")]
+        same("counts", "transactions {}: {} committed, {} aborted, {} unknown".format(len(self.history), *counts), lines[0])
+        head = "strictly serializable" if self.strict else "serializable"
+        if orders:
+            same("status", 0, status)
+            told = tuple(int(it[1:]) - 1 for it in lines[1].removeprefix(f"{head} yes:").split() if it != "none")
+            same("line", f"{head} yes:" + "".join(f" t{it + 1}" for it in told) + ("" if told else " none"), lines[1])
+            if told not in orders or len(lines) != 2:
+                raise Differs(f"no such order: {text!r}")
+            return
+        same("status", 1, status)
+        if not re.fullmatch(rf"{head} no: [A-Za-z0-9-]+", lines[1]):
+            raise Differs(f"no verdict: {lines[1]!r}")
+        if " before t" in lines[2] and lines[2].startswith("  t") and STEP.fullmatch(lines[2]):
+            self.compare_cycle(lines[2:])
+        else:
+            same("lines", 3, len(lines))
+            self.compare_fault(lines[2].strip())
+
+    def compare_cycle(self, lines):
+        steps = [STEP.fullmatch(it).groups() for it in lines]
+        froms, tos = [int(it[0]) - 1 for it in steps], [int(it[1]) - 1 for it in steps]
+        same("ends of the steps", froms[1:] + froms[:1], tos)
+        for one, other, (_, _, why) in zip(froms, tos, steps):
+            if one == other or not self.shows(one, other, why):
+                raise Differs(f"t{one + 1} before t{other + 1} does not follow from {why!r}")
+
+    def appends(self, transaction, key, value):
+        return ("append", int(key), int(value)) in self.history[transaction].operations
+
+    def reads(self, transaction, key, seen):
+        one = self.history[transaction]
+        return one.status == COMMITTED and ("r", int(key), tuple(map(int, seen.split()))) in one.operations
+
+    def shows(self, one, other, why):
+        if why == f"t{one + 1} ended before t{other + 1} began":
+            return self.strict and self.spans[one][1] < self.spans[other][0]
+        reader, key, seen, rest = re.fullmatch(READ + ", (.*)", why).groups()
+        reader, values = int(reader) - 1, list(map(int, seen.split()))
+        if not self.reads(reader, key, seen):
+            return False
+        if told := re.fullmatch(r"with (\d+), which t(\d+) appended", rest):
+            value, by = int(told[1]), int(told[2]) - 1
+            return reader == other and by == one and value in values and self.appends(one, key, value)
+        if told := re.fullmatch(r"without (\d+), which t(\d+) appended", rest):
+            value, by = int(told[1]), int(told[2]) - 1
+            return reader == one and by == other and value not in values and self.appends(other, key, value)
+        first, by, second, then = map(int, re.fullmatch(r"with (\d+) of t(\d+) before (\d+) of t(\d+)", rest).groups())
+        return (by - 1, then - 1) == (one, other) and self.appends(one, key, first) and self.appends(other, key, second) \
+            and first in values and second in values[values.index(first) + 1:]
+
+    def compare_fault(self, why):
+        reader, key, seen, rest = re.fullmatch(READ + ", (.*)", why).groups()
+        reader, values = int(reader) - 1, list(map(int, seen.split()))
+        if not self.reads(reader, key, seen) or not self.is_fault(reader, key, values, rest):
+            raise Differs(f"no fault: {why!r}")
+
+    def is_fault(self, reader, key, values, rest):
+        number = int((re.findall(r"\d+", rest) or [0])[0])
+        own = [it[2] for it in self.history[reader].operations if it[0] == "append" and it[1] == int(key)]
+        if rest.startswith("but no transaction"):
+            number = int(re.fullmatch(r"but no transaction that may have committed appends (\d+)", rest)[1])
+            may = [it for it in range(len(self.history)) if self.history[it].status != "fail"]
+            return number in values and not any(self.appends(it, key, number) for it in may)
+        if rest.startswith("with a value twice"):
+            return values.count(number) > 1
+        if rest.endswith("appended only later"):
+            return number in values and number in own
+        if rest.startswith("which does not end with"):
+            return bool(own)
+        later, first, by, same_first = map(int, re.fullmatch(
+            r"with (\d+) before (\d+), but t(\d+) \(\w+ \d+\) appended (\d+) first", rest).groups())
+        mine = [it[2] for it in self.history[by - 1].operations if it[0] == "append" and it[1] == int(key)]
+        return first == same_first and mine.index(first) < mine.index(later) and first in values[values.index(later):]
+
+
+def compare(program, draw, history, strict):
+    entries, spans = entries_of(draw, history)
+    orders = set(serial_orders(history))
+    if strict:
+        orders = {it for it in orders if keeps_time(spans, it)}
+    given = lines_of(entries)
+    try:
+        status, text, errors = check(program, given, *(["--strict"] if strict else []))
+        same("standard error", "", errors)
+        Told(history, spans, strict).compare(status, text, orders)
+    except (Differs, ValueError, AttributeError) as why:
+        raise Differs(f"{why}\n{given}") from None
+    return bool(orders)
+
+
+def compare_each(program, histories, strict):
+    draw = random.Random(7)
+    with ThreadPoolExecutor(os.cpu_count()) as pool:
+        tried = list(pool.map(lambda it: compare(program, random.Random(it[0]), it[1], strict), enumerate(histories)))
+    return f"{len(tried):,} histories, {tried.count(False):,} of them not"
+
+
+# Cases
+
+
+def on_all_small_histories(program):
+    histories = itertools.islice(itertools.chain(all_small(2, 2), all_small(3, 1)), 0, None, 3)
+    return compare_each(program, histories, False)
+
+
+def on_drawn_histories(program):
+    draw = random.Random(58)
+    return compare_each(program, (drawn(draw) for _ in range(DRAWN)), False)
+
+
+def on_drawn_histories_strictly(program):
+    draw = random.Random(59)
+    return compare_each(program, (drawn(draw) for _ in range(DRAWN)), True)
+
+
+def one(status, *operations):
+    return Transaction(status, [tuple(it) for it in operations])
+
+
+A, R = "append", "r"
+
+# Histories by the name of their anomaly, as Adya and Elle name it.
+NAMED = {
+    "G0": [one("ok", (A, 1, 1), (A, 2, 1)), one("ok", (A, 1, 2), (A, 2, 2)), one("ok", (R, 1, (1, 2))), one("ok", (R, 2, (2, 1)))],
+    "G1a": [one("fail", (A, 1, 1)), one("ok", (R, 1, (1,)))],
+    "G1b": [one("ok", (A, 1, 1), (A, 1, 2)), one("ok", (R, 1, (1,)))],
+    "G1c": [one("ok", (A, 1, 1), (R, 2, (2,))), one("ok", (A, 2, 2), (R, 1, (1,)))],
+    "G-single": [one("ok", (A, 1, 1), (A, 2, 2)), one("ok", (R, 1, (1,)), (R, 2, ()))],
+    "G2-item": [one("ok", (R, 1, ()), (A, 2, 1)), one("ok", (R, 2, ()), (A, 1, 1))],
+    "incompatible-order": [one("ok", (A, 1, 1), (A, 1, 2)), one("ok", (R, 1, (2, 1)))],
+    "internal": [one("ok", (A, 1, 1), (R, 1, ()))],
+    "unwritten": [one("ok", (R, 1, (5,)))],
+    "duplicate-elements": [one("ok", (A, 1, 1)), one("ok", (R, 1, (1, 1)))],
+}
+
+
+def names_anomalies(program):
+    for name, history in NAMED.items():
+        entries, spans = entries_of(random.Random(1), history)
+        status, text, _ = check(program, lines_of(entries))
+        Told(history, spans, False).compare(status, text, set(serial_orders(history)))
+        same("verdict", f"serializable no: {name}", text.splitlines()[1])
+        told = json.loads(check(program, lines_of(entries), "--json")[1])
+        same("name", (False, name), (told["serializable"], told["anomaly"]))
+
+
+def reads_each_form(program):
+    """One object a line, one array, objects over several lines, with and without white space: one report."""
+    history = NAMED["G2-item"]
+    entries, _ = entries_of(random.Random(1), history)
+    by_line = check(program, lines_of(entries))
+    by_entry = by_line[0], by_line[1].replace("(line ", "(entry "), ""
+    same("compact array", by_entry, check(program, json.dumps(entries, separators=(",", ":"))))
+    same("array", by_entry, check(program, json.dumps(entries, indent=2)))
+    same("indented", by_entry, check(program, "\n\n".join(json.dumps(it, indent=1) for it in entries)))
+    same("one array of lines", by_line, check(program, "[" + ",\n".join(map(json.dumps, entries)) + "]\n"))
+    same("no newline", by_line, check(program, lines_of(entries).rstrip()))
+    same("no keys of text", by_line, check(program, lines_of(entries).replace('"r", 1', '"r", "1"')))
+
+
+def passes_what_is_no_clients(program):
+    lines = ['{"type":"info","process":"nemesis","f":"start-partition","value":"majority"}',
+             '{"type":"ok","process":7,"f":"txn","value":[["append","x",1],["r","y",null]],"index":4,"time":99}',
+             '{"type":"ok","process":7,"value":[["r","x",[1]],["r","y",[]]]}']
+    same("report", (0, "transactions 2: 2 committed, 0 aborted, 0 unknown\nserializable yes: t1 t2\n", ""), check(program, "\n".join(lines)))
+    nothing = 0, "transactions 0: 0 committed, 0 aborted, 0 unknown\nserializable yes: none\n", ""
+    same("nothing", nothing, check(program, ""))
+    same("an empty array", nothing, check(program, "[]\n"))
+
+
+GOOD = '{"type":"ok","process":0,"f":"txn","value":[["append",1,1]]}\n'
+
+# Faulty inputs, with what is told of them.
+FAULTS = {
+    "{": "line 1, entry 1: no JSON from column 1 on",
+    "x": "line 1, entry 1: no JSON from column 1 on",
+    "5": "line 1, entry 1: no object",
+    '"{"': "line 1, entry 1: no object",
+    "\xff": None,
+    GOOD + GOOD.replace(":", "", 1): "line 2, entry 2: no JSON from column 8 on",
+    GOOD + "\n" + '{"process":0}': "line 3, entry 2: the type is not invoke, ok, fail or info",
+    '{"type":"ok"}': "line 1, entry 1: the process is not a whole number or a text",
+    '{"type":"ok","process":-1}': "line 1, entry 1: the process is not a whole number or a text",
+    '{"type":"done","process":1}': "line 1, entry 1: the type is not invoke, ok, fail or info",
+    '{"type":"ok","process":1,"f":"read"}': "line 1, entry 1: f is not txn",
+    '{"type":"ok","process":1,"value":null}': "line 1, entry 1: the value is not a list of operations",
+    '{"type":"invoke","process":1}': "line 1, entry 1: the value is not a list of operations",
+    '{"type":"ok","process":1,"value":[[]]}': 'line 1, entry 1: operation 1 is not ["append",key,value] or ["r",key,values]',
+    '{"type":"ok","process":1,"value":[["r",1,[]],["w",1,2]]}': 'line 1, entry 1: operation 2 is not ["append",key,value] or ["r",key,values]',
+    '{"type":"ok","process":1,"value":[["r",1,5]]}': 'line 1, entry 1: operation 1 is not ["append",key,value] or ["r",key,values]',
+    '{"type":"ok","process":1,"value":[["r",1,["a"]]]}': "line 1, entry 1: operation 1 has a value that is not a whole number from 0 to 4294967295",
+    '{"type":"ok","process":1,"value":[["append",1,4294967296]]}': "line 1, entry 1: operation 1 has a value that is not a whole number from 0 to 4294967295",
+    '{"type":"ok","process":1,"value":[["append",1,1.5]]}': "line 1, entry 1: operation 1 has a value that is not a whole number from 0 to 4294967295",
+    '{"type":"ok","process":1,"value":[["append",null,1]]}':
+        "line 1, entry 1: the key of operation 1 is not a whole number, or a text of 1 to 64 letters, digits and _ . / : -",
+    '{"type":"ok","process":1,"value":[["append","a b",1]]}':
+        "line 1, entry 1: the key of operation 1 is not a whole number, or a text of 1 to 64 letters, digits and _ . / : -",
+    '{"type":"invoke","process":1,"value":[]}' * 2: "line 1, entry 2: process 1 has invoked another transaction, and has not ended it",
+    GOOD + GOOD: "entry 2 appends 1 to key 1 a second time",
+    GOOD + '{"type":"info","process":0,"value":[["append",1,2],["append",1,2]]}': "entry 2 appends 2 to key 1 a second time",
+    "[" * 100_000: None,
+    '{"a":' * 100_000: None,
+}
+
+
+def tells_faults(program):
+    for given, wanted in FAULTS.items():
+        status, text, errors = check(program, given.encode("latin-1"))
+        if wanted is None:
+            same("status", True, status in (0, 2))
+            continue
+        same(f"fault of {given[:80]!r}", (2, "", wanted + "\n"), (status, text, errors))
+
+
+def survives_hostile_bytes(program):
+    draw = random.Random(3)
+    entries, _ = entries_of(draw, drawn(draw))
+    good, count = lines_of(entries).encode(), 0
+    for _ in range(400):
+        bad = bytearray(good)
+        for _ in range(draw.randint(1, 4)):
+            place = draw.randrange(len(bad))
+            bad[place:place + draw.randint(0, 3)] = draw.choice([b"", b"\"", b"{", b"}", b"[", b"]", b"\\", b"\xff", b"9" * 30, b"null"])
+        status, text, errors = check(program, bytes(bad))
+        if (status, bool(text), bool(errors)) not in ((0, True, False), (1, True, False), (2, False, True)):
+            raise Differs(f"status {status}, {text!r}, {errors!r} on {bytes(bad)!r}")
+        count += status == 2
+    return f"400 inputs, {count} of them faulty"
+
+
+def needs_its_model(program):
+    ran = subprocess.run([program, "check", "--strict"], input=b"", capture_output=True, timeout=SECONDS, check=False)
+    same("status", 2, ran.returncode)
+    same("standard output", b"", ran.stdout)
+    if b"--model list-append" not in ran.stderr:
+        raise Differs(f"standard error: {ran.stderr!r}")
+
+
+def draws_its_witness(program):
+    entries, _ = entries_of(random.Random(1), NAMED["G2-item"])
+    status, text, errors = check(program, lines_of(entries), "--timeline")
+    same("status", (1, ""), (status, errors))
+    ElementTree.fromstring(text)
+    status, text, errors = check(program, lines_of(entries), "--graph")
+    same("status", (1, ""), (status, errors))
+    same("arrows", 2, text.count(" -> "))
+
+
+def recorded_ones(program):
+    """What was recorded of databases, with its report."""
+    told = []
+    for path in sorted(CLIENTS.glob("*.json")):
+        status, text, errors = check(program, path.read_bytes())
+        same(f"fault of {path.name}", "", errors)
+        same(f"report on {path.name}", path.with_suffix(".out").read_text(), text)
+        told.append(f"{path.stem} {status}")
+    return ", ".join(told)
+
+
+CASES = [on_all_small_histories, on_drawn_histories, on_drawn_histories_strictly, names_anomalies, reads_each_form,
+         passes_what_is_no_clients, tells_faults, survives_hostile_bytes, needs_its_model, draws_its_witness, recorded_ones]
+
+if __name__ == "__main__":
+    sys.exit(tell(CASES, sys.argv[1], of="clients"))
