@@ -50,9 +50,7 @@ class Server:
         self.process = subprocess.Popen(
             command, stdout=subprocess.PIPE, stderr=subprocess.PIPE, text=True, preexec_fn=before, env={**os.environ, **(env or {})}
         )
-        self.said = []
         for line in self.process.stdout:
-            self.said.append(line.rstrip("\n"))
             if found := re.match(r"serving on port (\d+) after call (\d+)", line):
                 self.port, self.seq = int(found[1]), int(found[2])
                 return
@@ -451,6 +449,28 @@ def other_procedures():
             same("verify", 0, run("verify", folder / "j", "--port", server.port)[0])
 
 
+def bad_procedures():
+    """A file that is no procedure ends the start, and is named."""
+    look = ["look", 0, 1, ["arg", 0], 1]
+    files = [
+        ('{"procedure": [', "JSONDecodeError"),
+        ({"request": ["gift"]}, "KeyError: 'procedure'"),
+        ({"request": ["gift"], "procedure": [1, [look, ["puts", 1, 2, 3]]]}, "shape 1 1"),
+        ({"request": ["gift"], "procedure": [1, [["look", 99, 1, ["arg", 0], 1]]]}, "flaw 1"),
+        ({"request": ["gift", "amount"], "procedure": [1, [look]]}, "the request has 2 keys, and the procedure takes 1 arguments"),
+        ({"request": ["gift"], "refused": {"one": "x"}, "procedure": [1, [look]]}, "ValueError"),
+        ({"request": ["balance"], "procedure": [1, [look]]}, "balance.json has the same keys in its request"),
+    ]
+    with room() as folder:
+        shutil.copytree(PAYMENTS / "procedures", folder / "procedures")
+        for text, wanted in files:
+            (folder / "procedures" / "gift.json").write_text(text if isinstance(text, str) else json.dumps(text))
+            status, out, error = run("serve", folder / "j", "--procedures", folder / "procedures")
+            if (status, out) != (1, "") or not error.startswith(f"payments: {folder / 'procedures' / 'gift.json'}: ") or wanted not in error:
+                raise Differs(f"a start with {text}: {status} {out} {error}")
+    return f"{len(files)} files"
+
+
 def forged_journal():
     """A call that was changed, with a checksum that fits, is found by `verify`, but for the calls after the last snapshot by the server alone."""
     with room() as folder:
@@ -535,7 +555,7 @@ def main():
         return crashes(rounds, seed)
 
     crash_test.__name__ = "crashes"
-    return tell([replies, torn_tails, damage, full_disk, failing_fsync, other_procedures, forged_journal, failovers, crash_test], of="payments")
+    return tell([replies, torn_tails, damage, full_disk, failing_fsync, other_procedures, bad_procedures, forged_journal, failovers, crash_test], of="payments")
 
 
 if __name__ == "__main__":

@@ -17,6 +17,10 @@ class Damaged(Exception):
     """The journal or a snapshot can't be trusted."""
 
 
+class BadProcedure(Exception):
+    """A file of the folder is no procedure."""
+
+
 class Procedure:
     """A procedure of the folder, with what a client sends and gets."""
 
@@ -24,8 +28,9 @@ class Procedure:
         self.name, self.text = name, file["procedure"]  # the text is as docs/LANGUAGE.md has it
         self.request: tuple[str, ...] = tuple(file.get("request", ()))  # clients can't ask for a procedure without any keys
         self.writes = '"put"' in json.dumps(self.text)  # a call that can't write is not journaled
+        Engine.bare(1, 1).procedure(self.text)  # says what is wrong with it
         if self.request and len(self.request) != self.text[0]:
-            raise Damaged(f"{name}.json: the request has {len(self.request)} keys, and the procedure takes {self.text[0]} arguments")
+            raise ValueError(f"the request has {len(self.request)} keys, and the procedure takes {self.text[0]} arguments")
         # The parts of a reply as text, in which %d stands for a number.
         self._begin = "{" + spelled(self.request[0] if self.request else "") + "%d"
         self._done = ", " + json.dumps(file["done"]) + ": true" if file.get("done") else ""
@@ -47,7 +52,17 @@ def spelled(key: str) -> str:
 
 def load_procedures(folder: pathlib.Path) -> dict[str, Procedure]:
     """The procedures of a folder, by name."""
-    return {path.stem: Procedure(path.stem, json.loads(path.read_text())) for path in sorted(folder.glob("*.json"))}
+    found: dict[str, Procedure] = {}
+    for path in sorted(folder.glob("*.json")):
+        try:
+            procedure = Procedure(path.stem, json.loads(path.read_text()))
+        except (ValueError, LookupError, TypeError, AttributeError) as why:
+            raise BadProcedure(f"{path}: {type(why).__name__}: {why}") from None
+        for other in found.values():
+            if procedure.request and set(other.request) == set(procedure.request):
+                raise BadProcedure(f"{path}: {other.name}.json has the same keys in its request")
+        found[path.stem] = procedure
+    return found
 
 
 class Bank:

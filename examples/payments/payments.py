@@ -13,7 +13,7 @@ import time
 from typing import Union
 
 from audit import show, verify
-from bank import Bank, Damaged, Procedure, first_rows, load_procedures
+from bank import BadProcedure, Bank, Damaged, Procedure, first_rows, load_procedures
 from journal import FileJournal, Record
 from sgt import LEAST, MOST, Kind
 
@@ -186,7 +186,7 @@ def main() -> None:
         if words.command == "serve":
             return serve(words)
         show(words.folder, words.procedures) if words.command == "show" else verify(words.folder, words.port)
-    except (Damaged, OSError) as why:
+    except (BadProcedure, Damaged, OSError) as why:
         sys.exit(f"payments: {why}")
 
 

@@ -16,7 +16,7 @@ import sys
 import time
 from typing import Iterator, Union
 
-from bank import Bank, Damaged, Procedure, first_rows, load_procedures
+from bank import BadProcedure, Bank, Damaged, Procedure, first_rows, load_procedures
 from journal import Record, pack_snapshot, read, unpack_snapshot
 from payments import Request, Server, run
 
@@ -135,15 +135,15 @@ def main() -> None:
     parser.add_argument("--accounts", type=int, default=1000, help="of a new journal")
     parser.add_argument("--cents", type=int, default=100_000, help="that each of them has")
     words = parser.parse_args()
-    begin, procedures = time.perf_counter(), load_procedures(words.procedures)
-    texts = {name: it.text for name, it in procedures.items()}
     try:
+        begin, procedures = time.perf_counter(), load_procedures(words.procedures)
+        texts = {name: it.text for name, it in procedures.items()}
         journal = RedisJournal(words.name, words.redis_port, words.follow)
         bank = journal.start(Bank(0, texts, first_rows(words.accounts, words.cents)))
         if bank.texts != texts:
             raise Damaged("Redis: the stream was written with other procedures")
         run(Replica(bank, journal, procedures, words.port), begin)
-    except (Damaged, OSError) as why:
+    except (BadProcedure, Damaged, OSError) as why:
         sys.exit(f"replicated: {why}")
 
 

@@ -79,19 +79,6 @@ twice_appended h u q t p k v one other (inr same) once =
     let both = at_both (operations_of h t) q p k v v same.1 (subst (λ w. AppendAt h w q k v) same.0 one) other in
     not_both (appended k (operations_of h t)) v v (once.once t k) both both
 
-pub none_filed : (h : List Transaction) (at : Positions) → ((k v : ℕ) → at k v ≡ None) → IsFiled h 0 0 at
-none_filed h at none = record {
-  found = λ k v t p is. absurd (clash (at k v) (t, p) is (none k v));
-  all = λ k v t p here earlier. absurd (never earlier);
-}
-  where
-    clash : (x : Option (ℕ × ℕ)) (y : ℕ × ℕ) → x ≡ Some y → ¬ (x ≡ None)
-    clash x y is none = grind (arith, common_steps, is, none)
-
-    never : {t p : ℕ} → ¬ IsEarlier t p 0 0
-    never (inl less) = omega (arith, less)
-    never (inr same) = omega (arith, same.1)
-
 nothing_is : (x : Option (ℕ × ℕ)) (y : ℕ × ℕ) → x ≡ None → ¬ (x ≡ Some y)
 nothing_is x y none is = grind (arith, common_steps, is, none)
 
@@ -106,7 +93,7 @@ earlier_cases t p i j (inr same) = elim (cases_eq p j) [
   | inr differ ↦ inl (inr (same.0, omega (arith, same.1, differ)))
 ]
 
-same_append : (os : List Operation) (p k v l w : ℕ) → slice_get os p ≡ Some (Append k v) → slice_get os p ≡ Some (Append l w)
+pub same_append : (os : List Operation) (p k v l w : ℕ) → slice_get os p ≡ Some (Append k v) → slice_get os p ≡ Some (Append l w)
     → (k ≡ l) × (v ≡ w)
 same_append os p k v l w one other = (key (sym one ∙ other), val (sym one ∙ other))
   where

@@ -20,21 +20,6 @@ same_line x a b one other = by (sym one ∙ other)
     by : Some a ≡ Some b → a ≡ b
     by e = cc
 
--- at first there are no lines
-pub no_lines : (h : List Transaction) (lines : KeyLines) (keys : List ℕ) → ((k : ℕ) → lines k ≡ None) → AreLines h 0 0 lines keys
-no_lines h lines keys none = record {
-  versions = λ k line is. absurd (clash line (sym (none k) ∙ is));
-  numbered = λ k line is. absurd (clash line (sym (none k) ∙ is));
-  longest = λ t p k seen earlier committed reads. absurd (never earlier);
-}
-  where
-    clash : (y : Line) → ¬ (None ≡ Some y)
-    clash y e = cc
-
-    never : {t p : ℕ} → ¬ IsEarlier t p 0 0
-    never (inl less) = omega (arith, less)
-    never (inr same) = omega (arith, same.1)
-
 -- a version that was covered still is
 covered_still : (old new : KeyLines) (keys keys' : List ℕ) (k : ℕ) (values : List ℕ) (l : ℕ) (others : List ℕ)
     → IsOffered old new keys keys' k values → IsCovered old l others → IsCovered new l others

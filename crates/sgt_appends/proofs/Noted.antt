@@ -60,14 +60,6 @@ noted_one P Q R key k v i vs within now before = (there, back)
     back (inl q) = now.1 (inl (before.1 (inl q)))
     back (inr it) = last it.0 (Has-append_cases (take i vs) (get_or vs i 0 ∷ []) v (subst (λ xs. Has xs v) longer it.1))
 
--- no value yet
-pub noted_none : (Q : Type 0) (key k v : ℕ) (vs : List ℕ) → Either Q Q ((key ≡ k) × Has (take 0 vs) v)
-noted_none Q key k v vs = ((λ q. inl q), back)
-  where
-    back : Q ⊎ ((key ≡ k) × Has (take 0 vs) v) → Q
-    back (inl q) = q
-    back (inr it) = absurd it.1
-
 -- the values of one key more
 pub line_one : (P R : Type 0) (lines : KeyLines) (k v i : ℕ) (keys : List ℕ) → i < length keys
     → Either R P ((get_or keys i 0 ≡ k) × Has (values_in lines (get_or keys i 0)) v)

@@ -131,19 +131,6 @@ same_number x p q one other = number (sym one ∙ other)
     number : Some p ≡ Some q → p ≡ q
     number e = cc
 
--- at first nothing was scanned
-pub none_passed : (h : List Transaction) (at : Positions) (t p k : ℕ) (last : Lasts) → ((u : ℕ) → last u ≡ None)
-    → IsPassed h at t p k [] last
-none_passed h at t p k last none = record {
-  written = λ v has. absurd has;
-  last_are = λ u q is. absurd (clash (last u) q is (none u));
-  none_later = λ v u q has is. absurd has;
-  in_order = λ v w u q r before one other. absurd (StandsBefore-has [] v w before).0;
-}
-  where
-    clash : (x : Option ℕ) (y : ℕ) → x ≡ Some y → ¬ (x ≡ None)
-    clash x y is none = grind (arith, common_steps, is, none)
-
 -- one value more
 pub passed_one : (h : List Transaction) (at : Positions) (t p k : ℕ) (vs : List ℕ) (old new : Lasts) (x : ℕ) → IsPassed h at t p k vs old
     → IsPassedOne h at t p k old new x → IsPassed h at t p k (vs ++ x ∷ []) new
@@ -323,14 +310,6 @@ same_read os p k l values others one other = (key (sym one ∙ other), list (sym
 
     list : Some (Read k values) ≡ Some (Read l others) → values ≡ others
     list e = cc
-
--- a position has one read
-pub clean_at : (h : List Transaction) (t p k : ℕ) (seen : List ℕ) → IsReadAt h t p k seen → IsClean h t k (own_at h t p k) seen
-    → IsCleanAt h t p
-clean_at h t p k seen it clean l others committed other =
-    let same = same_read (operations_of h t) p k l it.0 other.0 it.1 other.1 in
-    let lists : seen ≡ others = sym it.2 ∙ ap (λ (v : Vec ℕ). v.items) same.1 ∙ other.2 in
-    subst (λ m. IsClean h t m (own_at h t p m) others) same.0 (subst (λ xs. IsClean h t k (own_at h t p k) xs) lists clean)
 
 -- one position more
 pub clean_more : (h : List Transaction) (t i : ℕ) → ((p : ℕ) → p < i → IsCleanAt h t p) → IsCleanAt h t i → (p : ℕ) → p < i + 1 → IsCleanAt h t p

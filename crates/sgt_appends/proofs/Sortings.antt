@@ -461,15 +461,3 @@ none_ordered ranks (v ∷ order) empty none = absurd (grind (arith, common_steps
 pub all_rise : (links : List Link) (heads before ranks : List ℕ) → IsSorted links heads before ranks
     → ((v : ℕ) → v < length ranks → 0 < get_or ranks v 0) → RiseAlong links (λ v. get_or ranks v 0)
 all_rise links heads before ranks is all = λ l among. (is.placed l among (all l.to (is.within l among).1)).1
-
--- one link more whose nodes are below the number
-pub within_one : (links : List Link) (l : Link) (nodes : ℕ) → AreWithin links nodes → l.from < nodes → l.to < nodes
-    → AreWithin (links ++ l ∷ []) nodes
-within_one links l nodes are from to k among = elim (among_append links (l ∷ []) k among) [
-  | inl w ↦ are k w
-  | inr w ↦ last w
-]
-  where
-    last : IsAmong (l ∷ []) k → (k.from < nodes) × (k.to < nodes)
-    last (inl e) = subst (λ (x : Link). (x.from < nodes) × (x.to < nodes)) e (from, to)
-    last (inr none) = absurd none

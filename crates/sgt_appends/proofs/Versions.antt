@@ -20,7 +20,7 @@ use Rattle.sgt_appends.proofs.ReadFaults.{IsOnce-behind}
 use Rattle.sgt_appends.proofs.Passed.{reads_at, at_reads}
 
 -- what a transaction appends to a key before a position, and from it on
-parted : (h : List Transaction) (t p k : ℕ) → appended k (operations_of h t) ≡ own_at h t p k ++ appended k (drop p (operations_of h t))
+pub parted : (h : List Transaction) (t p k : ℕ) → appended k (operations_of h t) ≡ own_at h t p k ++ appended k (drop p (operations_of h t))
 parted h t p k =
     ap (appended k) (sym (take-append-drop p (operations_of h t)))
     ∙ appended-append k (take p (operations_of h t)) (drop p (operations_of h t))

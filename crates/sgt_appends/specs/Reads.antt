@@ -5,7 +5,7 @@ use Rattle.std.specs.BTreeMap.{BTreeMap, get}
 use Rattle.std.specs.Ordering.{nat_cmp}
 use Rattle.std.specs.Global.{Vec}
 use Rattle.sgt_appends.specs.declared.transaction.Operation.TheVariants.{Read}
-use Rattle.sgt_appends.specs.declared.transaction.Status.TheVariants.{Committed}
+use Rattle.sgt_appends.specs.declared.transaction.Status.TheVariants.{Committed, Unknown}
 use Rattle.sgt_appends.specs.declared.transaction.Transaction.{Transaction}
 use Rattle.sgt_appends.specs.declared.fault.Fault.{Fault}
 use Rattle.sgt_appends.specs.declared.fault.Fault.TheVariants.{Unwritten, Twice, Swapped, EndsOtherwise, Ahead}
@@ -73,3 +73,11 @@ pub record IsPassed (h : List Transaction) (at : Positions) (t p k : ℕ) (vs : 
   pub last_are : (u q : ℕ) → last u ≡ Some q → (v : ℕ) × Has vs v × (at k v ≡ Some (u, q))
   pub none_later : (v u q : ℕ) → Has vs v → at k v ≡ Some (u, q) → (r : ℕ) × (last u ≡ Some r) × (q ≤ r)
   pub in_order : (v w u q r : ℕ) → StandsBefore vs v w → at k v ≡ Some (u, q) → at k w ≡ Some (u, r) → q < r
+
+-- the transaction with an unknown end has a read at this position
+abbrev pub HasUnknownRead : List Transaction → ℕ → ℕ → Type 0
+HasUnknownRead h t p = (k : ℕ) × (seen : List ℕ) × Ended h t Unknown × IsReadAt h t p k seen
+
+-- the transaction has no read, or its end is known
+abbrev pub HasNoUnknownRead : List Transaction → ℕ → Type 0
+HasNoUnknownRead h t = (p k : ℕ) (seen : List ℕ) → Ended h t Unknown → ¬ IsReadAt h t p k seen

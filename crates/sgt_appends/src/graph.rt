@@ -2,180 +2,336 @@
 //!
 //! Its nodes are the transactions, and an end for each line. The end comes after all that saw the whole line, and
 //! before all that append a value that is not in it.
-ghost use Rattle.std.specs.Prelude.{◌≡◌, ◌≢◌, ◌<◌, ◌↔◌, ◌⊎◌, ℕ, [], Some, None, OnOk, IfOk, IfSome, IsNone};
-ghost use Rattle.sgt_appends.specs.Graphs.{AreWithin};
+ghost use Rattle.std.specs.Prelude.{◌≡◌, ◌≢◌, ◌<◌, ◌+◌, ◌^◌, ◌↔◌, ◌⊎◌, ℕ, List, [], Some, None, OnOk, IfOk, IfSome, IsNone, length};
+ghost use Rattle.std.proofs.Common.{get_or};
+ghost use Rattle.sgt_appends.specs.declared.transaction.Status.TheVariants.{Committed};
 ghost use Rattle.sgt_appends.specs.Lists.{Has};
-ghost use Rattle.sgt_appends.specs.Indexes.{position_of};
-ghost use Rattle.sgt_appends.specs.Lines.{line_in, keys_in, AreNumbered};
+ghost use Rattle.sgt_appends.specs.Runs.{Ended, MayRun};
+ghost use Rattle.sgt_appends.specs.Orders.{AllClean};
+ghost use Rattle.sgt_appends.specs.Reads.{IsReadAt};
+ghost use Rattle.sgt_appends.specs.Indexes.{position_of, IsIndex, AppendAt};
+ghost use Rattle.sgt_appends.specs.Lines.{line_in, keys_in, values_in, has_pair, AreNumbered};
 ghost use Rattle.sgt_appends.specs.Links.{has_number, IsKnownBy, IsFirstUnknown, AreIndexed, AreAllIndexed};
+ghost use Rattle.sgt_appends.specs.Meanings.{LeadsFromEnd, IsMeant};
+ghost use Rattle.sgt_appends.specs.Required.{IsLinked, AreMore, IsAdded, IsPaired, IsNextLink, AreNextLinked, IsOwn, IsLastOther, IsSeenLink, IsLastLinked, IsMissTarget, IsMissLink, IsMissLinked, IsReadLinked, IsAppendLinkedAt, IsReadLinkedAt, IsEndBefore, AreLinked, AreAllLinked};
 
 use crate::append_index::AppendIndex;
-use crate::lines::{Lines, all_values};
+use crate::lines::{Line, Lines, all_values};
 use crate::reads::{Read, read_of};
 use crate::sorting::Link;
 use crate::transaction::{Operation, Status, Transaction};
-use crate::witness::{Edge, Reason};
+use crate::witness::Reason;
 use sgt_model::NoMemory;
 use std::alloc::Global;
 use std::collections::BTreeSet;
 
-/// Links between nodes with numbers below a limit.
-#[derive(Drop)]
-pub struct Graph {
-    pub nodes: usize,
-    pub links: Vec<Link>,
+/// The links from and to the transactions of the history.
+pub fn links_of(
+    alloc: Global,
+    history: &[Transaction],
+    appends: &AppendIndex,
+    lines: &Lines,
+) -> Result<Vec<Link>, NoMemory>
+    requires index { IsIndex history.now (position_of appends.now) }
+    requires clean { AllClean history.now }
+    requires numbered { AreNumbered (line_in lines.now) (keys_in lines.now) }
+    requires indexed { AreAllIndexed (position_of appends.now) (line_in lines.now) }
+    requires fits { length history.now + length (keys_in lines.now) < 2 ^ 64 }
+    ensures { IfOk result (λ links. AreAllLinked history.now (position_of appends.now) (line_in lines.now) (keys_in lines.now) links.items) }
+{
+    let values = all_values(alloc, lines)?;
+    let mut links = Vec::new(alloc);
+    for number in 0..history.len() {
+        add_transaction(&mut links, alloc, history, appends, lines, &values, number)?;
+    }
+    Ok(links)
 }
 
-impl Graph {
-    /// No links, between nodes below the number.
-    pub fn new(alloc: Global, nodes: usize) -> Self
-        ensures { AreWithin result.links.items result.nodes }
-    {
-        Graph {
-            nodes,
-            links: Vec::new(alloc),
-        }
+/// Adds the links of the transaction's reads and appends.
+fn add_transaction(
+    links: &mut Vec<Link>,
+    alloc: Global,
+    history: &[Transaction],
+    appends: &AppendIndex,
+    lines: &Lines,
+    values: &BTreeSet<(u32, u32)>,
+    number: usize,
+) -> Result<(), NoMemory>
+    requires index { IsIndex history.now (position_of appends.now) }
+    requires clean { AllClean history.now }
+    requires numbered { AreNumbered (line_in lines.now) (keys_in lines.now) }
+    requires indexed { AreAllIndexed (position_of appends.now) (line_in lines.now) }
+    requires fits { length history.now + length (keys_in lines.now) < 2 ^ 64 }
+    requires values { (k v : ℕ) → has_pair values.now k v ↔ Has (values_in (line_in lines.now) k) v }
+    requires linked { AreLinked history.now (position_of appends.now) (line_in lines.now) (keys_in lines.now) links.old.items number 0 }
+    ensures { OnOk result (AreLinked history.now (position_of appends.now) (line_in lines.now) (keys_in lines.now) links.new.items (number + 1) 0) }
+{
+    let Some(transaction) = history.get(number) else {
+        return Ok(());
+    };
+    for position in 0..transaction.operations.len() {
+        add_position(
+            links, alloc, history, appends, lines, values, number, position,
+        )?;
     }
+    Ok(())
+}
 
-    /// Adds the link, if its nodes are below the number and differ.
-    fn add(&mut self, link: Link) -> Result<(), NoMemory>
-        requires { AreWithin self.old.links.items self.old.nodes }
-        ensures { OnOk result (AreWithin self.new.links.items self.new.nodes) }
-    {
-        if link.from < self.nodes && link.to < self.nodes && link.from != link.to {
-            self.links.push(link)?;
+/// Adds the links of the transaction's operation at the position.
+fn add_position(
+    links: &mut Vec<Link>,
+    alloc: Global,
+    history: &[Transaction],
+    appends: &AppendIndex,
+    lines: &Lines,
+    values: &BTreeSet<(u32, u32)>,
+    number: usize,
+    position: usize,
+) -> Result<(), NoMemory>
+    requires index { IsIndex history.now (position_of appends.now) }
+    requires clean { AllClean history.now }
+    requires numbered { AreNumbered (line_in lines.now) (keys_in lines.now) }
+    requires indexed { AreAllIndexed (position_of appends.now) (line_in lines.now) }
+    requires fits { length history.now + length (keys_in lines.now) < 2 ^ 64 }
+    requires values { (k v : ℕ) → has_pair values.now k v ↔ Has (values_in (line_in lines.now) k) v }
+    ensures more { OnOk result (AreMore links.old.items links.new.items (IsMeant history.now (line_in lines.now) (keys_in lines.now))) }
+    ensures read { OnOk result (IsReadLinkedAt history.now (position_of appends.now) (line_in lines.now) links.new.items number position) }
+    ensures append { OnOk result (IsAppendLinkedAt history.now (line_in lines.now) links.new.items number position) }
+{
+    add_read(links, alloc, history, appends, lines, number, position)?;
+    add_unseen(links, history, lines, values, number, position)?;
+    Ok(())
+}
+
+/// Adds the links of the read at the position, if the transaction committed.
+fn add_read(
+    links: &mut Vec<Link>,
+    alloc: Global,
+    history: &[Transaction],
+    appends: &AppendIndex,
+    lines: &Lines,
+    number: usize,
+    position: usize,
+) -> Result<(), NoMemory>
+    requires index { IsIndex history.now (position_of appends.now) }
+    requires clean { AllClean history.now }
+    requires numbered { AreNumbered (line_in lines.now) (keys_in lines.now) }
+    requires indexed { AreAllIndexed (position_of appends.now) (line_in lines.now) }
+    requires fits { length history.now + length (keys_in lines.now) < 2 ^ 64 }
+    ensures more { OnOk result (AreMore links.old.items links.new.items (IsMeant history.now (line_in lines.now) (keys_in lines.now))) }
+    ensures linked { OnOk result (IsReadLinkedAt history.now (position_of appends.now) (line_in lines.now) links.new.items number position) }
+{
+    match read_of(history, number, position) {
+        Some(read) => {
+            add_next(links, appends, read)?;
+            add_last(links, appends, read)?;
+            add_missed(links, alloc, history.len(), appends, lines, read)?;
+            Ok(())
         }
-        Ok(())
+        None => Ok(()),
     }
+}
 
-    /// Adds the links from and to the transactions of the history.
-    pub fn add_all(
-        &mut self,
-        alloc: Global,
-        history: &[Transaction],
-        appends: &AppendIndex,
-        lines: &Lines,
-    ) -> Result<(), NoMemory>
-        requires within { AreWithin self.old.links.items self.old.nodes }
-        requires numbered { AreNumbered (line_in lines.now) (keys_in lines.now) }
-        requires indexed { AreAllIndexed (position_of appends.now) (line_in lines.now) }
-        ensures { OnOk result (AreWithin self.new.links.items self.new.nodes) }
-    {
-        let values = all_values(alloc, lines)?;
-        for (number, transaction) in history.iter().enumerate() {
-            for position in 0..transaction.operations.len() {
-                if let Some(read) = read_of(history, number, position) {
-                    self.add_seen(appends, read)?;
-                    self.add_missed(alloc, history.len(), appends, lines, read)?;
-                }
-                self.add_unseen(history, lines, &values, number, position)?;
-            }
-        }
-        Ok(())
+/// Adds the link, unless it leads from a node to itself.
+fn add(links: &mut Vec<Link>, link: Link) -> Result<(), NoMemory>
+    ensures { OnOk result (IsAdded links.old.items links.new.items link) }
+{
+    if link.from != link.to {
+        links.push(link)?;
     }
+    Ok(())
+}
 
-    /// Adds the links from the values that the read saw: from the appender of each value to the appender of the next,
-    /// and from the appender of the last value of others to the reader.
-    fn add_seen(&mut self, appends: &AppendIndex, read: Read<'_>) -> Result<(), NoMemory>
-        requires { AreWithin self.old.links.items self.old.nodes }
-        ensures { OnOk result (AreWithin self.new.links.items self.new.nodes) }
-    {
-        let mut before: Option<(usize, usize)> = None;
-        let mut last: Option<(usize, usize)> = None;
-        for value in read.seen {
-            if let Some((by, append)) = appends.find(read.key, *value) {
-                if let Some((from, first)) = before {
-                    let reason = Reason::InOrder {
-                        first,
-                        second: append,
-                        reader: read.reader,
-                        read: read.position,
-                    };
-                    self.add(Link {
-                        from,
-                        to: by,
-                        reason,
-                    })?;
-                }
-                before = Some((by, append));
-                if by != read.reader {
-                    last = Some((by, append));
-                }
-            }
+/// Adds the links from the appender of each value that the read saw to the appender of the next one.
+fn add_next(links: &mut Vec<Link>, appends: &AppendIndex, read: Read<'_>) -> Result<(), NoMemory>
+    requires { AreIndexed (position_of appends.now) read.key read.seen.now }
+    ensures more { OnOk result (AreMore links.old.items links.new.items
+        (IsNextLink (position_of appends.now) read.entry.reader read.entry.position read.entry.key read.entry.seen.now)) }
+    ensures linked { OnOk result (AreNextLinked (position_of appends.now) links.new.items read.entry.key read.entry.seen.now
+        (length read.entry.seen.now)) }
+{
+    let mut before = None;
+    for value in read.seen {
+        let next = position_in(appends, read.key, *value);
+        add_pair(links, before, next, read)?;
+        before = Some(next);
+    }
+    Ok(())
+}
+
+/// Adds the link from the one append to the other, which the read saw after it.
+fn add_pair(
+    links: &mut Vec<Link>,
+    before: Option<(usize, usize)>,
+    next: (usize, usize),
+    read: Read<'_>,
+) -> Result<(), NoMemory>
+    ensures { OnOk result (IsPaired links.old.items links.new.items before next read.entry.reader read.entry.position) }
+{
+    match before {
+        Some((from, first)) => {
+            let reason = Reason::InOrder {
+                first,
+                second: next.1,
+                reader: read.reader,
+                read: read.position,
+            };
+            add(
+                links,
+                Link {
+                    from,
+                    to: next.0,
+                    reason,
+                },
+            )
         }
-        if let Some((from, append)) = last {
+        None => Ok(()),
+    }
+}
+
+/// The transaction that appends the value to the key, and the position of the append in it.
+fn position_in(appends: &AppendIndex, key: u32, value: u32) -> (usize, usize)
+    requires { (x : ℕ × ℕ) × (position_of appends.now key value ≡ Some x) }
+    ensures { position_of appends.now key value ≡ Some result }
+{
+    match appends.find(key, value) {
+        Some(found) => found,
+        None => unreachable!(),
+    }
+}
+
+/// Adds the link to the reader from the appender of the last value seen that is not its own.
+fn add_last(links: &mut Vec<Link>, appends: &AppendIndex, read: Read<'_>) -> Result<(), NoMemory>
+    requires { AreIndexed (position_of appends.now) read.key read.seen.now }
+    ensures more { OnOk result (AreMore links.old.items links.new.items
+        (IsSeenLink (position_of appends.now) read.entry.reader read.entry.position read.entry.key read.entry.seen.now)) }
+    ensures linked { OnOk result (IsLastLinked (position_of appends.now) links.new.items read.entry.reader read.entry.key read.entry.seen.now) }
+{
+    match last_other(appends, read) {
+        Some((from, append)) => {
             let reason = Reason::Seen {
                 append,
                 read: read.position,
             };
-            self.add(Link {
-                from,
-                to: read.reader,
-                reason,
-            })?;
+            add(
+                links,
+                Link {
+                    from,
+                    to: read.reader,
+                    reason,
+                },
+            )?;
+            Ok(())
         }
-        Ok(())
+        None => Ok(()),
     }
+}
 
-    /// Adds the link from the reader to the appender of the first value of the line that it does not know, or to the
-    /// line's end.
-    fn add_missed(
-        &mut self,
-        alloc: Global,
-        transactions: usize,
-        appends: &AppendIndex,
-        lines: &Lines,
-        read: Read<'_>,
-    ) -> Result<(), NoMemory>
-        requires within { AreWithin self.old.links.items self.old.nodes }
-        requires indexed { AreAllIndexed (position_of appends.now) (line_in lines.now) }
-        ensures { OnOk result (AreWithin self.new.links.items self.new.nodes) }
-    {
-        let Some(line) = lines.find(read.key) else {
-            return Ok(());
-        };
-        let (to, append) = match first_unknown(alloc, appends, line.values.as_slice(), read)? {
-            Some(found) => found,
-            None => match transactions.checked_add(line.number) {
-                Some(end) => (end, 0),
-                None => return Err(NoMemory),
-            },
-        };
-        let reason = Reason::Missed {
-            read: read.position,
-            append,
-        };
-        self.add(Link {
+/// The append of the last value seen that the reader does not append itself.
+fn last_other(appends: &AppendIndex, read: Read<'_>) -> Option<(usize, usize)>
+    requires { AreIndexed (position_of appends.now) read.key read.seen.now }
+    ensures some { IfSome result (IsLastOther (position_of appends.now) read.entry.reader read.entry.key read.entry.seen.now) }
+    ensures none { IsNone result → (j : ℕ) → j < length read.entry.seen.now
+        → IsOwn (position_of appends.now) read.entry.reader read.entry.key (get_or read.entry.seen.now j 0) }
+{
+    let mut rest = read.seen.len();
+    while rest > 0 {
+        rest -= 1;
+        let found = position_in(appends, read.key, read.seen[rest]);
+        if found.0 != read.reader {
+            return Some(found);
+        }
+    }
+    None
+}
+
+/// Adds the link from the reader to the appender of the first value of the line that it does not know, or to the line's
+/// end.
+fn add_missed(
+    links: &mut Vec<Link>,
+    alloc: Global,
+    transactions: usize,
+    appends: &AppendIndex,
+    lines: &Lines,
+    read: Read<'_>,
+) -> Result<(), NoMemory>
+    requires numbered { AreNumbered (line_in lines.now) (keys_in lines.now) }
+    requires indexed { AreAllIndexed (position_of appends.now) (line_in lines.now) }
+    requires fits { transactions + length (keys_in lines.now) < 2 ^ 64 }
+    ensures more { OnOk result (AreMore links.old.items links.new.items (IsMissLink (position_of appends.now) transactions (line_in lines.now)
+        read.entry.reader read.entry.position read.entry.key read.entry.seen.now)) }
+    ensures linked { OnOk result (IsMissLinked (position_of appends.now) transactions (line_in lines.now) links.new.items read.entry.reader
+        read.entry.key read.entry.seen.now) }
+{
+    let Some(line) = lines.find(read.key) else {
+        return Ok(());
+    };
+    let (to, append) = missed(alloc, transactions, appends, line, read)?;
+    let reason = Reason::Missed {
+        read: read.position,
+        append,
+    };
+    add(
+        links,
+        Link {
             from: read.reader,
             to,
             reason,
-        })
-    }
+        },
+    )?;
+    Ok(())
+}
 
-    /// Adds the link from the end of the line to the transaction, if its append at the position is not in the line.
-    fn add_unseen(
-        &mut self,
-        history: &[Transaction],
-        lines: &Lines,
-        values: &BTreeSet<(u32, u32)>,
-        number: usize,
-        position: usize,
-    ) -> Result<(), NoMemory>
-        requires { AreWithin self.old.links.items self.old.nodes }
-        ensures { OnOk result (AreWithin self.new.links.items self.new.nodes) }
-    {
-        let Some(end) = end_before(history, lines, values, number, position) else {
-            return Ok(());
-        };
-        let reason = Reason::Missed {
-            read: 0,
-            append: position,
-        };
-        self.add(Link {
-            from: end,
-            to: number,
-            reason,
-        })
+/// The append of the first value of the line that the reader does not know, or the end of the line.
+fn missed(
+    alloc: Global,
+    transactions: usize,
+    appends: &AppendIndex,
+    line: &Line,
+    read: Read<'_>,
+) -> Result<(usize, usize), NoMemory>
+    requires indexed { AreIndexed (position_of appends.now) read.key line.now.values.items }
+    requires fits { transactions + line.now.number < 2 ^ 64 }
+    ensures { IfOk result (IsMissTarget (position_of appends.now) transactions read.entry.reader read.entry.key read.entry.seen.now line.now) }
+{
+    match first_unknown(alloc, appends, line.values.as_slice(), read)? {
+        Some(found) => Ok(found),
+        None => Ok((transactions + line.number, 0)),
+    }
+}
+
+/// Adds the link from the end of the line to the transaction, if its append at the position is not in the line.
+fn add_unseen(
+    links: &mut Vec<Link>,
+    history: &[Transaction],
+    lines: &Lines,
+    values: &BTreeSet<(u32, u32)>,
+    number: usize,
+    position: usize,
+) -> Result<(), NoMemory>
+    requires numbered { AreNumbered (line_in lines.now) (keys_in lines.now) }
+    requires fits { length history.now + length (keys_in lines.now) < 2 ^ 64 }
+    requires values { (k v : ℕ) → has_pair values.now k v ↔ Has (values_in (line_in lines.now) k) v }
+    ensures more { OnOk result (AreMore links.old.items links.new.items (LeadsFromEnd history.now (line_in lines.now) (keys_in lines.now))) }
+    ensures linked { OnOk result (IsAppendLinkedAt history.now (line_in lines.now) links.new.items number position) }
+{
+    match end_before(history, lines, values, number, position) {
+        Some(end) => {
+            let reason = Reason::Missed {
+                read: 0,
+                append: position,
+            };
+            add(
+                links,
+                Link {
+                    from: end,
+                    to: number,
+                    reason,
+                },
+            )?;
+            Ok(())
+        }
+        None => Ok(()),
     }
 }
 
@@ -186,18 +342,33 @@ fn end_before(
     values: &BTreeSet<(u32, u32)>,
     number: usize,
     position: usize,
-) -> Option<usize> {
+) -> Option<usize>
+    requires numbered { AreNumbered (line_in lines.now) (keys_in lines.now) }
+    requires fits { length history.now + length (keys_in lines.now) < 2 ^ 64 }
+    requires values { (k v : ℕ) → has_pair values.now k v ↔ Has (values_in (line_in lines.now) k) v }
+    ensures some { IfSome result (IsEndBefore history.now (line_in lines.now) number position) }
+    ensures none { IsNone result → (k v : ℕ) → MayRun history.now number → AppendAt history.now number position k v
+        → line_in lines.now k ≡ None ⊎ Has (values_in (line_in lines.now) k) v }
+{
+    let (key, value) = append_of(history, number, position)?;
+    if values.contains(&(key, value)) {
+        return None;
+    }
+    let line = lines.find(key)?;
+    Some(history.len() + line.number)
+}
+
+/// The key and the value of the append at the position, if the transaction is not aborted.
+fn append_of(history: &[Transaction], number: usize, position: usize) -> Option<(u32, u32)>
+    ensures some { IfSome result (λ x. AppendAt history.now number position x.0 x.1) }
+    ensures none { IsNone result → (k v : ℕ) → MayRun history.now number → ¬ AppendAt history.now number position k v }
+{
     let transaction = history.get(number)?;
     if transaction.status == Status::Aborted {
         return None;
     }
     match transaction.operations.get(position)? {
-        Operation::Append { key, value } => {
-            if values.contains(&(*key, *value)) {
-                return None;
-            }
-            history.len().checked_add(lines.find(*key)?.number)
-        }
+        Operation::Append { key, value } => Some((*key, *value)),
         Operation::Read { .. } => None,
     }
 }
@@ -255,44 +426,4 @@ fn set_of(alloc: Global, values: &[u32]) -> Result<BTreeSet<u32>, NoMemory>
         set.insert(*value)?;
     }
     Ok(set)
-}
-
-/// The edges between transactions that the links of a cycle imply. Two links through the end of a line make one edge.
-pub fn edges_of(alloc: Global, transactions: usize, cycle: &[Link]) -> Result<Vec<Edge>, NoMemory> {
-    let mut edges = Vec::new(alloc);
-    for (place, link) in cycle.iter().enumerate() {
-        if link.from < transactions {
-            let mut edge = Edge {
-                from: link.from,
-                to: link.to,
-                reason: link.reason,
-            };
-            if link.to >= transactions {
-                if let Some(next) = next_of(cycle, place) {
-                    edge.to = next.to;
-                    edge.reason = joined(link.reason, next.reason);
-                }
-            }
-            edges.push(edge)?;
-        }
-    }
-    Ok(edges)
-}
-
-/// The link after the one at the index; after the last one the first.
-fn next_of(cycle: &[Link], place: usize) -> Option<Link> {
-    match cycle.get(place.checked_add(1)?) {
-        Some(next) => Some(*next),
-        None => cycle.first().copied(),
-    }
-}
-
-/// The reason of an edge through the end of a line: the read of the one link and the append of the other.
-fn joined(read: Reason, append: Reason) -> Reason {
-    match (read, append) {
-        (Reason::Missed { read, .. }, Reason::Missed { append, .. }) => {
-            Reason::Missed { read, append }
-        }
-        (other, _) => other,
-    }
 }

@@ -8,21 +8,15 @@
 //!
 //! Proved:
 //! - `Serial`: the order is such an order.
-//! - `Violated`: there is none, and each edge of a cycle follows from what was observed.
-//! - Every such order obeys the edges (`precedences_are_obeyed`).
-//! - An order by ranks that rise along few of the edges, with no fault of a read, is such an order
-//!   (`raised_are_enough`).
-//! - The sort of the graph returns ranks that rise along all links, or a cycle of links.
+//! - `Violated`: there is none. The edges of a cycle follow from what was observed, at the positions that they name, and
+//!   every such order obeys them (`precedences_are_obeyed`). The fault of a witness is a fault of the read.
 //! - `AppendedTwice` is returned exactly if a value is appended twice to a key.
-//! - The fault of a witness is a fault of the read. If no fault is named, no read has one.
+//! - `UnknownReads`: a transaction with an unknown end has a read. Its reads must be left out.
+//! - There is no other verdict: a history without these two is judged.
 //!
 //! Not proved:
-//! - that the order or the cycle which the solver finds always shows it, so `Unsure` is possible
 //! - the names of the anomalies
 //! - the time
-//!
-//! An unknown transaction must have no reads. If it has some, and the order contains it, they count as those of a
-//! committed one, and the verdict may be `Unsure`.
 //!
 //! ```
 //! // the first appends 1 and 2 to key 0, and the second saw 1 alone: it saw the first in part
@@ -34,22 +28,22 @@ mod anomaly;
 mod append_index;
 mod check;
 mod contents;
+mod edges;
 mod fault;
 mod graph;
 mod laws;
 mod lines;
 mod order;
+mod premises;
 mod reads;
 mod solver;
 mod sorting;
-#[cfg(test)]
-mod tests;
 mod transaction;
 mod witness;
 
 pub use anomaly::{Anomaly, name_of};
 pub use append_index::{AppendIndex, appends_once};
-pub use check::{Answer, Verdict, Witness, check_appends, judge};
+pub use check::{Verdict, Witness, check_appends};
 pub use contents::Contents;
 pub use fault::Fault;
 pub use laws::{

@@ -5,7 +5,7 @@ ghost use Rattle.std.specs.Prelude.{◌≡◌, ◌+◌, ◌↔◌, ◌⊎◌, �
 ghost use Rattle.sgt_appends.specs.Lists.{Has};
 ghost use Rattle.sgt_appends.specs.Precedences.{AppendsOnce};
 ghost use Rattle.sgt_appends.specs.Orders.{AllClean};
-ghost use Rattle.sgt_appends.specs.Lines.{version_of, line_in, keys_in, values_in, has_pair, IsWithLine, IsOffered, AreNumbered, AreLines, HaveLines, KnowsNoMore, AreWritten};
+ghost use Rattle.sgt_appends.specs.Lines.{version_of, line_in, keys_in, values_in, has_pair, IsWithLine, IsOffered, AreNumbered, AreLines, AreAllLines, KnowsNoMore, AreWritten};
 
 use crate::fault::own_after;
 use crate::reads::{Read, read_of};
@@ -36,10 +36,9 @@ impl Lines {
     pub fn of_history(alloc: Global, history: &[Transaction]) -> Result<Self, NoMemory>
         requires once { AppendsOnce history.now }
         requires clean { AllClean history.now }
-        ensures lines { IfOk result (λ lines. HaveLines history.now (line_in lines)) }
+        ensures lines { IfOk result (λ lines. AreAllLines history.now (line_in lines) (keys_in lines)) }
         ensures longest { IfOk result (λ lines. KnowsNoMore history.now (line_in lines)) }
         ensures written { IfOk result (λ lines. AreWritten history.now (line_in lines)) }
-        ensures numbered { IfOk result (λ lines. AreNumbered (line_in lines) (keys_in lines)) }
     {
         let mut lines = Lines {
             lines: BTreeMap::new(alloc),

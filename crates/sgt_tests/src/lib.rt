@@ -5,6 +5,8 @@
 #![tactic(auto)]
 
 #[cfg(test)]
+mod client_histories;
+#[cfg(test)]
 mod engine;
 #[cfg(test)]
 mod failures;

@@ -1,14 +1,13 @@
 use Rattle.std.proofs.Common.{rules}
 use Rattle.sgt_appends.specs.Lines.{line_in, keys_in}
 use Rattle.sgt_appends.proofs.Longest.{lines_whole}
-use Rattle.sgt_appends.proofs.Versions.{line_of_read, no_more, lines_written}
+use Rattle.sgt_appends.proofs.Versions.{no_more, lines_written}
 use Rattle.sgt_appends.proofs.lines.Lines.of_history.Goals as goal
 
 pub returns-clause-lines : goal.returns-clause-lines
-returns-clause-lines c = λ r k own seen committed reads.
-    line_of_read c.args.history.now (line_in c.loop-number.lines) (keys_in c.loop-number.lines) r k own seen
-    (lines_whole c.args.history.now c.loop-number.number (line_in c.loop-number.lines) (keys_in c.loop-number.lines)
-    c.loop-number.invariant (search rules)) committed reads
+returns-clause-lines c =
+    lines_whole c.args.history.now c.loop-number.number (line_in c.loop-number.lines) (keys_in c.loop-number.lines)
+    c.loop-number.invariant (search rules)
 
 pub returns-clause-longest : goal.returns-clause-longest
 returns-clause-longest c =

@@ -1,9 +1,8 @@
-//! Tests of histories with a few transactions.
+//! What clients saw: histories of a few transactions, their verdicts and the names of their anomalies.
 
-use crate::anomaly::{Anomaly, name_of};
-use crate::check::{Verdict, Witness, check_appends};
-use crate::fault::Fault;
-use crate::transaction::{Operation, Status, Transaction};
+use sgt_appends::{
+    Anomaly, Fault, Operation, Status, Transaction, Verdict, Witness, check_appends, name_of,
+};
 use sgt_model::NoMemory;
 use std::alloc::Global;
 use std::test::Fail;
@@ -95,6 +94,18 @@ fn values_that_are_appended_twice(rt: HostRuntime) -> Result<(), Fail> {
     history.push(appender(alloc, Status::Aborted, [2].as_slice())?)?;
     let verdict = check_appends(alloc, history.as_slice())?;
     assert!(rt; matches!(&verdict, Verdict::AppendedTwice));
+    Ok(())
+}
+
+#[test]
+fn unknown_transactions_with_reads(rt: HostRuntime) -> Result<(), Fail> {
+    let alloc = rt.alloc();
+    let mut history = one_reader(alloc, Status::Committed, [1, 2].as_slice())?;
+    let mut other = reader(alloc, [1].as_slice())?;
+    other.status = Status::Unknown;
+    history.push(other)?;
+    let verdict = check_appends(alloc, history.as_slice())?;
+    assert!(rt; matches!(&verdict, Verdict::UnknownReads { reader: 2, read: 0 }));
     Ok(())
 }
 
@@ -208,7 +219,8 @@ fn drawn_histories_get_verdicts(rt: HostRuntime) -> Result<(), Fail> {
     for seed in 0..3000u64 {
         let history = drawn(alloc, seed)?;
         let verdict = check_appends(alloc, history.as_slice())?;
-        assert!(rt; !matches!(&verdict, Verdict::Unsure), "{seed}");
+        let decided = matches!(&verdict, Verdict::Serial(_) | Verdict::Violated(_));
+        assert!(rt; decided, "{seed}");
         serial = serial || matches!(&verdict, Verdict::Serial(_));
         violated = violated || matches!(&verdict, Verdict::Violated(_));
     }

@@ -1,0 +1,8 @@
+use Rattle.sgt_appends.specs.Indexes.{position_of}
+use Rattle.sgt_appends.specs.Lines.{line_in, keys_in}
+use Rattle.sgt_appends.specs.Required.{AreLinked}
+use Rattle.sgt_appends.proofs.graph.add_transaction.Given as goal
+
+abbrev pub invariant-loop-position : goal.invariant-loop-position
+invariant-loop-position l =
+    AreLinked l.history (position_of l.appends) (line_in l.lines) (keys_in l.lines) l.links.items l.number l.position
