@@ -144,7 +144,11 @@ fn answer(held: &mut Held, event: Event, reply: &mut SgtReply) -> Result<(), NoM
         → IsOk result }
     ensures quits { (t : ℕ) → event ≡ Quit t → live held.old.engine.past t ≡ true → IsOk result }
 {
-    let short = held.engine.answer(&event)?;
-    write_reply(reply, &short, held.engine.reply_lists());
-    Ok(())
+    match held.engine.answer(&event) {
+        Ok(short) => {
+            write_reply(reply, short, held.engine.reply_lists());
+            Ok(())
+        }
+        Err(NoMemory) => Err(NoMemory),
+    }
 }

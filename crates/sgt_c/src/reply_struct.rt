@@ -59,8 +59,8 @@ impl SgtReply {
 }
 
 /// Writes a reply for C, with its lists.
-pub fn write_reply(into: &mut SgtReply, reply: &ShortReply, lists: &ReplyLists)
-    ensures { HoldsReply into.new (reply_with reply.now lists.now) }
+pub fn write_reply(into: &mut SgtReply, reply: ShortReply, lists: &ReplyLists)
+    ensures { HoldsReply into.new (reply_with reply lists.now) }
 {
     match reply {
         ShortReply::Started(t) => write_tid(into, 1, t.0),
@@ -70,10 +70,10 @@ pub fn write_reply(into: &mut SgtReply, reply: &ShortReply, lists: &ReplyLists)
         ShortReply::Full => into.kind = 5,
         ShortReply::Unknown => into.kind = 6,
         ShortReply::Over(fate) => write_over(into, fate, &lists.walk),
-        ShortReply::Looked { key, value } => write_looked(into, *key, *value),
+        ShortReply::Looked { key, value } => write_looked(into, key, value),
         ShortReply::Wrote { key, value } => {
             into.kind = 9;
-            write_record(into, *key, *value);
+            write_record(into, key, value);
         }
         ShortReply::Ended => into.kind = 10,
         ShortReply::NotEnded => into.kind = 11,
@@ -89,7 +89,7 @@ pub fn write_reply(into: &mut SgtReply, reply: &ShortReply, lists: &ReplyLists)
         }
         ShortReply::Refused(code) => {
             into.kind = 15;
-            into.code = *code as u32;
+            into.code = code as u32;
             into.fallen = write_tids(&mut into.fell, &lists.fell);
         }
     }
@@ -99,7 +99,7 @@ pub fn write_reply(into: &mut SgtReply, reply: &ShortReply, lists: &ReplyLists)
 pub fn write_full_reply(into: &mut SgtReply, reply: &Reply)
     ensures { HoldsReply into.new reply.now }
 {
-    write_reply(into, &reply.in_short(), &reply.lists());
+    write_reply(into, reply.in_short(), &reply.lists());
 }
 
 fn write_tid(into: &mut SgtReply, kind: u32, t: u32)
@@ -138,8 +138,8 @@ fn write_looked(into: &mut SgtReply, key: Key, value: Option<i64>)
     }
 }
 
-fn write_over(into: &mut SgtReply, fate: &ShortFate, walk: &Tids)
-    ensures { HoldsReply into.new (reply.Over (full_fate fate.now walk.now)) }
+fn write_over(into: &mut SgtReply, fate: ShortFate, walk: &Tids)
+    ensures { HoldsReply into.new (reply.Over (full_fate fate walk.now)) }
 {
     into.kind = 7;
     match fate {
@@ -152,8 +152,8 @@ fn write_over(into: &mut SgtReply, fate: &ShortFate, walk: &Tids)
     }
 }
 
-fn write_cause(into: &mut SgtReply, cause: &ShortCause, walk: &Tids)
-    ensures cause { HoldsCause into.new (full_cause cause.now walk.now) }
+fn write_cause(into: &mut SgtReply, cause: ShortCause, walk: &Tids)
+    ensures cause { HoldsCause into.new (full_cause cause walk.now) }
     ensures kind { into.new.kind ≡ into.old.kind }
 {
     match cause {
@@ -163,7 +163,7 @@ fn write_cause(into: &mut SgtReply, cause: &ShortCause, walk: &Tids)
         }
         ShortCause::Asked(code) => {
             into.cause = 2;
-            into.code = *code as u32;
+            into.code = code as u32;
         }
         ShortCause::Quit => into.cause = 3,
     }

@@ -6,13 +6,15 @@ use Rattle.sgt_c.specs.Calls.{Headline}
 use Rattle.sgt_c.specs.ReplyStructs.{HoldsReply}
 use Rattle.sgt_c.proofs.events.answer.Goals as goal
 
-pub returns-clause-ok : goal.returns-clause-ok
-returns-clause-ok c =
-    let done = c.in_ok-short.ensures.adds in (
+pub returns-in-Ok-clause-ok : goal.returns-in-Ok-clause-ok
+returns-in-Ok-clause-ok c =
+    let done = c.in-Ok.ensures.adds in (
       done.reply,
-      ap (λ (e : EngineView). Some (record { engine = e; part = c.args.held.now.part })) done.adds,
-      done.legal,
-      subst (HoldsReply c.write_reply.new.into) (sym (answered_with _ _ _ _ _ done c.reply_lists.ensures)) c.write_reply.ensures,
-      subst Headline done.adds
-          (c.answer.ensures.legal, c.answer.ensures.replay, c.answer.ensures.no_cycle, c.answer.ensures.causes, c.answer.ensures.order),
+      (
+        ap (λ (e : EngineView). Some (record { engine = e; part = c.args.held.now.part })) done.adds,
+        done.legal,
+        subst (HoldsReply c.write_reply.new.into) (sym (answered_with _ _ _ _ _ done c.reply_lists.ensures)) c.write_reply.ensures,
+        subst Headline done.adds
+            (c.answer.ensures.legal, c.answer.ensures.replay, c.answer.ensures.no_cycle, c.answer.ensures.causes, c.answer.ensures.order),
+      ),
     )
