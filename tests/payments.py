@@ -455,7 +455,7 @@ def bad_procedures():
     files = [
         ('{"procedure": [', "JSONDecodeError"),
         ({"request": ["gift"]}, "KeyError: 'procedure'"),
-        ({"request": ["gift"], "procedure": [1, [look, ["puts", 1, 2, 3]]]}, "shape 1 1"),
+        ({"request": ["gift"], "procedure": [1, [look, ["puts", 1, 2, 3]]]}, 'shape 1 1, at ["puts", 1, 2, 3]'),
         ({"request": ["gift"], "procedure": [1, [["look", 99, 1, ["arg", 0], 1]]]}, "flaw 1"),
         ({"request": ["gift", "amount"], "procedure": [1, [look]]}, "the request has 2 keys, and the procedure takes 1 arguments"),
         ({"request": ["gift"], "refused": {"one": "x"}, "procedure": [1, [look]]}, "ValueError"),

@@ -7,7 +7,7 @@ import sys
 from typing import Sequence
 
 sys.path.insert(0, str(pathlib.Path(__file__).resolve().parents[2] / "bindings" / "python"))
-from sgt import Engine, Kind, Reply  # noqa: E402
+from sgt import Engine, Kind, ProcedureRefused, Reply  # noqa: E402
 
 ENTRIES = 1_000_000  # the history is cut after so many entries, or as many as there are records
 ROW = struct.Struct("<I4xqq")  # table, number and value of a row
@@ -57,7 +57,8 @@ def load_procedures(folder: pathlib.Path) -> dict[str, Procedure]:
         try:
             procedure = Procedure(path.stem, json.loads(path.read_text()))
         except (ValueError, LookupError, TypeError, AttributeError) as why:
-            raise BadProcedure(f"{path}: {type(why).__name__}: {why}") from None
+            part = f", at {why.part:.60}" if isinstance(why, ProcedureRefused) and why.part else ""
+            raise BadProcedure(f"{path}: {type(why).__name__}: {why}{part}") from None
         for other in found.values():
             if procedure.request and set(other.request) == set(procedure.request):
                 raise BadProcedure(f"{path}: {other.name}.json has the same keys in its request")

@@ -15,6 +15,7 @@ from ._library import (
     NO_MEMORY,
     NO_TID,
     NONE,
+    PROC_SHAPE,
     STILL_LIVE,
     TAKEN,
     AnyRow,
@@ -32,6 +33,7 @@ from ._library import (
     opening_of,
     pack_args,
     packed_calls,
+    part_at,
     rows_for,
     rows_in,
     rows_of,
@@ -139,7 +141,7 @@ class Engine(Uncopied):
         number, fault = ctypes.c_uint16(), CFault()
         status = HELD.sgt_procedure(self._engine, text, len(text), number, fault)
         if status >= FIRST_FAULT:
-            raise ProcedureRefused(status, written(HELD.sgt_fault_text, fault))
+            raise ProcedureRefused(status, written(HELD.sgt_fault_text, fault), part_at(text, fault) if status == PROC_SHAPE else None)
         check(status)
         return number.value
 

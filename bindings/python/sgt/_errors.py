@@ -54,7 +54,11 @@ class OpeningRefused(Refused):
 
 
 class ProcedureRefused(Refused):
-    """It is that of a procedure that was to be added."""
+    """It is that of a procedure that was to be added. Of a shape error, `part` is the JSON of the part that does not fit."""
+
+    def __init__(self, status: int, text: str, part: Optional[str] = None) -> None:
+        super().__init__(status, text)
+        self.part = part
 
 
 class Taken(Error, ValueError):

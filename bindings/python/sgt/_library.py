@@ -20,7 +20,7 @@ from ._errors import BadCall, Begun, Busy, Closed, Error, Misuse, NoMemory, Stal
 LEAST, MOST = -999_999_999_999_999, 999_999_999_999_999
 
 OK, NO_MEMORY, CLOSED, NONE, BAD_CALL, STILL_LIVE, BEGUN, TAKEN, TOO_MANY = 0, 1, 2, 4, 5, 6, 7, 8, 9
-BUSY, TIMED_OUT, STALE, MISUSE, FIRST_FAULT = 10, 12, 13, 14, 16
+BUSY, TIMED_OUT, STALE, MISUSE, FIRST_FAULT, PROC_SHAPE = 10, 12, 13, 14, 16, 20
 NO_TID = 2**32 - 1  # the limits never allow this number
 
 
@@ -214,6 +214,14 @@ def written(write: Callable[..., int], fields: ctypes.Structure) -> str:
         if length.value <= room:
             return text.raw[: length.value].decode()
         room = length.value
+
+
+def part_at(text: bytes, fault: CFault) -> str:
+    """The part of a procedure's text where a shape error is."""
+    part = json.loads(text)
+    for position in fault.place[: fault.depth]:
+        part = part[position]
+    return json.dumps(part)
 
 
 _ERRORS: dict[int, type[Error]] = {
