@@ -5,7 +5,7 @@ from __future__ import annotations
 from typing import TYPE_CHECKING, Optional, Sequence
 
 if TYPE_CHECKING:
-    from ._replies import Reply
+    from ._replies import BatchOutcome, Reply
 
 
 class Error(Exception):
@@ -15,7 +15,7 @@ class Error(Exception):
 class NoMemory(Error, MemoryError):
     """An allocation failed. `outcomes` are those of the calls of a `run_many` that had run by then."""
 
-    def __init__(self, outcomes: Sequence[tuple[Optional[int], Reply]] = ()) -> None:
+    def __init__(self, outcomes: Sequence[BatchOutcome] = ()) -> None:
         super().__init__("sgt: out of memory")
         self.outcomes = outcomes
 

@@ -92,7 +92,7 @@ class CCall(ctypes.Structure):
 
 
 class COutcome(ctypes.Structure):
-    _fields_ = [("tid", ctypes.c_uint32), ("spare", ctypes.c_uint32), ("reply", CReply)]
+    _fields_ = [("tid", ctypes.c_uint32), ("wrote", ctypes.c_uint32), ("reply", CReply)]
 
 
 class CEnded(ctypes.Structure):
@@ -153,6 +153,7 @@ _ENGINE_CALLS = {
     "sgt_open_bare": [_engine, _u64, _u64, _u64],
     "sgt_put": [_engine, _row, _size, _count],
     "sgt_procedure": [_engine, _text, _size, ctypes.POINTER(ctypes.c_uint16), _fault],
+    "sgt_procedure_text": [_engine, _u64, _text, _size, _count],
     "sgt_get": [_engine, _u64, _i64, ctypes.POINTER(_i64)],
     "sgt_rows": [_engine, _u64, _i64, _row, _size, _count],
     "sgt_records": [_engine, _count],
@@ -205,12 +206,12 @@ def version() -> str:
     return bytes(_version()).decode()
 
 
-def written(write: Callable[..., int], fields: ctypes.Structure) -> str:
-    """The text of these fields: every reply and every fault of an opening fits the buffer, but for a very deep place."""
+def written(write: Callable[..., int], *asked: Union[ctypes.Structure, int]) -> str:
+    """The text that a call writes of what is asked. Every reply fits the buffer; for a longer text the call is made again."""
     room, length = 1024, ctypes.c_uint64()
     while True:
         text = ctypes.create_string_buffer(room)
-        check(write(fields, text, room, length))
+        check(write(*asked, text, room, length))
         if length.value <= room:
             return text.raw[: length.value].decode()
         room = length.value
