@@ -67,7 +67,7 @@ enum sgt_status {
     SGT_NO_MEMORY = 1,   /* an allocation failed; nothing has changed, except by sgt_run and sgt_run_many, and the call may be repeated */
     SGT_CLOSED = 2,      /* the engine is closed */
     SGT_OPEN = 3,        /* the engine is already open */
-    SGT_NONE = 4,        /* there is no such record or entry */
+    SGT_NONE = 4,        /* there is no such record, entry or procedure */
     SGT_BAD_CALL = 5,    /* a number that was passed is out of its range, or a pointer is null */
     SGT_STILL_LIVE = 6,  /* the history cannot be cut, as a transaction is live */
     SGT_BEGUN = 7,       /* nothing can be added to the initial state of the engine, as there is a history */
@@ -179,10 +179,13 @@ typedef struct sgt_call {
     int64_t answer[8];
 } sgt_call;
 
-/* The outcome of a call of many: its last `reply`, and `tid` if a transaction was started. `spare` is unused. */
+/*
+ * The outcome of a call of many: its last `reply`, and `tid` if a transaction was started. `wrote` is 1 if one of its steps wrote a
+ * record, and else 0. So a call that is committed and did not write has changed nothing, and a journal may leave it out.
+ */
 typedef struct sgt_outcome {
     uint32_t tid;
-    uint32_t spare;
+    uint32_t wrote;
     sgt_reply reply;
 } sgt_outcome;
 
@@ -263,6 +266,20 @@ uint32_t sgt_put(sgt_engine *engine, const sgt_row *rows, size_t count, uint64_t
  *   - SGT_NO_MEMORY.
  */
 uint32_t sgt_procedure(sgt_engine *engine, const uint8_t *text, size_t length, uint16_t *number, sgt_fault *fault);
+
+/*
+ * The text of the procedure of a number: JSON that sgt_procedure reads as this procedure, without a zero byte after it. So a
+ * journal of calls can be kept with what its numbers mean. If it fits into `room` bytes, it is written whole, and else not at
+ * all. Its length is written to `length` in both cases. It has no spaces, and need not be the text that was passed. The call
+ * allocates memory meanwhile.
+ *
+ * If the result is not SGT_OK, text and length are unchanged:
+ *
+ *   - SGT_CLOSED.
+ *   - SGT_NONE: no procedure has this number.
+ *   - SGT_NO_MEMORY.
+ */
+uint32_t sgt_procedure_text(const sgt_engine *engine, uint64_t number, char *text, size_t room, uint64_t *length);
 
 /* Closes an engine, and frees all its memory. A closed engine stays closed, and a busy one is unchanged. */
 void sgt_close(sgt_engine *engine);

@@ -320,6 +320,7 @@ def tells_why_nothing_is_added(_):
                 engine.procedure(procedure)
             except sgt.ProcedureRefused as why:
                 same(f"the fault of {procedure}", text, str(why))
+                same(f"the part of {procedure} that does not fit", {"procedure 5 shape top": "{}", "procedure 5 shape 1 0": "7"}.get(text), why.part)
             else:
                 raise Differs(f"no fault was told of {procedure}")
         for row in rows:

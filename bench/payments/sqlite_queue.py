@@ -15,7 +15,7 @@ from typing import NamedTuple
 sys.path.insert(0, str(pathlib.Path(__file__).resolve().parents[2] / "examples" / "payments"))
 from bank import load_procedures  # noqa: E402
 from payments import Server, run  # noqa: E402
-from sgt import Kind, Reply  # noqa: E402
+from sgt import BatchOutcome, Kind, Reply  # noqa: E402
 
 ACCOUNTS, CENTS, DAY, LIMIT = 1000, 100_000_000, 20_000, 1_000_000
 
@@ -75,20 +75,21 @@ def pay(database: sqlite3.Connection, number: int, payer: int, payee: int, amoun
     return Told(0, answers)
 
 
+def outcome(told: Told) -> BatchOutcome:
+    reply = Reply(Kind.REFUSED, code=told.code) if told.code else Reply(Kind.COMMITTED, answers=told.answers)
+    return BatchOutcome(0, reply, not told.code)
+
+
 class Bank:
     """In place of the engine, for the server of payments.py."""
 
     def __init__(self, database: sqlite3.Connection) -> None:
         self.seq, self.texts, self.database = 0, {}, database
 
-    def run(self, _: str, args: list) -> Reply:
-        if not self.database.in_transaction:
+    def run(self, calls: list) -> list:
+        if calls and not self.database.in_transaction:
             self.database.execute("begin immediate")
-        told = pay(self.database, *args)
-        return Reply(Kind.REFUSED, code=told.code) if told.code else Reply(Kind.COMMITTED, answers=told.answers)
-
-    def run_all(self, calls: list) -> list:
-        return [self.run(*call) for call in calls]
+        return [outcome(pay(self.database, *args)) for _, args in calls]
 
     def cut_if_long(self) -> bool:
         return False

@@ -27,6 +27,7 @@ uint32_t proved_sgt_calls(sgt_engine *, uint64_t, sgt_call *, size_t, uint64_t *
 uint32_t proved_sgt_reserve(sgt_engine *, uint64_t);
 uint32_t proved_sgt_cut(sgt_engine *, uint64_t *);
 uint32_t proved_sgt_part(sgt_engine *, uint64_t *);
+uint32_t proved_sgt_procedure_text(sgt_engine *, uint64_t, char *, size_t, uint64_t *);
 uint32_t proved_sgt_reply_text(const sgt_reply *, char *, size_t, uint64_t *);
 uint32_t proved_sgt_fault_text(const sgt_fault *, char *, size_t, uint64_t *);
 
@@ -174,6 +175,13 @@ uint32_t sgt_part(const sgt_engine *engine, uint64_t *part)
 {
     if (!engine) return SGT_CLOSED;
     return part ? proved_sgt_part(read_from(engine), part) : (uint32_t)SGT_BAD_CALL;
+}
+
+uint32_t sgt_procedure_text(const sgt_engine *engine, uint64_t number, char *text, size_t room, uint64_t *length)
+{
+    if (!engine) return SGT_CLOSED;
+    if (!is_list(text, room) || !length) return SGT_BAD_CALL;
+    return proved_sgt_procedure_text(read_from(engine), number, text ? text : &none.byte, room, length);
 }
 
 uint32_t sgt_reply_text(const sgt_reply *reply, char *text, size_t room, uint64_t *length)

@@ -195,6 +195,20 @@ public:
     sgt_reply commit(std::uint32_t tid) { return ask(sgt_commit, tid); }
     sgt_reply quit(std::uint32_t tid) { return ask(sgt_quit, tid); }
 
+    // The text of the procedure of a number, or none if no procedure has it: JSON that `procedure` takes.
+    std::optional<std::string> procedure_text(std::uint64_t number) const
+    {
+        std::string text;
+        std::uint64_t length = 0;
+        for (;;) {
+            auto status = sgt_procedure_text(&engine, number, text.data(), text.size(), &length);
+            if (status == SGT_NONE) return std::nullopt;
+            check(status);
+            if (length <= text.size()) return text.substr(0, length);
+            text.resize(length);
+        }
+    }
+
     // The committed value, or none where there is no such record.
     std::optional<std::int64_t> get(std::uint64_t table, std::int64_t number) const
     {

@@ -97,13 +97,15 @@ with Engine(limits=(8, 100), rows=rows) as again:
                 except error:
                     pass
         ran = bare.run_many([(0,), (9,)])
-        assert [(tid, reply.kind) for tid, reply in ran] == [(1, Kind.COMMITTED), (None, Kind.NO_PROCEDURE)], ran
+        assert [(tid, reply.kind, wrote) for tid, reply, wrote in ran] == [(1, Kind.COMMITTED, True), (None, Kind.NO_PROCEDURE, False)], ran
     try:
         Engine.bare(33, 100)
         raise SystemExit("an engine was opened with too many live")
     except OpeningRefused as why:
         assert str(why) == "bad limits", why
     number = again.procedure([1, [["look", 0, 7, ["arg", 0], 5], ["answer", ["reg", 0]]]])
+    assert again.procedure_text(number) == '[1,[["look",0,7,["arg",0],5],["answer",["reg",0]]]]'
+    assert again.procedure_text(99) is None
     print(f"procedure {number}: ", end="")
     show(again.run(number, 1)[1])
     try:

@@ -7,7 +7,7 @@ import sys
 from typing import Sequence
 
 sys.path.insert(0, str(pathlib.Path(__file__).resolve().parents[2] / "bindings" / "python"))
-from sgt import Engine, Kind, Reply  # noqa: E402
+from sgt import BatchOutcome, Engine, Kind, ProcedureRefused, Reply  # noqa: E402
 
 ENTRIES = 1_000_000  # the history is cut after so many entries, or as many as there are records
 ROW = struct.Struct("<I4xqq")  # table, number and value of a row
@@ -27,7 +27,7 @@ class Procedure:
     def __init__(self, name: str, file: dict) -> None:
         self.name, self.text = name, file["procedure"]  # the text is as docs/LANGUAGE.md has it
         self.request: tuple[str, ...] = tuple(file.get("request", ()))  # clients can't ask for a procedure without any keys
-        self.writes = '"put"' in json.dumps(self.text)  # a call that can't write is not journaled
+        self.writes = '"put"' in json.dumps(self.text)  # whether it can write at all
         Engine.bare(1, 1).procedure(self.text)  # says what is wrong with it
         if self.request and len(self.request) != self.text[0]:
             raise ValueError(f"the request has {len(self.request)} keys, and the procedure takes {self.text[0]} arguments")
@@ -57,7 +57,8 @@ def load_procedures(folder: pathlib.Path) -> dict[str, Procedure]:
         try:
             procedure = Procedure(path.stem, json.loads(path.read_text()))
         except (ValueError, LookupError, TypeError, AttributeError) as why:
-            raise BadProcedure(f"{path}: {type(why).__name__}: {why}") from None
+            part = f", at {why.part:.60}" if isinstance(why, ProcedureRefused) and why.part else ""
+            raise BadProcedure(f"{path}: {type(why).__name__}: {why}{part}") from None
         for other in found.values():
             if procedure.request and set(other.request) == set(procedure.request):
                 raise BadProcedure(f"{path}: {other.name}.json has the same keys in its request")
@@ -76,17 +77,13 @@ class Bank:
         self._numbers = {name: self._engine.procedure(text) for name, text in texts.items()}
         self._records = len(rows) // ROW.size
 
-    def run(self, name: str, args: Sequence[int]) -> Reply:
-        """Runs a call as a transaction of its own. The reply is COMMITTED with its answers, or REFUSED with a code."""
-        return self.run_all([(name, args)])[0]
-
-    def run_all(self, calls: Sequence[tuple[str, Sequence[int]]]) -> list[Reply]:
-        """Runs calls one after another."""
-        return [reply for _, reply in self._engine.run_many([(self._numbers[name], *args) for name, args in calls])]
+    def run(self, calls: Sequence[tuple[str, Sequence[int]]]) -> list[BatchOutcome]:
+        """Runs calls one after another, each as a transaction of its own. A reply is COMMITTED with answers, or REFUSED with a code."""
+        return self._engine.run_many([(self._numbers[name], *args) for name, args in calls])
 
     def replay(self, seq: int, name: str, args: Sequence[int]) -> None:
         """Runs a call of the journal. It committed when it was journaled, so it commits again, or the journal is not this bank's."""
-        reply = self.run(name, args) if name in self._numbers else None
+        reply = self.run([(name, args)])[0].reply if name in self._numbers else None
         if seq != self.seq + 1 or reply is None or reply.kind is not Kind.COMMITTED:
             raise Damaged(f"call {seq} of the journal, {name} {args}, after call {self.seq}: the engine replies {reply}")
         self.seq = seq

@@ -86,18 +86,18 @@ class Server:
         return procedure, [asked[key] for key in procedure.request]
 
     def run(self, requests: list[Request]) -> list[str]:
-        """Runs the calls among the requests, adds those that committed to the batch, and returns the replies to all."""
+        """Runs the calls among the requests, adds those that wrote to the batch, and returns the replies to all."""
         calls = [it for it in requests if isinstance(it, tuple)]
         if calls:
             self.begin_day()
         safe = self.bank.seq - len(self.batch)
-        replies = iter(self.bank.run_all([(procedure.name, args) for procedure, args in calls]))
+        outcomes = iter(self.bank.run([(procedure.name, args) for procedure, args in calls]))
         told = []
         for request in requests:
             if isinstance(request, tuple):
-                (procedure, args), reply = request, next(replies)
+                (procedure, args), (_, reply, wrote) = request, next(outcomes)
                 request = procedure.reply(args[0], reply)
-                if procedure.writes and reply.kind is Kind.COMMITTED:
+                if wrote and reply.kind is Kind.COMMITTED:
                     self.bank.seq += 1
                     self.batch.append(Record(self.bank.seq, safe, procedure.name, tuple(args)))
             told.append(self.rows() if request is None else request)

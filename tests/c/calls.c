@@ -336,6 +336,36 @@ static void procedures_are_added(void)
     sgt_close(&engine);
 }
 
+/* The text of each procedure is read as a procedure with this text. */
+static void procedures_are_texts(void)
+{
+    const char *own = "[1,[[\"find\",0,7,[\"arg\",0],-1],[\"if\",[\"less\",[\"reg\",0],0],[[\"ask\",7]],[]],[\"answer\",[\"reg\",0]]]]";
+    sgt_engine engine = {0}, other = {0};
+    sgt_fault fault = {0};
+    uint16_t number = 77;
+    uint64_t length = 77, again = 0;
+    char text[4096], back[4096];
+    CHECK(sgt_procedure_text(&engine, 0, text, sizeof text, &length) == 2);
+    CHECK(opens(&engine, opening, &fault) == 0);
+    CHECK(sgt_procedure_text(&engine, 5, text, sizeof text, &length) == 4);
+    CHECK(sgt_procedure_text(&engine, UINT64_MAX, text, sizeof text, &length) == 4 && length == 77);
+    CHECK(adds(&engine,
+               "[ 1 , [[\"find\",0,7,[\"arg\",0],-1],[\"if\",[\"less\",[\"reg\",0],0],[[\"ask\",7]],[]],[\"answer\",[\"reg\",0]]]]",
+               &number, &fault) == 0 && number == 5);
+    CHECK(sgt_procedure_text(&engine, 5, text, sizeof text, &length) == 0);
+    CHECK(length == strlen(own) && memcmp(text, own, length) == 0);
+    memset(text, 'x', sizeof text);
+    CHECK(sgt_procedure_text(&engine, 5, text, strlen(own) - 1, &length) == 0 && length == strlen(own) && text[0] == 'x');
+    CHECK(sgt_open_bare(&other, 8, 100, 1) == 0);
+    for (uint16_t each = 0; each <= 5; each++) {
+        CHECK(sgt_procedure_text(&engine, each, text, sizeof text, &length) == 0 && length <= sizeof text);
+        CHECK(sgt_procedure(&other, (const uint8_t *)text, length, &number, &fault) == 0 && number == each);
+        CHECK(sgt_procedure_text(&other, each, back, sizeof back, &again) == 0 && again == length && memcmp(text, back, length) == 0);
+    }
+    sgt_close(&engine);
+    sgt_close(&other);
+}
+
 static void procedures_have_numbers_of_16_bits(void)
 {
     const char none[] = "[0,[[\"answer\",7]]]";
@@ -414,10 +444,11 @@ static void many_calls_are_run(void)
     CHECK(sgt_run_many(&engine, asked, 3, outcomes, 4, &done) == 0);
     CHECK(done == 3 && outcomes[3].tid == 99 && outcomes[3].reply.kind == 0);
     CHECK(is_committed(&outcomes[0].reply, 1100) && outcomes[0].tid == 0);
+    CHECK(outcomes[0].wrote == 1 && outcomes[1].wrote == 0 && outcomes[2].wrote == 0);
     CHECK(outcomes[1].reply.kind == 14 && outcomes[1].reply.cause == 2 && outcomes[1].reply.code == 1 && outcomes[1].tid == 1);
     CHECK(outcomes[2].reply.kind == 2);
     CHECK(sgt_run_many(&engine, asked, 4, outcomes, 4, &done) == 0);
-    CHECK(done == 4 && is_committed(&outcomes[3].reply, 1700) && outcomes[3].tid == 4);
+    CHECK(done == 4 && is_committed(&outcomes[3].reply, 1700) && outcomes[3].tid == 4 && outcomes[3].wrote == 0);
     CHECK(sgt_calls(&engine, 0, calls, 4, &count, &next) == 0);
     CHECK(count == 3);
     CHECK(opens(&other, opening, &fault) == 0);
@@ -498,6 +529,8 @@ static void null_pointers_are_told(void)
     CHECK(sgt_cut(0, &count) == 2 && sgt_cut(&engine, 0) == 5);
     CHECK(sgt_part(0, &count) == 2 && sgt_part(&engine, 0) == 5);
     told.kind = 10;
+    CHECK(sgt_procedure_text(0, 0, text, 8, &count) == 2);
+    CHECK(sgt_procedure_text(&engine, 0, 0, 8, &count) == 5 && sgt_procedure_text(&engine, 0, text, 8, 0) == 5);
     CHECK(sgt_reply_text(0, text, 8, &count) == 5);
     CHECK(sgt_reply_text(&told, 0, 8, &count) == 5);
     CHECK(sgt_reply_text(&told, text, 8, 0) == 5);
@@ -571,6 +604,7 @@ static void a_busy_engine_is_left_alone(void)
     CHECK(sgt_reserve(&engine, 1) == 10);
     CHECK(sgt_cut(&engine, &count) == 10);
     CHECK(sgt_part(&engine, &count) == 10);
+    CHECK(sgt_procedure_text(&engine, 0, (char *)&value, 8, &count) == 10);
     sgt_close(&engine);
     CHECK(engine.is_open == 2 && !engine.at);
     CHECK(told.kind == 0 && number == 77 && t == 77 && count == 77 && next == 77 && value == 77 && fault.kind == 0);
@@ -786,6 +820,7 @@ int main(void)
     rows_are_opened();
     rows_are_put();
     procedures_are_added();
+    procedures_are_texts();
     procedures_have_numbers_of_16_bits();
     a_run_goes_to_its_end();
     many_calls_are_run();

@@ -32,7 +32,7 @@ from ._errors import (
     TooMany,
 )
 from ._library import LEAST, MOST, Row, version
-from ._replies import Asked, Call, Cause, Event, Kind, Reply
+from ._replies import Asked, BatchOutcome, Call, Cause, Event, Kind, Reply
 from ._shared import Ended, Live, Outcome, SharedEngine, Ticket, Transaction
 
 __version__ = version()
@@ -42,6 +42,7 @@ __all__ = [
     "MOST",
     "Asked",
     "BadCall",
+    "BatchOutcome",
     "Begun",
     "Busy",
     "Call",

@@ -15,6 +15,7 @@ from ._library import (
     NO_MEMORY,
     NO_TID,
     NONE,
+    PROC_SHAPE,
     STILL_LIVE,
     TAKEN,
     AnyRow,
@@ -32,13 +33,14 @@ from ._library import (
     opening_of,
     pack_args,
     packed_calls,
+    part_at,
     rows_for,
     rows_in,
     rows_of,
     whole,
     written,
 )
-from ._replies import Call, Event, Kind, Reply, call_of, event_of, free_room, replies_of, reply_of, room
+from ._replies import BatchOutcome, Call, Event, Reply, call_of, event_of, free_room, outcomes_of, reply_of, room
 
 
 def _quick(name: str) -> Callable[..., int]:
@@ -53,19 +55,6 @@ _SIZES = [ctypes.c_size_t(count) for count in range(5)]
 def _tid(tid: int) -> int:
     """A transaction's number. BadCall where it is out of its range."""
     return whole(tid, 0, 2**32 - 1)
-
-
-_NOT_STARTED = (Kind.NO_PROCEDURE, Kind.BAD_ARGS, Kind.SPENT, Kind.FULL)
-
-
-def _outcomes(told: ctypes.Array[COutcome], count: int) -> list[tuple[Optional[int], Reply]]:
-    """The first so many outcomes."""
-    outcomes = []
-    for place, (tid, reply) in enumerate(replies_of(told, count)):
-        if reply is None:
-            reply = reply_of(told[place].reply, told[place].reply)
-        outcomes.append((None if reply.kind in _NOT_STARTED else tid, reply))
-    return outcomes
 
 
 class Engine(Uncopied):
@@ -139,9 +128,18 @@ class Engine(Uncopied):
         number, fault = ctypes.c_uint16(), CFault()
         status = HELD.sgt_procedure(self._engine, text, len(text), number, fault)
         if status >= FIRST_FAULT:
-            raise ProcedureRefused(status, written(HELD.sgt_fault_text, fault))
+            raise ProcedureRefused(status, written(HELD.sgt_fault_text, fault), part_at(text, fault) if status == PROC_SHAPE else None)
         check(status)
         return number.value
+
+    def procedure_text(self, number: int) -> Optional[str]:
+        """The text of the procedure of a number: JSON that `procedure` takes. None if no procedure has that number."""
+        number, length = whole(number, 0, 2**64 - 1), ctypes.c_uint64()
+        status = HELD.sgt_procedure_text(self._engine, number, None, 0, length)
+        if status == NONE:
+            return None
+        check(status)
+        return written(HELD.sgt_procedure_text, self._engine, number)
 
     def start(self, procedure: int, *args: int) -> Reply:
         """Starts a transaction of the procedure with at most 4 arguments."""
@@ -165,7 +163,7 @@ class Engine(Uncopied):
         free_room(to)
         return (None if tid == NO_TID else tid), reply
 
-    def run_many(self, calls: Sequence[Sequence[int]]) -> list[tuple[Optional[int], Reply]]:
+    def run_many(self, calls: Sequence[Sequence[int]]) -> list[BatchOutcome]:
         """Runs these calls, each a procedure with its arguments, one after another, each as `run` does. Each has its outcome, also one
         that is refused, aborted or has to wait. NoMemory, with the outcomes of the calls before it.
         """
@@ -173,7 +171,7 @@ class Engine(Uncopied):
         outcomes = (COutcome * count)()
         size = ctypes.c_size_t(count)
         status = _run_many(self._at, packed_calls(calls), size, outcomes, size, ctypes.byref(done))
-        ran = _outcomes(outcomes, done.value)
+        ran = outcomes_of(outcomes, done.value)
         if status == NO_MEMORY:
             raise NoMemory(ran)
         check(status)

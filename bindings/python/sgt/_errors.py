@@ -5,7 +5,7 @@ from __future__ import annotations
 from typing import TYPE_CHECKING, Optional, Sequence
 
 if TYPE_CHECKING:
-    from ._replies import Reply
+    from ._replies import BatchOutcome, Reply
 
 
 class Error(Exception):
@@ -15,7 +15,7 @@ class Error(Exception):
 class NoMemory(Error, MemoryError):
     """An allocation failed. `outcomes` are those of the calls of a `run_many` that had run by then."""
 
-    def __init__(self, outcomes: Sequence[tuple[Optional[int], Reply]] = ()) -> None:
+    def __init__(self, outcomes: Sequence[BatchOutcome] = ()) -> None:
         super().__init__("sgt: out of memory")
         self.outcomes = outcomes
 
@@ -54,7 +54,11 @@ class OpeningRefused(Refused):
 
 
 class ProcedureRefused(Refused):
-    """It is that of a procedure that was to be added."""
+    """It is that of a procedure that was to be added. Of a shape error, `part` is the JSON of the part that does not fit."""
+
+    def __init__(self, status: int, text: str, part: Optional[str] = None) -> None:
+        super().__init__(status, text)
+        self.part = part
 
 
 class Taken(Error, ValueError):

@@ -20,7 +20,7 @@ from ._errors import BadCall, Begun, Busy, Closed, Error, Misuse, NoMemory, Stal
 LEAST, MOST = -999_999_999_999_999, 999_999_999_999_999
 
 OK, NO_MEMORY, CLOSED, NONE, BAD_CALL, STILL_LIVE, BEGUN, TAKEN, TOO_MANY = 0, 1, 2, 4, 5, 6, 7, 8, 9
-BUSY, TIMED_OUT, STALE, MISUSE, FIRST_FAULT = 10, 12, 13, 14, 16
+BUSY, TIMED_OUT, STALE, MISUSE, FIRST_FAULT, PROC_SHAPE = 10, 12, 13, 14, 16, 20
 NO_TID = 2**32 - 1  # the limits never allow this number
 
 
@@ -92,7 +92,7 @@ class CCall(ctypes.Structure):
 
 
 class COutcome(ctypes.Structure):
-    _fields_ = [("tid", ctypes.c_uint32), ("spare", ctypes.c_uint32), ("reply", CReply)]
+    _fields_ = [("tid", ctypes.c_uint32), ("wrote", ctypes.c_uint32), ("reply", CReply)]
 
 
 class CEnded(ctypes.Structure):
@@ -153,6 +153,7 @@ _ENGINE_CALLS = {
     "sgt_open_bare": [_engine, _u64, _u64, _u64],
     "sgt_put": [_engine, _row, _size, _count],
     "sgt_procedure": [_engine, _text, _size, ctypes.POINTER(ctypes.c_uint16), _fault],
+    "sgt_procedure_text": [_engine, _u64, _text, _size, _count],
     "sgt_get": [_engine, _u64, _i64, ctypes.POINTER(_i64)],
     "sgt_rows": [_engine, _u64, _i64, _row, _size, _count],
     "sgt_records": [_engine, _count],
@@ -205,15 +206,23 @@ def version() -> str:
     return bytes(_version()).decode()
 
 
-def written(write: Callable[..., int], fields: ctypes.Structure) -> str:
-    """The text of these fields: every reply and every fault of an opening fits the buffer, but for a very deep place."""
+def written(write: Callable[..., int], *asked: Union[ctypes.Structure, int]) -> str:
+    """The text that a call writes of what is asked. Every reply fits the buffer; for a longer text the call is made again."""
     room, length = 1024, ctypes.c_uint64()
     while True:
         text = ctypes.create_string_buffer(room)
-        check(write(fields, text, room, length))
+        check(write(*asked, text, room, length))
         if length.value <= room:
             return text.raw[: length.value].decode()
         room = length.value
+
+
+def part_at(text: bytes, fault: CFault) -> str:
+    """The part of a procedure's text where a shape error is."""
+    part = json.loads(text)
+    for position in fault.place[: fault.depth]:
+        part = part[position]
+    return json.dumps(part)
 
 
 _ERRORS: dict[int, type[Error]] = {

@@ -5,7 +5,7 @@ from __future__ import annotations
 import ctypes
 import enum
 import struct
-from typing import Iterator, NamedTuple, Optional, Union
+from typing import NamedTuple, Optional, Union
 
 from ._errors import Error
 from ._library import HELD, CCall, CEvent, COutcome, CReply, written
@@ -144,20 +144,43 @@ def reply_of(told: CReply, fields: Union[CReply, memoryview]) -> Reply:
         raise Error(f"sgt: a reply of kind {number}, which this package does not know") from None
 
 
-# Of each outcome: its transaction, and of its reply the kind, the code, how many answers and how many that fell, and the answers.
-_outcome_fields = struct.Struct("=I4xI8xI24xI4xI4x8q256x").iter_unpack
+# Of each outcome: its transaction, whether it wrote, and of its reply the kind, the code, how many answers and how many that fell, and
+# the answers.
+_outcome_fields = struct.Struct("=2II8xI24xI4xI4x8q256x").iter_unpack
 
 
-def replies_of(told: ctypes.Array[COutcome], count: int) -> Iterator[tuple[int, Optional[Reply]]]:
-    """The transaction and the reply of each of the first so many outcomes; none for a reply of a rare kind: `reply_of` reads those."""
+class BatchOutcome(NamedTuple):
+    """What became of a call of `run_many`: its transaction's number, if one was started, the last reply, and whether a step of it wrote.
+    So a call that is committed and did not write has changed nothing."""
+
+    tid: Optional[int]
+    reply: Reply
+    wrote: bool
+
+
+_NOT_STARTED = (Kind.NO_PROCEDURE, Kind.BAD_ARGS, Kind.SPENT, Kind.FULL)
+
+
+def _rare(told: COutcome) -> BatchOutcome:
+    """An outcome whose reply may be of any kind."""
+    reply = reply_of(told.reply, told.reply)
+    return BatchOutcome(None if reply.kind in _NOT_STARTED else told.tid, reply, bool(told.wrote))
+
+
+def outcomes_of(told: ctypes.Array[COutcome], count: int) -> list[BatchOutcome]:
+    """The first so many outcomes. Those of a commit and of a refusal are read faster."""
+    outcomes = []
     fields = memoryview(told).cast("B")[: count * ctypes.sizeof(COutcome)] if count else b""
-    for tid, number, code, many, fallen, *answers in _outcome_fields(fields):
+    for tid, wrote, number, code, many, fallen, *answers in _outcome_fields(fields):
         if number == _COMMITTED:
-            yield tid, _made(Reply, (Kind.COMMITTED, None, None, None, None, tuple(answers[:many]), None, None, (), ()))
+            reply = _made(Reply, (Kind.COMMITTED, None, None, None, None, tuple(answers[:many]), None, None, (), ()))
         elif number == _REFUSED and not fallen:
-            yield tid, _made(Reply, (Kind.REFUSED, None, None, None, None, (), None, code, (), ()))
+            reply = _made(Reply, (Kind.REFUSED, None, None, None, None, (), None, code, (), ()))
         else:
-            yield tid, None
+            outcomes.append(_rare(told[len(outcomes)]))
+            continue
+        outcomes.append(_made(BatchOutcome, (tid, reply, wrote == 1)))
+    return outcomes
 
 
 def event_of(asked: CEvent) -> Event:

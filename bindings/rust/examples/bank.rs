@@ -1,5 +1,5 @@
 //! A bank's story: a deposit, and a balance that reads what it stored before it is committed.
-use sgt::{Cause, Engine, Error, Event, Fault, LEAST, Reply, Row};
+use sgt::{BatchOutcome, Cause, Engine, Error, Event, Fault, LEAST, Reply, Row};
 
 fn show(reply: Reply) {
     match reply {
@@ -67,12 +67,14 @@ fn main() -> Result<(), Error> {
     let mut bare = Engine::open_bare(8, 100, true)?;
     assert_eq!((bare.records()?, bare.procedure(r#"[0,[["put",7,1,2]]]"#)?, bare.run(0, &[])?.0), (0, 0, Some(0)));
     let ran = bare.run_many(&[(0, vec![]), (9, vec![])]).map_err(|(_, error)| error)?;
-    assert_eq!(ran, [(Some(1), Reply::Committed(vec![])), (None, Reply::NoProcedure)]);
+    let committed = BatchOutcome { tid: Some(1), wrote: true, reply: Reply::Committed(vec![]) };
+    assert_eq!(ran, [committed, BatchOutcome { tid: None, wrote: false, reply: Reply::NoProcedure }]);
     assert_eq!(bare.run_many(&[(0, vec![0; 5])]), Err((vec![], Error::BadCall)));
     assert_eq!(Engine::open_bare(33, 100, true).err(), Some(Error::Opening(Fault::BadLimits)));
     let flaw = again.procedure(r#"[0,[["ask",0]]]"#);
     assert_eq!(flaw, Err(Error::Opening(Fault::ProcFlaw(5, 8))));
     let number = again.procedure(r#"[1,[["look",0,7,["arg",0],5],["answer",["reg",0]]]]"#)?;
+    assert_eq!(again.procedure_text(number)?.as_deref(), Some(r#"[1,[["look",0,7,["arg",0],5],["answer",["reg",0]]]]"#));
     print!("procedure {number}: ");
     show(again.run(number, &[1])?.1);
     if again.put(&own) == Err(Error::Begun) {

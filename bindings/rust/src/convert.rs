@@ -1,5 +1,5 @@
 //! The structs of C, as types of Rust, and the other way.
-use crate::{Call, Cause, Error, Event, Fate, Fault, Reply, Row};
+use crate::{BatchOutcome, Call, Cause, Error, Event, Fate, Fault, Reply, Row};
 use sgt_sys as c;
 
 pub(crate) fn no_fault() -> c::Fault {
@@ -140,10 +140,10 @@ pub(crate) fn call_for((procedure, args): &(u16, Vec<i64>)) -> Option<c::Call> {
 }
 
 /// What a call was answered: the number of its transaction, if one was started, and the last reply.
-pub(crate) fn outcome_of(outcome: &c::Outcome) -> (Option<u32>, Reply) {
+pub(crate) fn outcome_of(outcome: &c::Outcome) -> BatchOutcome {
     let reply = reply_of(&outcome.reply);
     let is_started = !matches!(reply, Reply::NoProcedure | Reply::BadArgs | Reply::Spent | Reply::Full);
-    (is_started.then_some(outcome.tid), reply)
+    BatchOutcome { tid: is_started.then_some(outcome.tid), wrote: outcome.wrote == 1, reply }
 }
 
 pub(crate) fn call_of(call: &c::Call) -> Call {

@@ -7,6 +7,17 @@ use std::cell::UnsafeCell;
 /// What a run was answered: the number of its transaction, if one was started, and the last reply.
 pub type Ran = (Option<u32>, Reply);
 
+/// What became of a call of [`Engine::run_many`].
+#[derive(Clone, Debug, PartialEq, Eq)]
+pub struct BatchOutcome {
+    /// The number of its transaction, if one was started.
+    pub tid: Option<u32>,
+    /// Whether a step of it wrote: a call that is committed and did not write has changed nothing.
+    pub wrote: bool,
+    /// The last reply.
+    pub reply: Reply,
+}
+
 type Ask = unsafe extern "C" fn(*mut c::Engine, u32, *mut c::Reply) -> u32;
 
 /// An engine for one thread at a time, which closes itself. Threads share a [`SharedEngine`](crate::SharedEngine).
@@ -66,6 +77,23 @@ impl Engine {
         }
     }
 
+    /// The text of the procedure of a number, if there is one: JSON that `procedure` takes.
+    pub fn procedure_text(&self, number: u16) -> Result<Option<String>, Error> {
+        let (mut text, mut length) = (Vec::new(), 0);
+        loop {
+            let (to, room) = (text.as_mut_ptr(), text.len());
+            match unsafe { c::sgt_procedure_text(self.inner.get(), number.into(), to, room, &mut length) } {
+                c::NONE => return Ok(None),
+                status => done(status)?,
+            }
+            if length as usize <= text.len() {
+                text.truncate(length as usize);
+                return Ok(Some(String::from_utf8(text).expect("JSON is UTF-8")));
+            }
+            text.resize(length as usize, 0);
+        }
+    }
+
     /// Starts a transaction of a procedure, with at most four arguments.
     pub fn start(&mut self, procedure: u16, args: &[i64]) -> Result<Reply, Error> {
         let mut reply = c::Reply::default();
@@ -84,7 +112,7 @@ impl Engine {
 
     /// Runs these calls, of procedures with their arguments, one after another, each as `run` does. Each has its outcome, also one that
     /// is refused, aborted or has to wait. With `NoMemory` come the outcomes of the calls before it, which have run.
-    pub fn run_many(&mut self, calls: &[(u16, Vec<i64>)]) -> Result<Vec<Ran>, (Vec<Ran>, Error)> {
+    pub fn run_many(&mut self, calls: &[(u16, Vec<i64>)]) -> Result<Vec<BatchOutcome>, (Vec<BatchOutcome>, Error)> {
         let calls: Option<Vec<c::Call>> = calls.iter().map(call_for).collect();
         let calls = calls.ok_or((Vec::new(), Error::BadCall))?;
         let (mut outcomes, mut done_calls) = (vec![c::Outcome::default(); calls.len()], 0);

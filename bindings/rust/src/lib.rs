@@ -13,7 +13,7 @@ mod engine;
 mod shared;
 
 use convert::{fault_fields, fields_of};
-pub use engine::{Engine, Ran};
+pub use engine::{BatchOutcome, Engine, Ran};
 pub use sgt_sys::Ticket;
 pub use shared::{Configuration, Ended, Limits, Live, Outcome, SharedEngine, Transaction};
 use sgt_sys as c;

@@ -1,5 +1,5 @@
 -- A run, entry by entry: which transactions are live meanwhile, and which steps were made.
-use Rattle.std.proofs.Common.{◌≡◌, ℕ, ◌+◌, ℤ, Bool, true, false, cond, ◌&&◌, List, ◌∷◌, length, Option, Some, None, nat_eq, nat_lt, is_none, refl, sym, ap, subst, ◌∙◌, arith}
+use Rattle.std.proofs.Common.{◌≡◌, ℕ, ◌+◌, ℤ, Bool, true, false, cond, ◌&&◌, ◌||◌, List, ◌∷◌, length, Option, Some, None, nat_eq, nat_lt, is_none, refl, sym, ap, subst, ◌∙◌, arith}
 use Rattle.std.specs.List.{All}
 use Rattle.std.specs.Prelude.{Result, Ok, Err, OnErr}
 use Rattle.std.proofs.lemmas.Bool.{lt-ltb}
@@ -16,7 +16,7 @@ use Rattle.sgt_model.specs.Settings.{Setting, takes}
 use Rattle.sgt_model.specs.StartReply.{args_fit, room_reply, taken_reply}
 use Rattle.sgt_model.proofs.Facts.{unstarted-no_fate}
 use Rattle.sgt_engine.specs.EngineView.{EngineView, setting_of, with_entry}
-use Rattle.sgt_c.specs.Runs.{GivesUp, IsAccess, IsStep, StepsOn, StopsLive, is_access, with_entries}
+use Rattle.sgt_c.specs.Runs.{GivesUp, IsAccess, IsStep, StepsOn, StopsLive, any_write, is_access, is_write, with_entries}
 
 -- ---- who is live
 
@@ -71,25 +71,27 @@ module _ (past : List Entry) (t : ℕ) where
 -- ---- which steps were made
 
 -- the transaction made only accesses, and is live
-pub record Stepping (t : ℕ) (e now : EngineView) : Type 0 where
+pub record Stepping (t : ℕ) (wrote : Bool) (e now : EngineView) : Type 0 where
   pub steps : List Entry
+  pub wrote_is : wrote ≡ any_write steps
   pub accesses : All (IsAccess t) steps
   pub now_is : now ≡ with_entries steps e
   pub is_live : live now.past t ≡ true
 
-module _ (t : ℕ) (e now : EngineView) where
+module _ (t : ℕ) (wrote : Bool) (e now : EngineView) where
   -- one more access
-  pub one_more : (r : Reply) (after : EngineView) → Stepping t e now → after ≡ with_entry (Step t) r now → is_access r ≡ true
-      → Stepping t e after
-  one_more r after s adds a = record {
+  pub one_more : (r : Reply) (wrote_now : Bool) (after : EngineView) → Stepping t wrote e now → after ≡ with_entry (Step t) r now
+      → is_access r ≡ true → wrote_now ≡ (is_write r || wrote) → Stepping t wrote_now e after
+  one_more r wrote_now after s adds a w = record {
     steps = record { event = Step t; reply = r } ∷ s.steps;
+    wrote_is = w ∙ ap (λ b. is_write r || b) s.wrote_is;
     accesses = All-cons (IsAccess t) (record { event = Step t; reply = r }) s.steps (refl, a) s.accesses;
     now_is = adds ∙ ap (with_entry (Step t) r) s.now_is;
     is_live = ap (λ (v : EngineView). live v.past t) adds ∙ access_live now.past t r a ∙ s.is_live;
   }
 
   -- out of memory for the next step
-  pub stopped : (after : EngineView) → Stepping t e now → after ≡ now → StopsLive t e after
+  pub stopped : (after : EngineView) → Stepping t wrote e now → after ≡ now → StopsLive t e after
   stopped after s same = (
     s.steps,
     All-weaker (IsAccess t) (IsStep t) (λ x a. a.0) s.steps s.accesses,
@@ -98,20 +100,21 @@ module _ (t : ℕ) (e now : EngineView) where
   )
 
   -- out of memory for the commit
-  pub stopped_at_end : (r : Reply) (after : EngineView) → StepsOn t r e now → live now.past t ≡ true → after ≡ now → StopsLive t e after
+  pub stopped_at_end : (r : Reply) (after : EngineView) → StepsOn t wrote r e now → live now.past t ≡ true → after ≡ now
+      → StopsLive t e after
   stopped_at_end r after s l same = (
     record { event = Step t; reply = r } ∷ s.0,
     All-cons (IsStep t) (record { event = Step t; reply = r }) s.0 refl (All-weaker (IsAccess t) (IsStep t) (λ x a. a.0) s.0 s.1),
-    same ∙ s.3,
+    same ∙ s.4,
     ap (λ (v : EngineView). live v.past t) same ∙ l,
   )
 
 -- ---- the run
 
--- an implication carries over to an error
-pub on_err : {X E A B : Type 0} (result : Result X E) → (A → B) → OnErr result A → OnErr result B
-on_err (Ok x) f a = a
-on_err (Err e) f a = f a
+-- what holds holds of an error
+pub err_holds : {X E A : Type 0} (result : Result X E) → A → OnErr result A
+err_holds (Ok x) a = tt
+err_holds (Err e) a = a
 
 -- a transaction that was started is live
 pub run_live : (e after : EngineView) (p : ℕ) (args : List ℤ) (t : ℕ) (r : Reply) → after ≡ with_entry (Start p args) r e

@@ -19,3 +19,4 @@ pub mod Openings
 pub mod BareOpenings
 pub mod Cuts
 pub mod Puts
+pub mod ProcedureTexts

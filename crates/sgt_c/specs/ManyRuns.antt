@@ -1,5 +1,5 @@
 -- Calls that one C call runs one after another.
-use Rattle.std.specs.Prelude.{◌≡◌, ◌≤◌, ◌<◌, ◌^◌, ℕ, ℤ, List, [], ◌∷◌, take, Option, Some, None, slice_get}
+use Rattle.std.specs.Prelude.{◌≡◌, ◌≤◌, ◌<◌, ◌^◌, ℕ, ℤ, Bool, cond, List, [], ◌∷◌, take, Option, Some, None, slice_get}
 use Rattle.sgt_model.specs.declared.event.Event.TheVariants.{Start}
 use Rattle.sgt_model.specs.declared.reply.Reply.{Reply}
 use Rattle.sgt_engine.specs.EngineView.{EngineView}
@@ -18,10 +18,11 @@ IsAsked c = (c.procedure < 2 ^ 16) × (c.args ≤ 4)
 abbrev pub args_in : SgtCall → List ℤ
 args_in c = take c.args c.arg
 
--- the call ran from its start to its last reply, which is in its outcome
+-- the call ran from its start to its last reply; that is in its outcome, and whether one of its steps wrote
 abbrev pub RanOne : SgtCall → SgtOutcome → EngineView → EngineView → Type 0
-RanOne c o e after = (started : Option ℕ) × (last : Reply) × Runs (Start c.procedure (args_in c)) started last e after
-    × IsNumberTold started o.tid × HoldsReply o.reply last
+RanOne c o e after = (started : Option ℕ) × (wrote : Bool) × (last : Reply)
+    × Runs (Start c.procedure (args_in c)) started wrote last e after
+    × IsNumberTold started o.tid × (o.wrote ≡ cond wrote 1 0) × HoldsReply o.reply last
 
 -- each call ran, one after another, and its outcome is at its index
 abbrev pub RanAll : List SgtCall → List SgtOutcome → EngineView → EngineView → Type 0

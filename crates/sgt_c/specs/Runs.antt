@@ -1,5 +1,5 @@
 -- A transaction that one call runs from its start to its end.
-use Rattle.std.specs.Prelude.{◌≡◌, ℕ, Bool, true, false, List, ◌++◌, Option, Some, None}
+use Rattle.std.specs.Prelude.{◌≡◌, ℕ, Bool, true, false, ◌||◌, List, [], ◌∷◌, ◌++◌, Option, Some, None}
 use Rattle.std.specs.List.{All}
 use Rattle.sgt_model.specs.declared.entry.Entry.{Entry}
 use Rattle.sgt_model.specs.declared.event.Event.{Event}
@@ -23,6 +23,16 @@ is_access (reply.Looked k v) = true
 is_access (reply.Wrote k v) = true
 is_access _ = false
 
+-- the reply to a step that wrote
+abbrev pub is_write : Reply → Bool
+is_write (reply.Wrote k v) = true
+is_write _ = false
+
+-- one of these entries is a write
+abbrev pub any_write : List Entry → Bool
+any_write [] = false
+any_write (e ∷ entries) = is_write e.reply || any_write entries
+
 -- the reply to a step whose procedure has ended
 abbrev pub is_end : Reply → Bool
 is_end reply.Ended = true
@@ -36,9 +46,9 @@ IsStep t e = e.event ≡ Step t
 abbrev pub IsAccess : ℕ → Entry → Type 0
 IsAccess t e = (e.event ≡ Step t) × (is_access e.reply ≡ true)
 
--- the transaction made accesses, and then this reply answered a step that made none
-abbrev pub StepsOn : ℕ → Reply → EngineView → EngineView → Type 0
-StepsOn t r e after = (steps : List Entry) × All (IsAccess t) steps × (is_access r ≡ false)
+-- the transaction made accesses, writes among them or none, and then this reply answered a step that made none
+abbrev pub StepsOn : ℕ → Bool → Reply → EngineView → EngineView → Type 0
+StepsOn t wrote r e after = (steps : List Entry) × All (IsAccess t) steps × (is_access r ≡ false) × (wrote ≡ any_write steps)
     × (after ≡ with_entry (Step t) r (with_entries steps e))
 
 -- if the procedure has ended, the last reply answers the commit; else it answers the last step
@@ -47,13 +57,13 @@ CommitsIf true t r last e after = after ≡ with_entry (Commit t) last e
 CommitsIf false t r last e after = (last ≡ r) × (after ≡ e)
 
 -- the transaction was stepped to its end, and committed if it reached it
-abbrev pub RunsOn : ℕ → Reply → EngineView → EngineView → Type 0
-RunsOn t last e after = (r : Reply) × (stepped : EngineView) × StepsOn t r e stepped × CommitsIf (is_end r) t r last stepped after
+abbrev pub RunsOn : ℕ → Bool → Reply → EngineView → EngineView → Type 0
+RunsOn t wrote last e after = (r : Reply) × (stepped : EngineView) × StepsOn t wrote r e stepped × CommitsIf (is_end r) t r last stepped after
 
 -- the last reply refused the start, or a transaction was started and ran on to that reply
-abbrev pub Runs : Event → Option ℕ → Reply → EngineView → EngineView → Type 0
-Runs start None last e after = (is_start last ≡ false) × (after ≡ with_entry start last e)
-Runs start (Some t) last e after = RunsOn t last (with_entry start (reply.Started t) e) after
+abbrev pub Runs : Event → Option ℕ → Bool → Reply → EngineView → EngineView → Type 0
+Runs start None wrote last e after = (is_start last ≡ false) × (wrote ≡ false) × (after ≡ with_entry start last e)
+Runs start (Some t) wrote last e after = RunsOn t wrote last (with_entry start (reply.Started t) e) after
 
 -- the number is returned, if there is one
 abbrev pub IsNumberTold : Option ℕ → ℕ → Type 0
@@ -64,8 +74,8 @@ IsNumberTold (Some t) told = told ≡ t
 abbrev pub Ran : Event → Option Held → Option Held → ℕ → SgtReply → Type 0
 Ran start None new tid told = ⊥
 Ran start (Some h) None tid told = ⊥
-Ran start (Some h) (Some h') tid told = (started : Option ℕ) × (last : Reply) × Runs start started last h.engine h'.engine
-    × IsNumberTold started tid × HoldsReply told last × Headline h'.engine × (h'.part ≡ h.part)
+Ran start (Some h) (Some h') tid told = (started : Option ℕ) × (wrote : Bool) × (last : Reply)
+    × Runs start started wrote last h.engine h'.engine × IsNumberTold started tid × HoldsReply told last × Headline h'.engine × (h'.part ≡ h.part)
 
 -- the transaction made some steps, and is live
 abbrev pub StopsLive : ℕ → EngineView → EngineView → Type 0

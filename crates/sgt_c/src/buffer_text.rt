@@ -65,7 +65,7 @@ pub fn write_fault_text(alloc: Global, fault: &SgtFault, text: &mut [u8], length
 }
 
 /// Writes a text if it fits, and returns its length.
-fn write_text(to: &mut [u8], text: &[u8]) -> u64
+pub fn write_text(to: &mut [u8], text: &[u8]) -> u64
     ensures { IsWritten text.now to.old to.new result }
 {
     if text.len() <= to.len() {

@@ -41,6 +41,7 @@ mod history;
 mod opening;
 mod opening_bare;
 mod opening_with;
+mod procedure_text;
 mod procedures;
 mod putting;
 mod reading;

@@ -5,7 +5,7 @@ ghost use Rattle.sgt_model.specs.declared.reply.Reply.{Reply};
 ghost use Rattle.sgt_model.specs.Fates.{live};
 ghost use Rattle.sgt_engine.specs.EngineView.{with_entry};
 ghost use Rattle.sgt_c.specs.Asked.{IsCall};
-ghost use Rattle.sgt_c.specs.Runs.{Ran, GaveUp, Runs, GivesUp, RunsOn, StepsOn, StopsLive, is_access, is_end};
+ghost use Rattle.sgt_c.specs.Runs.{Ran, GaveUp, Runs, GivesUp, RunsOn, StepsOn, StopsLive, is_access, is_end, is_write};
 ghost use Rattle.sgt_c.specs.Handles.{IsBusy};
 
 use crate::asked::call;
@@ -58,7 +58,7 @@ pub extern "C" fn sgt_run(
     let _ = held.engine.history();
     engine.put(held);
     match ran {
-        Ok(Outcome { started, last }) => {
+        Ok(Outcome { started, last, .. }) => {
             if let Some(t) = started {
                 *tid = t.0;
             }
@@ -69,23 +69,33 @@ pub extern "C" fn sgt_run(
     }
 }
 
-/// The outcome of a run: the number of its transaction, if one was started, and the last reply.
+/// The outcome of a run: the number of its transaction, if one was started, whether one of its steps wrote, and the last
+/// reply.
 #[derive(Drop)]
 pub struct Outcome {
     pub started: Option<Tid>,
+    pub wrote: bool,
+    pub last: Reply,
+}
+
+/// The steps of a transaction: whether one of them wrote, and the last reply.
+#[derive(Drop)]
+pub struct Steps {
+    pub wrote: bool,
     pub last: Reply,
 }
 
 /// Runs a procedure from its start to its commit. If an allocation fails after the start, the transaction is aborted.
 pub fn run(engine: &mut SgtEngine, procedure: u16, args: Args) -> Result<Outcome, NoMemory>
-    ensures ran { IfOk result (λ r. Runs (Start procedure args) r.started r.last engine.old engine.new) }
+    ensures ran { IfOk result (λ r. Runs (Start procedure args) r.started r.wrote r.last engine.old engine.new) }
     ensures gave_up { OnErr result
         ((started : Option ℕ) × GivesUp (Start procedure args) started engine.old engine.new) }
 {
     match engine.apply(Event::Start { procedure, args })? {
         Reply::Started(t) => match run_on(engine, t) {
-            Ok(last) => Ok(Outcome {
+            Ok(Steps { wrote, last }) => Ok(Outcome {
                 started: Some(t),
+                wrote,
                 last,
             }),
             Err(NoMemory) => {
@@ -95,37 +105,43 @@ pub fn run(engine: &mut SgtEngine, procedure: u16, args: Args) -> Result<Outcome
         },
         last => Ok(Outcome {
             started: None,
+            wrote: false,
             last,
         }),
     }
 }
 
 /// Steps a live transaction to its end, and commits it if it reaches it. The last reply is returned.
-fn run_on(engine: &mut SgtEngine, t: Tid) -> Result<Reply, NoMemory>
+fn run_on(engine: &mut SgtEngine, t: Tid) -> Result<Steps, NoMemory>
     requires { live engine.old.past t ≡ true }
-    ensures ran { IfOk result (λ last. RunsOn t last engine.old engine.new) }
+    ensures ran { IfOk result (λ s. RunsOn t s.wrote s.last engine.old engine.new) }
     ensures stopped { OnErr result (StopsLive t engine.old engine.new) }
 {
-    let reply = step_on(engine, t)?;
-    if is_end(&reply) {
-        engine.apply(Event::Commit(t))
-    } else {
-        Ok(reply)
+    let steps = step_on(engine, t)?;
+    if !is_end(&steps.last) {
+        return Ok(steps);
     }
+    let last = engine.apply(Event::Commit(t))?;
+    Ok(Steps {
+        wrote: steps.wrote,
+        last,
+    })
 }
 
-/// Steps a live transaction until a step makes no access, and returns the reply to that step.
-fn step_on(engine: &mut SgtEngine, t: Tid) -> Result<Reply, NoMemory>
+/// Steps a live transaction until a step makes no access. The last reply is that to this step.
+fn step_on(engine: &mut SgtEngine, t: Tid) -> Result<Steps, NoMemory>
     requires { live engine.old.past t ≡ true }
-    ensures stepped { IfOk result (λ r. StepsOn t r engine.old engine.new) }
-    ensures at_end { IfOk result (λ r. is_end r ≡ true → live engine.new.past t ≡ true) }
+    ensures stepped { IfOk result (λ s. StepsOn t s.wrote s.last engine.old engine.new) }
+    ensures at_end { IfOk result (λ s. is_end s.last ≡ true → live engine.new.past t ≡ true) }
     ensures stopped { OnErr result (StopsLive t engine.old engine.new) }
 {
+    let mut wrote = false;
     for _ in 0..u64::MAX {
-        let reply = engine.apply(Event::Step(t))?;
-        if !is_access(&reply) {
-            return Ok(reply);
+        let last = engine.apply(Event::Step(t))?;
+        if !is_access(&last) {
+            return Ok(Steps { wrote, last });
         }
+        wrote = is_write(&last) || wrote;
     }
     // No memory can hold a history of so many entries.
     Err(NoMemory)
@@ -146,6 +162,12 @@ fn is_access(reply: &Reply) -> bool
     ensures { result ≡ is_access reply.now }
 {
     matches!(reply, Reply::Looked { .. } | Reply::Wrote { .. })
+}
+
+fn is_write(reply: &Reply) -> bool
+    ensures { result ≡ is_write reply.now }
+{
+    matches!(reply, Reply::Wrote { .. })
 }
 
 fn is_end(reply: &Reply) -> bool

@@ -125,7 +125,7 @@ pub struct Call {
 #[derive(Clone, Copy, Debug, Default, PartialEq, Eq)]
 pub struct Outcome {
     pub tid: u32,
-    pub spare: u32,
+    pub wrote: u32,
     pub reply: Reply,
 }
 
@@ -207,6 +207,7 @@ extern "C" {
         number: *mut u16,
         fault: *mut Fault,
     ) -> u32;
+    pub fn sgt_procedure_text(engine: *const Engine, number: u64, text: *mut u8, room: usize, length: *mut u64) -> u32;
     pub fn sgt_close(engine: *mut Engine);
     pub fn sgt_start(engine: *mut Engine, procedure: u64, args: *const i64, count: usize, reply: *mut Reply) -> u32;
     pub fn sgt_run(

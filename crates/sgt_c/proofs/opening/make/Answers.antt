@@ -1,4 +1,3 @@
-use Rattle.std.proofs.Common.{◌≡◌}
 use Rattle.sgt_c.proofs.opening.make.Goals as goal
 
 pub returns-clause-opened : goal.returns-clause-opened

@@ -1,4 +1,4 @@
-use Rattle.std.proofs.Common.{◌≡◌, refl}
+use Rattle.std.proofs.Common.{refl}
 use Rattle.sgt_c.proofs.opening_with.make.Goals as goal
 
 pub returns-clause-opened : goal.returns-clause-opened
