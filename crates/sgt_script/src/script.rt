@@ -95,11 +95,13 @@ fn answer_event(
     ensures legal { Legal (setting_of engine.new) engine.new.past }
     ensures kept { OnErr result (text.new.items ≡ text.old.items) }
 {
-    let reply = engine.answer(event)?;
-    match output {
-        Output::Replies => append_short_reply(text, &reply, engine.reply_lists()),
-        Output::History => append_newest(engine, text),
-        Output::Records => Ok(()),
+    match engine.answer(event) {
+        Ok(reply) => match output {
+            Output::Replies => append_short_reply(text, &reply, engine.reply_lists()),
+            Output::History => append_newest(engine, text),
+            Output::Records => Ok(()),
+        },
+        Err(NoMemory) => Err(NoMemory),
     }
 }
 

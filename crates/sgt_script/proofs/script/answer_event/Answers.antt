@@ -8,7 +8,7 @@ use Rattle.sgt_script.proofs.script.answer_event.Goals as goal
 
 pub returns-in-Replies-clause-answered : goal.returns-in-Replies-clause-answered
 returns-in-Replies-clause-answered c =
-    let done = c.in_ok-reply.ensures.adds in
+    let done = c.in-Ok.ensures.adds in
     let entry : Entry = record { event = c.args.event.now; reply = done.reply } in
     let past : c.answer.new.self.past ≡ entry ∷ c.args.engine.now.past = ap (λ (e : EngineView). e.past) done.adds in
     let same = answered_with _ _ _ _ _ done c.reply_lists.ensures in
@@ -18,7 +18,7 @@ returns-in-Replies-clause-answered c =
 
 pub returns-in-History-clause-answered : goal.returns-in-History-clause-answered
 returns-in-History-clause-answered c =
-    let done = c.in_ok-reply.ensures.adds in
+    let done = c.in-Ok.ensures.adds in
     let entry : Entry = record { event = c.args.event.now; reply = done.reply } in
     let past : c.answer.new.self.past ≡ entry ∷ c.args.engine.now.past = ap (λ (e : EngineView). e.past) done.adds in
     on_ok_weaker c.append_newest.result (λ says. (entry, past, refl, rw c.in-History.is (says entry c.args.engine.now.past past)))
