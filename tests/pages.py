@@ -40,6 +40,9 @@ PAGES = [
     "tests/README.md",
     "tools/README.md",
 ]
+# Pages of worked programs, which are not among the lines that are counted.
+WORKED = ["examples/clients/README.md", "examples/payments/README.md"]
+PAGES += WORKED
 ALL_LINES = 2300
 LINE = 120
 HELP_LINE = 100
@@ -130,7 +133,7 @@ def fail_if(found):
 
 def are_short(_sgt):
     found = [f"{page} has {len(text_of(page).splitlines())} lines" for page, most in LONGEST.items() if len(text_of(page).splitlines()) > most]
-    lines = sum(len(text_of(page).splitlines()) for page in PAGES)
+    lines = sum(len(text_of(page).splitlines()) for page in PAGES if page not in WORKED)
     if lines > ALL_LINES:
         found.append(f"all pages have {lines} lines")
     fail_if(found)
@@ -187,7 +190,7 @@ FILE = re.compile(r"^\w[\w.-]*\.(py|rt|antt|md|txt|jsonl|h|hpp|c|json|edit|rs)$"
 
 def is_there(page, name):
     """Whether a file or folder of that name stands where pages name files from."""
-    bases = [TOP, (TOP / page).parent, TOP / "docs", TOP / "tools", TOP / "bindings", TESTS / "helpers", TESTS / "c", EXAMPLES / "histories", CRATES]
+    bases = [TOP, (TOP / page).parent, (TOP / page).parent / "procedures", TOP / "docs", TOP / "tools", TOP / "bindings", TESTS / "helpers", TESTS / "c", EXAMPLES / "histories", CRATES]
     names = [name.rstrip("/"), f"{name}.antt"]
     if any(any(base.glob(one)) for base in (*bases, TESTS, *CRATES.iterdir()) for one in names):
         return True
@@ -195,7 +198,7 @@ def is_there(page, name):
 
 
 # Words with a slash, or an ending, that are no files.
-NO_FILES = {"-Ibindings/c", "bank.c", ".../bindings/rust"}
+NO_FILES = {"-Ibindings/c", "bank.c", ".../bindings/rust", "procedures/gift.json"}
 PLACEHOLDERS = re.compile(r"NAME|CRATE|FILE|FUNCTION|\.\.\.")
 
 
@@ -235,7 +238,7 @@ NAME = re.compile(r"^[A-Za-z_]\w*(::\w+)*$")
 
 # Names of other programs, or made up on the page.
 NO_NAMES = {"pkg_config", "SGT_LIB_DIR", "RUNS", "SGT", "DESTDIR", "LIBDIR", "PYTHONPATH", "RT_JOBS", "TRIED", "crossbeam_channel",
-            "atomic_table", "fast_float", "find_package", "target_link_libraries"}
+            "atomic_table", "fast_float", "find_package", "target_link_libraries", "PGHOST", "PGUSER", "sgt_lists"}
 
 
 def name_code_that_exists(_sgt):
