@@ -299,12 +299,15 @@ def draws_its_witness(program):
 
 
 def recorded_ones(program):
-    """What was recorded of databases, with its report."""
+    """What was recorded of databases, with its report, and with its picture where one is stored."""
     told = []
     for path in sorted(CLIENTS.glob("*.json")):
         status, text, errors = check(program, path.read_bytes())
         same(f"fault of {path.name}", "", errors)
         same(f"report on {path.name}", path.with_suffix(".out").read_text(), text)
+        if path.with_suffix(".svg").exists():
+            drawn_now = check(program, path.read_bytes(), "--timeline")
+            same(f"picture of {path.name}", (status, path.with_suffix(".svg").read_text(), ""), drawn_now)
         told.append(f"{path.stem} {status}")
     return ", ".join(told)
 
