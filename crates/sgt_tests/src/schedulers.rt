@@ -81,9 +81,13 @@ fn shortened(
     lists: &mut ReplyLists,
     event: &Event,
 ) -> Result<String, Fail> {
-    let reply = sched.answer(event, lists)?;
-    let answers = &lists.answers;
-    Ok(format!(in alloc; "{reply:?}, {answers:?}")?)
+    match sched.answer(event, lists) {
+        Ok(reply) => {
+            let answers = &lists.answers;
+            Ok(format!(in alloc; "{reply:?}, {answers:?}")?)
+        }
+        Err(error) => Err(error.into()),
+    }
 }
 
 /// The response to a line: the observation; or the reply to an event; or, after `short`, the reply in short and the answers.
