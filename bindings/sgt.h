@@ -67,7 +67,7 @@ enum sgt_status {
     SGT_NO_MEMORY = 1,   /* an allocation failed; nothing has changed, except by sgt_run and sgt_run_many, and the call may be repeated */
     SGT_CLOSED = 2,      /* the engine is closed */
     SGT_OPEN = 3,        /* the engine is already open */
-    SGT_NONE = 4,        /* there is no such record, entry or procedure */
+    SGT_NONE = 4,        /* there is no such record, entry or procedure, or nothing to explain */
     SGT_BAD_CALL = 5,    /* a number that was passed is out of its range, or a pointer is null */
     SGT_STILL_LIVE = 6,  /* the history cannot be cut, as a transaction is live */
     SGT_BEGUN = 7,       /* nothing can be added to the initial state of the engine, as there is a history */
@@ -403,7 +403,7 @@ uint32_t sgt_entry(const sgt_engine *engine, uint64_t place, sgt_event *event, s
 uint32_t sgt_calls(const sgt_engine *engine, uint64_t from, sgt_call *calls, size_t room, uint64_t *count, uint64_t *next);
 
 /*
- * Allocates memory for `entries` more entries, of 72 bytes each, so that the history is not moved until then. The lists of
+ * Allocates memory for `entries` more entries, of 40 bytes each, so that the history is not moved until then. The lists of
  * arguments, answers and transactions in the entries are not counted in. Nothing else changes.
  *
  * SGT_CLOSED; SGT_NO_MEMORY, also if the number exceeds all memory.
@@ -456,6 +456,25 @@ uint32_t sgt_reply_text(const sgt_reply *reply, char *text, size_t room, uint64_
  *   - SGT_NO_MEMORY.
  */
 uint32_t sgt_fault_text(const sgt_fault *fault, char *text, size_t room, uint64_t *length);
+
+/*
+ * Why an opening was refused, in one line for a person: where its first error is, what was expected there and what was found.
+ * It is the second line of `sgt script --explain`. `opening` is what was passed to sgt_open, sgt_open_with or sgt_shared_open.
+ * Of the opening with the procedure `[0,[7]]` it is `procedure 5, at 1 0: expected a statement, found 7`.
+ *
+ * The text is written as by sgt_fault_text, and its length to `written`. The words are ASCII, and may change with the version.
+ * The call reads the opening once more, and allocates memory meanwhile.
+ *
+ * If the result is not SGT_OK, text and `written` are unchanged:
+ *
+ *   - SGT_NONE: there is nothing to explain, as the opening has no fault.
+ *   - SGT_NO_MEMORY.
+ */
+uint32_t sgt_explain_opening(const uint8_t *opening, size_t length, char *text, size_t room, uint64_t *written);
+
+/* The same of a text that sgt_procedure refused. `number` is the number that the text names: pass `procedure` of the fault. */
+uint32_t sgt_explain_procedure(uint64_t number, const uint8_t *procedure, size_t length, char *text, size_t room,
+                               uint64_t *written);
 
 /*
  * The rest takes no engine and is not proved. The version is that of this header. sgt_version returns that of the linked

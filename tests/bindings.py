@@ -4,10 +4,9 @@
     tests/bindings.py
     tests/bindings.py behind-ci
 
-It makes the library by `bindings/build`, which proves `crates/sgt_c` first where nothing kept of it stands in its `out/`; behind
-`rt ci` it builds over the crates that this has just proved. Each example
-of `bindings` is built and run, where its compiler is there, and what it writes is compared. Each case is told; where something
-is missing on this machine, what was left out is told. The last line counts the cases.
+It makes the library by `bindings/build`, which proves `crates/sgt_c` first unless its `out/` is up to date. After `rt ci`, with
+`behind-ci`, it uses the crates that were just proved. Each example of `bindings` is built and run if its compiler is installed, and
+its output is compared. Each case is reported, also what was left out since a program is missing. The last line counts the cases.
 """
 
 import copy
@@ -30,7 +29,7 @@ STORY = (BINDINGS / "bank.out").read_text()
 TRANSFERS = (BINDINGS / "transfers.out").read_text()
 BUILD_SECONDS = 3600
 
-# What the examples with threads tell: in C, and in the other languages.
+# The output of the examples with threads: in C, and in the other languages.
 MONEY = "80000 calls, 4000 of 4000\n"
 LEFT = "4000 of 4000, 0 entries\n"
 
@@ -45,21 +44,21 @@ def makes_the_library(_):
 
 
 def declared():
-    """The functions that the headers declare."""
+    """Returns the functions that the headers declare."""
     lines = [line for header in ("sgt.h", "c/sgt_shared.h") for line in (BINDINGS / header).read_text().splitlines()]
     heads = ("uint32_t sgt_", "void sgt_", "const char *sgt_")
     return {line.split("(")[0].split()[-1].lstrip("*") for line in lines if line.startswith(heads)}
 
 
 def runs_installed(room, folder, lib, flags):
-    """Builds a program by these flags, and runs it with the library of the folder."""
+    """Builds a program with these flags, and runs it with the library of the folder."""
     program = room / "installed"
     run(["cc", "-std=c11", "-o", program, BINDINGS / "c" / "threads.c", *flags])
     same("the money", MONEY, run([program], env={"LD_LIBRARY_PATH": str(folder / lib)}))
 
 
 def installs(room):
-    """Under a prefix that is named from the folder one stands in; in stages; and with another folder for libraries."""
+    """Installs under a relative prefix, with DESTDIR, and with another LIBDIR."""
     run([BINDINGS / "build", "install", "near/prefix"], seconds=BUILD_SECONDS, cwd=room)
     prefix = room / "near" / "prefix"
     same("the prefix of sgt.pc", f"prefix={prefix}", (prefix / "lib" / "pkgconfig" / "sgt.pc").read_text().splitlines()[0])
@@ -103,7 +102,7 @@ def is_found_by_cmake(room):
 
 
 def declared_version():
-    """That of the header, which is the one place where it stands."""
+    """Returns the version in the header, its only place."""
     lines = (BINDINGS / "sgt.h").read_text().splitlines()
     return next(line.split('"')[1] for line in lines if line.startswith("#define SGT_VERSION "))
 
@@ -197,7 +196,7 @@ def tells_the_story_in_python(_):
 
 
 def is_a_wheel(room):
-    """A wheel, unpacked elsewhere, finds the library that it holds."""
+    """A wheel that is unpacked elsewhere finds the library that it contains."""
     run([BINDINGS / "build", "wheel", room / "wheels"])
     wheel = next((room / "wheels").glob("*.whl"))
     same("its name", f"sgt-{declared_version()}-py3-none-", wheel.name[: len(f"sgt-{declared_version()}-py3-none-")])
@@ -209,13 +208,13 @@ def is_a_wheel(room):
 
 
 def programs_of(language, mark):
-    """The programs of the page in this language: its blocks with this mark in them."""
+    """Returns the programs of the page in this language: the blocks that contain this mark."""
     blocks = (TOP / "docs" / "LIBRARY.md").read_text().split(f"```{language}\n")[1:]
     return [block.split("```")[0] for block in blocks if mark in block.split("```")[0]]
 
 
 def runs_the_programs_of_its_page(room):
-    """As a reader copies them, without warnings."""
+    """Builds and runs the programs as a reader copies them, without warnings."""
     told = []
     for number, text in enumerate(programs_of("c", "int main(void)")):
         source = room / f"page{number}.c"
@@ -289,38 +288,67 @@ def gives_each_reply_and_fault_its_text(_):
     for reply in misfits:
         same(f"the text of {reply}", "refused", refusal(reply.text))
     faults = [
-        ({"limits": (8, 100, 2)}, "bad limits"),
-        ({"limits": (8, 100), "accounts": [(1, 101, 0)]}, "bad line"),
-        ({"limits": (8, 100), "accounts": [(1, 101, 0, 0), (2, 101, 0, 0)]}, "bad opening 2"),
-        ({"limits": (8, 100), "procedures": [[0, []], 7]}, "procedure 6 shape top"),
-        ({"limits": (8, 100), "procedures": [[0, [["ask", 0]]]]}, "procedure 5 flaw 8"),
+        ({"limits": (8, 100, 2)}, "bad limits", '"limits": the third number is 2, and has to be from 0 to 1'),
+        (
+            {"limits": (8, 100), "accounts": [(1, 101, 0)]},
+            "bad line",
+            '"accounts": expected [name,customer,saving,checking] as account 1, found [1,101,0]',
+        ),
+        (
+            {"limits": (8, 100), "accounts": [(1, 101, 0, 0), (2, 101, 0, 0)]},
+            "bad opening 2",
+            '"accounts": account 2 has the customer 101 of account 1',
+        ),
+        (
+            {"limits": (8, 100), "procedures": [[0, []], 7]},
+            "procedure 6 shape top",
+            "procedure 6, at top: expected [arguments,[statement,..]], found 7",
+        ),
+        (
+            {"limits": (8, 100), "procedures": [[0, [["ask", 0]]]]},
+            "procedure 5 flaw 8",
+            "procedure 5, at 1 0 1: code 0 is not from 1 to 999",
+        ),
     ]
-    for opening, text in faults:
-        try:
-            sgt.Engine(**opening)
-        except sgt.OpeningRefused as why:
-            same(f"the fault of {opening}", text, str(why))
-        else:
-            raise Differs(f"no fault was told of {opening}")
+    for opening, fault, text in faults:
+        for engine in (sgt.Engine, sgt.SharedEngine):
+            try:
+                engine(**opening)
+            except sgt.OpeningRefused as why:
+                same(f"the fault of {opening}", (fault, text, text), (why.fault, why.explanation, str(why)))
+            else:
+                raise Differs(f"no fault was told of {opening}")
+    try:
+        sgt.Engine.bare(33, 100)
+    except sgt.OpeningRefused as why:
+        same("the fault of limits alone", ("bad limits", None, "bad limits"), (why.fault, why.explanation, str(why)))
+    else:
+        raise Differs("no fault was told of limits alone")
 
 
 def tells_why_nothing_is_added(_):
     sgt = module()
 
     procedures = [
-        ("nope", "not JSON"),
-        ({}, "procedure 5 shape top"),
-        ([0, [7]], "procedure 5 shape 1 0"),
-        ([0, [["ask", 0]]], "procedure 5 flaw 8"),
+        ("nope", "not JSON", "column 1: not JSON from here", None),
+        ({}, "procedure 5 shape top", "procedure 5, at top: expected [arguments,[statement,..]], found {}", "{}"),
+        ([0, [7]], "procedure 5 shape 1 0", "procedure 5, at 1 0: expected a statement, found 7", "7"),
+        ([0, [["ask", 0]]], "procedure 5 flaw 8", "procedure 5, at 1 0 1: code 0 is not from 1 to 999", None),
+        (
+            [0, [["put", 7, ["argument", 0], 1]]],
+            "procedure 5 shape 1 0 2",
+            'procedure 5, at 1 0 2: unknown word "argument"',
+            '["argument", 0]',
+        ),
     ]
     rows = [(8, 0, 0), (-1, 0, 0), (256, 0, 0), (0, sgt.MOST + 1, 0), (0, 0, sgt.LEAST - 1)]
     with sgt.Engine(limits=(8, 100)) as engine:
-        for procedure, text in procedures:
+        for procedure, fault, text, part in procedures:
             try:
                 engine.procedure(procedure)
             except sgt.ProcedureRefused as why:
-                same(f"the fault of {procedure}", text, str(why))
-                same(f"the part of {procedure} that does not fit", {"procedure 5 shape top": "{}", "procedure 5 shape 1 0": "7"}.get(text), why.part)
+                same(f"the fault of {procedure}", (fault, text, text), (why.fault, why.explanation, str(why)))
+                same(f"the part of {procedure} that does not fit", part, why.part)
             else:
                 raise Differs(f"no fault was told of {procedure}")
         for row in rows:
@@ -352,7 +380,7 @@ def takes_no_number_for_another_transactions(_):
 
 
 def keeps_an_engine_whole(_):
-    """A copy is refused, so it can't close the original; an engine without history is true; one error is the base of all."""
+    """An engine cannot be copied, so a copy cannot close it; an engine without history is true; all errors have one base."""
     sgt = module()
     with sgt.Engine(limits=(8, 100)) as engine, sgt.SharedEngine(limits=(8, 100)) as shared:
         for one in (engine, shared):
@@ -372,7 +400,7 @@ def keeps_an_engine_whole(_):
 
 
 def puts_a_million_rows_soon(_):
-    """Before, it took some seven seconds."""
+    """A million rows take seconds at most."""
     sgt = module()
     rows = [(7, number, number) for number in range(1_000_000)]
     with sgt.Engine(limits=(8, 100)) as engine:
@@ -385,7 +413,7 @@ def puts_a_million_rows_soon(_):
 
 
 def mixes_no_threads_replies(_):
-    """Threads that share an engine, and a handler of a signal that calls it, are told each its own reply."""
+    """Threads that share an engine, and a signal handler that calls it, each get their own replies."""
     sgt = module()
     wrong, over = [], threading.Event()
     with sgt.Engine(limits=(32, 4_000_000), accounts=[(n, 100 + n, n, 0) for n in range(8)]) as engine:
@@ -417,7 +445,7 @@ def mixes_no_threads_replies(_):
 
 
 def waits_with_deadlines_in_python(_):
-    """A shared engine's deadlines, tickets and misuse, as Python tells them."""
+    """The deadlines, tickets and misuse of a shared engine, from Python."""
     sgt = module()
     with sgt.SharedEngine(limits=(2, 100, 1), accounts=[(1, 101, 500, 1000)]) as bank:
         writer = bank.transaction(1, 1, 100)
@@ -452,7 +480,7 @@ def waits_with_deadlines_in_python(_):
 
 
 def refuses_a_forked_child(_):
-    """There a lock may be held for ever, so a call is refused, and does not wait."""
+    """In a forked child a lock may be held for ever, so a call is refused and does not wait."""
     sgt = module()
     with sgt.SharedEngine(limits=(2, 100), accounts=[(1, 101, 500, 1000)]) as bank:
         child = os.fork()
@@ -463,7 +491,7 @@ def refuses_a_forked_child(_):
 
 
 def what(error, call, told):
-    """What is told of a call: that it raised this error, or what it gave."""
+    """Returns how a call ended: with this error, or with its result."""
     try:
         return call()
     except error:
@@ -471,7 +499,7 @@ def what(error, call, told):
 
 
 def refusal(call):
-    """Whether the call is refused, as a word or by what it gives."""
+    """Whether the call is refused, by an error or by its result."""
     try:
         return call()
     except (ValueError, IndexError):

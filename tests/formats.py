@@ -1,6 +1,6 @@
 #!/usr/bin/env python3
-"""Runs the built program on tables of lines, openings and procedures, and compares what each row is answered with what the pages of
-formats and of the language say.
+"""Runs the built program on tables of lines, openings and procedures, and compares each output with the pages on formats and on the
+language.
 
     tests/formats.py crates/sgt/out/sgt
 
@@ -913,7 +913,7 @@ def gives_fees(sgt):
 # It finds record 7 of table 3, or one more than its argument where there is none, stores that there and answers it.
 UPSERT = '[1,[["find",0,3,7,["sum",["arg",0],1]],["put",3,7,["reg",0]],["answer",["reg",0]]]]'
 
-# It stores its second argument under its first one, a key that may be used once: where there is such a record it asks 8.
+# It writes its second argument at its first one, a key that may be used once: if that record exists, it aborts with 8.
 ONCE = (
     '[2,[["find",0,4,["arg",0],-1],["if",["same",["reg",0],-1],[],[["ask",8]]],'
     '["put",4,["arg",0],["arg",1]],["answer",["arg",1]]]]'
@@ -932,7 +932,7 @@ BRANCHES = (
     '[["let",1,2],["put",1,2,["arg",1]]]],["look",2,1,["reg",1],6],["answer",["diff",["reg",2],["reg",0]]]]]'
 )
 
-# An Ask in a branch, and a Let that goes out of range after it.
+# An abort with a code in a branch, and a Let that goes out of range after it.
 STOPS = (
     '[1,[["if",["same",["arg",0],0],[["put",0,1,1],["ask",3],["put",0,2,2]],[["put",0,3,3]]],'
     '["let",4,["sum",["arg",0],999999999999999]],["put",0,4,["reg",4]]]]'
@@ -946,7 +946,7 @@ UPSERTS = """
 999999999999998;: read 3/7 none, wrote 3/7 999999999999999, ended, committed 999999999999999
 """
 
-# The value is worked out before the look, whether there is a record or not.
+# The value is evaluated before the read, whether there is a record or not.
 NO_VALUES = """
 999999999999999;: aborted asked 1000 fell none
 999999999999999; 3/7 9: aborted asked 1000 fell none

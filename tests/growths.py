@@ -1,10 +1,10 @@
 #!/usr/bin/env python3
-"""Refuses each growth of a worked row's events on `Engine::apply` in turn.
+"""Makes each allocation of a row of events on `Engine::apply` fail in turn.
 
     tests/growths.py crates/sgt_engine_runs/out/sgt_engine_runs
 
-The program runs the events of the row `two_level_cascade`, and tells what it finds where one is refused memory; and it cuts the
-history off behind them. `c/failing.c` refuses it. Each case is reported, and the last line counts them.
+The program runs the events of the row `two_level_cascade`, and reports what it finds after a failed allocation. Then it cuts the
+history. `c/failing.c` makes allocations fail. Each case is reported, and the last line counts them.
 """
 
 import sys
@@ -15,14 +15,14 @@ from helpers.cases import FOREVER, TESTS, Differs, same, tell_failing  # noqa: E
 CRATE = TESTS.parent / "crates" / "sgt_engine_runs"
 RUNS = (CRATE / "stdout").read_text().splitlines(True)
 
-# Without a word the program runs the row first.
+# Without arguments the program runs the row.
 ROW = RUNS[: RUNS.index("history as before\n") + 1]
 
-# After the replies come the committed values, who is live and the history.
+# After the replies come the committed values, the live transactions and the history.
 REPLIES, END = ROW[:-8], ROW[-8:]
 REFUSED = ["refused: history as before\n", "refused: committed values and who is live as before\n"]
 
-# The cut after the row; one while the transaction that was started then is live; and one after its quit.
+# The cut after the row; a cut while a new transaction is live; and one after that is aborted.
 STILL_LIVE = [line.replace("refused", "still live") for line in REFUSED]
 CUT_ROW = [f"cut {len(REPLIES)}: history as before\n"]
 BEHIND = ["started 0\n", *STILL_LIVE, "aborted quit fell none\n", "cut 2: history as before\n"]
@@ -33,7 +33,7 @@ WHOLE = (0, "".join(ROW), "")
 
 
 def quits(replies, order):
-    """What the quits of all live ones tell, behind these replies. Transaction 1 reads what 0 stored, and 2 what 1 stored."""
+    """Returns the replies to aborts of all live transactions, after these replies. Transaction 1 has read from 0, and 2 from 1."""
     live = [t for t in range(3) if f"started {t}\n" in replies]
     if order == "newest":
         return ["aborted quit fell none\n"] * len(live)
@@ -43,8 +43,8 @@ def quits(replies, order):
 
 
 def sweep(program, word, last, wanted):
-    """How many growths of events were refused, and how many of these were done without, where so many growths are refused from
-    each on. `wanted` says what is to be told where an event is refused behind these replies."""
+    """Makes `many` allocations fail from each one on. Returns how many events failed, and how many succeeded without the allocation.
+    `wanted` returns the expected output if an event fails after these replies."""
     refused = done_without = 0
     for number in range(1, program.allocations(word) + 1):
         came = program.run(word, refuse_first=number, refuse_last=last(number))
@@ -66,22 +66,22 @@ def sweep(program, word, last, wanted):
 
 
 def goes_on_where_a_growth_was_refused_once(program):
-    """History and committed values are as before, and all later replies are the row's."""
+    """The history and the committed values are as before, and all later replies are those of the row."""
     return sweep(program, "again", lambda number: number, lambda replies: ROW[len(replies) :])
 
 
 def quits_from_the_oldest_on_where_all_memory_is_refused(program):
-    """History and committed values are as before, and each live one can be quit, with those that fall."""
+    """The history and the committed values are as before, and each live transaction can be aborted, with its readers."""
     return sweep(program, "oldest", lambda _: FOREVER, lambda replies: quits(replies, "oldest") + END)
 
 
 def quits_from_the_newest_on_where_all_memory_is_refused(program):
-    """The same, where none has a reader that falls with it."""
+    """The same for transactions without readers, so that nothing is aborted in cascade."""
     return sweep(program, "newest", lambda _: FOREVER, lambda replies: quits(replies, "newest") + END)
 
 
 def quits_ask_for_no_memory(program):
-    """All later allocations are refused too, and that of the event is the only one: the quits of all who are live make none."""
+    """All later allocations fail too. Only the event allocates: the aborts of all live transactions make no allocation."""
     refused = 0
     for order in ("oldest", "newest"):
         for number in range(1, program.allocations(order) + 1):
@@ -92,7 +92,7 @@ def quits_ask_for_no_memory(program):
 
 
 def leaves_the_engine_as_it_was_where_a_growth_of_a_cut_was_refused(program):
-    """History, committed values and who is live are as before; the same cut succeeds with memory, and numbers begin anew."""
+    """The history, the committed values and the live transactions are as before. Repeated, the cut succeeds, and numbers restart at 0."""
     whole = REPLIES + CUT_ROW + BEHIND
     same("with all memory", (0, "".join(whole + END), ""), program.run("cut"))
     once = forever = 0

@@ -1,5 +1,5 @@
 #!/usr/bin/env python3
-"""Runs the built program where memory is refused, where reads and writes fail, and on lines that are none.
+"""Runs the built program with failing allocations, reads and writes, and on malformed lines.
 
     tests/hostile.py crates/sgt/out/sgt
 
@@ -44,7 +44,7 @@ BANK = ("bank", "--workers", "1")
 # Memory
 
 
-# What is grown before the run, while the words are parsed, may be done without.
+# The program may succeed without the allocations before the run, while the options are parsed.
 
 def refused_growths(sgt, script, replies):
     """One allocation fails, or all from one on: what was written is the replies to the first lines, and no database."""

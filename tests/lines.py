@@ -149,8 +149,8 @@ ACCOUNTS = '"accounts":[[1,101,500,1000],[2,102,0,200]]'
 
 
 class Place:
-    """A line 1 and events after it, and what is answered next: a start that has nothing wrong, and each transaction's step,
-    commit and quit, by its number. It was written down from the formats, for a few calls of SmallBank's procedures."""
+    """A line 1 and events after it, and the next replies: to a valid start, and to the step, commit and quit of each transaction, by
+    its number. They were written by hand from the formats, for a few calls of SmallBank's procedures."""
 
     def __init__(self, limits, procedures, events, replies, arguments, started, transactions):
         self.before = f'{{"limits":{limits},{ACCOUNTS},"procedures":{procedures}}}\n{events}'.encode()
@@ -196,7 +196,7 @@ FULL = Place(
     "[1,9]", '[[0,[["put",3,7,4]]]]', '["start",5,[]]\n', "started 0\n", (*OF_FIVE, 0), "full\n", (("wrote 3/7 4\n", "not ended\n", QUIT),)
 )
 
-# Transaction 0 is committed, 1 has stored what 2 has read, 3 has read one record, and 4 was quit.
+# Transaction 0 is committed, 2 has read from 1, 3 has read one record, and 4 was aborted by its caller.
 BUSY = Place(
     "[8,100]",
     "[]",

@@ -4,9 +4,9 @@
     tests/payments.py [ROUNDS [SEED]]
 
 It runs the server as a user does, with the library of `bindings/out`, which has to be made: the replies; a crash under load, ROUNDS
-times (30), with what no fsync had kept taken away or garbled; a journal cut at each byte and with a flipped bit in each line; a full disk;
-an fsync that fails; another program's procedures; a forged journal; and a failover over Redis, if the machine has it. Each case is
-reported, and the last line counts them.
+times (30), or one of its front processes, with what no fsync had kept taken away or garbled; a journal cut at each byte and with a flipped
+bit in each; a full disk; an fsync that fails; another program's procedures; a forged journal; and a failover over Redis, if the machine has
+it. Each case is reported, and the last line counts them.
 """
 
 import contextlib
@@ -31,8 +31,9 @@ from helpers.cases import C_SOURCES, TESTS, Differs, same, tell  # noqa: E402
 
 PAYMENTS = TESTS.parent / "examples" / "payments"
 sys.path.insert(0, str(PAYMENTS))
-from bank import ROW, Bank, Damaged, load_procedures  # noqa: E402
-from journal import FileJournal, Record, parse  # noqa: E402
+from bank import ROW, Bank, Unusable, load_procedures  # noqa: E402
+from front import FRONTS  # noqa: E402
+from journal import FileJournal, seal_batch, unseal  # noqa: E402
 from replicated import RedisJournal  # noqa: E402
 
 SECONDS = 60
@@ -45,8 +46,8 @@ LIMIT = 1_000_000
 class Server:
     """A server, killed at the end."""
 
-    def __init__(self, *words, before=None, env=None, wrapper=(), program="payments.py"):
-        command = [sys.executable, *wrapper, str(PAYMENTS / program), *map(str, words), "--port", "0"]
+    def __init__(self, *words, port=0, before=None, env=None, wrapper=(), program="payments.py"):
+        command = [sys.executable, *wrapper, str(PAYMENTS / program), *map(str, words), "--port", str(port)]
         self.process = subprocess.Popen(
             command, stdout=subprocess.PIPE, stderr=subprocess.PIPE, text=True, preexec_fn=before, env={**os.environ, **(env or {})}
         )
@@ -61,7 +62,15 @@ class Server:
 
     def __exit__(self, *_):
         self.process.kill()
-        self.process.communicate()
+        try:
+            self.process.communicate(timeout=20)  # until its front processes have ended, too
+        except subprocess.TimeoutExpired:
+            raise Differs("a front process goes on without the server") from None
+
+    def fronts(self):
+        """The numbers of its front processes."""
+        number = self.process.pid
+        return [int(word) for word in pathlib.Path(f"/proc/{number}/task/{number}/children").read_text().split()]
 
     def connect(self):
         return socket.create_connection(("127.0.0.1", self.port), timeout=SECONDS)
@@ -145,11 +154,13 @@ def replies():
             ({"balance": 9}, {"balance": 9, "has": 70}),
         ]
         asked(server, wanted)
-        no_request = [b"", b"7", b"[1]", b'{"id":1}', b'{"balance":"x"}', b'{"balance":1.0}', b'{"balance":true}', b'{"day":1}', b"\xff", b'{"balance":1000000000000000}']
+        no_request = [b"", b"7", b"[1]", b'{"id":1}', b'{"balance":"x"}', b'{"balance":1.0}', b'{"balance":true}', b'{"day":1}', b"\xff", b'{"rows":true} x', b'{"balance":1}{"balance":1}', b'{"balance":1000000000000000}']
         if any("error" not in reply for reply in server.ask(*no_request)):
             raise Differs("a line that is no request was taken")
+        *_, rows, paid = server.ask(pay(20, 2, 1, 1), {"rows": True}, pay(21, 2, 1, 1))
+        same("rows between payments that come at once", (7, 21), (rows["seq"], paid["id"]))
         same("a line that is too long", [None], server.ask(b"x" * 2000 + b"y" * 2000))
-        same("verify", (0, "calls 1 to 5 give the rows of the server\n", ""), run("verify", folder / "j", "--port", server.port))
+        same("verify", (0, "calls 1 to 7 give the rows of the server\n", ""), run("verify", folder / "j", "--port", server.port))
         same("a second server", (1, f"payments: {folder / 'j'}: another server has this journal\n"), (lambda r: (r[0], r[2]))(run("serve", folder / "j")))
         same("the end", (0, ""), server.end())
         shown = run("show", folder / "j")[1].splitlines()
@@ -245,13 +256,13 @@ class Load:
 
 def lose_power(folder, safe, draw):
     """What a loss of power may do to the bytes that were written, but were not on disk. Whether it did."""
-    calls = sorted(folder.glob("*.calls"))[-1]
-    data = bytearray(calls.read_bytes())
-    start = safe.get(calls.name, 0)
+    newest = sorted(folder.glob("*.journal"))[-1]
+    data = bytearray(newest.read_bytes())
+    start = safe.get(newest.stem, 0)
     if len(data) <= start:
         # All was on disk. The beginning of a next batch may be there, too.
         data += draw.randbytes(draw.randrange(80))
-        calls.write_bytes(data)
+        newest.write_bytes(data)
         return len(data) > start
     what = draw.randrange(3)
     if what == 0:
@@ -259,17 +270,17 @@ def lose_power(folder, safe, draw):
     elif what == 1:
         for at in range(draw.randrange(start, len(data)), len(data), draw.randrange(1, 300)):
             data[at] ^= draw.randrange(1, 256)
-    calls.write_bytes(data)
+    newest.write_bytes(data)
     return what < 2
 
 
 def synced(path):
-    """The length of each file when its last fsync returned, as tests/helpers/noting_fsync.py writes it."""
+    """The length of each file when its last fsync returned, as tests/helpers/noting_fsync.py writes it. A snapshot has another suffix at first."""
     found = {}
     for line in path.read_text().splitlines() if path.exists() else []:
         name, _, size = line.rpartition(" ")
         if name and size.isdigit():
-            found[pathlib.Path(name).name] = int(size)
+            found[pathlib.Path(name).stem] = int(size)
     return found
 
 
@@ -293,9 +304,11 @@ def crashes(rounds, seed):
                 early += 1
                 continue
             with server:
-                threading.Timer(0.1 + draw.random() * 0.5, server.process.kill).start()
+                # Of five kills one is of a front process.
+                victim = draw.choice(server.fronts()) if number % 5 == 2 else server.process.pid
+                threading.Timer(0.1 + draw.random() * 0.5, os.kill, (victim, signal.SIGKILL)).start()
                 load.run(server, SECONDS)
-                server.process.wait()
+                same("the status", 1 if number % 5 == 2 else -signal.SIGKILL, server.process.wait(SECONDS))
             torn += lose_power(journal, synced(notes), draw)
             if number % 5 == 4:
                 seq, found, _ = recovered(journal)
@@ -310,13 +323,14 @@ def crashes(rounds, seed):
     return f"{rounds} kills, {early} of them in recovery; {len(load.acknowledged)} payments acknowledged, each there once; {torn} torn tails"
 
 
-def a_journal(folder, payments=12):
-    """A journal with some payments, ended well. Its file of calls, and its bytes."""
+def a_journal(folder):
+    """A journal with some payments, three of them in one batch, ended well. Its file of calls, and its bytes."""
     with Server("serve", folder, "--accounts", 3) as server:
-        for number in range(1, payments + 1):
+        server.ask(*[pay(number, 1, 2, 100 + number) for number in (1, 2, 3)])
+        for number in range(4, 11):
             server.ask(pay(number, 1, 2, 100 + number))
         server.end()
-    calls = sorted(folder.glob("*.calls"))[-1]
+    calls = sorted(folder.glob("*.journal"))[-1]
     return calls, calls.read_bytes()
 
 
@@ -324,25 +338,25 @@ def torn_tails():
     """A journal that is cut at each byte of its last batch recovers all before it."""
     with room() as folder:
         calls, data = a_journal(folder / "j")
-        whole = data[: data.rindex(b"\n\n")] + b"\n" if b"\n\n" in data else data
-        last = whole.rindex(b"\n", 0, len(whole) - 1) + 1
-        record = parse(whole[last:-1])
+        whole = data[: data.rindex(b"\n\n") + 1]  # without the mark that the end made
+        last = whole.rindex(b"\n\n") + 1
+        first, call = unseal(whole[last + 1 : -1])
         for length in range(last, len(whole) + 1):
             calls.write_bytes(whole[:length])
             seq, found, torn = recovered(folder / "j")
             is_whole = length == len(whole)
-            same(f"cut at byte {length}: the last call", record.seq - (not is_whole), seq)
-            same(f"cut at byte {length}: what was cut off", 0 if is_whole else length - last, torn)
-            same(f"cut at byte {length}: the payment", is_whole, record.args[0] in found[2])
-        # Of a batch that was not safe any part may be there: here the second of its two calls.
-        batch = [Record(record.seq + more, record.seq, "pay", (100 + more, 1, 2, 5)).line() for more in (1, 2)]
-        for garbled in (b"x" * len(batch[0]) + batch[1], batch[0][:-5] + b"\0\0\0\0\n" + batch[1]):
-            calls.write_bytes(whole + garbled)
-            seq, found, torn = recovered(folder / "j")
-            same("a batch that is there in part", (record.seq, len(garbled)), (seq, torn))
-        calls.write_bytes(whole + b"".join(batch))
-        same("a batch that is there whole", record.seq + 2, recovered(folder / "j")[0])
-    return f"{len(whole) - last + 1} lengths"
+            same(f"cut at byte {length}: the last call", first - (not is_whole), seq)
+            same(f"cut at byte {length}: what was cut off", 0 if is_whole else max(0, length - last - 1), torn)
+            same(f"cut at byte {length}: the payment", is_whole, call[1] in found[2])
+        # Of a batch that was not safe any part may be there.
+        batch = seal_batch(first + 2, [("pay", 100 + more, 1, 2, 5) for more in (1, 2)])
+        for at in range(1, len(batch)):
+            for garbled in (batch[:at] + bytes(len(batch) - at), bytes(at) + batch[at:], batch[:at] + b"\n" + batch[at + 1 :]):
+                calls.write_bytes(whole + garbled)
+                same(f"a batch that is there in part, at {at}", first + 2 * (garbled == batch), recovered(folder / "j")[0])
+        calls.write_bytes(whole + batch)
+        same("a batch that is there whole", first + 2, recovered(folder / "j")[0])
+    return f"{len(whole) - last + 3 * len(batch) - 1} lengths"
 
 
 def damage():
@@ -350,35 +364,28 @@ def damage():
     draw, refused = random.Random(5), 0
     with room() as folder:
         calls, data = a_journal(folder / "j")
+        head, mark = data.index(b"\n") + 1, data.rindex(b"\n\n") + 1
+        snapshot = head + unseal(data[: head - 1])[2]
         wanted = recovered(folder / "j")[:2]
-        marks = data.rindex(b"\n\n") + 1 if b"\n\n" in data else len(data)
+        later = seal_batch(wanted[0] + 1, [("pay", 100, 1, 2, 5)])
         for at in range(len(data)):
             flipped = bytearray(data)
             flipped[at] ^= 1 << draw.randrange(8)
-            calls.write_bytes(flipped)
-            try:
-                came = recovered(folder / "j")[:2]
-            except Damaged as why:
-                refused += 1
-                if not re.search(r"calls: line \d+, at byte \d+, is damaged", str(why)):
-                    raise Differs(f"byte {at}: {why}") from None
-                continue
-            if at < marks - 1:
-                raise Differs(f"a flipped bit in byte {at} of {len(data)} was not found")
-            same(f"a flipped bit in byte {at}, of the last mark", wanted, came)
-        calls.write_bytes(data)
-        rows = sorted((folder / "j").glob("*.rows"))[-1]
-        snapshot = rows.read_bytes()
-        for at in range(len(snapshot)):
-            flipped = bytearray(snapshot)
-            flipped[at] ^= 1 << draw.randrange(8)
-            rows.write_bytes(flipped)
-            try:
-                recovered(folder / "j")
-            except Damaged:
-                refused += 1
-                continue
-            raise Differs(f"a flipped bit in byte {at} of the snapshot was not found")
+            for after in (b"", later):
+                calls.write_bytes(flipped + after)
+                try:
+                    came = recovered(folder / "j")[:2]
+                except Unusable as why:
+                    refused += 1
+                    found = re.search(r"journal: the line at byte (\d+) is damaged", str(why))
+                    is_right = int(found[1]) <= at <= data.find(b"\n", int(found[1]) + 1) if found else "the snapshot is damaged" in str(why)
+                    if not is_right or bool(found) != (at >= snapshot):
+                        raise Differs(f"byte {at}: {why}") from None
+                    continue
+                if at < mark or after:
+                    raise Differs(f"a flipped bit in byte {at} of {len(data)} was not found")
+                same(f"a flipped bit in byte {at}, of the last mark", wanted, came)
+        calls.write_bytes(b"x" + data[1:])
         status, out, error = run("serve", folder / "j")
         if status != 1 or out or "the snapshot is damaged" not in error:
             raise Differs(f"a server on a damaged snapshot: {status} {out} {error}")
@@ -455,8 +462,8 @@ def bad_procedures():
     files = [
         ('{"procedure": [', "JSONDecodeError"),
         ({"request": ["gift"]}, "KeyError: 'procedure'"),
-        ({"request": ["gift"], "procedure": [1, [look, ["puts", 1, 2, 3]]]}, 'shape 1 1, at ["puts", 1, 2, 3]'),
-        ({"request": ["gift"], "procedure": [1, [["look", 99, 1, ["arg", 0], 1]]]}, "flaw 1"),
+        ({"request": ["gift"], "procedure": [1, [look, ["puts", 1, 2, 3]]]}, 'procedure 0, at 1 1: unknown word "puts"'),
+        ({"request": ["gift"], "procedure": [1, [["look", 99, 1, ["arg", 0], 1]]]}, "at 1 0 1: register 99 is over 15"),
         ({"request": ["gift", "amount"], "procedure": [1, [look]]}, "the request has 2 keys, and the procedure takes 1 arguments"),
         ({"request": ["gift"], "refused": {"one": "x"}, "procedure": [1, [look]]}, "ValueError"),
         ({"request": ["balance"], "procedure": [1, [look]]}, "balance.json has the same keys in its request"),
@@ -471,24 +478,59 @@ def bad_procedures():
     return f"{len(files)} files"
 
 
+def forged(data, amount):
+    """A journal whose second line of calls has another amount, with a checksum that fits."""
+    lines = data.split(b"\n")
+    at = [place for place, line in enumerate(lines) if place > 0 and len(unseal(line) or []) > 1][1]
+    first, call = unseal(lines[at])
+    lines[at] = seal_batch(first, [[*call[:4], amount(call[4])]]).strip()
+    return b"\n".join(lines)
+
+
 def forged_journal():
     """A call that was changed, with a checksum that fits, is found by `verify`, but for the calls after the last snapshot by the server alone."""
     with room() as folder:
         calls, data = a_journal(folder / "j")
         with Server("serve", folder / "j") as server:
             same("verify", 0, run("verify", folder / "j", "--port", server.port)[0])
-            lines = data.split(b"\n")
-            record = parse(lines[3])
-            lines[3] = record._replace(args=(*record.args[:3], record.args[3] + 1)).line().rstrip(b"\n")
-            calls.write_bytes(b"\n".join(lines))
+            calls.write_bytes(forged(data, lambda amount: amount + 1))
             status, _, error = run("verify", folder / "j", "--port", server.port)
             if status != 1 or "do not give what is served" not in error:
                 raise Differs(f"verify of a forged journal: {status} {error}")
-        lines[3] = record._replace(args=(*record.args[:3], 10**12)).line().rstrip(b"\n")
-        calls.write_bytes(b"\n".join(lines))
+        calls.write_bytes(forged(data, lambda _: 10**12))
         status, _, error = run("serve", folder / "j")
-        if status != 1 or "the engine replies" not in error:
+        if status != 1 or "does not commit" not in error:
             raise Differs(f"a start on a call that does not commit: {status} {error}")
+        missing = data.split(b"\n\n")
+        calls.write_bytes(b"\n\n".join(missing[:2] + missing[3:]))
+        status, _, error = run("serve", folder / "j")
+        if status != 1 or "is damaged; call 5 stood there" not in error:
+            raise Differs(f"a start on a journal without a line: {status} {error}")
+
+
+def killed_fronts():
+    """A front process that is killed ends the server, and with it the others. Nothing that was acknowledged is lost, and the port is free."""
+    draw, port = random.Random(11), 0
+    load = Load(draw)
+    with room() as folder:
+        words = ("serve", folder / "j", "--accounts", ACCOUNTS, "--cents", CENTS)
+        for number in range(6):
+            with Server(*words, port=port) as server:
+                port, fronts = server.port, server.fronts()
+                same("how many front processes there are", FRONTS, len(fronts))
+                threading.Timer(0.1 + draw.random() * 0.3, os.kill, (fronts[number % FRONTS], signal.SIGKILL)).start()
+                error = ends_at_once(server, load)
+            same("what a server without one of its front processes says", "payments: a front process has ended\n", error)
+            load.judge(*recovered(folder / "j")[:2])
+        with Server(*words, port=port) as server:
+            os.kill(server.fronts()[0], signal.SIGKILL)
+            same("the status of an idle server without one of its front processes", 1, server.process.wait(SECONDS))
+        with Server(*words, port=port) as server:
+            server.process.kill()
+        with Server(*words, port=port) as server:
+            load.run(server, 0.2)
+        load.judge(*recovered(folder / "j")[:2])
+    return f"{len(load.acknowledged)} acknowledged"
 
 
 def rows_of_stream(name, port):
@@ -514,7 +556,7 @@ def failovers():
             own = ("queue", "--redis-port", port, "--accounts", ACCOUNTS, "--cents", CENTS)
             for is_killed in (True, False):
                 with Server(*own, program="replicated.py") as primary, Server(*own, "--follow", program="replicated.py") as follower:
-                    asked(follower, [(pay(10**9, 1, 2, 1), {"error": "this is a follower"})])
+                    asked(follower, [(pay(10**9, 1, 2, 1), {"id": 10**9, "error": "this server does not run it"})])
                     stop = primary.process.kill if is_killed else lambda: primary.process.send_signal(signal.SIGSTOP)
                     threading.Timer(0.4, stop).start()
                     load.run(primary, 0.8)
@@ -555,7 +597,7 @@ def main():
         return crashes(rounds, seed)
 
     crash_test.__name__ = "crashes"
-    return tell([replies, torn_tails, damage, full_disk, failing_fsync, other_procedures, bad_procedures, forged_journal, failovers, crash_test], of="payments")
+    return tell([replies, torn_tails, damage, full_disk, failing_fsync, other_procedures, bad_procedures, forged_journal, killed_fronts, failovers, crash_test], of="payments")
 
 
 if __name__ == "__main__":

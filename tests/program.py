@@ -473,7 +473,7 @@ def tells_by_whom_tries_were_aborted(sgt):
 
 def tried(report, lines, tally):
     """Compares lines of tries with the report: each transaction that was started is reported once, and those that failed with others of
-    the run. Counts those that were in a cycle, and those that fell."""
+    the run. Counts those in a cycle, and those aborted in cascade."""
     outcomes = [line.split() for line in report if "/" not in line.split()[0]]
     same("the lines", len(outcomes), len(lines))
     started, others = [], set()

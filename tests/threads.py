@@ -20,7 +20,8 @@ from helpers.cases import C_SOURCES, Differs, same, tell  # noqa: E402
 from helpers.legal import Checker, Illegal, database_text  # noqa: E402
 from helpers.library import C_FLAGS, OUT, SANITIZERS, SHARED, THREAD_SANITIZER, WRAPS, built, can, run  # noqa: E402
 
-THREADS, CALLS, SANITIZED_CALLS = 16, 200_000, 30_000
+THREADS, CALLS, FEW_CALLS, SANITIZED_CALLS = 16, 200_000, 40_000, 15_000
+STEPPED, FEW_STEPPED = 49, 1  # of 100 transactions
 MONEY = 5 * 200_000
 FUZZED_SECONDS = 60
 LIMITS = '{"limits":[8,4000000000,1],"accounts":[%s],"procedures":[]}\n'
@@ -31,6 +32,9 @@ NO_TARGET = "int LLVMFuzzerTestOneInput(const char *data, unsigned long size) { 
 
 # What has to come in a run of so many calls, so that it tests what it is for.
 WANTED = ("tried again", "waited", "timed out", "quit", "cuts", "committed")
+WANTED_OF_RUNS = ("for others", "timed out", "cuts", "committed")
+# The library takes the machine for one that has a processor for each thread, so that each may have its runs carried out by others.
+ROOMY = [f"-DPROCESSORS={THREADS}", "-Wl,--wrap=sysconf"]
 
 
 def parts_of(text):
@@ -109,8 +113,10 @@ def compare_replies(told, entries):
             raise Differs(f"a run of {ticket} was told {replies}, in place of {entries[ticket]}")
 
 
-def judge(folder):
-    """Judges a run by what it wrote. How many entries and parts there are."""
+def judge(folder, are_runs=False):
+    """Judges a run by what it wrote. How many entries and parts there are. If all are runs, nobody is ever live between two calls, so
+    each transaction was told to the one thread that asked for it: none was carried out twice, or for a thread that was told that it
+    timed out."""
     parts = parts_of((folder / "history").read_text())
     try:
         rows, ends = judged(parts)
@@ -119,7 +125,10 @@ def judge(folder):
     same("the rows", database_text(rows), (folder / "rows").read_text().splitlines())
     same("what the hook was told", ends, (folder / "ended").read_text().splitlines())
     same("what was drained", ends, (folder / "drained").read_text().splitlines())
-    compare_replies(told_of(folder), entries_of(parts))
+    told, entries = told_of(folder), entries_of(parts)
+    compare_replies(told, entries)
+    if are_runs:
+        same("who was carried out, and not told", [], sorted(set(entries) - set(told)))
     deposited = sum(money_in(end) for end in ends)
     same("the money", MONEY + deposited, sum(value for (table, _), value in rows.items() if table in (1, 2)))
     return f"{sum(map(len, parts))} entries in {len(parts)} parts, {len(ends)} calls ended"
@@ -132,40 +141,52 @@ def money_in(end):
     return json.loads(args)[1] if procedure in ("1", "2") and told.startswith("committed") else 0
 
 
-def ran(room, program, calls, seed):
+def ran(room, program, calls, stepped):
     """A run of the program: its folder, and its counts."""
-    folder = room / f"run{seed}"
-    folder.mkdir()
-    lines = run([program, folder, seed, THREADS, calls]).splitlines()
+    folder = pathlib.Path(tempfile.mkdtemp(dir=room))
+    lines = run([program, folder, 1 + stepped, THREADS, calls, stepped]).splitlines()
     return folder, {name: int(count) for name, _, count in (line.rpartition(" ") for line in lines)}
 
 
-def threads_are_told_what_the_history_says(room):
-    folder, counts = ran(room, built(room, "cc", C_FLAGS, C_SOURCES / "shared_runs.c"), CALLS, 1)
-    missing = [name for name in WANTED if counts[name] == 0]
+def ran_and_judged(room, flags, calls, stepped, wanted):
+    folder, counts = ran(room, built(room, "cc", C_FLAGS, C_SOURCES / "shared_runs.c", flags), calls, stepped)
+    missing = [name for name in wanted if counts[name] == 0]
     same("what did not come", [], missing)
-    return f"{judge(folder)}; " + ", ".join(f"{name} {count}" for name, count in counts.items())
+    return f"{judge(folder, stepped == 0)}; " + ", ".join(f"{name} {count}" for name, count in counts.items() if count)
 
 
-def sanitized(room, flags, seed):
+def threads_are_told_what_the_history_says(room):
+    return ran_and_judged(room, [], CALLS, STEPPED, WANTED)
+
+
+def threads_carry_out_runs_of_others(room):
+    return ran_and_judged(room, ROOMY, FEW_CALLS, 0, WANTED_OF_RUNS)
+
+
+def threads_carry_out_runs_of_others_beside_steps(room):
+    return ran_and_judged(room, ROOMY, FEW_CALLS, FEW_STEPPED, (*WANTED, "for others"))
+
+
+def sanitized(room, flags):
     """Runs the threads under a sanitizer, which also sees the code of the shared engine."""
     compiler = next((name for name in ("cc", "clang", "clang-14") if shutil.which(name) and can(room, name, flags)), None)
     if not compiler:
         return f"left out: no compiler here has {flags[1]}"
-    for source in ("shared_calls.c", "shared_runs.c"):
-        program = built(room, compiler, C_FLAGS, C_SOURCES / source, flags, [SHARED])
-        if source == "shared_calls.c":
-            run([program])
-    folder, _ = ran(room, program, SANITIZED_CALLS, seed)
-    return f"{compiler}: {judge(folder)}"
+    run([built(room, compiler, C_FLAGS, C_SOURCES / "shared_calls.c", flags, [SHARED])])
+    program = built(room, compiler, C_FLAGS, C_SOURCES / "shared_runs.c", [*flags, *ROOMY], [SHARED])
+    told = []
+    for stepped in (STEPPED, FEW_STEPPED, 0):
+        folder, counts = ran(room, program, SANITIZED_CALLS, stepped)
+        told.append(f"{judge(folder, stepped == 0)}, {counts['for others']} for others")
+    return f"{compiler}: " + "; ".join(told)
 
 
 def threads_do_not_race(room):
-    return sanitized(room, THREAD_SANITIZER, 2)
+    return sanitized(room, THREAD_SANITIZER)
 
 
 def threads_stay_within_their_memory(room):
-    return sanitized(room, SANITIZERS, 3)
+    return sanitized(room, SANITIZERS)
 
 
 def tells_the_status_of_each_call(room):
@@ -203,6 +224,8 @@ def keeps_its_word_whatever_is_called(room):
 CASES = [
     tells_the_status_of_each_call,
     threads_are_told_what_the_history_says,
+    threads_carry_out_runs_of_others,
+    threads_carry_out_runs_of_others_beside_steps,
     threads_do_not_race,
     threads_stay_within_their_memory,
     goes_on_where_each_allocation_is_refused,

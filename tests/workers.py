@@ -1,5 +1,5 @@
 #!/usr/bin/env python3
-"""Runs banks where memory is refused, banks whose workers leave, and quits for which there is no memory.
+"""Runs banks with failing allocations, banks whose workers leave, and aborts while all allocations fail.
 
     tests/workers.py crates/sgt/out/sgt crates/sgt_bank_runs/out/sgt_bank_runs
 
@@ -27,7 +27,7 @@ NEVER = 4_000_000_000
 BANKS, JOBS_OF_A_BANK, WORKERS, ACCOUNTS = 20, 1_000, 16, 5
 
 
-# Memory that is refused
+# Failing allocations
 
 
 def report_on(done):
@@ -78,7 +78,7 @@ def refuses_each_growth_of_a_bank(sgt, _):
 
 
 def quits_where_all_memory_is_refused(_, program):
-    """A session quits what it has started, the first one after the first line and the others at the end."""
+    """A session aborts its transactions, the first one after the first line and the others at the end."""
     start = "started\naborted quit fell none\n"
     same("with memory", (0, start + "32 started, then full\n32 quit\n", ""), program.run("quit"))
     status, out, told = program.run("quit", refuse_after_writes=1)

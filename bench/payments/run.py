@@ -4,8 +4,9 @@
     bench/payments/run.py [ROUNDS [SECONDS]]
 
 1, 8 and 64 clients pay in a closed loop over 1000 accounts. The contestants take turns, ROUNDS times (3), each for SECONDS (3), as the
-machine's speed changes; the median of each is printed, with the least and the greatest. It needs the library of `bindings/build` and `cc`.
-What else is missing here (PostgreSQL, redis-server) is left out, and said. It is no part of the gate.
+machine's speed changes; the median of each is printed, with the least and the greatest. The generators of load are one thread (load.c) and
+two (pgbench): how many processors they take is printed too. It needs the library of `bindings/build` and `cc`. What else is missing here
+(PostgreSQL, redis-server) is left out, and said. It is no part of the gate.
 """
 
 import os
@@ -13,6 +14,7 @@ import pathlib
 import pwd
 import random
 import re
+import resource
 import shutil
 import statistics
 import subprocess
@@ -31,6 +33,12 @@ def note(name, clients, value):
     told.setdefault((name, clients), []).append(value)
 
 
+def taken():
+    """Seconds of processor time that the processes took which have ended here: the generators of load, while the servers run."""
+    used = resource.getrusage(resource.RUSAGE_CHILDREN)
+    return used.ru_utime + used.ru_stime
+
+
 def fsyncs(room):
     """How long an fsync of 60 appended bytes takes, in microseconds."""
     file, times = os.open(room / "f", os.O_WRONLY | os.O_CREAT | os.O_APPEND), []
@@ -47,9 +55,10 @@ def served(name, load, seconds, *words):
     process = subprocess.Popen([sys.executable, *map(str, words)], stdout=subprocess.PIPE, text=True)
     port = re.search(r"port (\d+)", process.stdout.readline())[1]
     for clients in CLIENTS:
-        words = [load, port, str(clients), str(seconds), "1000", str(random.randrange(10**6))]
+        words, before = [load, port, str(clients), str(seconds), "1000", str(random.randrange(10**6))], taken()
         rate, median, _ = subprocess.run(words, capture_output=True, text=True, check=True).stdout.split()
         note(name, clients, float(rate))
+        note(f"{name}: load, processors", clients, (taken() - before) / seconds)
         note(f"{name}: median latency, ms", clients, float(median))
     process.kill()
     process.wait()
@@ -83,8 +92,10 @@ class Postgres:
     def turn(self, seconds):
         for clients in CLIENTS:
             words = ("-h", self.room, "-n", "--max-tries=100000", "-f", self.room / "postgres.pgbench", "-c", clients, "-j", min(clients, 2))
+            before = taken()
             said = self.run("pgbench", *words, "-T", seconds, "postgres")
             note("PostgreSQL, SERIALIZABLE, a commit a payment", clients, float(re.search(r"tps = ([\d.]+)", said)[1]))
+            note("PostgreSQL, SERIALIZABLE, a commit a payment: load, processors", clients, (taken() - before) / seconds)
 
     def end(self):
         if self.is_there:
@@ -125,7 +136,7 @@ def main():
         if not there:
             print(f"{name} is not on this machine, and was left out")
     for (name, clients), values in sorted(told.items()):
-        print(f"{name:60} {clients:3}: {statistics.median(values):10.2f}   ({min(values):.2f} to {max(values):.2f})")
+        print(f"{name:65} {clients:3}: {statistics.median(values):10.2f}   ({min(values):.2f} to {max(values):.2f})")
 
 
 if __name__ == "__main__":

@@ -8,15 +8,20 @@ import multiprocessing
 import pathlib
 import random
 import sqlite3
+import struct
 import sys
 import time
 from typing import NamedTuple
 
-sys.path.insert(0, str(pathlib.Path(__file__).resolve().parents[2] / "examples" / "payments"))
+PAYMENTS = pathlib.Path(__file__).resolve().parents[2] / "examples" / "payments"
+sys.path.insert(0, str(PAYMENTS))
 from bank import load_procedures  # noqa: E402
+from front import start_fronts  # noqa: E402
 from payments import Server, run  # noqa: E402
-from sgt import BatchOutcome, Kind, Reply  # noqa: E402
+from sgt import Kind, unpack_calls  # noqa: E402
 
+# An outcome as the library has it, for the fronts: whether it wrote, and of its reply the kind, the code and the answers.
+OUTCOME = struct.Struct("=4xII8xI24xI12x2q304x").pack
 ACCOUNTS, CENTS, DAY, LIMIT = 1000, 100_000_000, 20_000, 1_000_000
 
 
@@ -75,21 +80,19 @@ def pay(database: sqlite3.Connection, number: int, payer: int, payee: int, amoun
     return Told(0, answers)
 
 
-def outcome(told: Told) -> BatchOutcome:
-    reply = Reply(Kind.REFUSED, code=told.code) if told.code else Reply(Kind.COMMITTED, answers=told.answers)
-    return BatchOutcome(0, reply, not told.code)
-
-
 class Bank:
     """In place of the engine, for the server of payments.py."""
 
     def __init__(self, database: sqlite3.Connection) -> None:
-        self.seq, self.texts, self.database = 0, {}, database
+        self.seq, self.numbers, self.database = 0, {"pay": 0}, database
 
-    def run(self, calls: list) -> list:
+    def run(self, packed: bytes) -> tuple:
+        calls = unpack_calls(packed)
         if calls and not self.database.in_transaction:
             self.database.execute("begin immediate")
-        return [outcome(pay(self.database, *args)) for _, args in calls]
+        told = [pay(self.database, *args) for _, *args in calls]
+        outcomes = [OUTCOME(not it.code, Kind.REFUSED if it.code else Kind.COMMITTED, it.code, len(it.answers), *it.answers or (0, 0)) for it in told]
+        return b"".join(outcomes), [call for call, it in zip(calls, told) if not it.code]
 
     def cut_if_long(self) -> bool:
         return False
@@ -101,10 +104,7 @@ class Journal:
     def __init__(self, database: sqlite3.Connection) -> None:
         self.database = database
 
-    def append(self, _: list) -> None:
-        self.database.execute("commit")
-
-    def mark(self, _: int) -> None:
+    def append(self, _seq: int, _calls: list) -> None:
         if self.database.in_transaction:
             self.database.execute("commit")
 
@@ -122,11 +122,12 @@ def worker(path: str, seconds: float, seed: int, queue: multiprocessing.Queue) -
 
 def main() -> None:
     command, path = sys.argv[1:3]
-    database = made(path)
     if command == "serve":
-        procedures = {"pay": load_procedures(pathlib.Path(__file__).resolve().parents[2] / "examples" / "payments" / "procedures")["pay"]}
-        run(Server(Bank(database), Journal(database), procedures, 0), time.perf_counter())
+        port, fronts = start_fronts(0, {"pay": load_procedures(PAYMENTS / "procedures")["pay"]})
+        database = made(path)
+        run(Server(Bank(database), Journal(database), fronts), port, time.perf_counter())
         return
+    made(path)
     clients, seconds = int(sys.argv[3]), float(sys.argv[4])
     queue: multiprocessing.Queue = multiprocessing.Queue()
     for seed in range(clients):

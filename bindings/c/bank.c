@@ -9,7 +9,7 @@ static const char opening[] = "{\"limits\":[8,100],\"accounts\":[[1,101,500,1000
 
 static const char empty[] = "{\"limits\":[8,100],\"accounts\":[],\"procedures\":[]}";
 
-static const char lookup[] = "[1,[[\"look\",0,7,[\"arg\",0],5],[\"answer\",[\"reg\",0]]]]"; /* answers a record of table 7 */
+static const char lookup[] = "[1,[[\"look\",0,7,[\"arg\",0],5],[\"answer\",[\"reg\",0]]]]"; /* returns a record of table 7 */
 
 static const char misfit[] = "{\"limits\":[8,100],\"accounts\":[],\"procedures\":[[0,[7]]]}";
 
@@ -48,7 +48,7 @@ int main(void)
             show(&reply);
         }
     }
-    sgt_commit(&engine, 1, &reply), show(&reply); /* it read from the deposit, so it has to wait */
+    sgt_commit(&engine, 1, &reply), show(&reply); /* waits: it has read from the deposit */
     sgt_commit(&engine, 0, &reply), show(&reply);
     sgt_commit(&engine, 1, &reply), show(&reply);
     if (sgt_get(&engine, 2, 101, &value) == SGT_OK) printf("2/101 %" PRId64 "\n", value);
@@ -60,7 +60,7 @@ int main(void)
         printf("%" PRIu32 "/%" PRId64 " %" PRId64 "\n", rows[i].table, rows[i].number, rows[i].value);
     }
     sgt_close(&engine);
-    rows[count - 1].value = 7; /* an engine that goes on from these rows, but for one */
+    rows[count - 1].value = 7; /* a new engine with these rows, one of them changed */
     if (sgt_open_with(&engine, (const uint8_t *)empty, strlen(empty), rows, count, &fault) != SGT_OK) return 1;
     if (sgt_rows(&engine, 0, SGT_LEAST, rows, 0, &count) != SGT_OK || sgt_get(&engine, 2, 101, &value) != SGT_OK) return 1;
     printf("again %" PRIu64 " rows, 2/101 %" PRId64 "\n", count, value);
@@ -76,7 +76,7 @@ int main(void)
     if (sgt_quit(&engine, reply.tid, &reply) != SGT_OK || sgt_cut(&engine, &live) != SGT_OK) return 1;
     if (sgt_entries(&engine, &entries) != SGT_OK || sgt_get(&engine, 2, 101, &value) != SGT_OK) return 1;
     printf("%" PRIu64 " entries, 2/101 %" PRId64 "\n", entries, value);
-    if (sgt_put(&engine, &own, 1, &at) != SGT_OK) return 1; /* a record and a procedure more, as there is no history */
+    if (sgt_put(&engine, &own, 1, &at) != SGT_OK) return 1; /* one more record and procedure, while the history is empty */
     if (sgt_put(&engine, &own, 1, &at) == SGT_TAKEN) printf("row %" PRIu64 " taken\n", at);
     if (sgt_procedure(&engine, (const uint8_t *)lookup, strlen(lookup), &number, &fault) != SGT_OK) return 1;
     if (sgt_run(&engine, number, account_and_amount, 1, &last, &reply) != SGT_OK) return 1;
@@ -84,7 +84,7 @@ int main(void)
     if (sgt_put(&engine, &own, 1, &at) == SGT_BEGUN) printf("begun\n");
     sgt_close(&engine);
     if (sgt_open(&engine, (const uint8_t *)misfit, strlen(misfit), &fault) != SGT_PROC_SHAPE) return 1;
-    if (sgt_fault_text(&fault, text, sizeof text, &length) != SGT_OK || length > sizeof text) return 1;
+    if (sgt_explain_opening((const uint8_t *)misfit, strlen(misfit), text, sizeof text, &length) != SGT_OK || length > sizeof text) return 1;
     printf("%.*s\n", (int)length, text);
     return 0;
 }

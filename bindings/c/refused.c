@@ -1,6 +1,6 @@
 /*
- * Each allocation is refused in turn, once. The call then answers SGT_NO_MEMORY and has changed nothing, and made again it goes
- * on. A commit asks for no memory. Built with -Wl,--wrap=malloc,--wrap=realloc.
+ * Makes each allocation fail in turn, once. The call then returns SGT_NO_MEMORY and has changed nothing; made again, it succeeds. A
+ * commit allocates nothing. Built with -Wl,--wrap=malloc,--wrap=realloc.
  */
 #include <inttypes.h>
 #include <stdio.h>
@@ -28,8 +28,8 @@ static uint32_t event(sgt_engine *engine, int number, sgt_reply *reply)
 }
 
 /*
- * Deposits, each in one call: where memory is refused behind the start, the transaction is quit. Then all rows, and room. How many
- * calls were refused, or -1.
+ * Deposits, each in one call: if an allocation fails after the start, the transaction is aborted. Then all rows, and capacity. Returns
+ * how many calls failed, or -1 if one broke its promise.
  */
 static int runs(sgt_engine *engine, sgt_reply *reply)
 {
@@ -57,7 +57,7 @@ static int runs(sgt_engine *engine, sgt_reply *reply)
     return status == SGT_OK ? refused : -1;
 }
 
-/* A record and a procedure more: where memory is refused, neither is there. How many calls were refused, or -1. */
+/* One more record and procedure: after a failure neither is there. Returns how many calls failed, or -1. */
 static int adds(sgt_engine *engine, sgt_fault *fault)
 {
     static const char lookup[] = "[1,[[\"look\",0,7,[\"arg\",0],5],[\"answer\",[\"reg\",0]]]]";
@@ -80,7 +80,7 @@ static int adds(sgt_engine *engine, sgt_fault *fault)
     return status == SGT_OK && number == 5 ? refused : -1;
 }
 
-/* The texts of a reply and of a fault, which stay unwritten where memory is refused. How many calls were refused, or -1. */
+/* The texts of a reply and of a fault: after a failure nothing is written. Returns how many calls failed, or -1. */
 static int texts(const sgt_reply *reply)
 {
     const sgt_fault flaw = {.kind = SGT_PROC_FLAW, .procedure = 5, .number = 7};
@@ -100,10 +100,15 @@ static int texts(const sgt_reply *reply)
     if (status != SGT_OK || length != 18 || strncmp(text, "procedure 5 flaw 7", 18) != 0) return -1;
     memset(text, '.', sizeof text);
     while ((status = sgt_fault_text(&flaw, text, 17, &length)) == SGT_NO_MEMORY) refused++;
-    return status == SGT_OK && length == 18 && text[0] == '.' ? refused : -1;
+    if (status != SGT_OK || length != 18 || text[0] != '.') return -1;
+    while ((status = sgt_explain_procedure(5, (const uint8_t *)"7", 1, text, 17, &length)) == SGT_NO_MEMORY) {
+        if (length != 18 || text[0] != '.') return -1;
+        refused++;
+    }
+    return status == SGT_OK && length == 65 && text[0] == '.' ? refused : -1;
 }
 
-/* A cut: where memory is refused, the entries and the committed values are as before. How many calls were refused, or -1. */
+/* A cut: after a failure the entries and the committed values are as before. Returns how many calls failed, or -1. */
 static int cuts(sgt_engine *engine)
 {
     uint64_t had = 0, has = 0, live = 77;
@@ -120,7 +125,7 @@ static int cuts(sgt_engine *engine)
     return refused;
 }
 
-/* Two deposits, one behind the other; how many calls were refused memory, or -1 where one did not keep its word. */
+/* Two deposits, one after the other. Returns how many calls failed, or -1 if one broke its promise. */
 static int run(void)
 {
     sgt_engine engine = {0};

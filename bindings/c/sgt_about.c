@@ -16,7 +16,7 @@ const char *sgt_status_text(uint32_t status)
     case SGT_NO_MEMORY: return "out of memory";
     case SGT_CLOSED: return "the engine is closed";
     case SGT_OPEN: return "the engine is open already";
-    case SGT_NONE: return "there is no such record or entry";
+    case SGT_NONE: return "there is no such record, entry or procedure, or nothing to explain";
     case SGT_BAD_CALL: return "an argument of the call is out of its range";
     case SGT_STILL_LIVE: return "a transaction is live, so the history can't be cut off";
     case SGT_BEGUN: return "there is a history, so nothing can be added to what the engine begins with";

@@ -30,6 +30,8 @@ uint32_t proved_sgt_part(sgt_engine *, uint64_t *);
 uint32_t proved_sgt_procedure_text(sgt_engine *, uint64_t, char *, size_t, uint64_t *);
 uint32_t proved_sgt_reply_text(const sgt_reply *, char *, size_t, uint64_t *);
 uint32_t proved_sgt_fault_text(const sgt_fault *, char *, size_t, uint64_t *);
+uint32_t proved_sgt_explain_opening(const uint8_t *, size_t, char *, size_t, uint64_t *);
+uint32_t proved_sgt_explain_procedure(uint64_t, const uint8_t *, size_t, char *, size_t, uint64_t *);
 
 /* What a list of no items points to. Nothing is read or written there. */
 static union {
@@ -194,4 +196,16 @@ uint32_t sgt_fault_text(const sgt_fault *fault, char *text, size_t room, uint64_
 {
     if (!fault || !is_list(text, room) || !length) return SGT_BAD_CALL;
     return proved_sgt_fault_text(fault, text ? text : &none.byte, room, length);
+}
+
+uint32_t sgt_explain_opening(const uint8_t *opening, size_t length, char *text, size_t room, uint64_t *written)
+{
+    if (!is_list(opening, length) || !is_list(text, room) || !written) return SGT_BAD_CALL;
+    return proved_sgt_explain_opening(opening ? opening : &none.text, length, text ? text : &none.byte, room, written);
+}
+
+uint32_t sgt_explain_procedure(uint64_t number, const uint8_t *procedure, size_t length, char *text, size_t room, uint64_t *written)
+{
+    if (!is_list(procedure, length) || !is_list(text, room) || !written) return SGT_BAD_CALL;
+    return proved_sgt_explain_procedure(number, procedure ? procedure : &none.text, length, text ? text : &none.byte, room, written);
 }

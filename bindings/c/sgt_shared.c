@@ -1,15 +1,35 @@
-/* See sgt_shared.h. Every call enters, holds the lock while it works, releases it where it rests, and leaves. */
+/*
+ * See sgt_shared.h. Every call enters, holds the lock while it works, releases it where it rests, and leaves.
+ *
+ * A run takes a microsecond, which is less than it takes to move the lock and the engine's memory to another processor. So a run that
+ * finds the lock taken is written into a seat, and whoever holds the lock carries it out before leaving: flat combining (Hendler,
+ * Incze, Shavit and Tzafrir, SPAA 2010). A thread sits only while nobody is live and no cut is awaited: then its run never waits, so
+ * any thread can carry it out. It spins there for a while, and then sleeps until it gets the lock. If there are more threads than
+ * processors nobody sits. The lock alone puts threads to sleep and wakes them, so no wake-up depends on seats.
+ */
 #define _POSIX_C_SOURCE 200809L
 #include <pthread.h>
+#include <stdalign.h>
 #include <stdatomic.h>
 #include <stdbool.h>
+#include <stddef.h>
 #include <stdlib.h>
 #include <string.h>
 #include <time.h>
+#include <unistd.h>
 
 #include "sgt_shared.h"
 
 enum { MOST_LIVE = 32, MOST_ARGS = 4, MOST_PROCEDURE = 65535 };
+
+enum {
+    MOST_SEATS = 16,
+    MOST_SERVED = 64,    /* runs of others in one hold: somebody waits for this thread too */
+    MOST_PASSED = 500,   /* so often others come first while a thread sleeps for the lock: then it is owed to that thread */
+    MOST_SPIN = 50000,   /* nanoseconds in a seat, far more than its turn takes, and as much as it takes to be woken */
+    LOOKS = 32,          /* looks from a seat between two at the clock */
+    APART = 128          /* bytes from what one thread writes to what another does: processors fetch two cache lines at once */
+};
 
 static const uint32_t NO_TID = UINT32_MAX; /* the limits never allow this number */
 static const int64_t SECOND = 1000000000;
@@ -19,6 +39,41 @@ struct call {
     uint32_t procedure;
     uint32_t count;
     int64_t args[MOST_ARGS];
+};
+
+struct deadline {
+    bool never, at_once;
+    struct timespec at;
+};
+
+/* A run that a thread asks for. */
+struct run {
+    struct call call;
+    sgt_shared_outcome *out; /* where its outcome goes; all zero */
+    struct deadline until;
+    uint32_t tries;
+    uint32_t status;
+    bool is_done;
+};
+
+/*
+ * A place from which a thread has its run carried out. It makes a FREE seat OWNED, writes its run there and makes it ASKED. Whoever holds
+ * the lock makes it TAKEN, carries the run out, and makes it DONE; then the thread reads the status and makes it FREE. As long as it is
+ * ASKED the thread may take its run back, by making it FREE. So a run is carried out by one thread, and once.
+ */
+enum { FREE, OWNED, ASKED, TAKEN, DONE };
+
+struct seat {
+    alignas(APART) atomic_uint state;
+    struct run run;
+};
+
+/* What threads rest for until it is announced. */
+struct event {
+    pthread_cond_t announced;
+    uint64_t count;          /* how often it was */
+    uint32_t resting;        /* threads that rest for it */
+    uint32_t waking;         /* those of them to whom it was announced, so that they sleep for the lock */
 };
 
 /* A transaction that is live between two calls to the engine. */
@@ -36,11 +91,20 @@ struct queue {
 };
 
 struct sgt_shared {
-    pthread_mutex_t lock;
-    pthread_cond_t changed;      /* a transaction has ended, or a cut is over */
-    pthread_cond_t queued;       /* a call can be drained */
-    atomic_uint inside;          /* threads that are in a call */
+    alignas(APART) atomic_uint inside; /* threads that are in a call */
+    alignas(APART) atomic_bool is_held; /* whether the lock is, to look at before trying it; from here to the seats all is read often */
+    atomic_bool is_owed;         /* whether the lock is owed to a thread that sleeps for it */
+    atomic_bool was_quiet;       /* whether runs could be carried out for others, when somebody left last */
+    atomic_uint asleep;          /* threads that sleep for the lock */
+    atomic_uint resting;         /* threads that rest */
+    unsigned chairs;             /* so many seats are used: one for each processor */
     unsigned forks;              /* how many forks this process comes from, as of the opening */
+    struct seat seats[MOST_SEATS];
+    alignas(APART) pthread_mutex_t lock; /* of all that follows, but for `config` and `number`, which never change */
+    unsigned next;               /* the seat that is served next */
+    unsigned passed;             /* how often others came first while a thread slept for the lock */
+    struct event changed;        /* a transaction has ended, or a cut is over */
+    struct event queued;         /* a call can be drained */
     sgt_engine engine;
     sgt_shared_config config;
     uint64_t number;             /* of this engine, in its tickets */
@@ -71,11 +135,6 @@ static atomic_uint_fast64_t opened;
 
 /* Time */
 
-struct deadline {
-    bool never;
-    struct timespec at;
-};
-
 static int64_t now(void)
 {
     struct timespec at;
@@ -96,7 +155,7 @@ static struct timespec in_ns(int64_t ns)
 
 static struct deadline deadline_in(int64_t ns)
 {
-    struct deadline until = {.never = ns == SGT_FOREVER};
+    struct deadline until = {.never = ns == SGT_FOREVER, .at_once = ns <= 0};
     if (!until.never) until.at = in_ns(ns);
     return until;
 }
@@ -106,11 +165,79 @@ static bool is_before(const struct timespec *a, const struct timespec *b)
     return a->tv_sec < b->tv_sec || (a->tv_sec == b->tv_sec && a->tv_nsec < b->tv_nsec);
 }
 
-/* Waits for the condition. Whether the deadline has not come. */
-static bool rest(sgt_shared *s, pthread_cond_t *condition, const struct deadline *until)
+/* Whether the deadline came while the call waited for its turn. A call that never waits for others does wait for that. */
+static bool is_late(const struct deadline *until)
 {
-    if (until->never) return pthread_cond_wait(condition, &s->lock) == 0;
-    return pthread_cond_timedwait(condition, &s->lock, &until->at) == 0;
+    if (until->never || until->at_once) return false;
+    const struct timespec at = in_ns(0);
+    return !is_before(&at, &until->at);
+}
+
+/* The lock */
+
+static bool try_lock(sgt_shared *s)
+{
+    if (pthread_mutex_trylock(&s->lock) != 0) return false;
+    atomic_store_explicit(&s->is_held, true, memory_order_relaxed);
+    return true;
+}
+
+/* What a thread does that has slept for the lock, and has got it. */
+static void wake(sgt_shared *s)
+{
+    atomic_fetch_sub_explicit(&s->asleep, 1, memory_order_relaxed);
+    atomic_store_explicit(&s->is_owed, false, memory_order_relaxed);
+    s->passed = 0;
+}
+
+/* Takes the lock: at once if it is free, as sleeping and waking take long, but not if it is owed to another. */
+static void lock(sgt_shared *s)
+{
+    if (!atomic_load_explicit(&s->is_owed, memory_order_relaxed) && try_lock(s)) return;
+    atomic_fetch_add_explicit(&s->asleep, 1, memory_order_relaxed);
+    pthread_mutex_lock(&s->lock);
+    atomic_store_explicit(&s->is_held, true, memory_order_relaxed);
+    wake(s);
+}
+
+/* Counts a call that came before those of threads that sleep for the lock. */
+static void pass(sgt_shared *s)
+{
+    if (atomic_load_explicit(&s->asleep, memory_order_relaxed) == 0) return;
+    if (++s->passed == MOST_PASSED) atomic_store_explicit(&s->is_owed, true, memory_order_relaxed);
+}
+
+static void unlock(sgt_shared *s)
+{
+    pass(s);
+    atomic_store_explicit(&s->is_held, false, memory_order_relaxed);
+    pthread_mutex_unlock(&s->lock);
+}
+
+/* Releases the lock until the event is announced. Whether the deadline has not come. */
+static bool rest(sgt_shared *s, struct event *event, const struct deadline *until)
+{
+    const uint64_t count = event->count;
+    event->resting++;
+    atomic_fetch_add_explicit(&s->resting, 1, memory_order_relaxed);
+    atomic_store_explicit(&s->is_held, false, memory_order_relaxed);
+    const int failed = until->never ? pthread_cond_wait(&event->announced, &s->lock)
+                                    : pthread_cond_timedwait(&event->announced, &s->lock, &until->at);
+    atomic_store_explicit(&s->is_held, true, memory_order_relaxed);
+    atomic_fetch_sub_explicit(&s->resting, 1, memory_order_relaxed);
+    event->resting--;
+    if (event->count != count) event->waking--, wake(s);
+    return !failed;
+}
+
+/* Wakes all who rest for the event. From now on they sleep for the lock. */
+static void announce(sgt_shared *s, struct event *event)
+{
+    if (event->resting == event->waking) return;
+    atomic_fetch_add_explicit(&s->asleep, event->resting - event->waking, memory_order_relaxed);
+    event->waking = event->resting;
+    event->count++;
+    pthread_cond_broadcast(&event->announced);
 }
 
 /* Entering and leaving */
@@ -128,22 +255,33 @@ static bool is_misuse(const sgt_shared *s)
     return s->forks != atomic_load_explicit(&forks, memory_order_relaxed);
 }
 
-static uint32_t enter(sgt_shared *s)
+/* Counts this thread in. */
+static uint32_t come_in(sgt_shared *s)
 {
     if (!s) return SGT_CLOSED;
     if (is_misuse(s)) return SGT_MISUSE;
     atomic_fetch_add_explicit(&s->inside, 1, memory_order_acquire);
-    pthread_mutex_lock(&s->lock);
     return SGT_OK;
 }
 
+static void go_out(sgt_shared *s) { atomic_fetch_sub_explicit(&s->inside, 1, memory_order_release); }
+
+static uint32_t enter(sgt_shared *s)
+{
+    uint32_t status = come_in(s);
+    if (status == SGT_OK) lock(s);
+    return status;
+}
+
 static void cut_if_due(sgt_shared *s);
+static void serve(sgt_shared *s);
 
 static uint32_t leave(sgt_shared *s, uint32_t status)
 {
     if (s->config.cut_after) cut_if_due(s);
-    pthread_mutex_unlock(&s->lock);
-    atomic_fetch_sub_explicit(&s->inside, 1, memory_order_release);
+    serve(s);
+    unlock(s);
+    go_out(s);
     return status;
 }
 
@@ -223,7 +361,7 @@ static void deliver(sgt_shared *s, uint32_t tid)
     sgt_calls(&s->engine, s->read, &ended.call, 1, &count, &s->read);
     if (s->config.keeps_ended) {
         s->queue.at[s->queue.first + s->queue.count++] = ended;
-        pthread_cond_signal(&s->queued);
+        announce(s, &s->queued);
     }
     if (s->config.ended) call_hook(s, &ended);
 }
@@ -236,7 +374,7 @@ static void answered(sgt_shared *s, uint32_t tid, const sgt_reply *reply)
     drop(s, tid);
     for (uint32_t i = 0; reply->kind != SGT_COMMITTED && i < reply->fallen; i++) drop(s, reply->fell[i]);
     s->ends++;
-    pthread_cond_broadcast(&s->changed);
+    announce(s, &s->changed);
 }
 
 /* An event of a transaction that was started. */
@@ -290,7 +428,7 @@ static uint32_t go_on(sgt_shared *s, uint32_t tid, const struct deadline *until,
         ++*waits;
         status = await_turn(s, tid, reply->tid, until) ? ask(s, sgt_commit, tid, reply) : (uint32_t)SGT_TIMED_OUT;
     }
-    if (--s->committing == 0 && s->lives == 0) pthread_cond_broadcast(&s->changed);
+    if (--s->committing == 0 && s->lives == 0) announce(s, &s->changed);
     return status;
 }
 
@@ -327,7 +465,7 @@ static void put_off(sgt_shared *s)
 {
     s->cut_at = entries(s) + s->config.cut_after;
     s->pauses = false;
-    pthread_cond_broadcast(&s->changed);
+    announce(s, &s->changed);
 }
 
 /* Makes the cut that the configuration asks for, or has starts wait for it. */
@@ -336,7 +474,7 @@ static void cut_if_due(sgt_shared *s)
     if (entries(s) < s->cut_at) return;
     if (!is_busy(s)) {
         if (cut(s) != SGT_OK) put_off(s);
-        pthread_cond_broadcast(&s->changed);
+        announce(s, &s->changed);
     } else if (s->config.cut_wait_ns > 0 && !s->pauses) {
         s->pauses = true;
         s->pause = in_ns(s->config.cut_wait_ns);
@@ -352,7 +490,7 @@ static bool await_cut(sgt_shared *s, const struct deadline *until)
             continue;
         }
         const bool is_own = s->cutters > 0 || (!until->never && is_before(&until->at, &s->pause));
-        const struct deadline pause = {false, s->pause};
+        const struct deadline pause = {.at = s->pause};
         if (rest(s, &s->changed, is_own ? until : &pause)) continue;
         if (is_own) return s->cutters == 0 && !s->pauses;
         if (s->pauses && !is_before(&pause.at, &s->pause)) put_off(s);
@@ -374,19 +512,23 @@ static bool configured(sgt_shared_config *to, const sgt_shared_config *from)
 static sgt_shared *made(const sgt_shared_config *config)
 {
     static pthread_once_t once = PTHREAD_ONCE_INIT;
-    sgt_shared *s = calloc(1, sizeof *s);
+    sgt_shared *s = aligned_alloc(alignof(sgt_shared), sizeof *s);
     pthread_condattr_t attributes;
     if (!s) return 0;
+    memset(s, 0, sizeof *s);
     pthread_once(&once, watch_forks);
     s->config = *config;
     s->cut_at = config->cut_after;
     s->forks = atomic_load(&forks);
     s->number = atomic_fetch_add(&opened, 1) + 1;
+    const long processors = sysconf(_SC_NPROCESSORS_ONLN);
+    s->chairs = processors < 1 ? 1 : processors > MOST_SEATS ? MOST_SEATS : (unsigned)processors;
+    atomic_store(&s->was_quiet, true);
     pthread_condattr_init(&attributes);
     pthread_condattr_setclock(&attributes, CLOCK_MONOTONIC);
     pthread_mutex_init(&s->lock, 0);
-    pthread_cond_init(&s->changed, &attributes);
-    pthread_cond_init(&s->queued, &attributes);
+    pthread_cond_init(&s->changed.announced, &attributes);
+    pthread_cond_init(&s->queued.announced, &attributes);
     pthread_condattr_destroy(&attributes);
     return s;
 }
@@ -394,8 +536,8 @@ static sgt_shared *made(const sgt_shared_config *config)
 static void unmade(sgt_shared *s)
 {
     sgt_close(&s->engine);
-    pthread_cond_destroy(&s->queued);
-    pthread_cond_destroy(&s->changed);
+    pthread_cond_destroy(&s->queued.announced);
+    pthread_cond_destroy(&s->changed.announced);
     pthread_mutex_destroy(&s->lock);
     free(s->queue.at);
     free(s);
@@ -485,34 +627,174 @@ static bool is_conflict(const sgt_reply *reply)
     return (reply->kind == SGT_ABORTED && reply->cause == SGT_BY_CYCLE) || (reply->kind == SGT_OVER && reply->cause == SGT_BY_FALL);
 }
 
-static uint32_t run(sgt_shared *s, const struct call *call, const sgt_run_options *options, sgt_shared_outcome *out)
+/* Runs it. If the engine is quiet it never waits, so that any thread may. */
+static uint32_t run(sgt_shared *s, const struct run *it, sgt_shared_outcome *out)
 {
-    const struct deadline until = deadline_in(options->wait_ns);
+    if (is_late(&it->until)) return SGT_TIMED_OUT;
     for (;;) {
-        uint32_t status = may_start(s, &until);
-        if (status == SGT_OK) status = try_once(s, call, &until, out);
+        uint32_t status = may_start(s, &it->until);
+        if (status == SGT_OK) status = try_once(s, &it->call, &it->until, out);
         if (status != SGT_OK) return status;
         const bool is_full = out->reply.kind == SGT_FULL;
-        if (!is_full && (!is_conflict(&out->reply) || out->tries == options->tries)) return SGT_OK;
+        if (!is_full && (!is_conflict(&out->reply) || out->tries == it->tries)) return SGT_OK;
         if (out->reply.kind == SGT_OVER) continue; /* one has just ended */
         out->waits++;
-        if (!(is_full ? await_room(s, &until) : await_end(s, &until))) return SGT_TIMED_OUT;
+        if (!(is_full ? await_room(s, &it->until) : await_end(s, &it->until))) return SGT_TIMED_OUT;
     }
+}
+
+/* Runs for others */
+
+/* Whether no run would wait for anybody. */
+static bool is_quiet(const sgt_shared *s) { return s->lives == 0 && s->committing == 0 && s->cutters == 0; }
+
+/* Hands an outcome over to another thread: no more of it than is used, as each cache line costs. */
+static void hand_over(sgt_shared_outcome *to, const sgt_shared_outcome *from)
+{
+    const sgt_reply *reply = &from->reply;
+    const size_t used = offsetof(sgt_shared_outcome, reply.answer) + reply->answers * sizeof *reply->answer;
+    memcpy(to, from, reply->walked == 0 && reply->fallen == 0 ? used : sizeof *from);
+}
+
+/* Begins to fetch a seat from the processor that wrote it. */
+static void fetch(const struct seat *seat)
+{
+#if defined(__GNUC__)
+    __builtin_prefetch(seat, 1);
+#else
+    (void)seat;
+#endif
+}
+
+/* Carries out the run of a seat, if one is asked for there. */
+static bool serve_seat(sgt_shared *s, struct seat *seat)
+{
+    unsigned asked = ASKED;
+    if (atomic_load_explicit(&seat->state, memory_order_relaxed) != ASKED) return false;
+    if (!atomic_compare_exchange_strong_explicit(&seat->state, &asked, TAKEN, memory_order_acquire, memory_order_relaxed)) return false;
+    sgt_shared_outcome out = {0};
+    fetch(&s->seats[s->next]);
+    seat->run.status = run(s, &seat->run, &out);
+    seat->run.is_done = true;
+    hand_over(seat->run.out, &out);
+    if (s->config.cut_after) cut_if_due(s);
+    pass(s);
+    atomic_store_explicit(&seat->state, DONE, memory_order_release);
+    return true;
+}
+
+/*
+ * Carries out what is asked for in the seats, in turn, from where the last hold stopped. A thread in a hook of another engine does not, and
+ * does not sit either: what a hook of this engine may call would depend on which thread it is called on.
+ */
+static void serve(sgt_shared *s)
+{
+    unsigned served = 0;
+    for (unsigned idle = 0; idle < s->chairs && served < MOST_SERVED && is_quiet(s) && !hooks; idle++) {
+        struct seat *seat = &s->seats[s->next];
+        s->next = (s->next + 1) % s->chairs;
+        if (serve_seat(s, seat)) served++, idle = 0;
+    }
+    const bool quiet = is_quiet(s);
+    if (atomic_load_explicit(&s->was_quiet, memory_order_relaxed) != quiet) {
+        atomic_store_explicit(&s->was_quiet, quiet, memory_order_relaxed);
+    }
+}
+
+/* Sits down with a run. The seat, or null if there is none, or if to sit is no use. */
+static struct seat *sit(sgt_shared *s, const struct run *run)
+{
+    static atomic_uint threads;
+    static _Thread_local unsigned number;
+    const unsigned inside = atomic_load_explicit(&s->inside, memory_order_relaxed);
+    if (inside > s->chairs + atomic_load_explicit(&s->resting, memory_order_relaxed)) return 0;
+    if (hooks || !atomic_load_explicit(&s->was_quiet, memory_order_relaxed)) return 0;
+    if (number == 0) number = 1 + atomic_fetch_add_explicit(&threads, 1, memory_order_relaxed);
+    for (unsigned i = 0; i < s->chairs; i++) {
+        struct seat *seat = &s->seats[(number + i) % s->chairs];
+        unsigned free = FREE;
+        if (!atomic_compare_exchange_strong_explicit(&seat->state, &free, OWNED, memory_order_acquire, memory_order_relaxed)) continue;
+        seat->run = *run;
+        atomic_store_explicit(&seat->state, ASKED, memory_order_release);
+        return seat;
+    }
+    return 0;
+}
+
+/* Leaves the processor to the thread that shares it, for a moment. */
+static void relax(void)
+{
+#if defined(__x86_64__) || defined(__i386__)
+    __builtin_ia32_pause();
+#elif defined(__aarch64__)
+    __asm__ volatile("yield");
+#endif
+}
+
+static bool has_run(struct seat *seat) { return atomic_load_explicit(&seat->state, memory_order_acquire) == DONE; }
+
+/* Whether the lock looks free. */
+static bool is_free(sgt_shared *s)
+{
+    return !atomic_load_explicit(&s->is_held, memory_order_relaxed) && !atomic_load_explicit(&s->is_owed, memory_order_relaxed);
+}
+
+/* Looks for a while whether the run of a seat is carried out, or the lock is free. Whether it has got the lock. */
+static bool look_out(sgt_shared *s, struct seat *seat)
+{
+    int64_t end = 0;
+    for (unsigned looks = 1; !has_run(seat); looks++) {
+        if (is_free(s) && try_lock(s)) return true;
+        if (looks % LOOKS == 0) {
+            const int64_t at = now();
+            if (end == 0) end = at + MOST_SPIN;
+            if (at >= end) return false;
+        }
+        relax();
+    }
+    return false;
+}
+
+/* Waits in a seat until the run is carried out, or takes it back, with the lock. Whether it has the lock. */
+static bool wait_in(sgt_shared *s, struct seat *seat, struct run *run)
+{
+    unsigned state = ASKED;
+    bool holds = look_out(s, seat);
+    const bool is_back = atomic_compare_exchange_strong(&seat->state, &state, FREE);
+    if (!holds && state != DONE) lock(s), holds = true;
+    if (is_back) return holds;
+    *run = seat->run; /* whoever took it has released the lock, or has told it */
+    atomic_store_explicit(&seat->state, FREE, memory_order_release);
+    return holds;
+}
+
+/* Waits until this thread has the lock, or another one has carried out its run. Whether it has the lock. */
+static bool take_turn(sgt_shared *s, struct run *run)
+{
+    if (is_free(s) && try_lock(s)) return true;
+    struct seat *seat = sit(s, run);
+    if (seat) return wait_in(s, seat, run);
+    lock(s);
+    return true;
 }
 
 uint32_t sgt_shared_run(sgt_shared *shared, uint64_t procedure, const int64_t *args, size_t count, const sgt_run_options *options,
                         sgt_shared_outcome *outcome)
 {
     static const sgt_run_options plain = SGT_RUN_OPTIONS;
-    struct call call;
     if (!options) options = &plain;
     if (!outcome || outcome->size < sizeof *outcome || options->size < sizeof *options) return SGT_BAD_CALL;
-    sgt_shared_outcome out = {.size = outcome->size};
+    sgt_shared_outcome out = {0};
+    struct run it = {.out = &out, .tries = options->tries, .until = deadline_in(options->wait_ns)};
     outcome->tries = outcome->waits = 0;
-    if (!is_call(&call, procedure, args, count)) return SGT_BAD_CALL;
-    uint32_t status = enter(shared);
+    if (!is_call(&it.call, procedure, args, count)) return SGT_BAD_CALL;
+    uint32_t status = come_in(shared);
     if (status != SGT_OK) return status;
-    status = leave(shared, run(shared, &call, options, &out));
+    const bool holds = take_turn(shared, &it);
+    status = it.is_done ? it.status : run(shared, &it, &out);
+    if (holds) leave(shared, status);
+    else go_out(shared);
+    out.size = outcome->size;
     if (status == SGT_OK) *outcome = out;
     outcome->tries = out.tries, outcome->waits = out.waits;
     return status;
@@ -599,7 +881,7 @@ uint32_t sgt_shared_cut(sgt_shared *shared, int64_t wait_ns)
     while (shared->part == part && is_busy(shared) && in_time) in_time = rest(shared, &shared->changed, &until);
     if (shared->part == part) status = is_busy(shared) ? (uint32_t)SGT_TIMED_OUT : cut(shared);
     shared->cutters--;
-    pthread_cond_broadcast(&shared->changed);
+    announce(shared, &shared->changed);
     return leave(shared, status);
 }
 

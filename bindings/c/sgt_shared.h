@@ -23,8 +23,9 @@
  * Unless a call says otherwise, it changes and writes nothing if its status is not SGT_OK. SGT_CLOSED is returned if the engine is a
  * null pointer, and SGT_BAD_CALL if another pointer is null that has to be there; a list of no items may be null.
  *
- * DEADLINES are nanoseconds from the begin of a call, by a clock that never jumps. 0 never waits, and SGT_FOREVER waits as long as it
- * takes. A thread that has a live transaction and waits for ever in another call may wait for itself: give such a call a deadline.
+ * DEADLINES are nanoseconds from the begin of a call, by a clock that never jumps. 0 never waits for another transaction, and SGT_FOREVER
+ * waits as long as it takes. The lock itself is waited for without a deadline, as nobody holds it for long unless a hook does.
+ * A thread that has a live transaction and waits for ever in another call may wait for itself: give such a call a deadline.
  */
 #ifndef SGT_SHARED_H
 #define SGT_SHARED_H
@@ -73,7 +74,8 @@ typedef struct sgt_live {
 /*
  * The configuration of a shared engine. Begin with SGT_SHARED_CONFIG, which asks for nothing, and set the fields that you need.
  *
- * The hooks are called under the lock, so nothing else happens meanwhile. A call from a hook to the same engine is SGT_MISUSE.
+ * The hooks are called under the lock, so nothing else happens meanwhile, on whichever thread holds it: it may be another one than the
+ * thread whose call it is. A call from a hook to the same engine is SGT_MISUSE.
  */
 typedef struct sgt_shared_config {
     size_t size;        /* sizeof(sgt_shared_config) */
@@ -152,13 +154,17 @@ uint32_t sgt_shared_close(sgt_shared **shared);
 /*
  * Runs a procedure from its start to its commit. `options` may be null.
  *
- * If nobody else is live it takes one hold of the lock. Otherwise it waits as often as it has to: at SGT_FULL and at SGT_WAITS for the
- * end of another transaction. After a cycle or a cascading abort it tries again. The reply is the last one: SGT_COMMITTED,
- * SGT_REFUSED, SGT_ABORTED with SGT_BY_CODE, or that to a start that is refused for good (SGT_NO_PROCEDURE, SGT_BAD_ARGS, SGT_SPENT).
- * If the tries are used up, it is the SGT_ABORTED or SGT_OVER of the last one; if another thread quit it, SGT_OVER with SGT_BY_QUIT.
+ * If nobody else is live it takes one hold of the lock. If another thread has the lock just then, that thread may carry it out before it
+ * returns from its own call; it does so for no more than 64 calls of others.
  *
- * SGT_TIMED_OUT if the deadline comes: nothing of it is left live. SGT_NO_MEMORY, likewise. SGT_BAD_CALL if there are over 4 arguments,
- * if the procedure is over 65535, or if a size is too small. With each of these the tries and the waits are written, and no more.
+ * Otherwise it waits as often as it has to: at SGT_FULL and at SGT_WAITS for the end of another transaction. After a cycle or a cascading
+ * abort it tries again. The reply is the last one: SGT_COMMITTED, SGT_REFUSED, SGT_ABORTED with SGT_BY_CODE, or that to a start that is
+ * refused for good (SGT_NO_PROCEDURE, SGT_BAD_ARGS, SGT_SPENT). If the tries are used up, it is the SGT_ABORTED or SGT_OVER of the last
+ * one; if another thread quit it, SGT_OVER with SGT_BY_QUIT.
+ *
+ * SGT_TIMED_OUT if the deadline comes: nothing of it is left live. If a deadline other than 0 comes before its turn, nothing is started.
+ * SGT_NO_MEMORY: nothing is left live either. SGT_BAD_CALL if there are over 4 arguments, if the procedure is over 65535, or if a size is
+ * too small. With each of these the tries and the waits are written, and no more.
  */
 uint32_t sgt_shared_run(sgt_shared *shared, uint64_t procedure, const int64_t *args, size_t count, const sgt_run_options *options,
                         sgt_shared_outcome *outcome);

@@ -14,8 +14,8 @@
 enum { THREADS = 8, EACH = 10000, ACCOUNTS = 4, PAY = 5 };
 
 /*
- * Four customers, 101 to 104, with a checking of 1000 each. PAY is the first procedure behind SmallBank's five: from a customer, to a
- * customer, so much. It raises 6 if there is no such customer, and 7 if the money does not suffice.
+ * Four customers, 101 to 104, each with 1000 cents in checking. PAY is the first procedure after SmallBank's five: from a customer, to
+ * a customer, cents. It aborts with 6 if there is no such customer, and with 7 if the money does not suffice.
  */
 static const char opening[] =
     "{\"limits\":[8,4000000,1],"
@@ -66,7 +66,7 @@ int main(void)
     sgt_shared_config config = SGT_SHARED_CONFIG;
     int64_t money = 0;
     int calls = 0;
-    config.cut_after = 100000; /* entries of the history, 72 bytes each */
+    config.cut_after = 100000; /* entries of the history, 40 bytes each and their lists */
     uint32_t status = sgt_shared_open(&bank, (const uint8_t *)opening, strlen(opening), 0, 0, &config, &fault);
     if (status != SGT_OK) {
         fprintf(stderr, "%s\n", sgt_status_text(status));

@@ -1,5 +1,5 @@
 /*
- * Transfers side by side, by a procedure of one's own, with each reply handled.
+ * Interleaved transfers by a procedure of one's own. Each reply that can come is handled.
  *
  *     cc -Ibindings bindings/c/transfers.c bindings/out/libsgt.a
  */
@@ -12,9 +12,9 @@
 #include "sgt.h"
 
 /*
- * Limits: 8 live, 1000 in all, and the 1: a code is told at the commit, where it is true. Accounts: name, customer, saving,
- * checking, in cents. The procedure, which is number 5, takes two customers and an amount, and moves it from the checking of the
- * first to that of the second, 2/customer; it asks 6 where there is no such customer, and 7 where the money does not suffice.
+ * Limits: 8 live, 1000 in all, and 1: codes are reported at the commit, where they are final. Accounts: name, customer, saving,
+ * checking, in cents. Procedure 5 takes two customers and an amount, and moves it from the checking account 2/customer of the first
+ * to that of the second. It aborts with 6 if there is no such customer, and with 7 if the money does not suffice.
  */
 static const char *OPENING =
     "{\"limits\":[8,1000,1],"
@@ -29,7 +29,7 @@ static const char *OPENING =
 
 enum { TRANSFER = 5 };
 
-/* A transfer that somebody wants, and how far it is. */
+/* A transfer, and its state. */
 struct transfer {
     const char *name;
     int64_t args[3];
@@ -44,7 +44,7 @@ static void must(uint32_t status)
     exit(1);
 }
 
-/* The next event of a transfer. */
+/* Returns the next event of a transfer. */
 static const char *ask(sgt_engine *engine, const struct transfer *it, sgt_reply *reply)
 {
     switch (it->state) {
@@ -54,21 +54,21 @@ static const char *ask(sgt_engine *engine, const struct transfer *it, sgt_reply 
     }
 }
 
-/* What the reply makes of it: whether to go on, to begin anew, to wait or to be done. */
+/* Changes the state of a transfer by the reply: it goes on, starts again, waits or is done. */
 static void go_on(struct transfer *it, const sgt_reply *reply)
 {
     switch (reply->kind) {
-    case SGT_STARTED: it->tid = reply->tid, it->state = TO_STEP; break; /* tid is told only here: keep it */
+    case SGT_STARTED: it->tid = reply->tid, it->state = TO_STEP; break; /* the only reply with the number: keep it */
     case SGT_LOOKED: case SGT_WROTE: break;                             /* the next step */
     case SGT_ENDED: it->state = TO_COMMIT; break;
-    case SGT_WAITS: it->state = WAITING; break;                         /* until some transaction has ended */
+    case SGT_WAITS: it->state = WAITING; break;                         /* until another transaction has ended */
     case SGT_COMMITTED: case SGT_REFUSED: it->state = DONE; break;
-    case SGT_ABORTED:                                                   /* a cycle: begin anew */
-    case SGT_OVER:                                                      /* it fell with one that it had read from: the same */
+    case SGT_ABORTED:                                                   /* a cycle: start again */
+    case SGT_OVER:                                                      /* aborted in cascade: the same */
         it->state = reply->cause == SGT_BY_CYCLE || reply->cause == SGT_BY_FALL ? TO_START : DONE;
         break;
-    case SGT_FULL: break;                                               /* the start is asked again */
-    default: it->state = DONE;                                          /* a start that starts nothing */
+    case SGT_FULL: break;                                               /* try the start again */
+    default: it->state = DONE;                                          /* the start was refused */
     }
 }
 
@@ -77,7 +77,7 @@ static bool ends_one(const sgt_reply *reply)
     return reply->kind == SGT_COMMITTED || reply->kind == SGT_REFUSED || reply->kind == SGT_ABORTED;
 }
 
-/* The transfers' events in turn, until all are done. Where one has ended, those that wait ask again. */
+/* Makes the transfers' events in turn, until all are done. After an end, those that wait try again. */
 static void run_all(sgt_engine *engine, struct transfer *transfers, size_t count)
 {
     for (size_t at = 0, idle = 0; idle < count; at = (at + 1) % count) {

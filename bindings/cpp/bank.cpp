@@ -22,7 +22,7 @@ int main()
     for (int step = 0; step < 3; step++) show(engine.step(0));
     show(engine.start(0, {1}));
     for (int step = 0; step < 3; step++) show(engine.step(1));
-    show(engine.commit(1)); // it read from the deposit, so it has to wait
+    show(engine.commit(1)); // waits: it has read from the deposit
     show(engine.commit(0));
     show(engine.commit(1));
     std::cout << "2/101 " << engine.get(2, 101).value() << '\n' << engine.entries() << " entries\n";
@@ -35,7 +35,7 @@ int main()
     if (calls.first.size() != 2 || calls.first[1].answer[0] != 1600 || calls.second != 11 || engine.calls(12, 9)) return 1;
     auto rows = engine.rows();
     for (const auto &row : rows) std::cout << row.table << '/' << row.number << ' ' << row.value << '\n';
-    rows.back().value = 7; // an engine that goes on from these rows, but for one
+    rows.back().value = 7; // a new engine with these rows, one of them changed
     sgt::Engine again(R"({"limits":[8,100],"accounts":[],"procedures":[]})", rows);
     std::cout << "again " << again.rows().size() << " rows, 2/101 " << again.get(2, 101).value() << '\n';
     for (int run = 0; run < 2; run++) again.run(1, {1, 100}); // each in one call
@@ -54,7 +54,7 @@ int main()
     again.cut();
     std::cout << again.entries() << " entries, 2/101 " << again.get(2, 101).value() << '\n';
     const std::vector<sgt_row> own{{7, 0, 1, 40}};
-    again.put(own); // a record and a procedure more, as there is no history
+    again.put(own); // one more record and procedure, while the history is empty
     try {
         again.put(own);
         return 1;

@@ -1,5 +1,5 @@
-// sgt for C++: `sgt::SharedEngine` for many threads, and `sgt::Engine` for one. Both close themselves. See sgt_shared.h and sgt.h
-// for what calls do.
+// sgt for C++: `sgt::SharedEngine` for many threads, and `sgt::Engine` for one. Both close themselves. sgt_shared.h and sgt.h say
+// what each call does.
 #ifndef SGT_HPP
 #define SGT_HPP
 
@@ -27,7 +27,7 @@
 
 namespace sgt {
 
-// The text that a call writes into a buffer: it is called with a small one, and again where that was too small.
+// Returns the text that a C call writes into a buffer. Calls it with a small buffer first, and again if that is too small.
 template <typename Write> std::string written(Write write)
 {
     std::string text(64, '\0');
@@ -42,27 +42,61 @@ template <typename Write> std::string written(Write write)
     }
 }
 
-// The text of a reply, as a script's line has it.
+// Returns the text of a reply, as `sgt script` prints it.
 inline std::string text(const sgt_reply &reply)
 {
     return written([&](char *to, std::size_t room, std::uint64_t *length) { return sgt_reply_text(&reply, to, room, length); });
 }
 
-// The text of a fault.
+// Returns the text of a fault.
 inline std::string text(const sgt_fault &fault)
 {
     return written([&](char *to, std::size_t room, std::uint64_t *length) { return sgt_fault_text(&fault, to, room, length); });
 }
 
-// What `Engine` throws where an opening or a procedure is refused: the fault, with its text.
+// Returns the bytes of a text, which may be empty.
+inline const std::uint8_t *bytes_of(std::string_view text)
+{
+    static const std::uint8_t none = 0;
+    return text.data() ? reinterpret_cast<const std::uint8_t *>(text.data()) : &none;
+}
+
+// Returns the explanation of a fault, or the fault's own text if there is none.
+template <typename Explain> std::string explained(const sgt_fault &fault, Explain explain)
+{
+    try {
+        return written(explain);
+    } catch (const std::exception &) {
+        return text(fault);
+    }
+}
+
+// Thrown by `Engine` if an opening or a procedure is refused. Holds the fault; `what` explains it: where the error is, what was
+// expected there and what was found. If an allocation for that failed, `what` is the fault's own text.
 class Refused : public std::runtime_error {
 public:
-    explicit Refused(const sgt_fault &fault) : std::runtime_error(text(fault)), fault(fault) {}
+    Refused(const sgt_fault &fault, const std::string &text) : std::runtime_error(text), fault(fault) {}
+
+    // An opening with this fault.
+    static Refused opening(const sgt_fault &fault, std::string_view opening)
+    {
+        return Refused(fault, explained(fault, [&](char *to, std::size_t room, std::uint64_t *length) {
+            return sgt_explain_opening(bytes_of(opening), opening.size(), to, room, length);
+        }));
+    }
+
+    // The text of a procedure with this fault.
+    static Refused procedure(const sgt_fault &fault, std::string_view text)
+    {
+        return Refused(fault, explained(fault, [&](char *to, std::size_t room, std::uint64_t *length) {
+            return sgt_explain_procedure(fault.procedure, bytes_of(text), text.size(), to, room, length);
+        }));
+    }
 
     const sgt_fault fault;
 };
 
-// What `Engine::cut` throws where transactions are live: how many.
+// Thrown by `Engine::cut` if transactions are live. Holds how many.
 class StillLive : public std::runtime_error {
 public:
     explicit StillLive(std::uint64_t live) : std::runtime_error("sgt: a transaction is live"), live(live) {}
@@ -70,13 +104,13 @@ public:
     const std::uint64_t live;
 };
 
-// What `Engine` throws where something is to be added to what it begins with, and there is a history.
+// Thrown by `Engine` if a record or a procedure is added after the first event.
 class Begun : public std::logic_error {
 public:
     Begun() : std::logic_error("sgt: there is a history") {}
 };
 
-// What `Engine::put` throws where the record of a row has a value already: the place of the first such row, counted from 0.
+// Thrown by `Engine::put` if a record has a value already. Holds the index of the first such row.
 class Taken : public std::invalid_argument {
 public:
     explicit Taken(std::uint64_t at) : std::invalid_argument("sgt: the record of a row has a value already"), at(at) {}
@@ -84,48 +118,47 @@ public:
     const std::uint64_t at;
 };
 
-// An entry of the history: what was asked, and what was answered.
+// An entry of the history: an event and its reply.
 struct Entry {
     sgt_event event;
     sgt_reply reply;
 };
 
-// What `SharedEngine` throws if the deadline came first.
+// Thrown by `SharedEngine` if the deadline comes first.
 class TimedOut : public std::runtime_error {
 public:
     TimedOut() : std::runtime_error("sgt: the deadline came") {}
 };
 
-// What `SharedEngine` throws if a ticket's transaction is of a part of the history that was cut off.
+// Thrown by `SharedEngine` if the transaction of a ticket belongs to a part of the history that was cut off.
 class Stale : public std::runtime_error {
 public:
     Stale() : std::runtime_error("sgt: the transaction is of a part of the history that was cut off") {}
 };
 
-// What a run was answered: the last reply, and the number of its transaction, if one was started.
+// The result of a run: the last reply, and the number of its transaction, if one was started.
 struct Ran {
     std::optional<std::uint32_t> tid;
     sgt_reply reply;
 };
 
-// An engine for one thread at a time. If memory is short a call throws std::bad_alloc: then nothing has changed, but that a run may
-// have started its transaction and quit it. Too many arguments are std::invalid_argument. A member that is const leaves the engine as
-// it was; two threads may not be in it at once for all that.
+// An engine for one thread at a time. If an allocation fails, a call throws std::bad_alloc and has changed nothing, except that a run
+// may have started its transaction and aborted it. Too many arguments throw std::invalid_argument. A const member does not change the
+// engine, but two threads must not be in it at once either.
 class Engine {
 public:
     explicit Engine(std::string_view opening) : Engine(opening, {}) {}
 
-    // With these rows put into the database of the opening's accounts; std::invalid_argument where one is out of range.
+    // Also puts these rows into the initial database. Throws std::invalid_argument if one is out of range.
     Engine(std::string_view opening, const std::vector<sgt_row> &rows)
     {
         sgt_fault fault{};
-        auto bytes = reinterpret_cast<const std::uint8_t *>(opening.data());
-        auto status = sgt_open_with(&engine, bytes, opening.size(), rows.data(), rows.size(), &fault);
-        if (status >= SGT_NOT_JSON) throw Refused(fault);
+        auto status = sgt_open_with(&engine, bytes_of(opening), opening.size(), rows.data(), rows.size(), &fault);
+        if (status >= SGT_NOT_JSON) throw Refused::opening(fault, opening);
         check(status);
     }
 
-    // With no records and no procedures, also none of SmallBank's; std::invalid_argument where a limit is out of its range.
+    // Opens an engine without records and procedures, not even SmallBank's. Throws std::invalid_argument if a limit is out of range.
     static Engine bare(std::uint64_t live, std::uint64_t begins, bool asks = true)
     {
         return Engine(live, begins, asks);
@@ -144,7 +177,7 @@ public:
         return reply;
     }
 
-    // Puts new records into the opening database, while the history is empty; else Begun. Each call goes through all records.
+    // Puts new records into the initial database. Throws Begun if the history is not empty. Each call goes through all records.
     void put(const std::vector<sgt_row> &rows)
     {
         static const sgt_row no_row{};
@@ -154,15 +187,13 @@ public:
         check(status);
     }
 
-    // Adds the procedure of a JSON text behind the others, while the history is empty; else Begun. The number that it is started by.
+    // Adds a procedure from its JSON text and returns its number. Throws Begun if the history is not empty.
     std::uint16_t procedure(std::string_view text)
     {
         sgt_fault fault{};
-        static const std::uint8_t none = 0;
-        auto bytes = reinterpret_cast<const std::uint8_t *>(text.data());
         std::uint16_t number = 0;
-        auto status = sgt_procedure(&engine, bytes ? bytes : &none, text.size(), &number, &fault);
-        if (status >= SGT_NOT_JSON) throw Refused(fault);
+        auto status = sgt_procedure(&engine, bytes_of(text), text.size(), &number, &fault);
+        if (status >= SGT_NOT_JSON) throw Refused::procedure(fault, text);
         check(status);
         return number;
     }
@@ -178,8 +209,8 @@ public:
         return {tid == no_tid ? std::nullopt : std::optional(tid), reply};
     }
 
-    // Runs these calls one after another, each as `run` does; of each, `procedure`, `args` and `arg` count. There are fewer outcomes
-    // than calls where memory was short: then the calls behind them have not run.
+    // Runs these calls one after another, each as `run` does. It uses `procedure`, `args` and `arg` of each. If an allocation fails, it
+    // returns fewer outcomes than calls; the calls after them have not run.
     [[nodiscard]] std::vector<sgt_outcome> run_many(const std::vector<sgt_call> &calls)
     {
         static const sgt_call none{};
@@ -195,7 +226,7 @@ public:
     sgt_reply commit(std::uint32_t tid) { return ask(sgt_commit, tid); }
     sgt_reply quit(std::uint32_t tid) { return ask(sgt_quit, tid); }
 
-    // The text of the procedure of a number, or none if no procedure has it: JSON that `procedure` takes.
+    // Returns the JSON text of a procedure, as `procedure` takes it, or none if there is no procedure of that number.
     std::optional<std::string> procedure_text(std::uint64_t number) const
     {
         std::string text;
@@ -209,7 +240,7 @@ public:
         }
     }
 
-    // The committed value, or none where there is no such record.
+    // Returns the committed value of a record, or none if there is no such record. A read outside of all transactions.
     std::optional<std::int64_t> get(std::uint64_t table, std::int64_t number) const
     {
         std::int64_t value = 0;
@@ -219,7 +250,7 @@ public:
         return value;
     }
 
-    // The committed database from a record on, by table and then by number.
+    // Returns the committed database from a record on, in order of tables and then of numbers.
     std::vector<sgt_row> rows(std::uint64_t table = 0, std::int64_t number = SGT_LEAST) const
     {
         std::uint64_t count = 0;
@@ -229,7 +260,7 @@ public:
         return rows;
     }
 
-    // How many records the committed database has.
+    // Returns the number of records of the committed database.
     std::uint64_t records() const
     {
         std::uint64_t count = 0;
@@ -237,7 +268,7 @@ public:
         return count;
     }
 
-    // How many cuts there were. With it a transaction's number is never another's.
+    // Returns how often the history was cut. With this number, the number of a transaction is unique.
     std::uint64_t part() const
     {
         std::uint64_t part = 0;
@@ -252,7 +283,7 @@ public:
         return count;
     }
 
-    // The entry at a place, counted from 0, oldest first, or none where there are not so many.
+    // Returns the entry at an index, oldest first, or none if the history is shorter.
     std::optional<Entry> entry(std::uint64_t place) const
     {
         Entry entry{};
@@ -262,8 +293,8 @@ public:
         return entry;
     }
 
-    // At most so many of the committed and refused calls, in reply order, that the history has from a place on, and the place to go on
-    // from; none where there are not so many entries. Run one after another, these calls give the same answers.
+    // Returns the committed and refused calls of the history from an index on, in reply order, at most so many, and the index to go on
+    // from. Returns none if the history is shorter. Run one after another, these calls give the same answers.
     std::optional<std::pair<std::vector<sgt_call>, std::uint64_t>> calls(std::uint64_t from, std::size_t most) const
     {
         std::vector<sgt_call> calls(most ? most : 1);
@@ -275,10 +306,10 @@ public:
         return std::pair(calls, next);
     }
 
-    // Takes memory for so many more entries.
+    // Allocates memory for this many more entries.
     void reserve(std::uint64_t entries) { check(sgt_reserve(&engine, entries)); }
 
-    // Forgets the history up to now, where nobody is live; else StillLive, and nothing has changed.
+    // Cuts the history off. Throws StillLive if a transaction is live; then nothing has changed.
     void cut()
     {
         std::uint64_t live = 0;
@@ -315,10 +346,10 @@ private:
     }
 };
 
-// How long a call may wait: for ever, or so long.
+// How long a call may wait. std::nullopt: without a limit.
 using Wait = std::optional<std::chrono::nanoseconds>;
 
-// What a shared engine is to do beside its calls: see sgt_shared_config. A hook that throws ends the program.
+// The configuration of a shared engine: see sgt_shared_config. A hook that throws ends the program.
 struct Configuration {
     std::function<void(const sgt_ended &)> ended;
     std::function<void(sgt_engine *, std::uint64_t part)> cutting;
@@ -327,7 +358,7 @@ struct Configuration {
     std::chrono::nanoseconds cut_wait{0};
 };
 
-// How often a run is tried, and how long it may wait: see sgt_run_options.
+// How long a run may wait, and how often it is tried (0: without a limit). See sgt_run_options.
 struct Limits {
     Wait wait = std::nullopt;
     std::uint32_t tries = 0;
@@ -335,7 +366,7 @@ struct Limits {
 
 class SharedEngine;
 
-// A live transaction of a shared engine. Its end quits it, unless it has ended before. It must not outlive the engine.
+// A live transaction of a shared engine. Its destructor aborts it, unless it has ended before. It must not outlive the engine.
 class [[nodiscard]] Transaction {
 public:
     Transaction(Transaction &&other) noexcept
@@ -361,17 +392,17 @@ public:
 
     [[nodiscard]] const sgt_ticket &ticket() const { return of; }
 
-    // Lets it make its next access.
+    // Makes the next access of the procedure.
     [[nodiscard]] sgt_reply step()
     {
         sgt_reply reply{};
         return told(sgt_shared_step(shared, &of, &reply), reply);
     }
 
-    // Commits it, and waits for others where it has to; TimedOut, and then it is still live.
+    // Commits the transaction, and waits for its predecessors. Throws TimedOut if the deadline comes first; it is still live then.
     [[nodiscard]] sgt_reply commit(Wait wait = std::nullopt);
 
-    // Quits it.
+    // Aborts the transaction.
     sgt_reply quit()
     {
         sgt_reply reply{};
@@ -389,14 +420,12 @@ private:
     sgt_ticket of;
 };
 
-// An engine for many threads: each of its calls may be made by any thread at any time. It is moved and closed by one thread, while no
-// other one uses it.
+// An engine for many threads: any thread may call it at any time. Move it and close it while no other thread uses it.
 class SharedEngine {
 public:
     explicit SharedEngine(std::string_view opening, const std::vector<sgt_row> &rows = {}, Configuration with = {})
         : hooks(std::make_unique<Configuration>(std::move(with)))
     {
-        static const std::uint8_t none = 0;
         sgt_fault fault{};
         sgt_shared_config config{};
         config.size = sizeof config;
@@ -406,9 +435,8 @@ public:
         config.keeps_ended = hooks->keeps_ended;
         config.cut_after = hooks->cut_after;
         config.cut_wait_ns = hooks->cut_wait.count();
-        auto bytes = reinterpret_cast<const std::uint8_t *>(opening.data());
-        auto status = sgt_shared_open(&shared, bytes ? bytes : &none, opening.size(), rows.data(), rows.size(), &config, &fault);
-        if (status >= SGT_NOT_JSON) throw Refused(fault);
+        auto status = sgt_shared_open(&shared, bytes_of(opening), opening.size(), rows.data(), rows.size(), &config, &fault);
+        if (status >= SGT_NOT_JSON) throw Refused::opening(fault, opening);
         check(status);
     }
 
@@ -423,7 +451,7 @@ public:
         return *this;
     }
 
-    // Runs a procedure from its start to its commit, with a list of arguments or a range of them.
+    // Runs a procedure from its start to its commit. The arguments are a list or a range.
     [[nodiscard]] sgt_shared_outcome run(std::uint64_t procedure, std::initializer_list<std::int64_t> args, Limits limits = {})
     {
         return run_with(procedure, args.begin(), args.size(), limits);
@@ -434,7 +462,7 @@ public:
         return run_with(procedure, std::data(args), std::size(args), limits);
     }
 
-    // Starts a transaction: it, or the reply to a start that is refused.
+    // Starts a transaction. Returns it, or the reply if the start is refused.
     [[nodiscard]] std::pair<std::optional<Transaction>, sgt_reply> start(std::uint64_t procedure,
                                                                          std::initializer_list<std::int64_t> args,
                                                                          Wait wait = std::nullopt)
@@ -449,7 +477,7 @@ public:
         return start_with(procedure, std::data(args), std::size(args), wait);
     }
 
-    // Quits the transaction of a ticket, as `live` and the hooks tell it.
+    // Aborts the transaction of a ticket, which `live` and the hooks return.
     sgt_reply quit(const sgt_ticket &ticket)
     {
         sgt_reply reply{};
@@ -457,7 +485,7 @@ public:
         return reply;
     }
 
-    // Who is live.
+    // Returns the live transactions.
     [[nodiscard]] std::vector<sgt_live> live()
     {
         std::vector<sgt_live> rows(32); // no more are ever live
@@ -467,10 +495,10 @@ public:
         return rows;
     }
 
-    // Cuts the history off when nobody is live; new transactions wait meanwhile.
+    // Cuts the history off once no transaction is live. New transactions wait meanwhile.
     void cut(Wait wait = std::nullopt) { check(sgt_shared_cut(shared, nanoseconds(wait))); }
 
-    // The committed value, or none if there is no such record.
+    // Returns the committed value of a record, or none if there is no such record.
     [[nodiscard]] std::optional<std::int64_t> get(std::uint64_t table, std::int64_t number)
     {
         std::int64_t value = 0;
@@ -480,7 +508,8 @@ public:
         return value;
     }
 
-    // The committed database from a record on. Others may go on between the two calls, so it asks until the room suffices.
+    // Returns the committed database from a record on. Other threads may add records between the two calls, so it repeats them until the
+    // buffer is large enough.
     [[nodiscard]] std::vector<sgt_row> rows(std::uint64_t table = 0, std::int64_t number = SGT_LEAST)
     {
         std::vector<sgt_row> rows;
@@ -493,7 +522,7 @@ public:
         return rows;
     }
 
-    // How many entries the history has since the last cut.
+    // Returns the number of entries of the history since the last cut.
     [[nodiscard]] std::uint64_t entries()
     {
         std::uint64_t count = 0;
@@ -501,7 +530,7 @@ public:
         return count;
     }
 
-    // Takes at most so many of the stored calls; none if none comes in time.
+    // Takes at most so many of the stored calls. Returns an empty list if none comes in time.
     [[nodiscard]] std::vector<sgt_ended> drain(std::size_t most, Wait wait = std::nullopt)
     {
         std::vector<sgt_ended> calls(most);
@@ -524,7 +553,7 @@ public:
     }
 
 private:
-    std::unique_ptr<Configuration> hooks; // at an address of its own, which the library is given
+    std::unique_ptr<Configuration> hooks; // at a stable address, since the library keeps a pointer to it
     sgt_shared *shared = nullptr;
 
     static void tell_ended(void *context, const sgt_ended *call) noexcept { static_cast<Configuration *>(context)->ended(*call); }

@@ -10,7 +10,7 @@ static const char *const opening = R"({"limits":[8,4000000,1],"accounts":[[1,101
 "procedures":[[3,[["look",0,2,["arg",0],6],["if",["less",["reg",0],["arg",2]],[["ask",7]],[]],
 ["put",2,["arg",0],["diff",["reg",0],["arg",2]]],["look",1,2,["arg",1],6],["put",2,["arg",1],["sum",["reg",1],["arg",2]]]]]]})";
 
-enum : std::uint64_t { PAY = 5 }; // from a customer, to a customer, so much; 7 if the money does not suffice
+enum : std::uint64_t { PAY = 5 }; // from a customer, to a customer, cents; aborts with 7 if the money does not suffice
 
 int main()
 {
@@ -33,7 +33,7 @@ int main()
     std::int64_t money = 0;
     for (const auto &row : bank.rows(2)) money += row.value;
     if (paid + refused != THREADS * EACH || told != paid + refused || paid == 0) return 1;
-    auto started = bank.start(PAY, std::vector<std::int64_t>{101, 102, 0}); // step by step; its end quits it
+    auto started = bank.start(PAY, std::vector<std::int64_t>{101, 102, 0}); // step by step; its destructor aborts it
     if (!started.first || started.first->step().kind != SGT_LOOKED || bank.live().size() != 1) return 1;
     try {
         bank.cut(std::chrono::milliseconds(5));

@@ -1,6 +1,22 @@
 """A bank's story: a deposit, and a balance that reads what it stored before it is committed."""
 
-from sgt import Asked, BadCall, Begun, Engine, Kind, OpeningRefused, ProcedureRefused, Reply, Row, StillLive, Taken
+from sgt import (
+    Asked,
+    BadCall,
+    Begun,
+    Engine,
+    Kind,
+    OpeningRefused,
+    ProcedureRefused,
+    Reply,
+    Row,
+    StillLive,
+    Taken,
+    pack_calls,
+    unpack_calls,
+    unpack_outcomes,
+    wrote,
+)
 
 
 def show(reply: Reply) -> None:
@@ -25,7 +41,7 @@ with Engine(limits=(8, 100), accounts=[(1, 101, 500, 1000)]) as engine:
     show(engine.start(0, 1))
     for _ in range(3):
         show(engine.step(1))
-    show(engine.commit(1))  # it read from the deposit, so it has to wait
+    show(engine.commit(1))  # waits: it has read from the deposit
     show(engine.commit(0))
     show(engine.commit(1))
     print("2/101", engine.get(2, 101))
@@ -54,7 +70,7 @@ with Engine(limits=(8, 100), accounts=[(1, 101, 500, 1000)]) as engine:
     for row in rows:
         print(f"{row.table}/{row.number} {row.value}")
 
-rows[-1] = rows[-1]._replace(value=7)  # an engine that goes on from these rows, but for one
+rows[-1] = rows[-1]._replace(value=7)  # a new engine with these rows, one of them changed
 with Engine(limits=(8, 100), rows=rows) as again:
     print("again", len(again.rows()), "rows, 2/101", again.get(2, 101))
     for _ in range(2):
@@ -74,7 +90,7 @@ with Engine(limits=(8, 100), rows=rows) as again:
     again.cut()
     print(f"{len(again)} entries, 2/101 {again.get(2, 101)}")
     own = [Row(7, 1, 40)]
-    again.put(own)  # a record and a procedure more, as there is no history
+    again.put(own)  # one more record and procedure, while the history is empty
     try:
         again.put(own)
     except Taken as why:
@@ -83,7 +99,7 @@ with Engine(limits=(8, 100), rows=rows) as again:
         again.procedure([0, [["ask", 0]]])
         raise SystemExit("a procedure with a flaw was added")
     except ProcedureRefused as why:
-        assert str(why) == "procedure 5 flaw 8", why
+        assert (why.fault, str(why)) == ("procedure 5 flaw 8", "procedure 5, at 1 0 1: code 0 is not from 1 to 999"), why
     assert (again.records(), again.part()) == (4, 1)
     with Engine.bare(8, 100) as bare:
         assert (bare.records(), bare.procedure([0, [["put", 7, 1, 2]]]), bare.run(0)[0]) == (0, 0, 0)
@@ -98,6 +114,23 @@ with Engine(limits=(8, 100), rows=rows) as again:
                     pass
         ran = bare.run_many([(0,), (9,)])
         assert [(tid, reply.kind, wrote) for tid, reply, wrote in ran] == [(1, Kind.COMMITTED, True), (None, Kind.NO_PROCEDURE, False)], ran
+        calls = [(0,), (9, 1, -2), (0,), (0, 5)]
+        packed = pack_calls(calls)
+        outcomes = bare.run_bytes(packed)
+        assert unpack_calls(packed) == calls and wrote(outcomes) == [True, False, True, False]
+        assert [(it.tid, it.reply.kind) for it in unpack_outcomes(outcomes)] == [
+            (2, Kind.COMMITTED),
+            (None, Kind.NO_PROCEDURE),
+            (3, Kind.COMMITTED),
+            (None, Kind.BAD_ARGS),
+        ]
+        assert (bare.run_bytes(b""), unpack_calls(b""), wrote(b""), unpack_outcomes(b"")) == (b"", [], [], [])
+        for read in (bare.run_bytes, unpack_calls, wrote, unpack_outcomes):
+            try:
+                read(packed[:-1])
+                raise SystemExit(f"{read} read bytes that are cut off")
+            except BadCall:
+                pass
     try:
         Engine.bare(33, 100)
         raise SystemExit("an engine was opened with too many live")
@@ -117,7 +150,7 @@ try:
     Engine(limits=(99, 1))
     raise SystemExit("an opening was not refused")
 except OpeningRefused as why:
-    assert str(why) == "bad limits", why
+    assert (why.fault, why.explanation) == ("bad limits", '"limits": the first number is 99, and has to be from 1 to 32'), why
 try:
     Engine(limits=(8, 100), procedures=[[0, [7]]])
     raise SystemExit("a procedure was not refused")

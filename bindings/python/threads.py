@@ -5,7 +5,7 @@ import threading
 from sgt import Kind, SharedEngine, TimedOut
 
 THREADS, EACH = 8, 1000
-# From a customer, to a customer, so much. It raises 6 if there is no such customer, and 7 if the money does not suffice.
+# From a customer, to a customer, cents. It aborts with 6 if there is no such customer, and with 7 if the money does not suffice.
 PAY = 5
 TRANSFER = [
     3,
@@ -49,7 +49,7 @@ def main() -> None:
         assert told == [ended.sequence for ended in calls] == list(range(THREADS * EACH))
         assert sum(ended.call.code is None for ended in calls) == sum(paid) > 0
 
-        with bank.transaction(PAY, 101, 102, 0) as started:  # step by step; its end quits it
+        with bank.transaction(PAY, 101, 102, 0) as started:  # step by step; the end of the block aborts it
             assert started.step().kind is Kind.LOOKED
             assert [live.ticket for live in bank.live()] == [started.ticket]
             try:

@@ -1,4 +1,4 @@
-"""Builds the wheel of this package, which holds libsgt.so: what `pyproject.toml` names, and a program of its own. It takes nothing else.
+"""Builds the wheel of this package, which contains libsgt.so. It is the backend in `pyproject.toml`, and a program. It needs nothing else.
 
     python3 wheels.py FOLDER
 """
@@ -21,7 +21,7 @@ SUMMARY = "An in-memory transaction engine that schedules by serialization graph
 
 
 def version() -> str:
-    """That of the header, which is the one place where it stands."""
+    """Returns the version in the header, its only place."""
     found = re.search(r'^#define SGT_VERSION "(.*)"$', HEADER.read_text(), re.MULTILINE)
     if not found:
         raise SystemExit("sgt.h has no version")
@@ -33,7 +33,7 @@ def platform() -> str:
 
 
 def files() -> dict[str, bytes]:
-    """What the wheel holds, but for the record."""
+    """Returns the contents of the wheel, without the RECORD file."""
     if not LIBRARY.exists():
         raise SystemExit("no bindings/out/libsgt.so: bindings/build makes it")
     metadata = f"Metadata-Version: 2.1\nName: sgt\nVersion: {version()}\nSummary: {SUMMARY}\nRequires-Python: >=3.9\n"
@@ -54,7 +54,7 @@ def record_line(name: str, data: bytes) -> str:
 
 
 def build_wheel(wheel_directory: str, config_settings: Optional[dict[str, Any]] = None, metadata_directory: Optional[str] = None) -> str:
-    """The name of the wheel, which is written into the folder."""
+    """Writes the wheel into the folder and returns its name."""
     name, held = f"sgt-{version()}-py3-none-{platform()}.whl", files()
     record = f"sgt-{version()}.dist-info/RECORD"
     lines = "".join(record_line(path, data) for path, data in held.items()) + f"{record},,\n"

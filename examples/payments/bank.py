@@ -1,53 +1,48 @@
-"""The bank: an engine that runs the procedures of a folder, and the number of its last journaled call."""
+"""The bank: an engine with the procedures of a folder, and the number of its last journaled call."""
 
 import json
 import pathlib
 import struct
 import sys
-from typing import Sequence
+from itertools import compress
+from typing import Any, Sequence
 
 sys.path.insert(0, str(pathlib.Path(__file__).resolve().parents[2] / "bindings" / "python"))
-from sgt import BatchOutcome, Engine, Kind, ProcedureRefused, Reply  # noqa: E402
+from sgt import Engine, Kind, Reply, pack_calls, unpack_calls, wrote  # noqa: E402
 
-ENTRIES = 1_000_000  # the history is cut after so many entries, or as many as there are records
+ENTRIES = 4_000_000  # the history is cut after so many entries, or as many as there are records; a payment makes 20, in 800 bytes
 ROW = struct.Struct("<I4xqq")  # table, number and value of a row
+Call = Sequence[Any]  # the name of a procedure, and its arguments
 
 
-class Damaged(Exception):
-    """The journal or a snapshot can't be trusted."""
-
-
-class BadProcedure(Exception):
-    """A file of the folder is no procedure."""
+class Unusable(Exception):
+    """A journal or a snapshot that can't be trusted, or a file that is no procedure."""
 
 
 class Procedure:
-    """A procedure of the folder, with what a client sends and gets."""
+    """A file of the folder: a procedure, and what clients send and get."""
 
     def __init__(self, name: str, file: dict) -> None:
-        self.name, self.text = name, file["procedure"]  # the text is as docs/LANGUAGE.md has it
-        self.request: tuple[str, ...] = tuple(file.get("request", ()))  # clients can't ask for a procedure without any keys
-        self.writes = '"put"' in json.dumps(self.text)  # whether it can write at all
+        self.name, self.text = name, file["procedure"]  # the text is as docs/FORMATS.md has it
+        self.request: list[str] = file.get("request", [])  # clients can't ask for a procedure without any keys
+        # The parts of a reply, in which %d stands for a number. To put JSON together by `dumps` takes four times as long.
+        keys = [*(self.request or [""])[:1], *file.get("reply", [])]
+        self._begin, *self._answers = [json.dumps(key).replace("%", "%%") + ": %d" for key in keys]
+        self._done = f", {json.dumps(file['done'])}: true" if "done" in file else ""
+        self._reasons = {int(code): reason for code, reason in file.get("refused", {}).items()}
         Engine.bare(1, 1).procedure(self.text)  # says what is wrong with it
         if self.request and len(self.request) != self.text[0]:
             raise ValueError(f"the request has {len(self.request)} keys, and the procedure takes {self.text[0]} arguments")
-        # The parts of a reply as text, in which %d stands for a number.
-        self._begin = "{" + spelled(self.request[0] if self.request else "") + "%d"
-        self._done = ", " + json.dumps(file["done"]) + ": true" if file.get("done") else ""
-        self._answers = [", " + spelled(key) + "%d" for key in file.get("reply", ())]
-        self._reasons = {int(code): reason for code, reason in file.get("refused", {}).items()}
 
-    def reply(self, first: int, reply: Reply) -> str:
+    def line(self, first: int, reply: Reply) -> str:
         """The line that a client gets: its first argument, and the answers, or why it was refused."""
-        begin = self._begin % first
-        if reply.kind is not Kind.COMMITTED:
-            return f'{begin}, "refused": {json.dumps(self._reasons.get(reply.code, f"code {reply.code}"))}}}\n'
-        return begin + self._done + "".join([key % value for key, value in zip(self._answers, reply.answers)]) + "}\n"
-
-
-def spelled(key: str) -> str:
-    """A key of a reply, in which %d may follow."""
-    return json.dumps(key).replace("%", "%%") + ": "
+        if reply.kind is Kind.COMMITTED:
+            told = self._done + "".join([", " + key % value for key, value in zip(self._answers, reply.answers)])
+        elif reply.kind is Kind.REFUSED:
+            told = ', "refused": ' + json.dumps(self._reasons.get(reply.code, f"code {reply.code}"))
+        else:
+            told = ', "error": "this server does not run it"'  # as it follows another one
+        return "{" + self._begin % first + told + "}\n"
 
 
 def load_procedures(folder: pathlib.Path) -> dict[str, Procedure]:
@@ -57,11 +52,10 @@ def load_procedures(folder: pathlib.Path) -> dict[str, Procedure]:
         try:
             procedure = Procedure(path.stem, json.loads(path.read_text()))
         except (ValueError, LookupError, TypeError, AttributeError) as why:
-            part = f", at {why.part:.60}" if isinstance(why, ProcedureRefused) and why.part else ""
-            raise BadProcedure(f"{path}: {type(why).__name__}: {why}{part}") from None
+            raise Unusable(f"{path}: {type(why).__name__}: {why}") from None
         for other in found.values():
             if procedure.request and set(other.request) == set(procedure.request):
-                raise BadProcedure(f"{path}: {other.name}.json has the same keys in its request")
+                raise Unusable(f"{path}: {other.name}.json has the same keys in its request")
         found[path.stem] = procedure
     return found
 
@@ -74,19 +68,21 @@ class Bank:
         self.seq, self.texts = seq, texts
         self._engine = Engine.bare(1, 4_000_000_000)
         self._engine.put_bytes(rows)
-        self._numbers = {name: self._engine.procedure(text) for name, text in texts.items()}
+        self.numbers = {name: self._engine.procedure(text) for name, text in texts.items()}
+        self._names = {number: name for name, number in self.numbers.items()}
         self._records = len(rows) // ROW.size
 
-    def run(self, calls: Sequence[tuple[str, Sequence[int]]]) -> list[BatchOutcome]:
-        """Runs calls one after another, each as a transaction of its own. A reply is COMMITTED with answers, or REFUSED with a code."""
-        return self._engine.run_many([(self._numbers[name], *args) for name, args in calls])
+    def run(self, calls: bytes) -> tuple[bytes, list[Call]]:
+        """Runs packed calls one after another, each as a transaction of its own. Their packed outcomes, and the calls that wrote."""
+        outcomes = self._engine.run_bytes(calls)
+        return outcomes, [(self._names[number], *args) for number, *args in compress(unpack_calls(calls), wrote(outcomes))]
 
-    def replay(self, seq: int, name: str, args: Sequence[int]) -> None:
-        """Runs a call of the journal. It committed when it was journaled, so it commits again, or the journal is not this bank's."""
-        reply = self.run([(name, args)])[0].reply if name in self._numbers else None
-        if seq != self.seq + 1 or reply is None or reply.kind is not Kind.COMMITTED:
-            raise Damaged(f"call {seq} of the journal, {name} {args}, after call {self.seq}: the engine replies {reply}")
-        self.seq = seq
+    def replay(self, calls: Sequence[Call]) -> None:
+        """Runs the next calls of the journal. They committed when they were journaled, so they commit again, or it is not this bank's."""
+        for name, *args in calls:
+            if name not in self.numbers or not self.run(pack_calls([(self.numbers[name], *args)]))[1]:
+                raise Unusable(f"call {self.seq + 1} of the journal, {name} {args}, does not commit")
+            self.seq += 1
 
     def rows(self) -> bytes:
         """The committed database: 24 bytes a row."""

@@ -14,11 +14,15 @@ import pathlib
 import socket
 import sys
 import time
-from typing import Iterator, Union
+from typing import Sequence, Union
 
-from bank import BadProcedure, Bank, Damaged, Procedure, first_rows, load_procedures
-from journal import Record, pack_snapshot, read, unpack_snapshot
-from payments import Request, Server, run
+from bank import Bank, Call, Unusable, Procedure, first_rows, load_procedures
+from front import Connection, start_fronts
+from journal import seal_batch, seal_snapshot, unseal_batches, unseal_snapshot
+from payments import Server, run
+from sgt import pack_calls, unpack_calls
+
+NOT_HERE = 65_535  # the number of no procedure
 
 
 class RedisJournal:
@@ -32,44 +36,40 @@ class RedisJournal:
 
     def start(self, first: Bank) -> Bank:
         """Recovers. Two servers that start at once agree on the first snapshot."""
-        self.ask("HSETNX", self.name + ":rows", 0, pack_snapshot(first))
+        self.ask("HSETNX", self.name + ":rows", 0, seal_snapshot(first))
         self.batch = max(map(int, self.ask("HKEYS", self.name + ":rows")))
-        bank = unpack_snapshot(self.ask("HGET", self.name + ":rows", self.batch), f"Redis: the snapshot after batch {self.batch}")
+        bank, _ = unseal_snapshot(self.ask("HGET", self.name + ":rows", self.batch), f"Redis: the snapshot after batch {self.batch}")
         self.catch_up(bank)
         return bank
 
     def catch_up(self, bank: Bank) -> None:
         """Runs the calls of the batches that were not read yet."""
-        for record in self.calls(bank.seq):
-            bank.replay(record.seq, record.name, record.args)
-
-    def calls(self, seq: int) -> Iterator[Record]:
         while entries := self.ask("XRANGE", self.name, f"({self.batch}-0", "+", "COUNT", 1000):
             for entry, (_, data) in entries:
                 if entry != b"%d-0" % (self.batch + 1):
-                    raise Damaged(f"Redis: batch {self.batch + 1} is missing; the next one is {entry.decode()}")
-                records, length = read(data, seq, f"Redis: batch {self.batch + 1}")
+                    raise Unusable(f"Redis: batch {self.batch + 1} is missing; the next one is {entry.decode()}")
+                calls, length = unseal_batches(data, 0, bank.seq, f"Redis: batch {self.batch + 1}")
                 if length != len(data):
-                    raise Damaged(f"Redis: batch {self.batch + 1} is damaged at byte {length}")
-                yield from records
-                seq, self.batch = seq + len(records), self.batch + 1
+                    raise Unusable(f"Redis: batch {self.batch + 1} is damaged at byte {length}")
+                bank.replay(calls)
+                self.batch += 1
 
-    def append(self, records: list[Record]) -> None:
-        """Returns once Redis has the batch. `Damaged` if another primary has appended one since."""
-        self.ask("XADD", self.name, f"{self.batch + 1}-0", "calls", b"".join(record.line() for record in records))
+    def append(self, seq: int, calls: Sequence[Call]) -> None:
+        """Returns once Redis has the batch. `Unusable` if another primary has appended one since."""
+        self.ask("XADD", self.name, f"{self.batch + 1}-0", "calls", seal_batch(seq, calls))
         self.batch += 1
 
     def check(self) -> None:
         """Before replies that append nothing: a primary that was replaced would report old balances."""
         last = self.ask("XREVRANGE", self.name, "+", "-", "COUNT", 1)
         if last and int(last[0][0].split(b"-")[0]) > self.batch:
-            raise Damaged(f"Redis: another primary has appended after batch {self.batch}")
+            raise Unusable(f"Redis: another primary has appended after batch {self.batch}")
 
     def cut(self, bank: Bank) -> None:
         """A snapshot is named by its batch, so a late one of a primary that was replaced does no harm. A follower writes none."""
         if self.follows:
             return
-        self.ask("HSET", self.name + ":rows", self.batch, pack_snapshot(bank))
+        self.ask("HSET", self.name + ":rows", self.batch, seal_snapshot(bank))
         self.ask("XTRIM", self.name, "MINID", f"{self.batch + 1}-0")
         older = [key for key in self.ask("HKEYS", self.name + ":rows") if int(key) < self.batch]
         if older:
@@ -78,8 +78,11 @@ class RedisJournal:
     def ask(self, *words: Union[bytes, str, int]):
         """Redis's reply to a command."""
         parts = [word if isinstance(word, bytes) else str(word).encode() for word in words]
-        self._socket.sendall(b"*%d\r\n" % len(parts) + b"".join(b"$%d\r\n%s\r\n" % (len(part), part) for part in parts))
-        return self._reply()
+        try:
+            self._socket.sendall(b"*%d\r\n" % len(parts) + b"".join(b"$%d\r\n%s\r\n" % (len(part), part) for part in parts))
+            return self._reply()
+        except ConnectionError:
+            raise Unusable("Redis: gone") from None
 
     def _reply(self):
         line = self._replies.readline()
@@ -89,26 +92,30 @@ class RedisJournal:
         if kind == b"*":
             return [self._reply() for _ in range(int(rest))]
         if kind not in (b"+", b":"):
-            raise Damaged(f"Redis: {line.decode().strip() or 'gone'}")
+            raise Unusable(f"Redis: {line.decode().strip() or 'gone'}")
         return int(rest) if kind == b":" else rest
 
 
 class Replica(Server):
-    """A primary, or a follower until it is promoted."""
+    """A primary, or a follower until it is promoted. What a follower reads may be as old as IDLE says."""
 
-    def __init__(self, bank: Bank, journal: RedisJournal, procedures: dict[str, Procedure], port: int) -> None:
-        super().__init__(bank, journal, procedures, port)
+    def __init__(self, bank: Bank, journal: RedisJournal, fronts: list[Connection], procedures: dict[str, Procedure]) -> None:
+        super().__init__(bank, journal, fronts)
         self.journal: RedisJournal = journal
+        self.writers = {bank.numbers[name] for name, it in procedures.items() if '"put"' in json.dumps(it.text)}
 
-    def request(self, line: bytes) -> Request:
-        """What is asked on a line. What a follower reads may be as old as IDLE says."""
-        if self.journal.follows and b"".join(line.split()) == b'{"promote":true}':
+    def run(self, calls: bytes, words: Sequence[str] = ()) -> tuple[bytes, list[str]]:
+        """A follower runs calls that can't write. For others it has no procedure."""
+        if self.journal.follows:
+            calls = pack_calls([(NOT_HERE, *args) if number in self.writers else (number, *args) for number, *args in unpack_calls(calls)])
+        return super().run(calls, words)
+
+    def word(self, word: str) -> str:
+        if word == "promote" and self.journal.follows:
             self.journal.catch_up(self.bank)
             self.journal.follows = False
             return json.dumps({"promoted": self.bank.seq}) + "\n"
-        asked = super().request(line)
-        is_refused = self.journal.follows and isinstance(asked, tuple) and asked[0].writes
-        return '{"error": "this is a follower"}\n' if is_refused else asked
+        return super().word(word)
 
     def begin_day(self) -> None:
         if not self.journal.follows:
@@ -119,8 +126,7 @@ class Replica(Server):
         if self.journal.follows:
             self.journal.catch_up(self.bank)
         elif self.batch:
-            self.journal.append(self.batch)
-            self.batch = []
+            super().before_replies()
         else:
             self.journal.check()
 
@@ -137,13 +143,14 @@ def main() -> None:
     words = parser.parse_args()
     try:
         begin, procedures = time.perf_counter(), load_procedures(words.procedures)
+        port, fronts = start_fronts(words.port, procedures)
         texts = {name: it.text for name, it in procedures.items()}
         journal = RedisJournal(words.name, words.redis_port, words.follow)
         bank = journal.start(Bank(0, texts, first_rows(words.accounts, words.cents)))
         if bank.texts != texts:
-            raise Damaged("Redis: the stream was written with other procedures")
-        run(Replica(bank, journal, procedures, words.port), begin)
-    except (BadProcedure, Damaged, OSError) as why:
+            raise Unusable("Redis: the stream was written with other procedures")
+        run(Replica(bank, journal, fronts, procedures), port, begin)
+    except (Unusable, OSError) as why:
         sys.exit(f"replicated: {why}")
 
 

@@ -336,6 +336,39 @@ static void procedures_are_added(void)
     sgt_close(&engine);
 }
 
+static int explains(const char *said, uint32_t status, const char *text, const uint64_t *length)
+{
+    return status == 0 && *length == strlen(said) && !memcmp(text, said, *length);
+}
+
+/* Why a text is refused is told in words: whole if it fits, else its length alone; and nothing is told of a text that is taken. */
+static void refusals_are_explained(void)
+{
+    const char misfit[] = "procedure 5, at 1 0: expected a statement, found 7";
+    const char code[] = "procedure 6, at 1 0 1: expected a code from 0 to 65535, found \"a\"";
+    const char flaw[] = "procedure 5, at 1 0 1: code 0 is not from 1 to 999";
+    const char limit[] = "\"limits\": the first number is 33, and has to be from 1 to 32";
+    char text[200] = "unwritten";
+    uint64_t length = 77;
+#define OPENING(given, room) sgt_explain_opening((const uint8_t *)(given), strlen(given), text, room, &length)
+#define PROCEDURE(number, given, room) sgt_explain_procedure(number, (const uint8_t *)(given), strlen(given), text, room, &length)
+    CHECK(OPENING(opening, sizeof text) == 4 && PROCEDURE(5, "[0,[]]", sizeof text) == 4);
+    CHECK(length == 77 && !strcmp(text, "unwritten"));
+    CHECK(OPENING(shape, sizeof misfit - 2) == 0 && length == sizeof misfit - 1 && !strcmp(text, "unwritten"));
+    CHECK(explains(misfit, OPENING(shape, sizeof misfit - 1), text, &length));
+    CHECK(explains(misfit, PROCEDURE(5, "[0,[7]]", sizeof text), text, &length));
+    CHECK(explains(code, PROCEDURE(6, "[0,[[\"ask\",\"a\"]]]", sizeof text), text, &length));
+    CHECK(explains(flaw, PROCEDURE(5, "[0,[[\"ask\",0]]]", sizeof text), text, &length));
+    CHECK(explains(limit, OPENING("{\"limits\":[33,100],\"accounts\":[],\"procedures\":[]}", sizeof text), text, &length));
+    CHECK(explains("column 1: not JSON from here", PROCEDURE(0, "nope", sizeof text), text, &length));
+    CHECK(sgt_explain_opening(0, 0, 0, 0, &length) == 0 && length > 0);
+    CHECK(sgt_explain_opening(0, 1, text, sizeof text, &length) == 5 && sgt_explain_procedure(0, 0, 1, text, sizeof text, &length) == 5);
+    CHECK(sgt_explain_opening((const uint8_t *)shape, 1, 0, 1, &length) == 5);
+    CHECK(sgt_explain_procedure(0, (const uint8_t *)shape, 1, text, sizeof text, 0) == 5);
+#undef OPENING
+#undef PROCEDURE
+}
+
 /* The text of each procedure is read as a procedure with this text. */
 static void procedures_are_texts(void)
 {
@@ -820,6 +853,7 @@ int main(void)
     rows_are_opened();
     rows_are_put();
     procedures_are_added();
+    refusals_are_explained();
     procedures_are_texts();
     procedures_have_numbers_of_16_bits();
     a_run_goes_to_its_end();

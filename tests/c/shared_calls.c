@@ -4,7 +4,9 @@
  */
 #include <inttypes.h>
 #include <pthread.h>
+#include <sched.h>
 #include <stdatomic.h>
+#include <stdbool.h>
 #include <stdio.h>
 #include <string.h>
 #include <sys/wait.h>
@@ -264,6 +266,56 @@ static void a_commit_waits(void)
     }
 }
 
+/* A thread that reads what another one has written, and commits, again and again. */
+struct reader {
+    sgt_shared *shared;
+    atomic_int written, committed; /* how often */
+    atomic_bool is_ended;
+};
+
+enum { ROUNDS = 2000 };
+
+static void *reads_on(void *of)
+{
+    struct reader *it = of;
+    for (int round = 1; round <= ROUNDS; round++) {
+        sgt_ticket ticket = {0};
+        sgt_reply reply = {0};
+        while (it->written < round) sched_yield();
+        uint32_t status = sgt_shared_start(it->shared, 0, name, 1, SGT_FOREVER, &ticket, &reply);
+        for (int step = 0; step < 4 && status == SGT_OK; step++) status = sgt_shared_step(it->shared, &ticket, &reply);
+        it->is_ended = true;
+        if (status == SGT_OK) status = sgt_shared_commit(it->shared, &ticket, SGT_FOREVER, &reply);
+        if (status != SGT_OK || reply.kind != SGT_COMMITTED || reply.answer[0] != 1500 + 100 * round) return 0;
+        it->committed = round;
+    }
+    return 0;
+}
+
+/* Nobody else is there, so a wake-up that is lost is one for ever. */
+static void no_wake_up_is_lost(void)
+{
+    static const char long_one[] = "{\"limits\":[2,10000,1],\"accounts\":[[1,101,500,1000]],\"procedures\":[]}";
+    struct reader reader = {0};
+    sgt_fault fault = {0};
+    sgt_reply reply = {0};
+    pthread_t id;
+    CHECK(opens(&reader.shared, long_one, 0, &fault) == SGT_OK);
+    CHECK(pthread_create(&id, 0, reads_on, &reader) == 0);
+    for (int round = 1; round <= ROUNDS; round++) {
+        const sgt_ticket writer = begins(reader.shared, 4);
+        reader.is_ended = false;
+        reader.written = round;
+        while (!reader.is_ended) sched_yield();
+        for (int i = 0; i < round % 50; i++) sched_yield(); /* it comes before the commit that waits, in it and after it */
+        CHECK(sgt_shared_commit(reader.shared, &writer, 0, &reply) == SGT_OK && reply.kind == SGT_COMMITTED);
+        for (int tried = 0; reader.committed < round && tried < 2000000; tried++) sched_yield();
+        if (reader.committed < round) break;
+    }
+    CHECK(reader.committed == ROUNDS);
+    if (reader.committed == ROUNDS) pthread_join(id, 0), closes(reader.shared);
+}
+
 /* A run that read from a transaction that is quit is run anew. */
 static void a_run_is_tried_again(void)
 {
@@ -445,6 +497,146 @@ static void hooks_are_told(void)
     closes(heard.other);
 }
 
+/* A hook that holds the lock up for a while, when it is told of the first call. */
+static void dawdles(void *context, const sgt_ended *call)
+{
+    atomic_bool *is_in = context;
+    if (call->sequence > 0) return;
+    *is_in = true;
+    pause_for(50 * MS);
+}
+
+/* A deadline that comes while the lock is held: the run is not started. One of 0 waits for nobody, but for the lock. */
+static void a_run_is_not_started_late(void)
+{
+    static const int64_t waits[] = {5 * MS, 1, 0, SGT_FOREVER};
+    for (int i = 0; i < 4; i++) {
+        atomic_bool is_in = false;
+        sgt_shared_config config = SGT_SHARED_CONFIG;
+        sgt_run_options options = SGT_RUN_OPTIONS;
+        sgt_shared_outcome outcome = SGT_SHARED_OUTCOME;
+        uint64_t entries = 0;
+        config.ended = dawdles, config.context = &is_in;
+        sgt_shared *shared = bank(&config);
+        struct later first = {.shared = shared, .call = runs};
+        in_a_thread(&first);
+        while (!is_in) pause_for(MS / 10);
+        options.wait_ns = waits[i];
+        const int is_late = i < 2;
+        CHECK(sgt_shared_run(shared, 1, deposit, 2, &options, &outcome) == (is_late ? SGT_TIMED_OUT : SGT_OK));
+        CHECK(outcome.tries == (is_late ? 0 : 1) && outcome.waits == 0 && outcome.size == sizeof outcome);
+        CHECK(outcome.reply.kind == (is_late ? 0 : SGT_COMMITTED));
+        CHECK(sgt_shared_entries(shared, &entries, 0) == SGT_OK && entries == (is_late ? 6 : 12));
+        pthread_join(first.id, 0);
+        CHECK(first.status == SGT_OK && first.outcome.reply.kind == SGT_COMMITTED);
+        closes(shared);
+    }
+}
+
+/* Threads that pay in as quickly as they can. */
+
+enum { PAYERS = 4, PAYMENTS = 2000 };
+
+struct payers {
+    sgt_shared *shared, *other;
+    pthread_t ids[PAYERS];
+    atomic_bool is_over;   /* before all payments are made */
+    atomic_uint paid, wrong, told;
+};
+
+static void *pays(void *of)
+{
+    struct payers *it = of;
+    int64_t last = 0;
+    for (int made = 0; made < PAYMENTS && !it->is_over; made++) {
+        sgt_shared_outcome outcome = SGT_SHARED_OUTCOME;
+        const uint32_t status = sgt_shared_run(it->shared, 1, deposit, 2, 0, &outcome);
+        if (status != SGT_OK || outcome.reply.kind != SGT_COMMITTED || outcome.reply.answers != 1) it->wrong++;
+        if (outcome.reply.answer[0] <= last || outcome.tries == 0) it->wrong++;
+        last = outcome.reply.answer[0];
+        it->paid++;
+    }
+    return 0;
+}
+
+static void pay_in_threads(struct payers *it)
+{
+    for (int i = 0; i < PAYERS; i++) CHECK(pthread_create(&it->ids[i], 0, pays, it) == 0);
+}
+
+static void pay_all(struct payers *it)
+{
+    int64_t value = 0;
+    for (int i = 0; i < PAYERS; i++) pthread_join(it->ids[i], 0);
+    CHECK(it->wrong == 0);
+    CHECK(sgt_shared_get(it->shared, 2, 101, &value) == SGT_OK && value == 1000 + 100 * (int64_t)it->paid);
+}
+
+/* Is told of each payment once, in their order, and calls both engines, on whichever thread it is called. */
+static void hears_payers(void *context, const sgt_ended *call)
+{
+    struct payers *it = context;
+    sgt_shared_outcome outcome = SGT_SHARED_OUTCOME;
+    if (call->sequence != it->told++ || call->call.answer[0] != 1000 + 100 * (int64_t)it->told) it->wrong++;
+    if (sgt_shared_run(it->shared, 0, name, 1, 0, &outcome) != SGT_MISUSE) it->wrong++;
+    if (sgt_shared_run(it->other, 1, deposit, 2, 0, &outcome) != SGT_OK) it->wrong++;
+}
+
+static const char roomy[] = "{\"limits\":[2,1000000,1],\"accounts\":[[1,101,500,1000],[2,102,0,0]],\"procedures\":[]}";
+
+static void hooks_are_told_of_all_threads(void)
+{
+    struct payers others = {0}, payers = {0};
+    sgt_shared_config config = SGT_SHARED_CONFIG;
+    sgt_fault fault = {0};
+    CHECK(opens(&others.shared, roomy, 0, &fault) == SGT_OK);
+    config.ended = hears_payers, config.context = &payers;
+    CHECK(opens(&payers.shared, roomy, &config, &fault) == SGT_OK);
+    payers.other = others.shared;
+    pay_in_threads(&payers);
+    pay_in_threads(&others);
+    pay_all(&payers);
+    for (int i = 0; i < PAYERS; i++) pthread_join(others.ids[i], 0);
+    CHECK(payers.told == PAYERS * PAYMENTS && payers.paid == payers.told && others.wrong == 0);
+    int64_t value = 0;
+    CHECK(sgt_shared_get(others.shared, 2, 101, &value) == SGT_OK && value == 1000 + 100 * 2 * PAYERS * PAYMENTS);
+    closes(payers.shared);
+    closes(others.shared);
+}
+
+/* However many runs come, others get their turn: reads, steps, cuts and drains. */
+static void all_get_their_turn(void)
+{
+    struct payers payers = {0};
+    sgt_shared_config config = SGT_SHARED_CONFIG;
+    sgt_fault fault = {0};
+    sgt_reply reply = {0};
+    sgt_ended calls[64];
+    uint64_t many = 0, drained = 0;
+    config.keeps_ended = 1;
+    CHECK(opens(&payers.shared, roomy, &config, &fault) == SGT_OK);
+    pay_in_threads(&payers);
+    for (int made = 0; made < 20; made++) {
+        int64_t value = 0;
+        sgt_ticket ticket = {0};
+        CHECK(sgt_shared_get(payers.shared, 2, 101, &value) == SGT_OK && value >= 1000);
+        CHECK(sgt_shared_start(payers.shared, 1, deposit, 2, SGT_FOREVER, &ticket, &reply) == SGT_OK);
+        if (made % 2) CHECK(sgt_shared_step(payers.shared, &ticket, &reply) == SGT_OK);
+        CHECK(sgt_shared_quit(payers.shared, &ticket, &reply) == SGT_OK);
+        CHECK(sgt_shared_cut(payers.shared, SGT_FOREVER) == SGT_OK);
+        CHECK(sgt_shared_drain(payers.shared, MS, calls, 64, &many) == SGT_OK);
+        for (uint64_t i = 0; i < many; i++) CHECK(calls[i].sequence == drained++);
+    }
+    payers.is_over = true;
+    pay_all(&payers);
+    do {
+        CHECK(sgt_shared_drain(payers.shared, 0, calls, 64, &many) == SGT_OK);
+        for (uint64_t i = 0; i < many; i++) CHECK(calls[i].sequence == drained++);
+    } while (many > 0);
+    CHECK(drained == payers.paid);
+    closes(payers.shared);
+}
+
 static void ended_calls_are_drained(void)
 {
     sgt_shared_config config = SGT_SHARED_CONFIG;
@@ -552,6 +744,7 @@ int main(void)
     a_run_is_told();
     a_run_that_has_to_wait_is_never_left_behind();
     a_commit_waits();
+    no_wake_up_is_lost();
     a_run_is_tried_again();
     a_run_has_so_many_tries();
     a_code_is_not_tried_again();
@@ -559,6 +752,9 @@ int main(void)
     a_full_engine_is_waited_for();
     the_history_is_cut_off();
     hooks_are_told();
+    a_run_is_not_started_late();
+    hooks_are_told_of_all_threads();
+    all_get_their_turn();
     ended_calls_are_drained();
     many_ends_are_stored();
     cuts_come_by_themselves();

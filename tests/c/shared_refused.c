@@ -1,6 +1,6 @@
 /*
  * Each allocation of a shared engine is refused in turn, once. The call then answers SGT_NO_MEMORY, has changed nothing and leaves
- * nobody live behind, and made again it goes on. Built with -Wl,--wrap=malloc,--wrap=realloc,--wrap=calloc.
+ * nobody live behind, and made again it goes on. Built with -Wl,--wrap=malloc,--wrap=realloc,--wrap=calloc,--wrap=aligned_alloc.
  */
 #include <inttypes.h>
 #include <stdbool.h>
@@ -19,9 +19,11 @@ static long asked, refuse;
 void *__real_malloc(size_t size);
 void *__real_realloc(void *old, size_t size);
 void *__real_calloc(size_t count, size_t size);
+void *__real_aligned_alloc(size_t alignment, size_t size);
 void *__wrap_malloc(size_t size) { return ++asked == refuse ? 0 : __real_malloc(size); }
 void *__wrap_realloc(void *old, size_t size) { return ++asked == refuse ? 0 : __real_realloc(old, size); }
 void *__wrap_calloc(size_t count, size_t size) { return ++asked == refuse ? 0 : __real_calloc(count, size); }
+void *__wrap_aligned_alloc(size_t alignment, size_t size) { return ++asked == refuse ? 0 : __real_aligned_alloc(alignment, size); }
 
 /* Whether the checking of account 1 is this, and so many are live. */
 static bool stands(sgt_shared *shared, int64_t wanted, uint64_t wanted_live)

@@ -1,7 +1,7 @@
 /*
  * Threads on one shared engine that run, step, quit, time out and cut at random, for tests/threads.py.
  *
- *     shared_runs FOLDER SEED THREADS CALLS
+ *     shared_runs FOLDER SEED THREADS CALLS STEPPED
  *
  * Writes into the folder what the library told, and judges nothing:
  *
@@ -11,7 +11,11 @@
  *     drained    the same of the calls that were drained
  *     rows       the committed database at the end
  *
- * In all, CALLS calls are made by the threads. It prints how many runs timed out, were tried again and so on, as `name count` lines.
+ * In all, CALLS calls are made by the threads. Of 100 transactions STEPPED are made step by step, 99 at most, and the others by one call.
+ * It prints how many runs timed out, were tried again and so on, as `name count` lines. `for others` are those that another thread
+ * carried out.
+ *
+ * With -DPROCESSORS=N and -Wl,--wrap=sysconf the library takes this machine for one with so many processors.
  */
 #include <inttypes.h>
 #include <pthread.h>
@@ -22,10 +26,12 @@
 #include <stdlib.h>
 #include <string.h>
 #include <time.h>
+#include <unistd.h>
 
 #include "sgt_shared.h"
 
-enum { MOST_THREADS = 64, ACCOUNTS = 5, TEXT = 1024, ROWS = 64 };
+/* A run hears of its own and of 64 of others. */
+enum { MOST_THREADS = 64, ACCOUNTS = 5, TEXT = 1024, ROWS = 64, HEARD = 65 };
 
 static const char opening[] = "{\"limits\":[8,4000000000,1],\"accounts\":[[0,100,100000,100000],[1,101,100000,100000],"
                               "[2,102,100000,100000],[3,103,100000,100000],[4,104,100000,100000]],\"procedures\":[]}";
@@ -35,12 +41,13 @@ static sgt_shared *shared;
 static const char *folder;
 static unsigned seed;
 static long each;
+static unsigned stepped;
 static atomic_bool over;
 static FILE *history, *ended, *drained;
 
-enum count { RUNS, AGAIN, WAITED, STEPPED, COMMITTED, TIMED_OUT, QUIT, STALE, ABANDONED, CUTS, LISTED, COUNTS };
-static const char *const names[] = {"runs",  "tried again", "waited", "stepped", "committed", "timed out",
-                                    "quit", "stale",       "abandoned", "cuts",  "listed"};
+enum count { RUNS, FOR_OTHERS, AGAIN, WAITED, STEPPED, COMMITTED, TIMED_OUT, QUIT, STALE, ABANDONED, CUTS, LISTED, COUNTS };
+static const char *const names[] = {"runs",      "for others", "tried again", "waited",    "stepped", "committed",
+                                    "timed out", "quit",       "stale",       "abandoned", "cuts",    "listed"};
 static atomic_long counts[COUNTS];
 
 static void count(enum count which) { atomic_fetch_add(&counts[which], 1); }
@@ -88,10 +95,42 @@ static void write_ended(FILE *to, const sgt_ended *told)
     else fprintf(to, "\tcommitted %" PRId64 "\n", call->answer[0]);
 }
 
+/* The transactions of which the hook was told on this thread, since it began its last run. */
+static _Thread_local sgt_ticket heard[HEARD];
+static _Thread_local unsigned many_heard;
+
+static int64_t now(void)
+{
+    struct timespec at;
+    clock_gettime(CLOCK_MONOTONIC, &at);
+    return (int64_t)at.tv_sec * 1000000000 + at.tv_nsec;
+}
+
+static void dawdle(int64_t ns)
+{
+    for (const int64_t end = now() + ns; now() < end;) {}
+}
+
+/*
+ * It dawdles now and then: for a while, so that runs of others gather that are carried out in one hold; or for longer than they spin, so
+ * that their threads give up while one of them is being carried out.
+ */
 static void tell_ended(void *context, const sgt_ended *call)
 {
     (void)context;
+    if (call->sequence % 8 == 0) dawdle(20000);
+    if (call->sequence % 64 == 1) dawdle(120000);
     write_ended(ended, call);
+    if (many_heard < HEARD) heard[many_heard] = call->ticket;
+    many_heard++;
+}
+
+static bool is_heard(const sgt_ticket *ticket)
+{
+    for (unsigned i = 0; i < many_heard && i < HEARD; i++) {
+        if (memcmp(&heard[i], ticket, sizeof *ticket) == 0) return true;
+    }
+    return false;
 }
 
 static void write_entries(void *context, sgt_engine *engine, uint64_t part)
@@ -131,8 +170,12 @@ static void log_reply(struct thread *it, const sgt_ticket *ticket, const char *a
     write_reply(it->log, reply);
 }
 
-/* A deadline: none in most cases, else some microseconds. */
-static int64_t drawn_wait(struct thread *it) { return draw(it, 3) > 0 ? SGT_FOREVER : (int64_t)draw(it, 300000); }
+/* A deadline: none in most cases, else some microseconds, about as long as a thread spins or longer. */
+static int64_t drawn_wait(struct thread *it)
+{
+    if (draw(it, 3) > 0) return SGT_FOREVER;
+    return (int64_t)(draw(it, 2) == 0 ? draw(it, 300000) : 20000 + draw(it, 60000));
+}
 
 static uint32_t draw_call(struct thread *it, int64_t *args)
 {
@@ -150,7 +193,9 @@ static void run_one(struct thread *it)
     sgt_run_options options = SGT_RUN_OPTIONS;
     options.wait_ns = drawn_wait(it);
     options.tries = (uint32_t)draw(it, 4);
+    many_heard = 0;
     uint32_t status = sgt_shared_run(shared, procedure, args, takes[procedure], &options, &outcome);
+    must(many_heard <= HEARD, "a run carries out too many of others");
     count(RUNS);
     if (outcome.tries > 1) count(AGAIN);
     if (outcome.waits > 0) count(WAITED);
@@ -160,6 +205,7 @@ static void run_one(struct thread *it)
         return;
     }
     if (outcome.reply.kind == SGT_COMMITTED) count(COMMITTED);
+    if (outcome.reply.kind == SGT_COMMITTED && !is_heard(&outcome.ticket)) count(FOR_OTHERS);
     log_reply(it, &outcome.ticket, "run", &outcome.reply);
 }
 
@@ -231,9 +277,9 @@ static void *work(void *of)
     struct thread *it = of;
     for (long made = 0; made < each; made++) {
         uint64_t choice = draw(it, 100);
-        if (choice < 50) run_one(it);
-        else if (choice < 99) step_one(it);
-        else quit_oldest(it);
+        if (choice == 99) quit_oldest(it);
+        else if (choice < stepped) step_one(it);
+        else run_one(it);
         if (draw(it, 2000) == 0 && sgt_shared_cut(shared, (int64_t)draw(it, 2000000)) == SGT_OK) count(CUTS);
     }
     return 0;
@@ -281,14 +327,21 @@ static void write_rows(void)
     fclose(to);
 }
 
+#ifdef PROCESSORS
+long __real_sysconf(int name);
+long __wrap_sysconf(int name);
+long __wrap_sysconf(int name) { return name == _SC_NPROCESSORS_ONLN ? PROCESSORS : __real_sysconf(name); }
+#endif
+
 int main(int argc, char **argv)
 {
     static struct thread threads[MOST_THREADS];
-    if (argc != 5) return 2;
+    if (argc != 6) return 2;
     folder = argv[1], seed = (unsigned)atoi(argv[2]);
     const int many = atoi(argv[3]);
     if (many < 1 || many > MOST_THREADS) return 2;
     each = atol(argv[4]) / many;
+    stepped = (unsigned)atoi(argv[5]);
     history = opened("history"), ended = opened("ended"), drained = opened("drained");
     sgt_fault fault = {0};
     sgt_shared_config config = SGT_SHARED_CONFIG;

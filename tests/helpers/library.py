@@ -13,7 +13,7 @@ C_FLAGS = ["-std=c11", "-D_GNU_SOURCE", "-Wall", "-Wextra", "-Werror", "-O2", *I
 CPP_FLAGS = ["-std=c++17", "-Wall", "-Wextra", "-Werror", "-O2", *INCLUDES, f"-I{BINDINGS / 'cpp'}"]
 SANITIZERS = ["-g", "-fsanitize=address,undefined", "-fno-sanitize-recover=all"]
 THREAD_SANITIZER = ["-g", "-fsanitize=thread"]
-WRAPS = ["-Wl,--wrap=malloc,--wrap=realloc,--wrap=calloc"]
+WRAPS = ["-Wl,--wrap=malloc,--wrap=realloc,--wrap=calloc,--wrap=aligned_alloc"]
 
 # What of the library is C. Built into a program, it goes before that of the library, and so it is sanitized with the program.
 SHARED = BINDINGS / "c" / "sgt_shared.c"

@@ -5,10 +5,10 @@
         if outcome.reply.kind is Kind.COMMITTED:
             print(outcome.reply.answers)              # (1100,)
 
-`SharedEngine` is for many threads. `Engine` has each event of a history as a call of its own, for one thread at a time. What calls do
-stands in sgt_shared.h and sgt.h.
+`SharedEngine` is for many threads. `Engine` has a call for each event of a history, for one thread at a time. sgt_shared.h and sgt.h say
+what each call does.
 
-The library is looked for where SGT_LIBRARY says, then in this package, then in bindings/out, then where the system has libraries.
+The library is searched at the path in SGT_LIBRARY, then in this package, then in bindings/out, then where the system has libraries.
 """
 
 from ._engine import Engine
@@ -31,8 +31,8 @@ from ._errors import (
     TimedOut,
     TooMany,
 )
-from ._library import LEAST, MOST, Row, version
-from ._replies import Asked, BatchOutcome, Call, Cause, Event, Kind, Reply
+from ._library import LEAST, MOST, Row, pack_calls, unpack_calls, version
+from ._replies import Asked, BatchOutcome, Call, Cause, Event, Kind, Reply, unpack_outcomes, wrote
 from ._shared import Ended, Live, Outcome, SharedEngine, Ticket, Transaction
 
 __version__ = version()
@@ -72,5 +72,9 @@ __all__ = [
     "TimedOut",
     "TooMany",
     "Transaction",
+    "pack_calls",
+    "unpack_calls",
+    "unpack_outcomes",
     "version",
+    "wrote",
 ]

@@ -6,8 +6,9 @@ import ctypes
 import json
 from typing import Callable, Optional, Sequence, Union
 
-from ._errors import NoMemory, NoSuchEntry, OpeningRefused, ProcedureRefused, StillLive, Taken
+from ._errors import BadCall, NoMemory, NoSuchEntry, OpeningRefused, StillLive, Taken
 from ._library import (
+    CALL_BYTES,
     FIRST_FAULT,
     HELD,
     LEAST,
@@ -15,7 +16,6 @@ from ._library import (
     NO_MEMORY,
     NO_TID,
     NONE,
-    PROC_SHAPE,
     STILL_LIVE,
     TAKEN,
     AnyRow,
@@ -31,20 +31,21 @@ from ._library import (
     bytes_of,
     check,
     opening_of,
+    opening_refused,
     pack_args,
-    packed_calls,
-    part_at,
+    pack_calls,
+    procedure_refused,
     rows_for,
     rows_in,
     rows_of,
     whole,
     written,
 )
-from ._replies import BatchOutcome, Call, Event, Reply, call_of, event_of, free_room, outcomes_of, reply_of, room
+from ._replies import BatchOutcome, Call, Event, Reply, call_of, event_of, free_room, reply_of, room, unpack_outcomes
 
 
 def _quick(name: str) -> Callable[..., int]:
-    """A function whose arguments are pointers and whole numbers: such are passed as they are, three times as fast as by argtypes."""
+    """Returns a function of the library whose arguments are pointers and integers. Without argtypes they are passed three times as fast."""
     return HELD[name]
 
 
@@ -53,14 +54,14 @@ _SIZES = [ctypes.c_size_t(count) for count in range(5)]
 
 
 def _tid(tid: int) -> int:
-    """A transaction's number. BadCall where it is out of its range."""
+    """Returns a transaction's number. Raises BadCall if it is out of range."""
     return whole(tid, 0, 2**32 - 1)
 
 
 class Engine(Uncopied):
-    """An engine. It is closed at the end of a `with` block, by `close`, or when it is let go.
+    """An engine. It is closed at the end of a `with` block, by `close`, or when it is collected.
 
-    Each call holds the interpreter's lock, so calls of several threads come one after another. Use `SharedEngine` for threads.
+    Each call holds the interpreter's lock, so calls of several threads run one after another. For threads use `SharedEngine`.
     """
 
     def __init__(
@@ -72,21 +73,21 @@ class Engine(Uncopied):
     ) -> None:
         """Opens an engine: limits (live, begins) or (live, begins, asks), accounts (name, customer, saving, checking).
 
-        The rows are put into the database that the accounts make. OpeningRefused with the fault's text; NoMemory; BadCall where a
-        row is out of its range.
+        The rows are added to the database that the accounts make. Raises OpeningRefused, which explains the fault, NoMemory, or BadCall
+        if a row is out of range.
         """
         self._engine = CEngine()
         self._at = ctypes.byref(self._engine)
         line, fault = opening_of(limits, accounts, procedures), CFault()
         status = HELD.sgt_open_with(self._engine, line, len(line), rows_for(rows), len(rows), fault)
         if status >= FIRST_FAULT:
-            raise OpeningRefused(status, written(HELD.sgt_fault_text, fault))
+            raise opening_refused(status, fault, line)
         check(status)
 
     @classmethod
     def bare(cls, live: int, begins: int, asks: bool = True) -> Engine:
-        """An engine with no records and no procedures, also none of SmallBank's: at most `live` transactions at a time, at most
-        `begins` in all, and with `asks` a code is told at the commit. OpeningRefused; NoMemory.
+        """Opens an engine without records and procedures, not even SmallBank's: at most `live` transactions at a time, at most
+        `begins` in all; with `asks`, codes are reported at the commit. Raises OpeningRefused or NoMemory.
         """
         engine = cls.__new__(cls)
         engine._engine = CEngine()
@@ -99,10 +100,10 @@ class Engine(Uncopied):
         return engine
 
     def put(self, rows: Sequence[AnyRow]) -> None:
-        """Puts new records into the opening database, while the history is empty. Each call goes through all records.
+        """Puts new records into the initial database, while the history is empty. Each call goes through all records.
 
-        Begun; Taken with the place of the first row whose record has a value already; NoMemory; BadCall where a row is out of its
-        range. Then nothing has changed.
+        Raises Begun if the history is not empty, Taken with the index of the first row whose record has a value already, NoMemory, or
+        BadCall if a row is out of range. Then nothing has changed.
         """
         at = ctypes.c_uint64()
         status = HELD.sgt_put(self._engine, rows_for(rows), len(rows), at)
@@ -111,7 +112,7 @@ class Engine(Uncopied):
         check(status)
 
     def put_bytes(self, rows: Union[bytes, bytearray, memoryview]) -> None:
-        """Puts the rows in these bytes, as `rows_bytes` returns them. The errors are those of `put`."""
+        """Puts the rows in these bytes, as `rows_bytes` returns them. Raises what `put` raises."""
         at = ctypes.c_uint64()
         told, count = rows_in(rows)
         status = HELD.sgt_put(self._engine, told, count, at)
@@ -120,20 +121,21 @@ class Engine(Uncopied):
         check(status)
 
     def procedure(self, procedure: Union[str, Sequence[object]]) -> int:
-        """Adds a procedure behind the others, while the history is empty: a list, or its JSON text. The number that it is started by.
+        """Adds a procedure, a list or its JSON text, while the history is empty. Returns its number.
 
-        Begun; ProcedureRefused with the fault's text; TooMany where no number is left; NoMemory. Then nothing has changed.
+        Raises Begun if the history is not empty, ProcedureRefused, which explains the fault, TooMany if no number is left, or NoMemory.
+        Then nothing has changed.
         """
         text = (procedure if isinstance(procedure, str) else json.dumps(procedure)).encode()
         number, fault = ctypes.c_uint16(), CFault()
         status = HELD.sgt_procedure(self._engine, text, len(text), number, fault)
         if status >= FIRST_FAULT:
-            raise ProcedureRefused(status, written(HELD.sgt_fault_text, fault), part_at(text, fault) if status == PROC_SHAPE else None)
+            raise procedure_refused(status, fault, text)
         check(status)
         return number.value
 
     def procedure_text(self, number: int) -> Optional[str]:
-        """The text of the procedure of a number: JSON that `procedure` takes. None if no procedure has that number."""
+        """Returns the JSON text of a procedure, as `procedure` takes it, or None if there is no procedure of that number."""
         number, length = whole(number, 0, 2**64 - 1), ctypes.c_uint64()
         status = HELD.sgt_procedure_text(self._engine, number, None, 0, length)
         if status == NONE:
@@ -142,7 +144,7 @@ class Engine(Uncopied):
         return written(HELD.sgt_procedure_text, self._engine, number)
 
     def start(self, procedure: int, *args: int) -> Reply:
-        """Starts a transaction of the procedure with at most 4 arguments."""
+        """Starts a transaction of the procedure, with at most 4 arguments."""
         to = room()
         pack_args(to.args, args)
         check(_start(self._at, ctypes.c_uint64(whole(procedure, 0, 65535)), to.given, _SIZES[len(args)], to.to))
@@ -151,9 +153,9 @@ class Engine(Uncopied):
         return reply
 
     def run(self, procedure: int, *args: int) -> tuple[Optional[int], Reply]:
-        """Runs a procedure from its start to its commit: its transaction's number, if one was started, and the last reply.
+        """Runs a procedure from its start to its commit. Returns its transaction's number, if one was started, and the last reply.
 
-        NoMemory, and then nothing has changed, or the transaction was started and is quit.
+        Raises NoMemory. Then nothing has changed, except that the transaction may have been started and aborted.
         """
         to = room()
         to.tid.value = NO_TID
@@ -164,21 +166,28 @@ class Engine(Uncopied):
         return (None if tid == NO_TID else tid), reply
 
     def run_many(self, calls: Sequence[Sequence[int]]) -> list[BatchOutcome]:
-        """Runs these calls, each a procedure with its arguments, one after another, each as `run` does. Each has its outcome, also one
-        that is refused, aborted or has to wait. NoMemory, with the outcomes of the calls before it.
+        """Runs these calls, each a procedure with its arguments, one after another, as `run` does. Returns an outcome for each, also if it
+        is refused, aborted or has to wait. Raises NoMemory with the outcomes of the calls before it.
         """
-        count, done = len(calls), ctypes.c_uint64()
-        outcomes = (COutcome * count)()
-        size = ctypes.c_size_t(count)
-        status = _run_many(self._at, packed_calls(calls), size, outcomes, size, ctypes.byref(done))
-        ran = outcomes_of(outcomes, done.value)
+        return unpack_outcomes(self.run_bytes(pack_calls(calls)))
+
+    def run_bytes(self, calls: bytes) -> bytes:
+        """Runs calls as `run_many` does, from bytes that `pack_calls` makes, to bytes that `unpack_outcomes` and `wrote` read, also in
+        other processes. Raises NoMemory with the outcomes of the calls before it, or BadCall if the last call is incomplete.
+        """
+        count, rest = divmod(len(calls), CALL_BYTES)
+        if rest:
+            raise BadCall(f"a call takes {CALL_BYTES} bytes")
+        outcomes, size, done = (COutcome * count)(), ctypes.c_size_t(count), ctypes.c_uint64()
+        status = _run_many(self._at, bytes(calls), size, outcomes, size, ctypes.byref(done))
+        ran = bytes(outcomes)[: done.value * ctypes.sizeof(COutcome)]
         if status == NO_MEMORY:
-            raise NoMemory(ran)
+            raise NoMemory(unpack_outcomes(ran))
         check(status)
         return ran
 
     def step(self, tid: int) -> Reply:
-        """Lets the transaction make its next access. BadCall where the number is none of 32 bits, as of each call that names one."""
+        """Makes the next access of the transaction. Like each call with a transaction's number, raises BadCall if it exceeds 32 bits."""
         to = room()
         status = _step(self._at, tid if tid.__class__ is int and not tid >> 32 else _tid(tid), to.to)
         if status:
@@ -198,7 +207,7 @@ class Engine(Uncopied):
         return reply
 
     def quit(self, tid: int) -> Reply:
-        """Quits the transaction: it is aborted."""
+        """Aborts the transaction."""
         to = room()
         check(_quit(self._at, _tid(tid), to.to))
         reply = reply_of(to.told, to.fields)
@@ -206,7 +215,7 @@ class Engine(Uncopied):
         return reply
 
     def get(self, table: int, number: int) -> Optional[int]:
-        """The committed value of a record, or None where there is no such record."""
+        """Returns the committed value of a record, or None if there is no such record."""
         value = ctypes.c_int64()
         status = HELD.sgt_get(self._engine, whole(table, 0, 7), whole(number, LEAST, MOST), value)
         if status == NONE:
@@ -215,39 +224,39 @@ class Engine(Uncopied):
         return value.value
 
     def rows(self, table: int = 0, number: int = LEAST) -> list[Row]:
-        """The committed database from a record on, by table and then by number."""
+        """Returns the committed database from a record on, in order of tables and then of numbers."""
         table, number = whole(table, 0, 7), whole(number, LEAST, MOST)
         return rows_of(*all_rows(lambda told, space, count: HELD.sgt_rows(self._engine, table, number, told, space, count)))
 
     def rows_bytes(self) -> bytes:
-        """The committed database as bytes, for `put_bytes`: 24 a row, as `sgt_row` of sgt.h has them. Some ten times as fast as `rows`."""
+        """Returns the committed database as bytes, for `put_bytes`: 24 for each row, laid out as `sgt_row`. About ten times as fast as `rows`."""
         told, count = all_rows(lambda told, space, count: HELD.sgt_rows(self._engine, 0, LEAST, told, space, count))
         return bytes(bytes_of(told, count))
 
     def records(self) -> int:
-        """How many records the committed database has."""
+        """The number of records of the committed database."""
         count = ctypes.c_uint64()
         check(HELD.sgt_records(self._engine, count))
         return count.value
 
     def part(self) -> int:
-        """How many cuts there were. With it a transaction's number is never another's."""
+        """How often the history was cut. With this number, the number of a transaction is unique."""
         part = ctypes.c_uint64()
         check(HELD.sgt_part(self._engine, part))
         return part.value
 
     def __len__(self) -> int:
-        """How many entries the history has."""
+        """The number of entries of the history."""
         count = ctypes.c_uint64()
         check(HELD.sgt_entries(self._engine, count))
         return count.value
 
     def __bool__(self) -> bool:
-        """An engine is true, also if its history has no entries."""
+        """True, even if the history has no entries."""
         return True
 
     def entry(self, place: int) -> tuple[Event, Reply]:
-        """The entry at a place of the history, counted from 0, oldest first. NoSuchEntry where there are not so many."""
+        """Returns the entry of the history at an index, oldest first. Raises NoSuchEntry if the history is shorter."""
         if not 0 <= place < 2**64:
             raise NoSuchEntry()
         asked, told = CEvent(), CReply()
@@ -258,8 +267,8 @@ class Engine(Uncopied):
         return event_of(asked), reply_of(told, told)
 
     def calls(self, start: int = 0, most: int = 1024) -> tuple[list[Call], int]:
-        """At most so many of the committed and refused calls, in reply order, that the history has from a place on, and the place to
-        go on from. Run one after another, these calls give the same answers. NoSuchEntry where there are not so many entries.
+        """Returns the committed and refused calls of the history from an index on, in reply order, at most so many, and the index to go
+        on from. Run one after another, these calls give the same answers. Raises NoSuchEntry if the history is shorter.
         """
         if not 0 <= start < 2**64:
             raise NoSuchEntry()
@@ -271,11 +280,11 @@ class Engine(Uncopied):
         return [call_of(call) for call in calls[: count.value]], after.value
 
     def reserve(self, entries: int) -> None:
-        """Takes memory for so many more entries."""
+        """Allocates memory for this many more entries."""
         check(HELD.sgt_reserve(self._engine, whole(entries, 0, 2**64 - 1)))
 
     def cut(self) -> None:
-        """Forgets the history up to now, where nobody is live; else StillLive, and nothing has changed."""
+        """Cuts the history off. Raises StillLive if a transaction is live; then nothing has changed."""
         live = ctypes.c_uint64()
         status = HELD.sgt_cut(self._engine, live)
         if status == STILL_LIVE:

@@ -1,4 +1,4 @@
-"""What calls raise. Unless a call says otherwise, nothing has changed."""
+"""The exceptions of this package. Unless a call says otherwise, a call that raises has changed nothing."""
 
 from __future__ import annotations
 
@@ -13,7 +13,7 @@ class Error(Exception):
 
 
 class NoMemory(Error, MemoryError):
-    """An allocation failed. `outcomes` are those of the calls of a `run_many` that had run by then."""
+    """An allocation failed. After `run_many`, `outcomes` has those of the calls that had run by then."""
 
     def __init__(self, outcomes: Sequence[BatchOutcome] = ()) -> None:
         super().__init__("sgt: out of memory")
@@ -28,41 +28,47 @@ class Closed(Error, ValueError):
 
 
 class BadCall(Error, ValueError):
-    """An argument of the call is out of its range."""
+    """An argument is out of range."""
 
     def __init__(self, what: str = "a number is out of its range") -> None:
         super().__init__(f"sgt: {what}")
 
 
 class NoSuchEntry(Error, IndexError):
-    """The history has not so many entries."""
+    """The history has fewer entries."""
 
     def __init__(self) -> None:
         super().__init__("sgt: there are not so many entries")
 
 
 class Refused(Error, ValueError):
-    """A text has a fault, whose text this is. `status` is its kind, from 16 on, as `enum sgt_status` has it."""
+    """A text has a fault. The message explains it: where the error is, what was expected there and what was found.
 
-    def __init__(self, status: int, text: str) -> None:
-        super().__init__(text)
+    `status` is the kind of the fault, from 16 on, as in `enum sgt_status`, and `fault` its short text, which no later version changes.
+    `explanation` is None if an allocation for it failed; the message is then `fault`.
+    """
+
+    def __init__(self, status: int, fault: str, explanation: Optional[str] = None) -> None:
+        super().__init__(explanation or fault)
         self.status = status
+        self.fault = fault
+        self.explanation = explanation
 
 
 class OpeningRefused(Refused):
-    """It is the opening's."""
+    """The opening has a fault."""
 
 
 class ProcedureRefused(Refused):
     """It is that of a procedure that was to be added. Of a shape error, `part` is the JSON of the part that does not fit."""
 
-    def __init__(self, status: int, text: str, part: Optional[str] = None) -> None:
-        super().__init__(status, text)
+    def __init__(self, status: int, fault: str, explanation: Optional[str] = None, part: Optional[str] = None) -> None:
+        super().__init__(status, fault, explanation)
         self.part = part
 
 
 class Taken(Error, ValueError):
-    """The record of a row has a value already. `at` is the place of the first such row, counted from 0."""
+    """A record has a value already. `at` is the index of the first such row."""
 
     def __init__(self, at: int) -> None:
         super().__init__(f"sgt: the record of row {at} has a value already")
@@ -70,14 +76,14 @@ class Taken(Error, ValueError):
 
 
 class Begun(Error, RuntimeError):
-    """There is a history, and so nothing can be added to what the engine begins with."""
+    """The history is not empty, so no record and no procedure can be added."""
 
     def __init__(self) -> None:
         super().__init__("sgt: there is a history")
 
 
 class StillLive(Error, RuntimeError):
-    """The history can't be cut off, as transactions are live: `live` many."""
+    """The history cannot be cut off: `live` transactions are live."""
 
     def __init__(self, live: int) -> None:
         super().__init__("sgt: a transaction is live")
@@ -99,21 +105,21 @@ class Busy(Error, RuntimeError):
 
 
 class TimedOut(Error, TimeoutError):
-    """The deadline came."""
+    """The deadline came first."""
 
     def __init__(self) -> None:
         super().__init__("sgt: the deadline came")
 
 
 class Stale(Error, RuntimeError):
-    """The transaction is of a part of the history that was cut off: it has ended."""
+    """The transaction belongs to a part of the history that was cut off. It has ended."""
 
     def __init__(self) -> None:
         super().__init__("sgt: the transaction is of a part of the history that was cut off")
 
 
 class Misuse(Error, RuntimeError):
-    """A call from inside a hook of the same engine, a ticket of another engine, or a call in a forked child."""
+    """A call from a hook of the same engine, with a ticket of another engine, or in a forked child."""
 
     def __init__(self) -> None:
         super().__init__("sgt: the call may not be made from here, or the ticket is of another engine")

@@ -1,4 +1,4 @@
-"""The library and its structs, and what all calls need."""
+"""The library and its structs, and the helpers of all calls."""
 
 from __future__ import annotations
 
@@ -14,14 +14,14 @@ import struct
 import sys
 from typing import Callable, NamedTuple, Optional, Sequence, Tuple, Union
 
-from ._errors import BadCall, Begun, Busy, Closed, Error, Misuse, NoMemory, Stale, TimedOut, TooMany
+from ._errors import BadCall, Begun, Busy, Closed, Error, Misuse, NoMemory, OpeningRefused, ProcedureRefused, Stale, TimedOut, TooMany
 
-# The least and the greatest of values, arguments and record numbers.
+# The least and the greatest value, argument and record number.
 LEAST, MOST = -999_999_999_999_999, 999_999_999_999_999
 
 OK, NO_MEMORY, CLOSED, NONE, BAD_CALL, STILL_LIVE, BEGUN, TAKEN, TOO_MANY = 0, 1, 2, 4, 5, 6, 7, 8, 9
 BUSY, TIMED_OUT, STALE, MISUSE, FIRST_FAULT, PROC_SHAPE = 10, 12, 13, 14, 16, 20
-NO_TID = 2**32 - 1  # the limits never allow this number
+NO_TID = 2**32 - 1  # no transaction ever has this number
 
 
 class Row(NamedTuple):
@@ -32,7 +32,7 @@ class Row(NamedTuple):
     value: int
 
 
-# A row as a caller may give it.
+# A row as a caller may pass it.
 AnyRow = Union[Row, Tuple[int, int, int]]
 
 
@@ -165,6 +165,8 @@ _ENGINE_CALLS = {
     "sgt_cut": [_engine, _count],
     "sgt_reply_text": [_reply, _text, _size, _count],
     "sgt_fault_text": [_fault, _text, _size, _count],
+    "sgt_explain_opening": [_text, _size, _text, _size, _count],
+    "sgt_explain_procedure": [_u64, _text, _size, _text, _size, _count],
     "sgt_close": [_engine],
 }
 _SHARED_CALLS = {
@@ -191,8 +193,8 @@ def _typed(library: ctypes.CDLL, calls: dict[str, list[type]]) -> None:
         function.restype = None if name == "sgt_close" else ctypes.c_uint32
 
 
-# Calls to an Engine keep the interpreter's lock: so they never overlap, and most are over sooner than that lock is given up and
-# taken. Calls to a SharedEngine release it, since they may wait.
+# Calls to an Engine keep the interpreter's lock, so they never overlap; most are shorter than releasing it. Calls to a SharedEngine
+# release it, since they may wait.
 HELD = ctypes.PyDLL(_path())
 FREE = ctypes.CDLL(_path())
 _typed(HELD, _ENGINE_CALLS)
@@ -206,8 +208,8 @@ def version() -> str:
     return bytes(_version()).decode()
 
 
-def written(write: Callable[..., int], *asked: Union[ctypes.Structure, int]) -> str:
-    """The text that a call writes of what is asked. Every reply fits the buffer; for a longer text the call is made again."""
+def written(write: Callable[..., int], *asked: Union[ctypes.Structure, int, bytes]) -> str:
+    """Returns the text that a call writes. Every reply fits into the buffer; for a longer text the call is repeated."""
     room, length = 1024, ctypes.c_uint64()
     while True:
         text = ctypes.create_string_buffer(room)
@@ -217,8 +219,28 @@ def written(write: Callable[..., int], *asked: Union[ctypes.Structure, int]) -> 
         room = length.value
 
 
+def explained(explain: Callable[..., int], *asked: Union[int, bytes]) -> Optional[str]:
+    """Returns in words why a text is refused, or None if there are no words or an allocation failed."""
+    try:
+        return written(explain, *asked)
+    except Error:
+        return None
+
+
+def opening_refused(status: int, fault: CFault, opening: bytes) -> OpeningRefused:
+    """The error of an opening that has this fault."""
+    return OpeningRefused(status, written(HELD.sgt_fault_text, fault), explained(HELD.sgt_explain_opening, opening, len(opening)))
+
+
+def procedure_refused(status: int, fault: CFault, text: bytes) -> ProcedureRefused:
+    """The error of a procedure's text that has this fault."""
+    explanation = explained(HELD.sgt_explain_procedure, fault.procedure, text, len(text))
+    part = part_at(text, fault) if status == PROC_SHAPE else None
+    return ProcedureRefused(status, written(HELD.sgt_fault_text, fault), explanation, part)
+
+
 def part_at(text: bytes, fault: CFault) -> str:
-    """The part of a procedure's text where a shape error is."""
+    """Returns the part of a procedure's text that has the shape error."""
     part = json.loads(text)
     for position in fault.place[: fault.depth]:
         part = part[position]
@@ -239,14 +261,14 @@ _ERRORS: dict[int, type[Error]] = {
 
 
 def check(status: int) -> None:
-    """Raises what the status means, if it is not OK."""
+    """Raises the exception for the status, unless it is OK."""
     if status:
         error = _ERRORS.get(status)
         raise error() if error else Error(f"sgt: status {status}")
 
 
 def whole(number: int, least: int, most: int) -> int:
-    """The number. BadCall if it is out of this range."""
+    """Returns the number. Raises BadCall if it is out of this range."""
     number = operator.index(number)
     if not least <= number <= most:
         raise BadCall()
@@ -254,12 +276,12 @@ def whole(number: int, least: int, most: int) -> int:
 
 
 def opening_of(limits: Sequence[int], accounts: Sequence[Sequence[int]], procedures: Sequence[object]) -> bytes:
-    """The line of an opening."""
+    """Returns the JSON text of an opening."""
     return json.dumps({"limits": list(limits), "accounts": [list(a) for a in accounts], "procedures": list(procedures)}).encode()
 
 
 def rows_for(rows: Sequence[AnyRow]) -> ctypes.Array[CRow]:
-    """The rows for a call: at least one, as a call takes no null pointer. BadCall if one is out of its range."""
+    """Returns the rows as an array for a call: at least one, since the pointer must not be null. Raises BadCall if one is out of range."""
     if any(map((3).__ne__, map(len, rows))):
         raise BadCall("a row is a table, a number and a value")
     try:
@@ -281,17 +303,17 @@ _unpacked_rows = struct.Struct("=I4xqq").iter_unpack
 
 
 def rows_of(told: ctypes.Array[CRow], count: int) -> list[Row]:
-    """The first so many rows that a call wrote."""
+    """Returns the first so many rows that a call wrote."""
     return list(map(Row._make, _unpacked_rows(bytes_of(told, count))))
 
 
 def bytes_of(told: ctypes.Array[CRow], count: int) -> memoryview:
-    """The bytes of the first so many rows that a call wrote."""
+    """Returns the bytes of the first so many rows that a call wrote."""
     return memoryview(told).cast("B")[: count * ctypes.sizeof(CRow)]
 
 
 def rows_in(data: Union[bytes, bytearray, memoryview]) -> tuple[ctypes.Array[CRow], int]:
-    """The rows in these bytes, for a call, and how many they are. BadCall if the last one is cut off."""
+    """Returns the rows in these bytes as an array for a call, and their number. Raises BadCall if the last one is incomplete."""
     data = memoryview(data).cast("B")
     count, rest = divmod(len(data), ctypes.sizeof(CRow))
     if rest:
@@ -302,7 +324,7 @@ def rows_in(data: Union[bytes, bytearray, memoryview]) -> tuple[ctypes.Array[CRo
 
 
 def all_rows(ask: Callable[[ctypes.Array[CRow], int, ctypes.c_uint64], int]) -> tuple[ctypes.Array[CRow], int]:
-    """The rows that a call writes, and how many they are. Others may go on between two calls, so it asks until the room suffices."""
+    """Returns the rows that a call writes, and their number. Other threads may add records meanwhile, so it repeats until all fit."""
     count, room = ctypes.c_uint64(), 0
     while True:
         told = (CRow * max(1, room))()
@@ -316,7 +338,7 @@ _pack_args = [struct.Struct(f"{count}q").pack_into for count in range(5)]
 
 
 def pack_args(to: ctypes.Array[ctypes.c_int64], args: Sequence[int]) -> None:
-    """Puts the arguments where a call finds them."""
+    """Copies the arguments into the array that is passed to a call."""
     try:
         _pack_args[len(args)](to, 0, *args)
     except IndexError:
@@ -325,12 +347,16 @@ def pack_args(to: ctypes.Array[ctypes.c_int64], args: Sequence[int]) -> None:
         raise BadCall(f"an argument is no number of 64 bits: {error}") from None
 
 
-# A sgt_call with so many arguments: its procedure, how many arguments there are, and these.
+# The layout of a sgt_call with this many arguments: procedure, number of arguments, arguments.
 _pack_call = [struct.Struct(f"=8xI4xI4x{count}q{96 - 8 * count}x").pack for count in range(5)]
 
 
-def packed_calls(calls: Sequence[Sequence[int]]) -> bytes:
-    """The structs of these calls, each a procedure with its arguments."""
+CALL_BYTES = ctypes.sizeof(CCall)
+_call_fields = struct.Struct("=8xI4xI4x4q64x").iter_unpack
+
+
+def pack_calls(calls: Sequence[Sequence[int]]) -> bytes:
+    """Returns these calls, each a procedure with its arguments, as bytes for `Engine.run_bytes`, laid out as `sgt_call`. Raises BadCall."""
     try:
         return b"".join([_pack_call[len(call) - 1](call[0], len(call) - 1, *call[1:]) for call in calls])
     except IndexError:
@@ -339,8 +365,15 @@ def packed_calls(calls: Sequence[Sequence[int]]) -> bytes:
         raise BadCall(f"a number of a call is out of its range: {error}") from None
 
 
+def unpack_calls(data: bytes) -> list[tuple[int, ...]]:
+    """Returns the calls in bytes that `pack_calls` made. Raises BadCall if the last one is incomplete."""
+    if len(data) % CALL_BYTES:
+        raise BadCall(f"a call takes {CALL_BYTES} bytes")
+    return [(procedure, *args[:count]) for procedure, count, *args in _call_fields(data)]
+
+
 class Uncopied:
-    """An engine has one owner: it is not copied, and not pickled."""
+    """An engine has one owner: it can be neither copied nor pickled."""
 
     def __copy__(self) -> None:
         raise TypeError("sgt: an engine can't be copied")

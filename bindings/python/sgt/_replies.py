@@ -1,4 +1,4 @@
-"""Events and replies, and how the structs of C become them."""
+"""Events and replies, and how they are made from the structs of C."""
 
 from __future__ import annotations
 
@@ -7,12 +7,12 @@ import enum
 import struct
 from typing import NamedTuple, Optional, Union
 
-from ._errors import Error
+from ._errors import BadCall, Error
 from ._library import HELD, CCall, CEvent, COutcome, CReply, written
 
 
 class Kind(enum.IntEnum):
-    """What an event was answered: see `enum sgt_kind` in sgt.h."""
+    """The kind of a reply: see `enum sgt_kind` in sgt.h."""
 
     STARTED = 1
     NO_PROCEDURE = 2
@@ -42,7 +42,7 @@ class Cause(enum.IntEnum):
 
 
 class Asked(enum.IntEnum):
-    """What was asked: see `enum sgt_asked` in sgt.h."""
+    """The kind of an event: see `enum sgt_asked` in sgt.h."""
 
     START = 1
     STEP = 2
@@ -51,7 +51,7 @@ class Asked(enum.IntEnum):
 
 
 class Event(NamedTuple):
-    """An event. A start names its procedure, with its arguments, and each other its transaction."""
+    """An event. A start has a procedure and arguments, any other a transaction."""
 
     kind: Asked
     tid: Optional[int] = None
@@ -60,7 +60,7 @@ class Event(NamedTuple):
 
 
 class Reply(NamedTuple):
-    """A reply. `kind` says which other fields count; those that do not are none, or empty."""
+    """A reply. `kind` says which other fields have a meaning; all others are None or empty."""
 
     kind: Kind
     tid: Optional[int] = None
@@ -74,12 +74,12 @@ class Reply(NamedTuple):
     fell: tuple[int, ...] = ()
 
     def text(self) -> str:
-        """The line that a script has for it."""
+        """The line that `sgt script` prints for it."""
         return written(HELD.sgt_reply_text, _told(self))
 
 
 def _told(reply: Reply) -> CReply:
-    """The fields of a reply."""
+    """Returns the fields of a reply."""
     told = CReply(
         kind=reply.kind,
         cause=reply.cause or 0,
@@ -100,7 +100,7 @@ def _told(reply: Reply) -> CReply:
 
 
 def _ended(told: CReply, kind: Kind) -> Reply:
-    """A reply that tells an end: its cause, and what is of it."""
+    """Returns a reply that reports an end: its cause, and the fields of that cause."""
     cause = Cause(told.cause)
     return Reply(
         kind,
@@ -114,18 +114,18 @@ def _ended(told: CReply, kind: Kind) -> Reply:
 
 _KINDS = [None, *Kind]
 _PLAIN = [kind and Reply(kind) for kind in _KINDS]
-# The numbers of the kinds whose other fields count: a number is compared faster than a member of an enum is looked up.
+# The numbers of the kinds with further fields: comparing a number is faster than looking up a member of an enum.
 _STARTED, _OVER, _LOOKED, _WROTE, _WAITS, _COMMITTED, _ABORTED, _REFUSED = map(
     int, (Kind.STARTED, Kind.OVER, Kind.LOOKED, Kind.WROTE, Kind.WAITS, Kind.COMMITTED, Kind.ABORTED, Kind.REFUSED)
 )
-_plain_fields = struct.Struct("6I2q").unpack_from  # those before the counts, of a structure or, faster, of its bytes
+_plain_fields = struct.Struct("6I2q").unpack_from  # the fields before the counts, from a structure or, faster, from its bytes
 _made = tuple.__new__
 
 
 def reply_of(told: CReply, fields: Union[CReply, memoryview]) -> Reply:
     number, _, tid, code, table, found, key, value = _plain_fields(fields)
     kind = _KINDS[number]
-    # A tuple's own maker is called with all fields, as that of a NamedTuple takes twice as long.
+    # tuple.__new__ with all fields: the constructor of a NamedTuple takes twice as long.
     if number == _LOOKED:
         return _made(Reply, (kind, None, table, key, value if found else None, (), None, None, (), ()))
     if number == _WROTE:
@@ -144,14 +144,14 @@ def reply_of(told: CReply, fields: Union[CReply, memoryview]) -> Reply:
         raise Error(f"sgt: a reply of kind {number}, which this package does not know") from None
 
 
-# Of each outcome: its transaction, whether it wrote, and of its reply the kind, the code, how many answers and how many that fell, and
-# the answers.
+# Of each outcome: its transaction, whether it wrote, and of its reply the kind, the code, the number of answers, the number of
+# transactions aborted in cascade, and the answers.
 _outcome_fields = struct.Struct("=2II8xI24xI4xI4x8q256x").iter_unpack
 
 
 class BatchOutcome(NamedTuple):
-    """What became of a call of `run_many`: its transaction's number, if one was started, the last reply, and whether a step of it wrote.
-    So a call that is committed and did not write has changed nothing."""
+    """The outcome of a call of `run_many`: its transaction's number, if one was started, the last reply, and whether a step of it wrote.
+    A committed call that did not write has changed nothing."""
 
     tid: Optional[int]
     reply: Reply
@@ -162,22 +162,38 @@ _NOT_STARTED = (Kind.NO_PROCEDURE, Kind.BAD_ARGS, Kind.SPENT, Kind.FULL)
 
 
 def _rare(told: COutcome) -> BatchOutcome:
-    """An outcome whose reply may be of any kind."""
+    """Returns an outcome whose reply may be of any kind."""
     reply = reply_of(told.reply, told.reply)
     return BatchOutcome(None if reply.kind in _NOT_STARTED else told.tid, reply, bool(told.wrote))
 
 
-def outcomes_of(told: ctypes.Array[COutcome], count: int) -> list[BatchOutcome]:
-    """The first so many outcomes. Those of a commit and of a refusal are read faster."""
-    outcomes = []
-    fields = memoryview(told).cast("B")[: count * ctypes.sizeof(COutcome)] if count else b""
-    for tid, wrote, number, code, many, fallen, *answers in _outcome_fields(fields):
+_OUTCOME_BYTES = ctypes.sizeof(COutcome)
+_committed = Kind.COMMITTED  # a member of an enum is looked up slowly
+_ends = struct.Struct("=4xII372x").iter_unpack  # whether it wrote, and the kind of the reply
+
+
+def _whole_outcomes(data: bytes) -> bytes:
+    if len(data) % _OUTCOME_BYTES:
+        raise BadCall(f"an outcome takes {_OUTCOME_BYTES} bytes")
+    return data
+
+
+def wrote(data: bytes) -> list[bool]:
+    """Returns for each outcome in bytes from `Engine.run_bytes` whether the call was committed and wrote, so that a journal needs it.
+    Raises BadCall if the last one is incomplete."""
+    return [wrote == 1 and kind == _COMMITTED for wrote, kind in _ends(_whole_outcomes(data))]
+
+
+def unpack_outcomes(data: bytes) -> list[BatchOutcome]:
+    """Returns the outcomes in bytes from `Engine.run_bytes`. Raises BadCall if the last one is incomplete."""
+    outcomes = []  # commits and refusals are read faster
+    for tid, wrote, number, code, many, fallen, *answers in _outcome_fields(_whole_outcomes(data)):
         if number == _COMMITTED:
-            reply = _made(Reply, (Kind.COMMITTED, None, None, None, None, tuple(answers[:many]), None, None, (), ()))
+            reply = _made(Reply, (_committed, None, None, None, None, tuple(answers[:many]), None, None, (), ()))
         elif number == _REFUSED and not fallen:
             reply = _made(Reply, (Kind.REFUSED, None, None, None, None, (), None, code, (), ()))
         else:
-            outcomes.append(_rare(told[len(outcomes)]))
+            outcomes.append(_rare(COutcome.from_buffer_copy(data, len(outcomes) * _OUTCOME_BYTES)))
             continue
         outcomes.append(_made(BatchOutcome, (tid, reply, wrote == 1)))
     return outcomes
@@ -191,7 +207,7 @@ def event_of(asked: CEvent) -> Event:
 
 
 class Call(NamedTuple):
-    """A call that was committed (`code` is None) or refused, with what it was told."""
+    """A call that was committed (`code` is None) or refused, with its answers or its code."""
 
     tid: int
     procedure: int
@@ -206,8 +222,8 @@ def call_of(told: CCall) -> Call:
 
 
 class Room:
-    """What an event is passed: room for its reply and its arguments. Each call takes one of its own, so that a thread, or a handler
-    of a signal, never writes another call's."""
+    """The buffers of a call: for its reply and its arguments. Each call has its own, so that another thread or a signal handler never
+    writes into them."""
 
     __slots__ = ("args", "fields", "tid", "to", "to_tid", "told", "given")
 
@@ -222,7 +238,7 @@ free_room = _ROOMS.append
 
 
 def room() -> Room:
-    """One that no other call has. `free_room` gives it back."""
+    """Returns one that no other call uses. `free_room` returns it to the pool."""
     try:
         return _ROOMS.pop()
     except IndexError:

@@ -6,7 +6,7 @@ import ctypes
 import time
 from typing import Callable, NamedTuple, Optional, Sequence
 
-from ._errors import Busy, Misuse, NotStarted, OpeningRefused, Stale, TimedOut
+from ._errors import Busy, Misuse, NotStarted, Stale, TimedOut
 from ._library import (
     BUSY,
     ENDED_HOOK,
@@ -31,22 +31,22 @@ from ._library import (
     all_rows,
     check,
     opening_of,
+    opening_refused,
     pack_args,
     rows_for,
     rows_of,
     whole,
-    written,
 )
 from ._replies import Call, Kind, Reply, call_of, reply_of
 
 FOREVER = 2**63 - 1
 MOST_LIVE = 32
-# How long a wait of the main thread goes on before the interpreter sees to signals.
+# How long the main thread waits before the interpreter handles signals, in seconds.
 SLICE = 0.2
 
 
 class Ticket(NamedTuple):
-    """The name of a transaction. `part` counts the cuts before its start, and `tid` is its number in that part."""
+    """Identifies a transaction. `part` is the number of cuts before its start, `tid` its number in that part."""
 
     engine: int
     part: int
@@ -62,7 +62,7 @@ class Ended(NamedTuple):
 
 
 class Live(NamedTuple):
-    """A live transaction. `age` is in seconds, and `waits` says whether a thread waits for its commit."""
+    """A live transaction. `age` is in seconds; `waits` says whether a thread waits for its commit."""
 
     ticket: Ticket
     procedure: int
@@ -71,7 +71,7 @@ class Live(NamedTuple):
 
 
 class Outcome(NamedTuple):
-    """What became of a run: the last reply, the last transaction, how many were started for it, and how often it waited."""
+    """The outcome of a run: the last reply, the last transaction, how many were started for it, and how often it waited."""
 
     reply: Reply
     ticket: Optional[Ticket]
@@ -80,7 +80,7 @@ class Outcome(NamedTuple):
 
 
 def _ns(seconds: Optional[float]) -> int:
-    """A deadline for a call: None is for ever."""
+    """Returns the deadline for a call. None: without a limit."""
     return FOREVER if seconds is None else max(0, min(FOREVER - 1, int(seconds * 1e9)))
 
 
@@ -93,9 +93,9 @@ def _ended(told: CEnded) -> Ended:
 
 
 class SharedEngine(Uncopied):
-    """An engine for many threads: each call may be made by any thread at any time, and releases the interpreter's lock.
+    """An engine for many threads: any thread may call it at any time. Each call releases the interpreter's lock.
 
-    It is closed at the end of a `with` block, by `close`, or when it is let go. Timeouts are seconds; None waits as long as it takes.
+    It is closed at the end of a `with` block, by `close`, or when it is collected. Timeouts are seconds; None waits without a limit.
     """
 
     def __init__(
@@ -112,9 +112,10 @@ class SharedEngine(Uncopied):
     ) -> None:
         """Opens an engine as `Engine` does.
 
-        `ended` is called for each committed or refused call, in reply order, under the engine's lock; an exception of it is printed,
-        and changes nothing. With `keeps_ended` such calls are stored until `drain` takes them. As soon as the history has `cut_after`
-        entries and nobody is live, it is cut off (0: never); new transactions wait at most `cut_wait` seconds for that.
+        `ended` is called for each committed or refused call, in reply order, under the engine's lock, on any thread that is in a call;
+        if it raises, the exception is printed and has no other effect. With `keeps_ended` such calls are stored until `drain` takes
+        them. Once the history has `cut_after` entries and no transaction is live, it is cut off (0: never); new transactions wait at
+        most `cut_wait` seconds for that.
         """
         self._shared = ctypes.c_void_p()
         self._inside: list[None] = []
@@ -129,11 +130,11 @@ class SharedEngine(Uncopied):
         line, fault = opening_of(limits, accounts, procedures), CFault()
         status = FREE.sgt_shared_open(self._shared, line, len(line), rows_for(rows), len(rows), config, fault)
         if status >= FIRST_FAULT:
-            raise OpeningRefused(status, written(HELD.sgt_fault_text, fault))
+            raise opening_refused(status, fault, line)
         check(status)
 
     def _ask(self, function: Callable[..., int], *words: object) -> int:
-        """The status of a call. A close sees by `_inside` that it is under way."""
+        """Makes a call and returns its status. `_inside` counts calls under way, for `close`."""
         self._inside.append(None)
         try:
             return function(self._shared, *words)
@@ -141,7 +142,7 @@ class SharedEngine(Uncopied):
             self._inside.pop()
 
     def _waited(self, timeout: Optional[float], ask: Callable[[int], int]) -> None:
-        """Makes a call that may be made again when its deadline came, in parts, so that signals are seen to meanwhile."""
+        """Makes a call that can be repeated after its deadline, with short deadlines, so that signals are handled meanwhile."""
         end = None if timeout is None else time.monotonic() + timeout
         while True:
             left = SLICE if end is None else min(SLICE, end - time.monotonic())
@@ -153,9 +154,9 @@ class SharedEngine(Uncopied):
                     raise
 
     def run(self, procedure: int, *args: int, timeout: Optional[float] = None, tries: int = 0) -> Outcome:
-        """Runs a procedure from its start to its commit. It waits and tries again as often as it has to, or so many tries.
+        """Runs a procedure from its start to its commit. It waits and tries again as often as needed, or up to `tries` times.
 
-        TimedOut if the deadline came, and then nothing of it is left live. A signal is seen to when the call returns.
+        Raises TimedOut if the deadline comes first; then no transaction of it is left live. Signals are handled when the call returns.
         """
         given, outcome = (ctypes.c_int64 * 4)(), CSharedOutcome(size=ctypes.sizeof(CSharedOutcome))
         pack_args(given, args)
@@ -165,9 +166,9 @@ class SharedEngine(Uncopied):
         return Outcome(reply_of(outcome.reply, outcome.reply), ticket, outcome.tries, outcome.waits)
 
     def transaction(self, procedure: int, *args: int, timeout: Optional[float] = None) -> Transaction:
-        """Starts a transaction, whose accesses are made one at a time. At the end of a `with` block it is quit, unless it has ended.
+        """Starts a transaction, whose accesses are made one at a time. The end of a `with` block aborts it, unless it has ended.
 
-        NotStarted if the start is refused; TimedOut; NoMemory.
+        Raises NotStarted if the start is refused, TimedOut or NoMemory.
         """
         given, ticket, told = (ctypes.c_int64 * 4)(), CTicket(), CReply()
         pack_args(given, args)
@@ -179,23 +180,23 @@ class SharedEngine(Uncopied):
         return Transaction(self, ticket)
 
     def quit(self, ticket: Ticket) -> Reply:
-        """Quits the transaction of a ticket, as `live` tells it."""
+        """Aborts the transaction of a ticket, which `live` returns."""
         told = CReply()
         check(self._ask(FREE.sgt_shared_quit, CTicket(ticket.engine, ticket.part, ticket.tid), told))
         return reply_of(told, told)
 
     def live(self) -> list[Live]:
-        """Who is live."""
+        """Returns the live transactions."""
         rows, count = (CLive * MOST_LIVE)(), ctypes.c_uint64()
         check(self._ask(FREE.sgt_shared_live, rows, MOST_LIVE, count))
         return [Live(_ticket(row.ticket), row.procedure, row.for_ns / 1e9, bool(row.waits)) for row in rows[: count.value]]
 
     def cut(self, timeout: Optional[float] = None) -> None:
-        """Cuts the history off when nobody is live; new transactions wait meanwhile. TimedOut; NoMemory."""
+        """Cuts the history off once no transaction is live; new ones wait meanwhile. Raises TimedOut or NoMemory."""
         self._waited(timeout, lambda ns: self._ask(FREE.sgt_shared_cut, ns))
 
     def get(self, table: int, number: int) -> Optional[int]:
-        """The committed value of a record, or None if there is no such record."""
+        """Returns the committed value of a record, or None if there is no such record."""
         value = ctypes.c_int64()
         status = self._ask(FREE.sgt_shared_get, whole(table, 0, 7), whole(number, LEAST, MOST), value)
         if status == NONE:
@@ -204,18 +205,18 @@ class SharedEngine(Uncopied):
         return value.value
 
     def rows(self, table: int = 0, number: int = LEAST) -> list[Row]:
-        """The committed database from a record on, by table and then by number."""
+        """Returns the committed database from a record on, in order of tables and then of numbers."""
         table, number = whole(table, 0, 7), whole(number, LEAST, MOST)
         return rows_of(*all_rows(lambda told, space, count: self._ask(FREE.sgt_shared_rows, table, number, told, space, count)))
 
     def entries(self) -> int:
-        """How many entries the history has since the last cut."""
+        """The number of entries of the history since the last cut."""
         count = ctypes.c_uint64()
         check(self._ask(FREE.sgt_shared_entries, count, None))
         return count.value
 
     def drain(self, most: int = 1024, timeout: Optional[float] = None) -> list[Ended]:
-        """Takes at most so many of the stored calls, the oldest first; none if none comes in time."""
+        """Takes at most so many of the stored calls, oldest first. Returns an empty list if none comes in time."""
         calls, count = (CEnded * whole(most, 1, 2**24))(), ctypes.c_uint64()
 
         def ask(ns: int) -> int:
@@ -231,7 +232,7 @@ class SharedEngine(Uncopied):
         return [_ended(told) for told in calls[: count.value]]
 
     def close(self) -> None:
-        """Closes the engine. Later calls raise Closed. Busy if a call is under way."""
+        """Closes the engine. Later calls raise Closed. Raises Busy if a call is under way."""
         shared, self._shared = self._shared, ctypes.c_void_p()
         status = BUSY if self._inside else FREE.sgt_shared_close(shared)
         if status in (BUSY, MISUSE):
@@ -253,7 +254,7 @@ class SharedEngine(Uncopied):
 
 
 class Transaction:
-    """A transaction of a shared engine. At the end of a `with` block it is quit, unless it has ended before."""
+    """A transaction of a shared engine. The end of a `with` block aborts it, unless it has ended before."""
 
     def __init__(self, engine: SharedEngine, ticket: CTicket) -> None:
         self._engine, self._ticket, self._is_live = engine, ticket, True
@@ -263,19 +264,19 @@ class Transaction:
         return _ticket(self._ticket)
 
     def step(self) -> Reply:
-        """Lets it make its next access."""
+        """Makes the next access of the procedure."""
         told = CReply()
         check(self._engine._ask(FREE.sgt_shared_step, self._ticket, told))
         return self._told(told)
 
     def commit(self, timeout: Optional[float] = None) -> Reply:
-        """Commits it, and waits for others where it has to. TimedOut, and then it is still live."""
+        """Commits it, and waits for its predecessors. Raises TimedOut if the deadline comes first; it is still live then."""
         told = CReply()
         self._engine._waited(timeout, lambda ns: self._engine._ask(FREE.sgt_shared_commit, self._ticket, ns, told))
         return self._told(told)
 
     def quit(self) -> Reply:
-        """Quits it."""
+        """Aborts it."""
         told = CReply()
         check(self._engine._ask(FREE.sgt_shared_quit, self._ticket, told))
         return self._told(told)
@@ -295,4 +296,4 @@ class Transaction:
             try:
                 self._engine.quit(self.ticket)
             except Stale:
-                pass  # it had fallen before a cut
+                pass  # it was aborted in cascade before a cut

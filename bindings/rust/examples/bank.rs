@@ -22,7 +22,7 @@ fn main() -> Result<(), Error> {
     for _ in 0..3 {
         show(engine.step(1)?);
     }
-    show(engine.commit(1)?); // it read from the deposit, so it has to wait
+    show(engine.commit(1)?); // waits: it has read from the deposit
     show(engine.commit(0)?);
     show(engine.commit(1)?);
     println!("2/101 {}", engine.get(2, 101)?.unwrap_or(0));
@@ -41,7 +41,7 @@ fn main() -> Result<(), Error> {
     for Row { table, number, value } in &rows {
         println!("{table}/{number} {value}");
     }
-    rows[2].value = 7; // an engine that goes on from these rows, but for one
+    rows[2].value = 7; // a new engine with these rows, one of them changed
     let mut again = Engine::open_with(r#"{"limits":[8,100],"accounts":[],"procedures":[]}"#, &rows)?;
     println!("again {} rows, 2/101 {}", again.rows(0, LEAST)?.len(), again.get(2, 101)?.unwrap_or(0));
     again.run(1, &[1, 100])?; // each in one call
@@ -59,7 +59,7 @@ fn main() -> Result<(), Error> {
     again.cut()?;
     println!("{} entries, 2/101 {}", again.entries(), again.get(2, 101)?.unwrap_or(0));
     let own = [Row { table: 7, number: 1, value: 40 }];
-    again.put(&own)?; // a record and a procedure more, as there is no history
+    again.put(&own)?; // one more record and procedure, while the history is empty
     if let Err(Error::Taken(at)) = again.put(&own) {
         println!("row {at} taken");
     }
@@ -70,9 +70,11 @@ fn main() -> Result<(), Error> {
     let committed = BatchOutcome { tid: Some(1), wrote: true, reply: Reply::Committed(vec![]) };
     assert_eq!(ran, [committed, BatchOutcome { tid: None, wrote: false, reply: Reply::NoProcedure }]);
     assert_eq!(bare.run_many(&[(0, vec![0; 5])]), Err((vec![], Error::BadCall)));
-    assert_eq!(Engine::open_bare(33, 100, true).err(), Some(Error::Opening(Fault::BadLimits)));
-    let flaw = again.procedure(r#"[0,[["ask",0]]]"#);
-    assert_eq!(flaw, Err(Error::Opening(Fault::ProcFlaw(5, 8))));
+    let bare = Engine::open_bare(33, 100, true);
+    assert_eq!(bare.err(), Some(Error::Opening { fault: Fault::BadLimits, explanation: None }));
+    let flaw = again.procedure(r#"[0,[["ask",0]]]"#).unwrap_err();
+    assert_eq!(flaw.to_string(), "procedure 5, at 1 0 1: code 0 is not from 1 to 999");
+    assert!(matches!(flaw, Error::Opening { fault: Fault::ProcFlaw(5, 8), explanation: Some(_) }));
     let number = again.procedure(r#"[1,[["look",0,7,["arg",0],5],["answer",["reg",0]]]]"#)?;
     assert_eq!(again.procedure_text(number)?.as_deref(), Some(r#"[1,[["look",0,7,["arg",0],5],["answer",["reg",0]]]]"#));
     print!("procedure {number}: ");
@@ -85,10 +87,11 @@ fn main() -> Result<(), Error> {
     }
     let aborted = Reply::Aborted { cause: Cause::Cycle(vec![1, 2]), fell: vec![3] };
     assert_eq!(aborted.to_string(), "aborted cycle 1 2 fell 3");
-    let none = Reply::Wrote { table: 8, number: 0, value: 0 }; // no such table: the library has no line for it
+    let none = Reply::Wrote { table: 8, number: 0, value: 0 }; // there is no table 8, so the library has no text for it
     assert_eq!(none.to_string(), format!("{none:?}"));
     let refused = Engine::open(r#"{"limits":[99,1],"accounts":[],"procedures":[]}"#);
-    assert_eq!(refused.err(), Some(Error::Opening(Fault::BadLimits)));
+    assert!(matches!(refused.err(), Some(Error::Opening { fault: Fault::BadLimits, .. })));
+    assert_eq!(Fault::ProcShape(5, vec![1, 0]).to_string(), "procedure 5 shape 1 0");
     let engine = std::sync::Mutex::new(engine);
     std::thread::scope(|scope| {
         scope.spawn(|| assert_eq!(engine.lock().unwrap().get(2, 101), Ok(Some(1100))));

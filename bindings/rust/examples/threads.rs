@@ -8,7 +8,7 @@ const OPENING: &str = r#"{"limits":[8,4000000,1],"accounts":[[1,101,0,1000],[2,1
 "procedures":[[3,[["look",0,2,["arg",0],6],["if",["less",["reg",0],["arg",2]],[["ask",7]],[]],
 ["put",2,["arg",0],["diff",["reg",0],["arg",2]]],["look",1,2,["arg",1],6],["put",2,["arg",1],["sum",["reg",1],["arg",2]]]]]]}"#;
 
-/// From a customer, to a customer, so much; it raises 7 if the money does not suffice.
+/// From a customer, to a customer, cents. It aborts with 7 if the money does not suffice.
 const PAY: u16 = 5;
 const THREADS: i64 = 8;
 const EACH: i64 = 2000;
@@ -53,11 +53,11 @@ fn main() -> Result<(), Error> {
     assert_eq!(calls.iter().filter(|ended| ended.call.told.is_ok()).count(), paid as usize);
     let money: i64 = bank.rows(2, sgt::LEAST)?.iter().map(|row| row.value).sum();
 
-    let mut started = bank.start(PAY, &[101, 102, 0], None)?.expect("there is room"); // step by step
+    let mut started = bank.start(PAY, &[101, 102, 0], None)?.expect("8 may be live"); // step by step
     assert!(matches!(started.step()?, Reply::Looked { .. }));
     assert_eq!(bank.live()?.len(), 1);
     assert_eq!(bank.cut(Some(Duration::from_millis(5))), Err(Error::TimedOut));
-    drop(started); // which quits it
+    drop(started); // which aborts it
     let limits = Limits { wait: Some(Duration::from_secs(1)), tries: 3 };
     let outcome = bank.run_within(PAY, &[101, 102, 0], limits)?;
     assert_eq!((outcome.tries, outcome.waits), (1, 0));

@@ -1,4 +1,4 @@
-//! The structs of C, as types of Rust, and the other way.
+//! Conversions between the structs of C and the types of Rust.
 use crate::{BatchOutcome, Call, Cause, Error, Event, Fate, Fault, Reply, Row};
 use sgt_sys as c;
 
@@ -14,7 +14,7 @@ pub(crate) fn row_of(row: &c::Row) -> Row {
     Row { table: row.table as u8, number: row.number, value: row.value }
 }
 
-pub(crate) fn fault_of(fault: &c::Fault) -> Fault {
+fn fault_of(fault: &c::Fault) -> Fault {
     match fault.kind {
         c::NOT_JSON => Fault::NotJson,
         c::BAD_LINE => Fault::BadLine,
@@ -24,6 +24,36 @@ pub(crate) fn fault_of(fault: &c::Fault) -> Fault {
         c::PROC_FLAW => Fault::ProcFlaw(fault.procedure, fault.number),
         kind => Fault::Unrecognised(kind),
     }
+}
+
+/// The text that a call writes into a buffer: it is called with a small one, and again where that was too small. None if it writes
+/// none.
+pub(crate) fn text_of(write: impl Fn(*mut u8, usize, &mut u64) -> u32) -> Option<String> {
+    let (mut text, mut length) = (vec![0; 64], 0);
+    loop {
+        // The pointer is to as many bytes as are said to be there.
+        if write(text.as_mut_ptr(), text.len(), &mut length) != 0 {
+            return None;
+        }
+        match text.get(..length as usize) {
+            Some(text) => return Some(String::from_utf8_lossy(text).into_owned()),
+            None => text.resize(length as usize, 0),
+        }
+    }
+}
+
+/// The error of an opening that has this fault.
+pub(crate) fn opening_refused(fault: &c::Fault, opening: &str) -> Error {
+    let (from, count) = (opening.as_ptr(), opening.len());
+    let explanation = text_of(|to, room, length| unsafe { c::sgt_explain_opening(from, count, to, room, length) });
+    Error::Opening { fault: fault_of(fault), explanation }
+}
+
+/// The error of a procedure's text that has this fault.
+pub(crate) fn procedure_refused(fault: &c::Fault, text: &str) -> Error {
+    let (number, from, count) = (fault.procedure, text.as_ptr(), text.len());
+    let explanation = text_of(|to, room, length| unsafe { c::sgt_explain_procedure(number, from, count, to, room, length) });
+    Error::Opening { fault: fault_of(fault), explanation }
 }
 
 pub(crate) fn fault_fields(fault: &Fault) -> c::Fault {
@@ -45,7 +75,7 @@ pub(crate) fn fault_fields(fault: &Fault) -> c::Fault {
     fields
 }
 
-/// Copies as many as there is room for, and tells how many.
+/// Copies as many as fit, and returns how many.
 fn filled<T: Copy>(to: &mut [T], from: &[T]) -> u32 {
     let count = to.len().min(from.len());
     to[..count].copy_from_slice(&from[..count]);
@@ -132,14 +162,14 @@ pub(crate) fn event_of(event: &c::Event) -> Event {
     }
 }
 
-/// A call for `sgt_run_many`. None where it has over four arguments.
+/// A call for `sgt_run_many`. None if it has more than four arguments.
 pub(crate) fn call_for((procedure, args): &(u16, Vec<i64>)) -> Option<c::Call> {
     let mut call = c::Call { procedure: u32::from(*procedure), args: args.len() as u32, ..c::Call::default() };
     call.arg.get_mut(..args.len())?.copy_from_slice(args);
     Some(call)
 }
 
-/// What a call was answered: the number of its transaction, if one was started, and the last reply.
+/// The outcome of a call: the number of its transaction, if one was started, and the last reply.
 pub(crate) fn outcome_of(outcome: &c::Outcome) -> BatchOutcome {
     let reply = reply_of(&outcome.reply);
     let is_started = !matches!(reply, Reply::NoProcedure | Reply::BadArgs | Reply::Spent | Reply::Full);

@@ -1,18 +1,20 @@
 //! The engine for one thread at a time.
-use crate::convert::{call_for, call_of, done, event_of, fault_of, no_fault, outcome_of, reply_of, row_for, row_of, told};
+use crate::convert::{
+    call_for, call_of, done, event_of, no_fault, opening_refused, outcome_of, procedure_refused, reply_of, row_for, row_of, told,
+};
 use crate::{Call, Error, Event, Fault, Reply, Row};
 use sgt_sys as c;
 use std::cell::UnsafeCell;
 
-/// What a run was answered: the number of its transaction, if one was started, and the last reply.
+/// The result of a run: the number of its transaction, if one was started, and the last reply.
 pub type Ran = (Option<u32>, Reply);
 
-/// What became of a call of [`Engine::run_many`].
+/// The outcome of a call of [`Engine::run_many`].
 #[derive(Clone, Debug, PartialEq, Eq)]
 pub struct BatchOutcome {
     /// The number of its transaction, if one was started.
     pub tid: Option<u32>,
-    /// Whether a step of it wrote: a call that is committed and did not write has changed nothing.
+    /// Whether a step of it wrote. A committed call that did not write has changed nothing.
     pub wrote: bool,
     /// The last reply.
     pub reply: Reply,
@@ -23,42 +25,42 @@ type Ask = unsafe extern "C" fn(*mut c::Engine, u32, *mut c::Reply) -> u32;
 /// An engine for one thread at a time, which closes itself. Threads share a [`SharedEngine`](crate::SharedEngine).
 #[derive(Debug)]
 pub struct Engine {
-    // In a cell, as a read too marks it while it runs.
+    // In a cell, since a read too marks the engine as busy.
     inner: UnsafeCell<c::Engine>,
 }
 
-// The library proves it of what the handle holds.
+// Proved by the library for the contents of the handle.
 unsafe impl Send for Engine {}
 
 impl Engine {
     /// Opens an engine by an opening's JSON text.
     pub fn open(opening: &str) -> Result<Engine, Error> {
         let (mut engine, mut fault) = blank();
-        // The pointers are of live values of their own, and stay so for the call; so it is of each call below.
+        // The pointers are of distinct values that live during the call. The same holds for each call below.
         let status = unsafe { c::sgt_open(engine.inner.get_mut(), opening.as_ptr(), opening.len(), &mut fault) };
-        opened(status, engine, &fault)
+        opened(status, engine, &fault, opening)
     }
 
-    /// The same, with these rows put into the database of the opening's accounts.
+    /// The same, with these rows added to the database of the opening's accounts.
     pub fn open_with(opening: &str, rows: &[Row]) -> Result<Engine, Error> {
         let (mut engine, mut fault) = blank();
         let rows: Vec<c::Row> = rows.iter().map(row_for).collect();
         let (bytes, length) = (opening.as_ptr(), opening.len());
         let status = unsafe { c::sgt_open_with(engine.inner.get_mut(), bytes, length, rows.as_ptr(), rows.len(), &mut fault) };
-        opened(status, engine, &fault)
+        opened(status, engine, &fault, opening)
     }
 
-    /// Opens an engine with no records and no procedures, also none of SmallBank's: at most `live` transactions at a time, at most
-    /// `begins` in all, and with `asks` a code is told at the commit.
+    /// Opens an engine without records and procedures, not even SmallBank's: at most `live` transactions at a time, at most `begins`
+    /// in all; with `asks`, codes are reported at the commit.
     pub fn open_bare(live: u32, begins: u32, asks: bool) -> Result<Engine, Error> {
         let (mut engine, _) = blank();
         match unsafe { c::sgt_open_bare(engine.inner.get_mut(), live.into(), begins.into(), asks.into()) } {
-            c::BAD_LIMITS => Err(Error::Opening(Fault::BadLimits)),
+            c::BAD_LIMITS => Err(Error::Opening { fault: Fault::BadLimits, explanation: None }),
             status => done(status).map(|()| engine),
         }
     }
 
-    /// Puts new records into the opening database, while the history is empty; else `Begun`. Each call goes through all records.
+    /// Puts new records into the initial database. `Begun` if the history is not empty. Each call goes through all records.
     pub fn put(&mut self, rows: &[Row]) -> Result<(), Error> {
         let rows: Vec<c::Row> = rows.iter().map(row_for).collect();
         let mut at = 0;
@@ -68,16 +70,16 @@ impl Engine {
         }
     }
 
-    /// Adds the procedure of a JSON text behind the others, while the history is empty; else `Begun`. The number that it is started by.
+    /// Adds a procedure from its JSON text and returns its number. `Begun` if the history is not empty.
     pub fn procedure(&mut self, text: &str) -> Result<u16, Error> {
         let (mut number, mut fault) = (0, no_fault());
         match unsafe { c::sgt_procedure(self.inner.get_mut(), text.as_ptr(), text.len(), &mut number, &mut fault) } {
-            c::NOT_JSON.. => Err(Error::Opening(fault_of(&fault))),
+            c::NOT_JSON.. => Err(procedure_refused(&fault, text)),
             status => done(status).map(|()| number),
         }
     }
 
-    /// The text of the procedure of a number, if there is one: JSON that `procedure` takes.
+    /// Returns the JSON text of a procedure, as `procedure` takes it, if there is a procedure of that number.
     pub fn procedure_text(&self, number: u16) -> Result<Option<String>, Error> {
         let (mut text, mut length) = (Vec::new(), 0);
         loop {
@@ -101,17 +103,17 @@ impl Engine {
         told(status, &reply)
     }
 
-    /// Runs a procedure from its start to its commit: the number of its transaction, if one was started, and the last reply.
+    /// Runs a procedure from its start to its commit. Returns the number of its transaction, if one was started, and the last reply.
     pub fn run(&mut self, procedure: u16, args: &[i64]) -> Result<Ran, Error> {
         let mut reply = c::Reply::default();
-        let mut tid = u32::MAX; // a number that the limits never allow
+        let mut tid = u32::MAX; // no transaction ever has this number
         let status =
             unsafe { c::sgt_run(self.inner.get_mut(), procedure.into(), args.as_ptr(), args.len(), &mut tid, &mut reply) };
         told(status, &reply).map(|reply| ((tid != u32::MAX).then_some(tid), reply))
     }
 
-    /// Runs these calls, of procedures with their arguments, one after another, each as `run` does. Each has its outcome, also one that
-    /// is refused, aborted or has to wait. With `NoMemory` come the outcomes of the calls before it, which have run.
+    /// Runs these calls of procedures with their arguments one after another, as `run` does. Returns an outcome for each, also if it is
+    /// refused, aborted or has to wait. `NoMemory` comes with the outcomes of the calls before it, which have run.
     pub fn run_many(&mut self, calls: &[(u16, Vec<i64>)]) -> Result<Vec<BatchOutcome>, (Vec<BatchOutcome>, Error)> {
         let calls: Option<Vec<c::Call>> = calls.iter().map(call_for).collect();
         let calls = calls.ok_or((Vec::new(), Error::BadCall))?;
@@ -126,7 +128,7 @@ impl Engine {
         }
     }
 
-    /// Lets a transaction make its next access.
+    /// Makes the next access of a transaction.
     pub fn step(&mut self, tid: u32) -> Result<Reply, Error> {
         self.ask(c::sgt_step, tid)
     }
@@ -136,12 +138,12 @@ impl Engine {
         self.ask(c::sgt_commit, tid)
     }
 
-    /// Quits a transaction: it is aborted.
+    /// Aborts a transaction.
     pub fn quit(&mut self, tid: u32) -> Result<Reply, Error> {
         self.ask(c::sgt_quit, tid)
     }
 
-    /// The committed value of a record, or none where there is no such record.
+    /// Returns the committed value of a record, or none if there is no such record.
     pub fn get(&self, table: u8, number: i64) -> Result<Option<i64>, Error> {
         let mut value = 0;
         match unsafe { c::sgt_get(self.inner.get(), table.into(), number, &mut value) } {
@@ -150,7 +152,8 @@ impl Engine {
         }
     }
 
-    /// The committed database from a record on, by table and then by number: from table 0, number `LEAST` on it is all.
+    /// Returns the committed database from a record on, in order of tables and then of numbers. From table 0, number `LEAST` on, it is
+    /// the whole.
     pub fn rows(&self, table: u8, number: i64) -> Result<Vec<Row>, Error> {
         let mut count = 0;
         done(unsafe { c::sgt_rows(self.inner.get(), table.into(), number, Vec::new().as_mut_ptr(), 0, &mut count) })?;
@@ -159,27 +162,27 @@ impl Engine {
         Ok(rows.iter().map(row_of).collect())
     }
 
-    /// How many records the committed database has.
+    /// Returns the number of records of the committed database.
     pub fn records(&self) -> Result<u64, Error> {
         let mut count = 0;
         done(unsafe { c::sgt_records(self.inner.get(), &mut count) }).map(|()| count)
     }
 
-    /// How many cuts there were. With it a transaction's number is never another's.
+    /// Returns how often the history was cut. With this number, the number of a transaction is unique.
     pub fn part(&self) -> u64 {
         let mut part = 0;
         unsafe { c::sgt_part(self.inner.get(), &mut part) };
         part
     }
 
-    /// How many entries the history has.
+    /// Returns the number of entries of the history.
     pub fn entries(&self) -> u64 {
         let mut count = 0;
         unsafe { c::sgt_entries(self.inner.get(), &mut count) };
         count
     }
 
-    /// The entry at a place of the history, counted from 0, oldest first, or none where there are not so many.
+    /// Returns the entry of the history at an index, oldest first, or none if the history is shorter.
     pub fn entry(&self, place: u64) -> Option<(Event, Reply)> {
         let (mut event, mut reply) = (c::Event::default(), c::Reply::default());
         match unsafe { c::sgt_entry(self.inner.get(), place, &mut event, &mut reply) } {
@@ -188,8 +191,8 @@ impl Engine {
         }
     }
 
-    /// At most so many of the committed and refused calls, in reply order, that the history has from a place on; and the place to go
-    /// on from. Run one after another, these calls give the same answers. `None` where the history has not so many entries.
+    /// Returns the committed and refused calls of the history from an index on, in reply order, at most so many, and the index to go on
+    /// from. Run one after another, these calls give the same answers. `None` if the history is shorter.
     pub fn calls(&self, from: u64, most: usize) -> Result<Option<(Vec<Call>, u64)>, Error> {
         let (mut calls, mut count, mut next) = (vec![c::Call::default(); most], 0, 0);
         let to = calls.as_mut_ptr();
@@ -199,12 +202,12 @@ impl Engine {
         }
     }
 
-    /// Takes memory for so many more entries.
+    /// Allocates memory for this many more entries.
     pub fn reserve(&mut self, entries: u64) -> Result<(), Error> {
         done(unsafe { c::sgt_reserve(self.inner.get_mut(), entries) })
     }
 
-    /// Forgets the history up to now, where nobody is live; else `StillLive`, and nothing has changed.
+    /// Cuts the history off. `StillLive` if a transaction is live; then nothing has changed.
     pub fn cut(&mut self) -> Result<(), Error> {
         let mut live = 0;
         match unsafe { c::sgt_cut(self.inner.get_mut(), &mut live) } {
@@ -230,9 +233,9 @@ fn blank() -> (Engine, c::Fault) {
     (Engine { inner: UnsafeCell::new(c::Engine { is_open: 0, at: std::ptr::null_mut() }) }, no_fault())
 }
 
-fn opened(status: u32, engine: Engine, fault: &c::Fault) -> Result<Engine, Error> {
+fn opened(status: u32, engine: Engine, fault: &c::Fault, opening: &str) -> Result<Engine, Error> {
     match status {
-        c::NOT_JSON.. => Err(Error::Opening(fault_of(fault))),
+        c::NOT_JSON.. => Err(opening_refused(fault, opening)),
         _ => done(status).map(|()| engine),
     }
 }

@@ -1,5 +1,5 @@
-//! sgt for Rust: an in-memory transaction engine that schedules by serialization graph testing. It is proved; this crate calls
-//! its library for C, and what calls do stands in `sgt.h`.
+//! sgt for Rust: an in-memory transaction engine that schedules by serialization graph testing. The engine is proved. This crate
+//! calls its library for C; `sgt.h` says what each call does.
 //!
 //! ```no_run
 //! let bank = sgt::SharedEngine::open(r#"{"limits":[8,100],"accounts":[[1,101,500,1000]],"procedures":[]}"#)?;
@@ -12,7 +12,7 @@ mod convert;
 mod engine;
 mod shared;
 
-use convert::{fault_fields, fields_of};
+use convert::{fault_fields, fields_of, text_of};
 pub use engine::{BatchOutcome, Engine, Ran};
 pub use sgt_sys::Ticket;
 pub use shared::{Configuration, Ended, Limits, Live, Outcome, SharedEngine, Transaction};
@@ -25,9 +25,9 @@ use std::fmt;
 pub enum Cause {
     /// Its step would close this cycle of conflicts, which begins with the transaction itself.
     Cycle(Vec<u32>),
-    /// Its procedure asked this code.
+    /// Its procedure raised this code.
     Asked(u32),
-    /// Its caller quit it.
+    /// Its caller aborted it.
     Quit,
     /// A cause that this version of the crate does not know.
     Unrecognised(u32),
@@ -39,11 +39,11 @@ pub enum Cause {
 pub enum Fate {
     Committed,
     Aborted(Cause),
-    /// It had read from an aborted one; the number is that of the one whose abort began it.
+    /// Aborted in cascade: it had read from an aborted transaction. The number is that of the abort that started the cascade.
     Fell(u32),
 }
 
-/// What an event was answered.
+/// The reply to an event.
 #[derive(Clone, Debug, PartialEq, Eq)]
 #[non_exhaustive]
 pub enum Reply {
@@ -58,7 +58,7 @@ pub enum Reply {
     Wrote { table: u8, number: i64, value: i64 },
     Ended,
     NotEnded,
-    /// The commit has to wait for this transaction, and is asked again later.
+    /// The commit has to wait for this transaction. Try it again later.
     Waits(u32),
     Committed(Vec<i64>),
     Aborted { cause: Cause, fell: Vec<u32> },
@@ -67,7 +67,7 @@ pub enum Reply {
     Unrecognised(u32),
 }
 
-/// What was asked.
+/// An event.
 #[derive(Clone, Debug, PartialEq, Eq)]
 #[non_exhaustive]
 pub enum Event {
@@ -87,7 +87,7 @@ pub struct Row {
     pub value: i64,
 }
 
-/// A call that was committed or refused, with what it was told.
+/// A call that was committed or refused, with its answers or its code.
 #[derive(Clone, Debug, PartialEq, Eq)]
 #[non_exhaustive]
 pub struct Call {
@@ -98,10 +98,10 @@ pub struct Call {
     pub told: Result<Vec<i64>, u32>,
 }
 
-/// The least of values, arguments and record numbers.
+/// The least value, argument and record number.
 pub const LEAST: i64 = -999_999_999_999_999;
 
-/// The greatest of them.
+/// The greatest value, argument and record number.
 pub const MOST: i64 = 999_999_999_999_999;
 
 /// Why an opening or a procedure was refused.
@@ -113,7 +113,7 @@ pub enum Fault {
     BadLimits,
     /// An account has this fault: 1 a name twice, 2 a customer twice, 3 a number out of range.
     BadOpening(u32),
-    /// The procedure of this number spells none, and its first misfit is at this place.
+    /// The procedure of this number has its first shape error at this position.
     ProcShape(u64, Vec<u64>),
     /// The procedure of this number has this flaw, from 1 to 10.
     ProcFlaw(u64, u32),
@@ -121,31 +121,32 @@ pub enum Fault {
     Unrecognised(u32),
 }
 
-/// Why a call was not carried out. Unless the call says otherwise, nothing has changed.
+/// Why a call failed. Unless the call says otherwise, nothing has changed.
 #[derive(Clone, Debug, PartialEq, Eq)]
 #[non_exhaustive]
 pub enum Error {
-    /// The system gave no memory.
+    /// An allocation failed.
     NoMemory,
-    /// An argument is out of its range: over four arguments, a table over 7, or a number of over fifteen digits.
+    /// An argument is out of range: more than four arguments, a table above 7, or a number of more than fifteen digits.
     BadCall,
-    /// The opening, or the procedure that was to be added, has a fault.
-    Opening(Fault),
-    /// The history can't be cut off, as so many transactions are live.
+    /// The opening or the procedure has a fault. The message is the explanation: where the error is, what was expected there and what
+    /// was found. It is the fault's own text if an allocation for the explanation failed.
+    Opening { fault: Fault, explanation: Option<String> },
+    /// The history cannot be cut off: this many transactions are live.
     StillLive(u64),
-    /// There is a history, and so nothing can be added to what the engine begins with.
+    /// The history is not empty, so no record and no procedure can be added.
     Begun,
-    /// The record of the row at this place, counted from 0, has a value already. It is the first such row.
+    /// The record of the row at this index has a value already. It is the first such row.
     Taken(u64),
     /// No number is left for a procedure.
     TooMany,
     /// Another call is in the engine.
     Busy,
-    /// The deadline came.
+    /// The deadline came first.
     TimedOut,
-    /// The transaction is of a part of the history that was cut off.
+    /// The transaction belongs to a part of the history that was cut off.
     Stale,
-    /// A call that may not be made from here, or a ticket of another engine.
+    /// A call from a hook of the same engine, or a ticket of another engine.
     Misuse,
     /// A status that this version of the crate does not know.
     Unrecognised(u32),
@@ -156,7 +157,8 @@ impl fmt::Display for Error {
         match self {
             Error::NoMemory => write!(f, "no memory"),
             Error::BadCall => write!(f, "a number is out of its range"),
-            Error::Opening(fault) => write!(f, "{fault}"),
+            Error::Opening { explanation: Some(text), .. } => write!(f, "{text}"),
+            Error::Opening { fault, explanation: None } => write!(f, "{fault}"),
             Error::StillLive(live) => write!(f, "{live} live"),
             Error::Begun => write!(f, "there is a history"),
             Error::Taken(at) => write!(f, "the record of row {at} has a value already"),
@@ -170,7 +172,7 @@ impl fmt::Display for Error {
     }
 }
 
-/// The line that a script has for it. A reply that the library never gives is written as `Debug` has it.
+/// Writes the line that `sgt script` prints for it. A reply that the library never makes is written as by `Debug`.
 impl fmt::Display for Reply {
     fn fmt(&self, f: &mut fmt::Formatter<'_>) -> fmt::Result {
         let reply = fields_of(self);
@@ -178,7 +180,7 @@ impl fmt::Display for Reply {
     }
 }
 
-/// What the program tells of it.
+/// Writes the error as the program reports it.
 impl fmt::Display for Fault {
     fn fmt(&self, f: &mut fmt::Formatter<'_>) -> fmt::Result {
         let fault = fault_fields(self);
@@ -186,23 +188,16 @@ impl fmt::Display for Fault {
     }
 }
 
-/// Writes the text that a call writes into a buffer: it is called with a small one, and again where that was too small. Where there
-/// is no such text, it writes the value as `Debug` has it, since a formatter may not fail.
+/// Writes the text that a C call writes into a buffer. If there is no such text, it writes the value as `Debug` does, since a
+/// formatter must not fail.
 fn written(
     f: &mut fmt::Formatter<'_>,
     value: &dyn fmt::Debug,
     write: impl Fn(*mut u8, usize, &mut u64) -> u32,
 ) -> fmt::Result {
-    let (mut text, mut length) = (vec![0; 64], 0);
-    loop {
-        // The pointer is to as many bytes as are said to be there.
-        if write(text.as_mut_ptr(), text.len(), &mut length) != 0 {
-            return write!(f, "{value:?}");
-        }
-        match text.get(..length as usize) {
-            Some(text) => return f.write_str(&String::from_utf8_lossy(text)),
-            None => text.resize(length as usize, 0),
-        }
+    match text_of(write) {
+        Some(text) => f.write_str(&text),
+        None => write!(f, "{value:?}"),
     }
 }
 

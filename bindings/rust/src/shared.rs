@@ -1,5 +1,5 @@
 //! One engine for many threads.
-use crate::convert::{call_of, done, fault_of, no_fault, reply_of, row_for, row_of};
+use crate::convert::{call_of, done, no_fault, opening_refused, reply_of, row_for, row_of};
 use crate::{Call, Error, Reply, Row};
 use sgt_sys::{self as c, Ticket};
 use std::mem::size_of;
@@ -11,13 +11,13 @@ use std::time::Duration;
 #[derive(Clone, Debug, PartialEq, Eq)]
 #[non_exhaustive]
 pub struct Ended {
-    /// Counts these calls from 0 in reply order, over all parts: one after another in this order they give the same answers.
+    /// Counts these calls from 0 in reply order, over all parts. Run one after another in this order, they give the same answers.
     pub sequence: u64,
     pub ticket: Ticket,
     pub call: Call,
 }
 
-/// A live transaction, as [`SharedEngine::live`] tells it.
+/// A live transaction, as [`SharedEngine::live`] returns it.
 #[derive(Clone, Debug, PartialEq, Eq)]
 #[non_exhaustive]
 pub struct Live {
@@ -29,14 +29,15 @@ pub struct Live {
     pub waits: bool,
 }
 
-/// What a shared engine is to do beside its calls.
+/// The configuration of a shared engine.
 #[derive(Default)]
 pub struct Configuration {
-    /// Called for each committed or refused call, in reply order, under the engine's lock. A hook that panics ends the program.
+    /// Called for each committed or refused call, in reply order, under the engine's lock, on any thread that calls the engine. A hook
+    /// that panics ends the program.
     pub ended: Option<Box<dyn FnMut(Ended) + Send>>,
     /// Whether these calls are stored until [`SharedEngine::drain`] takes them.
     pub keeps_ended: bool,
-    /// Cuts the history off by itself as soon as it has so many entries and nobody is live. 0: never.
+    /// The history is cut off once it has this many entries and no transaction is live. 0: never.
     pub cut_after: u64,
     /// How long new transactions wait for the live ones to end when such a cut is due.
     pub cut_wait: Duration,
@@ -45,13 +46,13 @@ pub struct Configuration {
 /// How often a run is tried, and how long it may wait.
 #[derive(Clone, Copy, Debug, Default)]
 pub struct Limits {
-    /// None: as long as it takes.
+    /// None: without a limit.
     pub wait: Option<Duration>,
-    /// 0: as many tries as it takes.
+    /// 0: without a limit.
     pub tries: u32,
 }
 
-/// What became of a run.
+/// The outcome of a run.
 #[derive(Clone, Debug, PartialEq, Eq)]
 #[must_use]
 #[non_exhaustive]
@@ -67,10 +68,10 @@ pub struct Outcome {
 
 type Hook = Box<dyn FnMut(Ended) + Send>;
 
-/// What all clones of an engine share.
+/// The part that all clones of an engine share.
 struct Inner {
     shared: *mut c::Shared,
-    /// What the hook's context points to, or null. The library calls it under its lock, so by one thread at a time.
+    /// The hook, to which its context points, or null. The library calls it under its lock, so one thread at a time.
     hook: *mut Hook,
 }
 
@@ -80,10 +81,10 @@ unsafe impl Sync for Inner {}
 
 impl Drop for Inner {
     fn drop(&mut self) {
-        // Nobody else has the engine any more. From inside its own hook a close is a misuse: then both stay.
+        // This is the last clone. A close from inside the engine's own hook is a misuse: then both are leaked.
         let status = unsafe { c::sgt_shared_close(&mut self.shared) };
         if !self.hook.is_null() && (status == c::OK || status == c::CLOSED) {
-            // It was made by a box, and nobody calls it any more.
+            // It was made by `Box::into_raw`, and the library does not call it any more.
             drop(unsafe { Box::from_raw(self.hook) });
         }
     }
@@ -105,7 +106,7 @@ impl SharedEngine {
         SharedEngine::open_with(opening, &[], Configuration::default())
     }
 
-    /// The same, with these rows put into the database of the opening's accounts.
+    /// The same, with these rows added to the database of the opening's accounts.
     pub fn open_with(opening: &str, rows: &[Row], with: Configuration) -> Result<SharedEngine, Error> {
         let rows: Vec<c::Row> = rows.iter().map(row_for).collect();
         let hook = with.ended.map_or(std::ptr::null_mut(), |hook| Box::into_raw(Box::new(hook)));
@@ -121,22 +122,22 @@ impl SharedEngine {
         };
         let (mut inner, mut fault) = (Inner { shared: std::ptr::null_mut(), hook }, no_fault());
         let (bytes, length) = (opening.as_ptr(), opening.len());
-        // The pointers are of live values of their own, and stay so for the call; so it is of each call below.
+        // The pointers are of distinct values that live during the call. The same holds for each call below.
         let status = unsafe {
             c::sgt_shared_open(&mut inner.shared, bytes, length, rows.as_ptr(), rows.len(), &config, &mut fault)
         };
         match status {
-            c::NOT_JSON.. => Err(Error::Opening(fault_of(&fault))),
+            c::NOT_JSON.. => Err(opening_refused(&fault, opening)),
             _ => done(status).map(|()| SharedEngine(Arc::new(inner))),
         }
     }
 
-    /// Runs a procedure from its start to its commit, with at most four arguments. It waits and tries again as often as it has to.
+    /// Runs a procedure from its start to its commit, with at most four arguments. It waits and tries again as often as needed.
     pub fn run(&self, procedure: u16, args: &[i64]) -> Result<Outcome, Error> {
         self.run_within(procedure, args, Limits::default())
     }
 
-    /// The same within limits. `TimedOut` if the deadline came, and then nothing of it is left live.
+    /// The same within limits. `TimedOut` if the deadline comes first; then no transaction of it is left live.
     pub fn run_within(&self, procedure: u16, args: &[i64], limits: Limits) -> Result<Outcome, Error> {
         let options = c::RunOptions {
             size: size_of::<c::RunOptions>(),
@@ -156,7 +157,7 @@ impl SharedEngine {
         })
     }
 
-    /// Starts a transaction: it, or the reply to a start that is refused. `None` waits as long as it takes.
+    /// Starts a transaction. Returns it, or the reply if the start is refused. A wait of `None` has no limit.
     pub fn start(
         &self,
         procedure: u16,
@@ -174,25 +175,25 @@ impl SharedEngine {
         })
     }
 
-    /// Quits the transaction of a ticket, as `live` tells it.
+    /// Aborts the transaction of a ticket, which `live` returns.
     pub fn quit(&self, ticket: Ticket) -> Result<Reply, Error> {
         let mut reply = c::Reply::default();
         done(unsafe { c::sgt_shared_quit(self.at(), &ticket, &mut reply) }).map(|()| reply_of(&reply))
     }
 
-    /// Who is live.
+    /// Returns the live transactions.
     pub fn live(&self) -> Result<Vec<Live>, Error> {
         let (mut rows, mut count) = ([c::Live::default(); 32], 0); // no more are ever live
         done(unsafe { c::sgt_shared_live(self.at(), rows.as_mut_ptr(), rows.len(), &mut count) })?;
         Ok(rows[..count as usize].iter().map(live_of).collect())
     }
 
-    /// Cuts the history off when nobody is live; new transactions wait meanwhile.
+    /// Cuts the history off once no transaction is live. New ones wait meanwhile.
     pub fn cut(&self, wait: Option<Duration>) -> Result<(), Error> {
         done(unsafe { c::sgt_shared_cut(self.at(), nanoseconds(wait)) })
     }
 
-    /// The committed value of a record, or none if there is no such record.
+    /// Returns the committed value of a record, or none if there is no such record.
     pub fn get(&self, table: u8, number: i64) -> Result<Option<i64>, Error> {
         let mut value = 0;
         match unsafe { c::sgt_shared_get(self.at(), table.into(), number, &mut value) } {
@@ -201,7 +202,7 @@ impl SharedEngine {
         }
     }
 
-    /// The committed database from a record on, by table and then by number.
+    /// Returns the committed database from a record on, in order of tables and then of numbers.
     pub fn rows(&self, table: u8, number: i64) -> Result<Vec<Row>, Error> {
         let (mut rows, mut count) = (Vec::new(), 0);
         loop {
@@ -215,13 +216,13 @@ impl SharedEngine {
         }
     }
 
-    /// How many entries the history has since the last cut.
+    /// Returns the number of entries of the history since the last cut.
     pub fn entries(&self) -> Result<u64, Error> {
         let mut count = 0;
         done(unsafe { c::sgt_shared_entries(self.at(), &mut count, std::ptr::null_mut()) }).map(|()| count)
     }
 
-    /// Takes at most so many of the stored calls; none if none comes in time. `BadCall` if the engine stores none.
+    /// Takes at most so many of the stored calls. Returns an empty list if none comes in time. `BadCall` if the engine stores none.
     pub fn drain(&self, most: usize, wait: Option<Duration>) -> Result<Vec<Ended>, Error> {
         let (mut calls, mut count) = (vec![c::Ended::default(); most], 0);
         let (to, wait) = (calls.as_mut_ptr(), nanoseconds(wait));
@@ -234,7 +235,7 @@ impl SharedEngine {
     }
 }
 
-/// A transaction of a shared engine. It is quit when it is dropped, unless it has ended before.
+/// A transaction of a shared engine. Dropping it aborts it, unless it has ended before.
 #[derive(Debug)]
 #[must_use = "a transaction that is dropped is quit"]
 pub struct Transaction {
@@ -248,21 +249,21 @@ impl Transaction {
         self.ticket
     }
 
-    /// Lets it make its next access.
+    /// Makes the next access of the procedure.
     pub fn step(&mut self) -> Result<Reply, Error> {
         let mut reply = c::Reply::default();
         let status = unsafe { c::sgt_shared_step(self.engine.at(), &self.ticket, &mut reply) };
         self.told(status, &reply)
     }
 
-    /// Commits it, and waits for others where it has to; `None` as long as it takes. `TimedOut`, and then it is still live.
+    /// Commits it, and waits for its predecessors; `None` without a limit. `TimedOut` if the deadline comes first; it is still live then.
     pub fn commit(&mut self, wait: Option<Duration>) -> Result<Reply, Error> {
         let mut reply = c::Reply::default();
         let status = unsafe { c::sgt_shared_commit(self.engine.at(), &self.ticket, nanoseconds(wait), &mut reply) };
         self.told(status, &reply)
     }
 
-    /// Quits it.
+    /// Aborts it.
     pub fn quit(mut self) -> Result<Reply, Error> {
         self.is_live = false;
         self.engine.quit(self.ticket)
@@ -281,7 +282,7 @@ impl Transaction {
 impl Drop for Transaction {
     fn drop(&mut self) {
         if self.is_live {
-            // A quit of a live transaction never fails; one that has ended meanwhile, or was cut off, needs none.
+            // The abort of a live transaction never fails. One that has ended meanwhile, or was cut off, needs none.
             let _ = self.engine.quit(self.ticket);
         }
     }
@@ -289,12 +290,12 @@ impl Drop for Transaction {
 
 /// The hook for C.
 unsafe extern "C" fn tell(context: *mut c_void, call: *const c::Ended) {
-    // The context is the hook of the engine's `Inner`, which is there as long as the engine, and the call is a value of the library's.
+    // The context is the hook in the engine's `Inner`, which lives as long as the engine. The call is a value of the library.
     let (hook, call) = unsafe { (&mut *context.cast::<Hook>(), &*call) };
     hook(ended_of(call));
 }
 
-/// As the library has deadlines: a duration beyond all numbers is for ever.
+/// Returns a deadline in the library's form. A duration that is too long for it has no limit.
 fn nanoseconds(wait: Option<Duration>) -> i64 {
     wait.map_or(c::FOREVER, |wait| i64::try_from(wait.as_nanos()).unwrap_or(c::FOREVER))
 }

@@ -1,5 +1,5 @@
-pub mod KeyOrder
-pub mod PerKeys
+pub mod Counts
+pub mod Keys
 pub mod RisingLists
 pub mod Rivals
-pub mod Tests
+pub mod Spots

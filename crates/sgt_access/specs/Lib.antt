@@ -1,2 +1,2 @@
-pub mod ByKey
+pub mod Filters
 pub mod WholeLists

@@ -31,11 +31,4 @@ impl Access {
     {
         self.by != t && self.key == key && (self.kind == Kind::Store || kind == Kind::Store)
     }
-
-    /// Whether both are of one transaction and one key.
-    pub fn is_beside(&self, other: &Access) -> bool
-        ensures { IsTrue result ↔ ((self.now.by ≡ other.now.by) × (self.now.key ≡ other.now.key)) }
-    {
-        self.by == other.by && self.key == other.key
-    }
 }

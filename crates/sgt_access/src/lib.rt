@@ -2,7 +2,7 @@
 //!
 //! It stores no value and no history, and it decides nothing. It names the rivals of an access, and the scheduler makes
 //! edges of them. `Accesses` is the contract. `OneList`, one list for all keys, is the plain implementation that tests compare
-//! with. `PerKey` stores the accesses in the order of their keys.
+//! with. `PerKey` has a filter by key in front of them.
 //!
 //! ```
 //! let mut accesses = OneList::empty(alloc);
@@ -14,11 +14,12 @@
 
 mod access;
 mod accesses;
-mod bounds;
 mod conflicts;
+mod filter;
 mod one_list;
 mod per_key;
 mod rising;
+mod spot;
 mod whole_list;
 
 pub use accesses::Accesses;

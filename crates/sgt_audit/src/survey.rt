@@ -76,10 +76,13 @@ impl Ends {
         ensures commits { result.commits ≡ self.commits + cond (is_commit entry.now.reply) 1 0 }
         ensures quits { result.quits ≡ self.quits + cond (is_quit entry.now.reply) 1 0 }
     {
-        Ends {
-            commits: self.commits + usize::from(entry.is_commit()),
-            quits: self.quits + usize::from(entry.is_quit()),
+        if entry.is_ending() {
+            return Ends {
+                commits: self.commits + usize::from(entry.is_commit()),
+                quits: self.quits + usize::from(entry.is_quit()),
+            };
         }
+        self
     }
 }
 

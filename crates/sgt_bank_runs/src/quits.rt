@@ -63,7 +63,7 @@ fn call<N: Named, R: Records, A: Accesses, G: Graph, W: Wait>(
     session: &mut Session<N>,
     event: Event,
 ) -> &'static str {
-    if session.make(rt, shared, event).is_err() {
+    if session.make(rt, shared, &event).is_err() {
         return "no memory";
     }
     match &session.last().reply {

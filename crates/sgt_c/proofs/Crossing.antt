@@ -16,13 +16,21 @@ use Rattle.sgt_records.proofs.slab_records.SlabRecords.TheSendSync as slabs
 use Rattle.sgt_access.specs.contracts.per_key.PerKey as PerKey
 use Rattle.sgt_graph.specs.contracts.bit_graph.BitGraph as BitGraph
 use Rattle.sgt_sched.specs.contracts.fates.Fates as Fates
+use Rattle.sgt_proc.specs.contracts.cursor.Cursor as Cursor
 use Rattle.sgt_sched.specs.contracts.live.Live as Live
+use Rattle.sgt_sched.specs.contracts.running.Running as Running
 use Rattle.sgt_sched.specs.contracts.sched.Sched as Sched
 use Rattle.sgt_engine.specs.contracts.engine.Engine as Engine
 use Rattle.sgt_c.specs.contracts.held.Held as Held
 
+cursor_send : IsSend (Cursor.the_field).row
+cursor_send = search (sendable, crosses, expr.crosses, statement.crosses) depth 40
+
+running_send : IsSend (Running.the_field).row
+running_send = search (sendable, crosses, cursor_send) depth 40
+
 live_send : IsSend (Live.the_field).row
-live_send = search (sendable, crosses, expr.crosses, statement.crosses) depth 40
+live_send = search (sendable, crosses, running_send) depth 40
 
 fates_send : IsSend (Fates.the_field).row
 fates_send = search (sendable, crosses) depth 40

@@ -27,6 +27,21 @@ ran_next calls outcomes i d o e between after within room all one =
     (one_more (take i calls) outcomes i (get_or calls i d) o e between after (length-take-le i calls (omega (arith, within)))
     (omega (arith, within, room)) all one)
 
+-- outcomes after these calls do not count
+ran_whatever : (calls : List SgtCall) (outcomes : List SgtOutcome) (i : ℕ) (o : SgtOutcome) (e after : EngineView) → length calls ≤ i
+    → RanAll calls outcomes e after → RanAll calls (set outcomes i o) e after
+ran_whatever [] outcomes i o e after few all = all
+ran_whatever (c ∷ calls) [] i o e after few all = absurd all
+ran_whatever (c ∷ calls) (x ∷ outcomes) zero o e after few all = absurd (omega (arith, few))
+ran_whatever (c ∷ calls) (x ∷ outcomes) (suc i) o e after few all =
+    (all.0, all.1, ran_whatever calls outcomes i o all.0 after (omega (arith, few)) all.2)
+
+-- the calls before this one have run
+pub ran_before : (calls : List SgtCall) (outcomes : List SgtOutcome) (i : ℕ) (o : SgtOutcome) (e after : EngineView) → i < length calls
+    → RanAll (take i calls) outcomes e after → RanAll (take i calls) (set outcomes i o) e after
+ran_before calls outcomes i o e after within all =
+    ran_whatever (take i calls) outcomes i o e after (omega (arith, length-take-le i calls (omega (arith, within)))) all
+
 -- the outcomes after it are unchanged
 pub rest_next : (outcomes before : List SgtOutcome) (i : ℕ) (o : SgtOutcome) → drop i outcomes ≡ drop i before
     → drop (i + 1) (set outcomes i o) ≡ drop (i + 1) before

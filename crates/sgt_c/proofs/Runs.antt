@@ -1,22 +1,27 @@
 -- A run, entry by entry: which transactions are live meanwhile, and which steps were made.
-use Rattle.std.proofs.Common.{◌≡◌, ℕ, ◌+◌, ℤ, Bool, true, false, cond, ◌&&◌, ◌||◌, List, ◌∷◌, length, Option, Some, None, nat_eq, nat_lt, is_none, refl, sym, ap, subst, ◌∙◌, arith}
+use Rattle.std.proofs.Common.{◌≡◌, ℕ, ◌+◌, ℤ, Bool, true, false, cond, ◌&&◌, ◌||◌, List, [], ◌∷◌, length, Option, Some, None, nat_eq, nat_lt, is_none, refl, sym, ap, subst, ◌∙◌, arith}
 use Rattle.std.specs.List.{All}
-use Rattle.std.specs.Prelude.{Result, Ok, Err, OnErr}
+use Rattle.std.specs.Prelude.{Result, Ok, Err, OnErr, IfSome}
 use Rattle.std.proofs.lemmas.Bool.{lt-ltb}
 use Rattle.std.proofs.lemmas.List.Elements.{All-cons, All-weaker}
 use Rattle.sgt_model.specs.declared.entry.Entry.{Entry}
 use Rattle.sgt_model.specs.declared.event.Event.{Event}
-use Rattle.sgt_model.specs.declared.event.Event.TheVariants.{Start, Step, Quit}
+use Rattle.sgt_model.specs.declared.event.Event.TheVariants.{Start, Step, Commit, Quit}
 use Rattle.sgt_model.specs.declared.limits.Limits.{Limits}
 use Rattle.sgt_model.specs.declared.reply.Reply.{Reply}
 use Rattle.sgt_model.specs.declared.reply.Reply.TheVariants as reply
-use Rattle.sgt_model.specs.Fates.{fate_of, live, live_ones, start_count}
+use Rattle.sgt_model.specs.declared.short_reply.ReplyLists.{ReplyLists}
+use Rattle.sgt_model.specs.declared.short_reply.ShortReply.{ShortReply}
+use Rattle.sgt_model.specs.declared.short_reply.ShortReply.TheVariants as bare
+use Rattle.sgt_model.specs.Fates.{fate_of, is_start, live, live_ones, start_count}
 use Rattle.sgt_model.specs.Legality.{Legal, LegalReply}
 use Rattle.sgt_model.specs.Settings.{Setting, takes}
+use Rattle.sgt_model.specs.ShortReplies.{full_reply, reply_with, short_reply}
 use Rattle.sgt_model.specs.StartReply.{args_fit, room_reply, taken_reply}
 use Rattle.sgt_model.proofs.Facts.{unstarted-no_fate}
-use Rattle.sgt_engine.specs.EngineView.{EngineView, setting_of, with_entry}
-use Rattle.sgt_c.specs.Runs.{GivesUp, IsAccess, IsStep, StepsOn, StopsLive, any_write, is_access, is_write, with_entries}
+use Rattle.sgt_engine.specs.EngineView.{Answers, EngineView, HasLists, newest_reply, setting_of, with_entry}
+use Rattle.sgt_c.specs.Runs.{CommitsIf, GivesUp, IsAccess, IsStep, Runs, RunsOn, RunsOnTo, RunsTo, StepsOn, StepsTo, StopsLive, any_write, is_access, is_end, is_write, with_entries}
+use Rattle.sgt_c.proofs.Replies.{started_in_short, start_without}
 
 -- ---- who is live
 
@@ -51,7 +56,7 @@ started_live s past p args t legal told =
 
 -- a step that makes an access, or finds the procedure ended, ends no transaction
 module _ (past : List Entry) (t : ℕ) where
-  pub access_live : (r : Reply) → is_access r ≡ true → live (record { event = Step t; reply = r } ∷ past) t ≡ live past t
+  pub access_live : (r : Reply) → is_access (short_reply r) ≡ true → live (record { event = Step t; reply = r } ∷ past) t ≡ live past t
   access_live (reply.Looked k v) a = refl
   access_live (reply.Wrote k v) a = refl
   access_live (reply.Started u) a = absurd cc
@@ -68,6 +73,23 @@ module _ (past : List Entry) (t : ℕ) where
   access_live (reply.Aborted why fell) a = absurd cc
   access_live (reply.Refused code fell) a = absurd cc
 
+  pub end_live : (r : Reply) → is_end (short_reply r) ≡ true → live (record { event = Step t; reply = r } ∷ past) t ≡ live past t
+  end_live (reply.Looked k v) a = absurd cc
+  end_live (reply.Wrote k v) a = absurd cc
+  end_live (reply.Started u) a = absurd cc
+  end_live reply.NoProcedure a = absurd cc
+  end_live reply.BadArgs a = absurd cc
+  end_live reply.Spent a = absurd cc
+  end_live reply.Full a = absurd cc
+  end_live reply.Unknown a = absurd cc
+  end_live (reply.Over fate) a = absurd cc
+  end_live reply.Ended a = refl
+  end_live reply.NotEnded a = absurd cc
+  end_live (reply.Waits u) a = absurd cc
+  end_live (reply.Committed answers) a = absurd cc
+  end_live (reply.Aborted why fell) a = absurd cc
+  end_live (reply.Refused code fell) a = absurd cc
+
 -- ---- which steps were made
 
 -- the transaction made only accesses, and is live
@@ -81,14 +103,35 @@ pub record Stepping (t : ℕ) (wrote : Bool) (e now : EngineView) : Type 0 where
 module _ (t : ℕ) (wrote : Bool) (e now : EngineView) where
   -- one more access
   pub one_more : (r : Reply) (wrote_now : Bool) (after : EngineView) → Stepping t wrote e now → after ≡ with_entry (Step t) r now
-      → is_access r ≡ true → wrote_now ≡ (is_write r || wrote) → Stepping t wrote_now e after
+      → is_access (short_reply r) ≡ true → wrote_now ≡ (is_write (short_reply r) || wrote) → Stepping t wrote_now e after
   one_more r wrote_now after s adds a w = record {
     steps = record { event = Step t; reply = r } ∷ s.steps;
-    wrote_is = w ∙ ap (λ b. is_write r || b) s.wrote_is;
+    wrote_is = w ∙ ap (λ b. is_write (short_reply r) || b) s.wrote_is;
     accesses = All-cons (IsAccess t) (record { event = Step t; reply = r }) s.steps (refl, a) s.accesses;
     now_is = adds ∙ ap (with_entry (Step t) r) s.now_is;
     is_live = ap (λ (v : EngineView). live v.past t) adds ∙ access_live now.past t r a ∙ s.is_live;
   }
+
+  -- the same from the short reply
+  pub one_more_in_short : (short : ShortReply) (wrote_now : Bool) (after : EngineView) → Stepping t wrote e now
+      → Answers (Step t) now short after → is_access short ≡ true → wrote_now ≡ (is_write short || wrote) → Stepping t wrote_now e after
+  one_more_in_short short wrote_now after s a access w =
+      one_more a.reply wrote_now after s a.adds (ap is_access a.is_short ∙ access) (w ∙ ap (λ b. is_write b || wrote) (sym a.is_short))
+
+  -- a step that makes none
+  pub steps_to : (short : ShortReply) (after : EngineView) → Stepping t wrote e now → Answers (Step t) now short after
+      → is_access short ≡ false → StepsTo t wrote short e after
+  steps_to short after s a none = (
+    a.reply,
+    a.is_short,
+    (s.steps, s.accesses, ap is_access a.is_short ∙ none, s.wrote_is, a.adds ∙ ap (with_entry (Step t) a.reply) s.now_is),
+  )
+
+  -- if it finds the procedure ended, the transaction is live
+  pub at_end : (short : ShortReply) (after : EngineView) → Stepping t wrote e now → Answers (Step t) now short after
+      → is_end short ≡ true → live after.past t ≡ true
+  at_end short after s a ended =
+      ap (λ (v : EngineView). live v.past t) a.adds ∙ end_live now.past t a.reply (ap is_end a.is_short ∙ ended) ∙ s.is_live
 
   -- out of memory for the next step
   pub stopped : (after : EngineView) → Stepping t wrote e now → after ≡ now → StopsLive t e after
@@ -100,9 +143,9 @@ module _ (t : ℕ) (wrote : Bool) (e now : EngineView) where
   )
 
   -- out of memory for the commit
-  pub stopped_at_end : (r : Reply) (after : EngineView) → StepsOn t wrote r e now → live now.past t ≡ true → after ≡ now
+  pub stopped_at_end : (short : ShortReply) (after : EngineView) → StepsTo t wrote short e now → live now.past t ≡ true → after ≡ now
       → StopsLive t e after
-  stopped_at_end r after s l same = (
+  stopped_at_end short after (r, is_short, s) l same = (
     record { event = Step t; reply = r } ∷ s.0,
     All-cons (IsStep t) (record { event = Step t; reply = r }) s.0 refl (All-weaker (IsAccess t) (IsStep t) (λ x a. a.0) s.0 s.1),
     same ∙ s.4,
@@ -117,21 +160,73 @@ err_holds (Ok x) a = tt
 err_holds (Err e) a = a
 
 -- a transaction that was started is live
-pub run_live : (e after : EngineView) (p : ℕ) (args : List ℤ) (t : ℕ) (r : Reply) → after ≡ with_entry (Start p args) r e
-    → r ≡ reply.Started t
+pub run_live : (e after : EngineView) (p : ℕ) (args : List ℤ) (t : ℕ) → Answers (Start p args) e (bare.Started t) after
     → Legal (setting_of after) after.past → live after.past t ≡ true
-run_live e after p args t r adds is legal =
+run_live e after p args t a legal =
     ap (λ (v : EngineView). live v.past t) told ∙ started_live (setting_of e) e.past p args t all.0 all.1
   where
     told : after ≡ with_entry (Start p args) (reply.Started t) e
-    told = adds ∙ ap (λ r. with_entry (Start p args) r e) is
+    told = a.adds ∙ ap (λ r. with_entry (Start p args) r e) (started_in_short a.reply t a.is_short)
 
     all : Legal (setting_of e) (record { event = Start p args; reply = reply.Started t } ∷ e.past)
     all = subst (λ (v : EngineView). Legal (setting_of v) v.past) told legal
 
 -- a start, some steps and an abort (`quit`)
-pub gave_up : (start : Event) (t : ℕ) (r : Reply) (e begun stopped after : EngineView) → begun ≡ with_entry start r e → r ≡ reply.Started t
+pub gave_up : (start : Event) (t : ℕ) (e begun stopped after : EngineView) → Answers start e (bare.Started t) begun
     → StopsLive t begun stopped → ((q : Reply) × (after ≡ with_entry (Quit t) q stopped))
     → (started : Option ℕ) × GivesUp start started e after
-gave_up start t r e begun stopped after adds is s q =
-    (Some t, (s.0, s.1, q.0, q.1 ∙ ap (with_entry (Quit t) q.0) (s.2 ∙ ap (with_entries s.0) (adds ∙ ap (λ r. with_entry start r e) is))))
+gave_up start t e begun stopped after a s q =
+    (Some t, (s.0, s.1, q.0, q.1 ∙ ap (with_entry (Quit t) q.0) (s.2 ∙ ap (with_entries s.0) begins)))
+  where
+    begins : begun ≡ with_entry start (reply.Started t) e
+    begins = a.adds ∙ ap (λ r. with_entry start r e) (started_in_short a.reply t a.is_short)
+
+module _ (t : ℕ) (wrote : Bool) (e : EngineView) where
+  -- steps that do not reach the end of the procedure
+  pub ran_steps : (short : ShortReply) (after : EngineView) → StepsTo t wrote short e after → is_end short ≡ false
+      → RunsOnTo t wrote short e after
+  ran_steps short after (r, is_short, s) none =
+      (r, is_short, (r, after, s, subst (λ b. CommitsIf b t r r after after) (sym (ap is_end is_short ∙ none)) (refl, refl)))
+
+  -- steps to the end of the procedure, and the commit
+  pub ran_to_commit : (short last : ShortReply) (stepped after : EngineView) → StepsTo t wrote short e stepped → is_end short ≡ true
+      → Answers (Commit t) stepped last after → RunsOnTo t wrote last e after
+  ran_to_commit short last stepped after (r, is_short, s) ended a =
+      (a.reply, a.is_short, (r, stepped, s, subst (λ b. CommitsIf b t r a.reply stepped after) (sym (ap is_end is_short ∙ ended)) a.adds))
+
+-- a start, and what follows it
+pub ran_on : (start : Event) (t : ℕ) (wrote : Bool) (short : ShortReply) (e begun after : EngineView)
+    → Answers start e (bare.Started t) begun → RunsOnTo t wrote short begun after → RunsTo start (Some t) wrote short e after
+ran_on start t wrote short e begun after a (last, is_short, ran) = (
+  last,
+  is_short,
+  subst (λ v. RunsOn t wrote last v after)
+      (a.adds ∙ ap (λ r. with_entry start r e) (started_in_short a.reply t a.is_short)) ran,
+)
+
+-- a start that starts nothing
+pub no_start : (start : Event) (short : ShortReply) (e after : EngineView) → Answers start e short after
+    → is_start (full_reply short [] [] []) ≡ false → RunsTo start None false short e after
+no_start start short e after a none =
+    (a.reply, a.is_short, (start_without a.reply ∙ ap (λ s. is_start (full_reply s [] [] [])) a.is_short ∙ none, refl, a.adds))
+
+-- ---- its last reply
+
+module _ (t : ℕ) (r last : Reply) (stepped after : EngineView) (before : newest_reply stepped.past ≡ Some r) where
+  newest_if : (ended : Bool) → CommitsIf ended t r last stepped after → newest_reply after.past ≡ Some last
+  newest_if true commits = ap (λ (v : EngineView). newest_reply v.past) commits
+  newest_if false stays = ap (λ (v : EngineView). newest_reply v.past) stays.1 ∙ before ∙ ap Some (sym stays.0)
+
+-- it is the newest one of the history
+newest : (start : Event) (started : Option ℕ) (wrote : Bool) (last : Reply) (e after : EngineView) → Runs start started wrote last e after
+    → newest_reply after.past ≡ Some last
+newest start None wrote last e after ran = ap (λ (v : EngineView). newest_reply v.past) ran.2
+newest start (Some t) wrote last e after (r, stepped, s, commits) =
+    newest_if t r last stepped after (ap (λ (v : EngineView). newest_reply v.past) s.4) (is_end (short_reply r)) commits
+
+-- and these are its lists
+pub last_with : (start : Event) (started : Option ℕ) (wrote : Bool) (short : ShortReply) (e after : EngineView) (lists : ReplyLists)
+    → (ran : RunsTo start started wrote short e after) → HasLists after.past lists → ran.0 ≡ reply_with short lists
+last_with start started wrote short e after lists ran has =
+    subst (λ o. IfSome o (λ r. r ≡ reply_with (short_reply r) lists)) (newest start started wrote ran.0 e after ran.2) has
+    ∙ ap (λ s. reply_with s lists) ran.1

@@ -42,6 +42,7 @@ RanMany None calls outcomes new = ⊥
 RanMany (Some h) calls outcomes None = ⊥
 RanMany (Some h) calls outcomes (Some h') = RanAll calls outcomes h.engine h'.engine × Headline h'.engine × (h'.part ≡ h.part)
 
+-- the same where a call gave up: those before this index ran
 abbrev pub GaveUpAt : ℕ → Option Held → List SgtCall → List SgtOutcome → Option Held → Type 0
 GaveUpAt at None calls outcomes new = ⊥
 GaveUpAt at (Some h) calls outcomes None = ⊥

@@ -6,7 +6,10 @@ use Rattle.sgt_model.specs.declared.event.Event.{Event}
 use Rattle.sgt_model.specs.declared.event.Event.TheVariants.{Step, Commit, Quit}
 use Rattle.sgt_model.specs.declared.reply.Reply.{Reply}
 use Rattle.sgt_model.specs.declared.reply.Reply.TheVariants as reply
+use Rattle.sgt_model.specs.declared.short_reply.ShortReply.{ShortReply}
+use Rattle.sgt_model.specs.declared.short_reply.ShortReply.TheVariants as bare
 use Rattle.sgt_model.specs.Fates.{is_start, live}
+use Rattle.sgt_model.specs.ShortReplies.{short_reply}
 use Rattle.sgt_engine.specs.EngineView.{EngineView, with_entry}
 use Rattle.sgt_c.specs.declared.held.Held.{Held}
 use Rattle.sgt_c.specs.declared.reply_struct.SgtReply.{SgtReply}
@@ -18,24 +21,24 @@ abbrev pub with_entries : List Entry → EngineView → EngineView
 with_entries entries e = record { opening = e.opening; procedures = e.procedures; limits = e.limits; past = entries ++ e.past }
 
 -- the reply to a step that made its access
-abbrev pub is_access : Reply → Bool
-is_access (reply.Looked k v) = true
-is_access (reply.Wrote k v) = true
+abbrev pub is_access : ShortReply → Bool
+is_access (bare.Looked k v) = true
+is_access (bare.Wrote k v) = true
 is_access _ = false
 
 -- the reply to a step that wrote
-abbrev pub is_write : Reply → Bool
-is_write (reply.Wrote k v) = true
+abbrev pub is_write : ShortReply → Bool
+is_write (bare.Wrote k v) = true
 is_write _ = false
 
 -- one of these entries is a write
 abbrev pub any_write : List Entry → Bool
 any_write [] = false
-any_write (e ∷ entries) = is_write e.reply || any_write entries
+any_write (e ∷ entries) = is_write (short_reply e.reply) || any_write entries
 
 -- the reply to a step whose procedure has ended
-abbrev pub is_end : Reply → Bool
-is_end reply.Ended = true
+abbrev pub is_end : ShortReply → Bool
+is_end bare.Ended = true
 is_end _ = false
 
 -- the entry is a step of the transaction
@@ -44,11 +47,11 @@ IsStep t e = e.event ≡ Step t
 
 -- a step that made its access
 abbrev pub IsAccess : ℕ → Entry → Type 0
-IsAccess t e = (e.event ≡ Step t) × (is_access e.reply ≡ true)
+IsAccess t e = (e.event ≡ Step t) × (is_access (short_reply e.reply) ≡ true)
 
 -- the transaction made accesses, writes among them or none, and then this reply answered a step that made none
 abbrev pub StepsOn : ℕ → Bool → Reply → EngineView → EngineView → Type 0
-StepsOn t wrote r e after = (steps : List Entry) × All (IsAccess t) steps × (is_access r ≡ false) × (wrote ≡ any_write steps)
+StepsOn t wrote r e after = (steps : List Entry) × All (IsAccess t) steps × (is_access (short_reply r) ≡ false) × (wrote ≡ any_write steps)
     × (after ≡ with_entry (Step t) r (with_entries steps e))
 
 -- if the procedure has ended, the last reply answers the commit; else it answers the last step
@@ -58,12 +61,23 @@ CommitsIf false t r last e after = (last ≡ r) × (after ≡ e)
 
 -- the transaction was stepped to its end, and committed if it reached it
 abbrev pub RunsOn : ℕ → Bool → Reply → EngineView → EngineView → Type 0
-RunsOn t wrote last e after = (r : Reply) × (stepped : EngineView) × StepsOn t wrote r e stepped × CommitsIf (is_end r) t r last stepped after
+RunsOn t wrote last e after = (r : Reply) × (stepped : EngineView) × StepsOn t wrote r e stepped × CommitsIf (is_end (short_reply r)) t r last stepped after
 
 -- the last reply refused the start, or a transaction was started and ran on to that reply
 abbrev pub Runs : Event → Option ℕ → Bool → Reply → EngineView → EngineView → Type 0
 Runs start None wrote last e after = (is_start last ≡ false) × (wrote ≡ false) × (after ≡ with_entry start last e)
 Runs start (Some t) wrote last e after = RunsOn t wrote last (with_entry start (reply.Started t) e) after
+
+-- the same with the last reply in short, of the steps, of these with the commit, and of the whole run
+
+abbrev pub StepsTo : ℕ → Bool → ShortReply → EngineView → EngineView → Type 0
+StepsTo t wrote short e after = (last : Reply) × (short_reply last ≡ short) × StepsOn t wrote last e after
+
+abbrev pub RunsOnTo : ℕ → Bool → ShortReply → EngineView → EngineView → Type 0
+RunsOnTo t wrote short e after = (last : Reply) × (short_reply last ≡ short) × RunsOn t wrote last e after
+
+abbrev pub RunsTo : Event → Option ℕ → Bool → ShortReply → EngineView → EngineView → Type 0
+RunsTo start started wrote short e after = (last : Reply) × (short_reply last ≡ short) × Runs start started wrote last e after
 
 -- the number is returned, if there is one
 abbrev pub IsNumberTold : Option ℕ → ℕ → Type 0

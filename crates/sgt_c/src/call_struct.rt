@@ -1,11 +1,11 @@
 //! The struct of a call for C: what ran, and its result.
-ghost use Rattle.std.specs.Prelude.{◌≡◌};
+ghost use Rattle.std.specs.Prelude.{◌≡◌, ◌≤◌, length};
 ghost use Rattle.sgt_model.specs.Replay.{GaveAnswers, AskedCode};
 ghost use Rattle.sgt_c.specs.ReplayedCalls.{call_in, called, ends_in, result_in};
 
 use crate::event_struct::write_args;
 use crate::reply_struct::write_answers;
-use sgt_model::{Answers, Args, Tid};
+use sgt_model::{Args, Tid};
 
 /// What a transaction was started with.
 #[derive(Drop)]
@@ -33,7 +33,8 @@ pub struct SgtCall {
 
 impl SgtCall {
     /// The call of a transaction that was committed with these answers.
-    pub fn committed(t: Tid, started: &Started, answers: &Answers) -> SgtCall
+    pub fn committed(t: Tid, started: &Started, answers: &[i64]) -> SgtCall
+        requires { length answers.now ≤ 8 }
         ensures ends { ends_in result ≡ (t, 13) }
         ensures call { call_in result ≡ called started.now }
         ensures told { result_in result ≡ GaveAnswers answers.now }

@@ -1,9 +1,9 @@
 //! Cutting the history.
-ghost use Rattle.std.specs.Prelude.{◌≡◌, ◌+◌, ◌≢◌, ◌≤◌, ◌↔◌, None, IfErr, IfSome, OnOk, OnErr, length};
+ghost use Rattle.std.specs.Prelude.{◌≡◌, ◌+◌, ◌≢◌, ◌≤◌, ◌↔◌, IfErr, IfSome, OnOk, OnErr, length};
 ghost use Rattle.sgt_model.specs.Fates.{live_ones};
 ghost use Rattle.sgt_engine.specs.Cuts.{NobodyLive};
 ghost use Rattle.sgt_c.specs.Cuts.{Cut, HasNoPart, IsCut, IsLastPart, IsSomeoneLive, IsTooEarly, TellsLive};
-ghost use Rattle.sgt_c.specs.Handles.{IsBusy};
+ghost use Rattle.sgt_c.specs.Handles.{IsBusy, IsClosed};
 
 use crate::handle::Handle;
 use crate::held::Held;
@@ -27,7 +27,7 @@ pub extern "C" fn sgt_cut(alloc: Global, engine: &mut Handle, live: &mut u64) ->
     ensures live { result ≡ 6 → TellsLive engine.old.slot.held live.new }
     ensures kept { result ≢ 6 → live.new ≡ live.old }
     ensures busy { (result ≡ 10) ↔ IsBusy engine.old.state }
-    ensures closed { (result ≡ 2) ↔ ((¬ IsBusy engine.old.state) × (engine.old.slot.held ≡ None)) }
+    ensures closed { (result ≡ 2) ↔ IsClosed engine.old.state engine.old.slot.held }
     ensures too_many { (result ≡ 9) ↔ IsLastPart engine.old.slot.held }
     ensures statuses { result ≢ 10 → result ≢ 6 → result ≢ 9 → result ≤ 2 }
     ensures leaves { IsBusy engine.new.state → IsBusy engine.old.state }
@@ -60,7 +60,7 @@ pub extern "C" fn sgt_cut(alloc: Global, engine: &mut Handle, live: &mut u64) ->
 pub extern "C" fn sgt_part(alloc: Global, engine: &mut Handle, part: &mut u64) -> u32
     ensures part { result ≡ 0 → IfSome engine.old.slot.held (λ h. part.new ≡ h.part) }
     ensures busy { (result ≡ 10) ↔ IsBusy engine.old.state }
-    ensures closed { (result ≡ 2) ↔ ((¬ IsBusy engine.old.state) × (engine.old.slot.held ≡ None)) }
+    ensures closed { (result ≡ 2) ↔ IsClosed engine.old.state engine.old.slot.held }
     ensures statuses { result ≢ 10 → result ≢ 0 → result ≡ 2 }
     ensures kept { result ≢ 0 → part.new ≡ part.old }
     ensures same { engine.new.slot.held ≡ engine.old.slot.held }

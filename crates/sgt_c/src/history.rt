@@ -1,13 +1,16 @@
 //! The history: its length, its entries, and memory reserved for more.
-ghost use Rattle.std.specs.Prelude.{◌≡◌, ◌≢◌, ◌≤◌, ◌↔◌, None, IfSome, length};
-ghost use Rattle.sgt_c.specs.Entries.{ReturnsEntry, HasNoEntry};
-ghost use Rattle.sgt_c.specs.Handles.{IsBusy};
+ghost use Rattle.std.specs.Prelude.{◌≡◌, ◌≢◌, ◌≤◌, ◌<◌, ◌↔◌, true, false, Some, IfSome, length, slice_get};
+ghost use Rattle.sgt_model.specs.declared.entry.Entry.{Entry};
+ghost use Rattle.sgt_model.specs.ShortReplies.{reply_with, short_reply};
+ghost use Rattle.sgt_c.specs.Entries.{HoldsEntry, ReturnsEntry, HasNoEntry};
+ghost use Rattle.sgt_c.specs.Handles.{IsBusy, IsClosed};
 
 use crate::event_struct::{SgtEvent, write_event};
 use crate::handle::Handle;
-use crate::reply_struct::{SgtReply, write_full_reply};
+use crate::reply_struct::{SgtReply, write_reply};
 use crate::status;
-use sgt_model::NoMemory;
+use sgt_log::{EntryRef, History};
+use sgt_model::{Answers, NoMemory, ReplyLists, Tid, Tids};
 use std::alloc::Global;
 
 /// The number of entries in the history: one for each event.
@@ -17,7 +20,7 @@ use std::alloc::Global;
 pub extern "C" fn sgt_entries(alloc: Global, engine: &mut Handle, count: &mut u64) -> u32
     ensures count { result ≡ 0 → IfSome engine.old.slot.held (λ h. count.new ≡ length h.engine.past) }
     ensures busy { (result ≡ 10) ↔ IsBusy engine.old.state }
-    ensures closed { (result ≡ 2) ↔ ((¬ IsBusy engine.old.state) × (engine.old.slot.held ≡ None)) }
+    ensures closed { (result ≡ 2) ↔ IsClosed engine.old.state engine.old.slot.held }
     ensures statuses { result ≢ 10 → result ≢ 0 → result ≡ 2 }
     ensures kept { result ≢ 0 → count.new ≡ count.old }
     ensures same { engine.new.slot.held ≡ engine.old.slot.held }
@@ -50,7 +53,7 @@ pub extern "C" fn sgt_entry(
     ensures returned { result ≡ 0 → ReturnsEntry engine.old.slot.held place event.new reply.new }
     ensures none { (result ≡ 4) ↔ HasNoEntry engine.old.slot.held place }
     ensures busy { (result ≡ 10) ↔ IsBusy engine.old.state }
-    ensures closed { (result ≡ 2) ↔ ((¬ IsBusy engine.old.state) × (engine.old.slot.held ≡ None)) }
+    ensures closed { (result ≡ 2) ↔ IsClosed engine.old.state engine.old.slot.held }
     ensures statuses { result ≢ 10 → result ≢ 0 → result ≢ 2 → result ≡ 4 }
     ensures event_unwritten { result ≢ 0 → event.new ≡ event.old }
     ensures unwritten { result ≢ 0 → reply.new ≡ reply.old }
@@ -64,15 +67,57 @@ pub extern "C" fn sgt_entry(
     let Some(held) = engine.take(alloc) else {
         return status::CLOSED;
     };
-    let entry = held.engine.history().get(place as usize);
+    let found = write_entry(held.engine.history(), place, event, reply);
     engine.put(held);
-    match entry {
+    if found { status::OK } else { status::NONE }
+}
+
+/// Writes the entry at a position, if there is one, and says whether there is.
+fn write_entry(history: &History, place: u64, event: &mut SgtEvent, reply: &mut SgtReply) -> bool
+    ensures found { result ≡ true → (e : Entry) × (slice_get history.now.entries place ≡ Some e) × HoldsEntry event.new reply.new e }
+    ensures none { result ≡ false → length history.now.entries ≤ place }
+    ensures there { result ≡ true → place < length history.now.entries }
+    ensures unwritten { result ≡ false → (event.new ≡ event.old) × (reply.new ≡ reply.old) }
+{
+    match history.get_entry(place as usize) {
         Some(entry) => {
-            write_event(event, &entry.event);
-            write_full_reply(reply, &entry.reply);
-            status::OK
+            write_event(event, &entry.event());
+            write_reply(reply, &entry.short(), &lists_of(&entry));
+            true
         }
-        None => status::NONE,
+        None => false,
+    }
+}
+
+/// The lists of an entry's reply.
+#[tactic(auto, using(crate::proofs::Replies::whole))]
+fn lists_of(entry: &EntryRef<'_>) -> ReplyLists
+    ensures { reply_with (short_reply entry.now.reply) result ≡ entry.now.reply }
+{
+    ReplyLists {
+        answers: answers_of(entry.answers()),
+        walk: tids_of(entry.walk()),
+        fell: tids_of(entry.fell()),
+    }
+}
+
+fn answers_of(items: &[i64]) -> Answers
+    requires { length items.now ≤ 8 }
+    ensures { result ≡ items.now }
+{
+    match Answers::from_slice(items) {
+        Some(answers) => answers,
+        None => unreachable!(),
+    }
+}
+
+fn tids_of(items: &[Tid]) -> Tids
+    requires { length items.now ≤ 32 }
+    ensures { result ≡ items.now }
+{
+    match Tids::from_slice(items) {
+        Some(tids) => tids,
+        None => unreachable!(),
     }
 }
 
@@ -83,7 +128,7 @@ pub extern "C" fn sgt_entry(
 #[unsafe(no_mangle)]
 pub extern "C" fn sgt_reserve(alloc: Global, engine: &mut Handle, entries: u64) -> u32
     ensures busy { (result ≡ 10) ↔ IsBusy engine.old.state }
-    ensures closed { (result ≡ 2) ↔ ((¬ IsBusy engine.old.state) × (engine.old.slot.held ≡ None)) }
+    ensures closed { (result ≡ 2) ↔ IsClosed engine.old.state engine.old.slot.held }
     ensures statuses { result ≢ 10 → result ≤ 2 }
     ensures same { engine.new.slot.held ≡ engine.old.slot.held }
     ensures leaves { IsBusy engine.new.state → IsBusy engine.old.state }

@@ -37,6 +37,7 @@ mod slot;
 mod asked;
 mod cutting;
 mod events;
+mod explanations;
 mod history;
 mod opening;
 mod opening_bare;

@@ -1,11 +1,12 @@
 //! The outcome of a run, for C.
 ghost use Rattle.std.specs.Prelude.{◌≡◌, cond};
+ghost use Rattle.sgt_model.specs.ShortReplies.{reply_with};
 ghost use Rattle.sgt_c.specs.ReplyStructs.{HoldsReply};
 ghost use Rattle.sgt_c.specs.Runs.{IsNumberTold};
 
-use crate::reply_struct::{SgtReply, write_full_reply};
+use crate::reply_struct::{SgtReply, write_reply};
 use crate::run::Outcome;
-use sgt_model::Tid;
+use sgt_model::{ReplyLists, Tid};
 
 /// The outcome of a run, for C: the number of its transaction, if one was started; 1 if one of its steps wrote, and else
 /// 0; and its last reply.
@@ -17,21 +18,15 @@ pub struct SgtOutcome {
     pub reply: SgtReply,
 }
 
-impl SgtOutcome {
-    /// The struct of an outcome.
-    pub fn of(outcome: &Outcome) -> SgtOutcome
-        ensures tid { IsNumberTold outcome.now.started result.tid }
-        ensures wrote { result.wrote ≡ cond outcome.now.wrote 1 0 }
-        ensures reply { HoldsReply result.reply outcome.now.last }
-    {
-        let mut reply = SgtReply::blank();
-        write_full_reply(&mut reply, &outcome.last);
-        SgtOutcome {
-            tid: number_or_0(outcome.started),
-            wrote: u32::from(outcome.wrote),
-            reply,
-        }
-    }
+/// Writes an outcome for C, with the lists of its last reply.
+pub fn write_outcome(into: &mut SgtOutcome, outcome: &Outcome, lists: &ReplyLists)
+    ensures tid { IsNumberTold outcome.now.started into.new.tid }
+    ensures wrote { into.new.wrote ≡ cond outcome.now.wrote 1 0 }
+    ensures reply { HoldsReply into.new.reply (reply_with outcome.now.last lists.now) }
+{
+    into.tid = number_or_0(outcome.started);
+    into.wrote = u32::from(outcome.wrote);
+    write_reply(&mut into.reply, &outcome.last, lists);
 }
 
 fn number_or_0(t: Option<Tid>) -> u32

@@ -1,7 +1,7 @@
 //! The texts of procedures.
-ghost use Rattle.std.specs.Prelude.{◌≡◌, ◌≢◌, ◌≤◌, ◌↔◌, None, IfOk, IfSome};
+ghost use Rattle.std.specs.Prelude.{◌≡◌, ◌≢◌, ◌≤◌, ◌↔◌, IfOk, IfSome};
 ghost use Rattle.sgt_format.specs.ProcedureLines.{SpellsProcedure};
-ghost use Rattle.sgt_c.specs.Handles.{IsBusy};
+ghost use Rattle.sgt_c.specs.Handles.{IsBusy, IsClosed};
 ghost use Rattle.sgt_c.specs.ProcedureTexts.{HasNoProcedure, ReturnsProcedure, SpellsAt};
 
 use crate::buffer_text::write_text;
@@ -30,7 +30,7 @@ pub extern "C" fn sgt_procedure_text(
 ) -> u32
     ensures returned { result ≡ 0 → ReturnsProcedure engine.old.slot.held number text.old text.new length.new }
     ensures busy { (result ≡ 10) ↔ IsBusy engine.old.state }
-    ensures closed { (result ≡ 2) ↔ ((¬ IsBusy engine.old.state) × (engine.old.slot.held ≡ None)) }
+    ensures closed { (result ≡ 2) ↔ IsClosed engine.old.state engine.old.slot.held }
     ensures none { (result ≡ 4) → HasNoProcedure engine.old.slot.held number }
     ensures statuses { result ≢ 10 → result ≢ 4 → result ≤ 2 }
     ensures unwritten { result ≢ 0 → (text.new ≡ text.old) × (length.new ≡ length.old) }

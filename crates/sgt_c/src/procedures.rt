@@ -1,7 +1,7 @@
 //! Adding procedures.
-ghost use Rattle.std.specs.Prelude.{◌≡◌, ◌≢◌, ◌<◌, ◌≤◌, ◌↔◌, None, IfErr, IfOk, OnErr};
+ghost use Rattle.std.specs.Prelude.{◌≡◌, ◌≢◌, ◌<◌, ◌≤◌, ◌↔◌, IfErr, IfOk, OnErr};
 ghost use Rattle.sgt_c.specs.Puts.{Added, HasBegun, HasNoNumber, IsAdded, IsRefusal, IsTextRefused};
-ghost use Rattle.sgt_c.specs.Handles.{IsBusy};
+ghost use Rattle.sgt_c.specs.Handles.{IsBusy, IsClosed};
 
 use crate::fault_struct::{SgtFault, write_fault};
 use crate::handle::Handle;
@@ -31,7 +31,7 @@ pub extern "C" fn sgt_procedure(
     ensures added { result ≡ 0 → Added engine.old.slot.held text.now engine.new.slot.held number.new }
     ensures unchanged { result ≢ 0 → engine.new.slot.held ≡ engine.old.slot.held }
     ensures busy { (result ≡ 10) ↔ IsBusy engine.old.state }
-    ensures closed { (result ≡ 2) ↔ ((¬ IsBusy engine.old.state) × (engine.old.slot.held ≡ None)) }
+    ensures closed { (result ≡ 2) ↔ IsClosed engine.old.state engine.old.slot.held }
     ensures begun { (result ≡ 7) ↔ HasBegun engine.old.slot.held }
     ensures too_many { (result ≡ 9) ↔ HasNoNumber engine.old.slot.held }
     ensures refused { 16 ≤ result → (result ≡ fault.new.kind) × IsTextRefused engine.old.slot.held text.now fault.new }

@@ -1,11 +1,11 @@
 //! Adding the caller's rows to the initial database.
-ghost use Rattle.std.specs.Prelude.{◌≡◌, ◌≢◌, ◌≤◌, ◌↔◌, [], Err, None, IfErr, IfOk, OnOk, OnErr, map};
+ghost use Rattle.std.specs.Prelude.{◌≡◌, ◌≢◌, ◌≤◌, ◌↔◌, [], Err, IfErr, IfOk, OnOk, OnErr, map};
 ghost use Rattle.std.specs.List.{All};
 ghost use Rattle.sgt_model.specs.Databases.{HasValues};
 ghost use Rattle.sgt_engine.specs.Puts.{AreRefused, PutsRows};
 ghost use Rattle.sgt_c.specs.Puts.{HasBegun, IsFirstBad, IsTakenIn, Put};
 ghost use Rattle.sgt_c.specs.Rows.{IsRow, row_of};
-ghost use Rattle.sgt_c.specs.Handles.{IsBusy};
+ghost use Rattle.sgt_c.specs.Handles.{IsBusy, IsClosed};
 
 use crate::handle::Handle;
 use crate::held::Held;
@@ -32,7 +32,7 @@ pub extern "C" fn sgt_put(alloc: Global, engine: &mut Handle, rows: &[SgtRow], a
     ensures bad_call { (result ≡ 5) ↔ (¬ All IsRow rows.now) }
     ensures bad_row { result ≡ 5 → IsFirstBad rows.now at.new }
     ensures busy { (result ≡ 10) ↔ (All IsRow rows.now × IsBusy engine.old.state) }
-    ensures closed { (result ≡ 2) ↔ (All IsRow rows.now × ((¬ IsBusy engine.old.state) × (engine.old.slot.held ≡ None))) }
+    ensures closed { (result ≡ 2) ↔ (All IsRow rows.now × IsClosed engine.old.state engine.old.slot.held) }
     ensures begun { (result ≡ 7) ↔ (All IsRow rows.now × HasBegun engine.old.slot.held) }
     ensures taken { result ≡ 8 → IsTakenIn engine.old.slot.held rows.now at.new }
     ensures kept { result ≢ 5 → result ≢ 8 → at.new ≡ at.old }

@@ -1,18 +1,18 @@
 //! The calls of the committed and refused transactions, in the order of their replies.
-ghost use Rattle.std.specs.Prelude.{◌≡◌, ◌≢◌, ◌≤◌, ◌<◌, ◌↔◌, None, IsNone, IfSome, IfNone, ◌++◌, drop, length, take};
+ghost use Rattle.std.specs.Prelude.{◌≡◌, ◌≢◌, ◌≤◌, ◌<◌, ◌↔◌, IsNone, IfSome, IfNone, ◌++◌, drop, length, take};
 ghost use Rattle.std.specs.Option.{option_map};
 ghost use Rattle.sgt_model.specs.Fates.{subject};
 ghost use Rattle.sgt_model.specs.Progress.{call_in as started_in, call_of};
 ghost use Rattle.sgt_model.specs.Replay.{told_call_in, told_in};
 ghost use Rattle.sgt_c.specs.Entries.{HasNoPlace};
 ghost use Rattle.sgt_c.specs.ReplayedCalls.{ArePassed, IsToldAt, ReturnsCalls, call_in, called, ends_by, ends_in, listed, past_at, result_in};
-ghost use Rattle.sgt_c.specs.Handles.{IsBusy};
+ghost use Rattle.sgt_c.specs.Handles.{IsBusy, IsClosed};
 
 use crate::call_struct::{SgtCall, Started};
 use crate::handle::Handle;
 use crate::status;
 use sgt_log::{EntryRef, History};
-use sgt_model::{Args, Event, Reply, Tid};
+use sgt_model::{Args, Event, ShortReply, Tid};
 use std::alloc::Global;
 
 /// The calls of the committed and refused transactions from a position of the history on, in the order of their
@@ -38,7 +38,7 @@ pub extern "C" fn sgt_calls(
     ensures room { length calls.new ≡ length calls.old }
     ensures none { (result ≡ 4) ↔ HasNoPlace engine.old.slot.held from }
     ensures busy { (result ≡ 10) ↔ IsBusy engine.old.state }
-    ensures closed { (result ≡ 2) ↔ ((¬ IsBusy engine.old.state) × (engine.old.slot.held ≡ None)) }
+    ensures closed { (result ≡ 2) ↔ IsClosed engine.old.state engine.old.slot.held }
     ensures statuses { result ≢ 10 → result ≢ 0 → result ≢ 2 → result ≡ 4 }
     ensures unwritten { result ≢ 0 → calls.new ≡ calls.old }
     ensures kept { result ≢ 0 → (count.new ≡ count.old) × (next.new ≡ next.old) }
@@ -128,6 +128,7 @@ fn told_at(history: &History, place: usize) -> Option<SgtCall>
 }
 
 /// The call of the transaction that an entry commits or refuses, if any. The entry follows those before a position.
+#[tactic(auto, using(crate::proofs::Replies::whole))]
 fn told_by(history: &History, place: usize, entry: &EntryRef<'_>) -> Option<SgtCall>
     requires { place ≤ length history.now.entries }
     ensures calls { told_call_in (past_at history.now.entries place) entry.now.event entry.now.reply ≡ listed call_in result }
@@ -135,12 +136,12 @@ fn told_by(history: &History, place: usize, entry: &EntryRef<'_>) -> Option<SgtC
     ensures ends { ends_by entry.now.event entry.now.reply ≡ listed ends_in result }
 {
     let t = subject(entry);
-    match entry.reply() {
-        Reply::Committed(answers) => {
+    match entry.short() {
+        ShortReply::Committed => {
             let started = started(history, place, t);
-            Some(SgtCall::committed(t, &started, &answers))
+            Some(SgtCall::committed(t, &started, entry.answers()))
         }
-        Reply::Refused { code, .. } => {
+        ShortReply::Refused(code) => {
             let started = started(history, place, t);
             Some(SgtCall::refused(t, &started, code))
         }

@@ -1,10 +1,10 @@
 //! The struct of a reply for C, and how it is written.
-ghost use Rattle.std.specs.Prelude.{◌≡◌, take};
+ghost use Rattle.std.specs.Prelude.{◌≡◌, ◌≤◌, length, take};
 ghost use Rattle.sgt_model.specs.declared.reply.Reply.TheVariants as reply;
 ghost use Rattle.sgt_model.specs.ShortReplies.{full_cause, full_fate, reply_with};
 ghost use Rattle.sgt_c.specs.ReplyStructs.{HoldsReply, HoldsCause};
 
-use sgt_model::{Answers, Key, Reply, ReplyLists, ShortCause, ShortFate, ShortReply, Tids};
+use sgt_model::{Answers, Key, ReplyLists, ShortCause, ShortFate, ShortReply, Tids};
 
 /// The reply to an event, for C. `kind` says which of the other fields belong to it.
 #[repr(C)]
@@ -59,8 +59,8 @@ impl SgtReply {
 }
 
 /// Writes a reply for C, with its lists.
-pub fn write_reply(into: &mut SgtReply, reply: ShortReply, lists: &ReplyLists)
-    ensures { HoldsReply into.new (reply_with reply lists.now) }
+pub fn write_reply(into: &mut SgtReply, reply: &ShortReply, lists: &ReplyLists)
+    ensures { HoldsReply into.new (reply_with reply.now lists.now) }
 {
     match reply {
         ShortReply::Started(t) => write_tid(into, 1, t.0),
@@ -69,37 +69,19 @@ pub fn write_reply(into: &mut SgtReply, reply: ShortReply, lists: &ReplyLists)
         ShortReply::Spent => into.kind = 4,
         ShortReply::Full => into.kind = 5,
         ShortReply::Unknown => into.kind = 6,
-        ShortReply::Over(fate) => write_over(into, fate, &lists.walk),
-        ShortReply::Looked { key, value } => write_looked(into, key, value),
+        ShortReply::Over(fate) => write_over(into, *fate, &lists.walk),
+        ShortReply::Looked { key, value } => write_looked(into, *key, *value),
         ShortReply::Wrote { key, value } => {
             into.kind = 9;
-            write_record(into, key, value);
+            write_record(into, *key, *value);
         }
         ShortReply::Ended => into.kind = 10,
         ShortReply::NotEnded => into.kind = 11,
         ShortReply::Waits(first) => write_tid(into, 12, first.0),
-        ShortReply::Committed => {
-            into.kind = 13;
-            into.answers = write_answers(&mut into.answer, &lists.answers);
-        }
-        ShortReply::Aborted(cause) => {
-            into.kind = 14;
-            write_cause(into, cause, &lists.walk);
-            into.fallen = write_tids(&mut into.fell, &lists.fell);
-        }
-        ShortReply::Refused(code) => {
-            into.kind = 15;
-            into.code = code as u32;
-            into.fallen = write_tids(&mut into.fell, &lists.fell);
-        }
+        ShortReply::Committed => write_committed(into, &lists.answers),
+        ShortReply::Aborted(cause) => write_aborted(into, *cause, lists),
+        ShortReply::Refused(code) => write_refused(into, *code, &lists.fell),
     }
-}
-
-/// Writes a reply for C.
-pub fn write_full_reply(into: &mut SgtReply, reply: &Reply)
-    ensures { HoldsReply into.new reply.now }
-{
-    write_reply(into, reply.in_short(), &reply.lists());
 }
 
 fn write_tid(into: &mut SgtReply, kind: u32, t: u32)
@@ -138,6 +120,34 @@ fn write_looked(into: &mut SgtReply, key: Key, value: Option<i64>)
     }
 }
 
+#[inline(never)]
+fn write_committed(into: &mut SgtReply, answers: &Answers)
+    ensures { HoldsReply into.new (reply.Committed answers.now) }
+{
+    let _few = answers.len();
+    into.kind = 13;
+    into.answers = write_answers(&mut into.answer, answers.as_slice());
+}
+
+#[inline(never)]
+fn write_aborted(into: &mut SgtReply, cause: ShortCause, lists: &ReplyLists)
+    ensures { HoldsReply into.new (reply.Aborted (full_cause cause lists.now.walk) lists.now.fell) }
+{
+    into.kind = 14;
+    write_cause(into, cause, &lists.walk);
+    into.fallen = write_tids(&mut into.fell, &lists.fell);
+}
+
+#[inline(never)]
+fn write_refused(into: &mut SgtReply, code: u16, fell: &Tids)
+    ensures { HoldsReply into.new (reply.Refused code fell.now) }
+{
+    into.kind = 15;
+    into.code = code as u32;
+    into.fallen = write_tids(&mut into.fell, fell);
+}
+
+#[inline(never)]
 fn write_over(into: &mut SgtReply, fate: ShortFate, walk: &Tids)
     ensures { HoldsReply into.new (reply.Over (full_fate fate walk.now)) }
 {
@@ -170,11 +180,12 @@ fn write_cause(into: &mut SgtReply, cause: ShortCause, walk: &Tids)
 }
 
 /// Writes answers, and returns how many there are.
-pub fn write_answers(to: &mut [i64; 8], answers: &Answers) -> u32
+pub fn write_answers(to: &mut [i64; 8], answers: &[i64]) -> u32
+    requires { length answers.now ≤ 8 }
     ensures { take result to.new ≡ answers.now }
 {
     let count = answers.len();
-    to[..count].copy_from_slice(answers.as_slice());
+    to[..count].copy_from_slice(answers);
     count as u32
 }
 

@@ -1,8 +1,8 @@
 //! The committed database, row by row.
-ghost use Rattle.std.specs.Prelude.{◌≡◌, ◌≢◌, ◌≤◌, ◌↔◌, None, length, drop};
+ghost use Rattle.std.specs.Prelude.{◌≡◌, ◌≢◌, ◌≤◌, ◌↔◌, length, drop};
 ghost use Rattle.sgt_model.specs.Numbers.{IsValue};
 ghost use Rattle.sgt_c.specs.Rows.{CountsRows, HoldRows, ReturnsRows, row_of, rows_from};
-ghost use Rattle.sgt_c.specs.Handles.{IsBusy};
+ghost use Rattle.sgt_c.specs.Handles.{IsBusy, IsClosed};
 
 use crate::asked::keyed;
 use crate::handle::Handle;
@@ -31,7 +31,7 @@ pub extern "C" fn sgt_rows(
     ensures room { length rows.new ≡ length rows.old }
     ensures bad_call { (result ≡ 5) ↔ (¬ ((table ≤ 7) × IsValue number)) }
     ensures busy { (result ≡ 10) ↔ (((table ≤ 7) × IsValue number) × IsBusy engine.old.state) }
-    ensures closed { (result ≡ 2) ↔ (((table ≤ 7) × IsValue number) × ((¬ IsBusy engine.old.state) × (engine.old.slot.held ≡ None))) }
+    ensures closed { (result ≡ 2) ↔ (((table ≤ 7) × IsValue number) × IsClosed engine.old.state engine.old.slot.held) }
     ensures statuses { result ≢ 10 → result ≢ 5 → result ≤ 2 }
     ensures unwritten { result ≢ 0 → (rows.new ≡ rows.old) × (count.new ≡ count.old) }
     ensures same { engine.new.slot.held ≡ engine.old.slot.held }
@@ -67,7 +67,7 @@ pub extern "C" fn sgt_rows(
 pub extern "C" fn sgt_records(alloc: Global, engine: &mut Handle, count: &mut u64) -> u32
     ensures counted { result ≡ 0 → CountsRows engine.old.slot.held count.new }
     ensures busy { (result ≡ 10) ↔ IsBusy engine.old.state }
-    ensures closed { (result ≡ 2) ↔ ((¬ IsBusy engine.old.state) × (engine.old.slot.held ≡ None)) }
+    ensures closed { (result ≡ 2) ↔ IsClosed engine.old.state engine.old.slot.held }
     ensures statuses { result ≢ 10 → result ≤ 2 }
     ensures kept { result ≢ 0 → count.new ≡ count.old }
     ensures same { engine.new.slot.held ≡ engine.old.slot.held }

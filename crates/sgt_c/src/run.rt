@@ -1,19 +1,20 @@
 //! A transaction that one call runs from its start to its end.
-ghost use Rattle.std.specs.Prelude.{◌≡◌, ◌≢◌, ◌≤◌, ◌↔◌, ℕ, true, None, Option, IfOk, OnErr};
+ghost use Rattle.std.specs.Prelude.{◌≡◌, ◌≢◌, ◌≤◌, ◌↔◌, ℕ, true, Some, Option, IfOk, OnOk, OnErr};
 ghost use Rattle.sgt_model.specs.declared.event.Event.TheVariants.{Start, Quit};
 ghost use Rattle.sgt_model.specs.declared.reply.Reply.{Reply};
 ghost use Rattle.sgt_model.specs.Fates.{live};
 ghost use Rattle.sgt_engine.specs.EngineView.{with_entry};
 ghost use Rattle.sgt_c.specs.Asked.{IsCall};
-ghost use Rattle.sgt_c.specs.Runs.{Ran, GaveUp, Runs, GivesUp, RunsOn, StepsOn, StopsLive, is_access, is_end, is_write};
-ghost use Rattle.sgt_c.specs.Handles.{IsBusy};
+ghost use Rattle.sgt_c.specs.Runs.{Ran, GaveUp, RunsTo, GivesUp, RunsOnTo, StepsTo, StopsLive, is_access, is_end, is_write};
+ghost use Rattle.sgt_c.specs.Handles.{IsBusy, IsClosed};
 
 use crate::asked::call;
 use crate::handle::Handle;
-use crate::reply_struct::{SgtReply, write_full_reply};
+use crate::held::Held;
+use crate::reply_struct::{SgtReply, write_reply};
 use crate::status;
 use sgt_assembly::SgtEngine;
-use sgt_model::{Args, Event, NoMemory, Reply, Tid};
+use sgt_model::{Args, Event, NoMemory, ShortReply, Tid};
 use std::alloc::Global;
 
 /// Runs a procedure from its start to its commit, for a caller whose transactions need not run concurrently. The last
@@ -40,7 +41,7 @@ pub extern "C" fn sgt_run(
     ensures unwritten { result ≢ 0 → (tid.new ≡ tid.old) × (reply.new ≡ reply.old) }
     ensures bad_call { (result ≡ 5) ↔ (¬ IsCall procedure args.now) }
     ensures busy { (result ≡ 10) ↔ (IsCall procedure args.now × IsBusy engine.old.state) }
-    ensures closed { (result ≡ 2) ↔ (IsCall procedure args.now × ((¬ IsBusy engine.old.state) × (engine.old.slot.held ≡ None))) }
+    ensures closed { (result ≡ 2) ↔ (IsCall procedure args.now × IsClosed engine.old.state engine.old.slot.held) }
     ensures statuses { result ≢ 10 → result ≢ 5 → result ≤ 2 }
     ensures leaves { IsBusy engine.new.state → IsBusy engine.old.state }
     ensures stays { IsBusy engine.old.state → engine.new.state ≡ engine.old.state }
@@ -54,45 +55,66 @@ pub extern "C" fn sgt_run(
     let Some(mut held) = engine.take(alloc) else {
         return status::CLOSED;
     };
-    let ran = run(&mut held.engine, procedure, args);
-    let _ = held.engine.history();
+    let ran = run_in(&mut held, procedure, args, tid, reply);
     engine.put(held);
     match ran {
-        Ok(Outcome { started, last, .. }) => {
-            if let Some(t) = started {
-                *tid = t.0;
-            }
-            write_full_reply(reply, &last);
-            status::OK
-        }
+        Ok(()) => status::OK,
         Err(NoMemory) => status::NO_MEMORY,
     }
 }
 
+/// Runs a procedure from its start to its commit, and writes the number and the last reply.
+fn run_in(
+    held: &mut Held,
+    procedure: u16,
+    args: Args,
+    tid: &mut u32,
+    reply: &mut SgtReply,
+) -> Result<(), NoMemory>
+    ensures ran { OnOk result
+        (Ran (Start procedure args) (Some held.old) (Some held.new) tid.new reply.new) }
+    ensures gave_up { OnErr result (GaveUp (Start procedure args) (Some held.old) (Some held.new)) }
+    ensures unwritten { OnErr result ((tid.new ≡ tid.old) × (reply.new ≡ reply.old)) }
+{
+    let ran = run(&mut held.engine, procedure, args);
+    // The headline holds of the history that this call borrows.
+    let _ = held.engine.history();
+    match &ran {
+        Ok(outcome) => {
+            if let Some(t) = outcome.started {
+                *tid = t.0;
+            }
+            write_reply(reply, &outcome.last, held.engine.reply_lists());
+            Ok(())
+        }
+        Err(NoMemory) => Err(NoMemory),
+    }
+}
+
 /// The outcome of a run: the number of its transaction, if one was started, whether one of its steps wrote, and the last
-/// reply.
-#[derive(Drop)]
+/// reply, whose lists the engine lends.
+#[derive(Clone, Copy)]
 pub struct Outcome {
     pub started: Option<Tid>,
     pub wrote: bool,
-    pub last: Reply,
+    pub last: ShortReply,
 }
 
 /// The steps of a transaction: whether one of them wrote, and the last reply.
-#[derive(Drop)]
+#[derive(Clone, Copy)]
 pub struct Steps {
     pub wrote: bool,
-    pub last: Reply,
+    pub last: ShortReply,
 }
 
 /// Runs a procedure from its start to its commit. If an allocation fails after the start, the transaction is aborted.
 pub fn run(engine: &mut SgtEngine, procedure: u16, args: Args) -> Result<Outcome, NoMemory>
-    ensures ran { IfOk result (λ r. Runs (Start procedure args) r.started r.wrote r.last engine.old engine.new) }
+    ensures ran { IfOk result (λ r. RunsTo (Start procedure args) r.started r.wrote r.last engine.old engine.new) }
     ensures gave_up { OnErr result
         ((started : Option ℕ) × GivesUp (Start procedure args) started engine.old engine.new) }
 {
-    match engine.apply(Event::Start { procedure, args })? {
-        Reply::Started(t) => match run_on(engine, t) {
+    match engine.answer(&Event::Start { procedure, args })? {
+        ShortReply::Started(t) => match run_on(engine, t) {
             Ok(Steps { wrote, last }) => Ok(Outcome {
                 started: Some(t),
                 wrote,
@@ -114,14 +136,14 @@ pub fn run(engine: &mut SgtEngine, procedure: u16, args: Args) -> Result<Outcome
 /// Steps a live transaction to its end, and commits it if it reaches it. The last reply is returned.
 fn run_on(engine: &mut SgtEngine, t: Tid) -> Result<Steps, NoMemory>
     requires { live engine.old.past t ≡ true }
-    ensures ran { IfOk result (λ s. RunsOn t s.wrote s.last engine.old engine.new) }
+    ensures ran { IfOk result (λ s. RunsOnTo t s.wrote s.last engine.old engine.new) }
     ensures stopped { OnErr result (StopsLive t engine.old engine.new) }
 {
     let steps = step_on(engine, t)?;
     if !is_end(&steps.last) {
         return Ok(steps);
     }
-    let last = engine.apply(Event::Commit(t))?;
+    let last = engine.answer(&Event::Commit(t))?;
     Ok(Steps {
         wrote: steps.wrote,
         last,
@@ -131,13 +153,14 @@ fn run_on(engine: &mut SgtEngine, t: Tid) -> Result<Steps, NoMemory>
 /// Steps a live transaction until a step makes no access. The last reply is that to this step.
 fn step_on(engine: &mut SgtEngine, t: Tid) -> Result<Steps, NoMemory>
     requires { live engine.old.past t ≡ true }
-    ensures stepped { IfOk result (λ s. StepsOn t s.wrote s.last engine.old engine.new) }
+    ensures stepped { IfOk result (λ s. StepsTo t s.wrote s.last engine.old engine.new) }
     ensures at_end { IfOk result (λ s. is_end s.last ≡ true → live engine.new.past t ≡ true) }
     ensures stopped { OnErr result (StopsLive t engine.old engine.new) }
 {
+    let step = Event::Step(t);
     let mut wrote = false;
     for _ in 0..u64::MAX {
-        let last = engine.apply(Event::Step(t))?;
+        let last = engine.answer(&step)?;
         if !is_access(&last) {
             return Ok(Steps { wrote, last });
         }
@@ -158,20 +181,20 @@ fn quit(engine: &mut SgtEngine, t: Tid)
     }
 }
 
-fn is_access(reply: &Reply) -> bool
+fn is_access(reply: &ShortReply) -> bool
     ensures { result ≡ is_access reply.now }
 {
-    matches!(reply, Reply::Looked { .. } | Reply::Wrote { .. })
+    matches!(reply, ShortReply::Looked { .. } | ShortReply::Wrote { .. })
 }
 
-fn is_write(reply: &Reply) -> bool
+fn is_write(reply: &ShortReply) -> bool
     ensures { result ≡ is_write reply.now }
 {
-    matches!(reply, Reply::Wrote { .. })
+    matches!(reply, ShortReply::Wrote { .. })
 }
 
-fn is_end(reply: &Reply) -> bool
+fn is_end(reply: &ShortReply) -> bool
     ensures { result ≡ is_end reply.now }
 {
-    matches!(reply, Reply::Ended)
+    matches!(reply, ShortReply::Ended)
 }

@@ -1,14 +1,14 @@
 //! Many transactions, run one after another by one call.
-ghost use Rattle.std.specs.Prelude.{◌≡◌, ◌≢◌, ◌≤◌, ◌↔◌, ℕ, None, Option, IsTrue, IfOk, OnOk, IfErr, OnErr, drop, length};
+ghost use Rattle.std.specs.Prelude.{◌≡◌, ◌≢◌, ◌≤◌, ◌↔◌, ℕ, Option, IsTrue, OnOk, IfErr, OnErr, drop, length};
 ghost use Rattle.std.specs.List.{All};
 ghost use Rattle.sgt_model.specs.declared.event.Event.TheVariants.{Start};
 ghost use Rattle.sgt_c.specs.ManyRuns.{GaveUpAt, IsAsked, RanAll, RanMany, RanOne, StoppedAt, args_in};
 ghost use Rattle.sgt_c.specs.Runs.{GivesUp};
-ghost use Rattle.sgt_c.specs.Handles.{IsBusy};
+ghost use Rattle.sgt_c.specs.Handles.{IsBusy, IsClosed};
 
 use crate::call_struct::SgtCall;
 use crate::handle::Handle;
-use crate::outcome_struct::SgtOutcome;
+use crate::outcome_struct::{SgtOutcome, write_outcome};
 use crate::run::run;
 use crate::status;
 use sgt_assembly::SgtEngine;
@@ -43,7 +43,7 @@ pub extern "C" fn sgt_run_many(
     ensures busy { (result ≡ 10) ↔ ((All IsAsked calls.now × (length calls.now ≤ length outcomes.old))
         × IsBusy engine.old.state) }
     ensures closed { (result ≡ 2) ↔ ((All IsAsked calls.now × (length calls.now ≤ length outcomes.old))
-        × ((¬ IsBusy engine.old.state) × (engine.old.slot.held ≡ None))) }
+        × IsClosed engine.old.state engine.old.slot.held) }
     ensures statuses { result ≢ 10 → result ≢ 5 → result ≤ 2 }
     ensures leaves { IsBusy engine.new.state → IsBusy engine.old.state }
     ensures stays { IsBusy engine.old.state → engine.new.state ≡ engine.old.state }
@@ -105,23 +105,29 @@ fn run_each(
     ensures room { length outcomes.new ≡ length outcomes.old }
 {
     for (index, call) in calls.iter().enumerate() {
-        match run_one(engine, call) {
-            Ok(outcome) => outcomes[index] = outcome,
+        match run_one(engine, call, &mut outcomes[index]) {
+            Ok(()) => (),
             Err(NoMemory) => return Err(index),
         }
     }
     Ok(())
 }
 
-/// Runs a call, and returns its outcome for C.
-fn run_one(engine: &mut SgtEngine, call: &SgtCall) -> Result<SgtOutcome, NoMemory>
+/// Runs a call, and writes its outcome for C.
+fn run_one(engine: &mut SgtEngine, call: &SgtCall, into: &mut SgtOutcome) -> Result<(), NoMemory>
     requires { IsAsked call.now }
-    ensures ran { IfOk result (λ outcome. RanOne call.now outcome engine.old engine.new) }
+    ensures ran { OnOk result (RanOne call.now into.new engine.old engine.new) }
     ensures gave_up { OnErr result ((started : Option ℕ)
         × GivesUp (Start call.now.procedure (args_in call.now)) started engine.old engine.new) }
+    ensures unwritten { OnErr result (into.new ≡ into.old) }
 {
-    let outcome = run(engine, call.procedure as u16, args(call))?;
-    Ok(SgtOutcome::of(&outcome))
+    match &run(engine, call.procedure as u16, args(call)) {
+        Ok(outcome) => {
+            write_outcome(into, outcome, engine.reply_lists());
+            Ok(())
+        }
+        Err(NoMemory) => Err(NoMemory),
+    }
 }
 
 /// The arguments of a call.

@@ -1,3 +1,9 @@
+pub mod Cuts
+pub mod Faulty
+pub mod ReadTo
 pub mod RealTime
+pub mod Scans
 pub mod Spelled
+pub mod Stored
+pub mod Texts
 pub mod Verdicts

@@ -1,5 +1,5 @@
 -- What is spelled stays spelled with more keys, and with one tree more.
-use Rattle.std.proofs.Common.{◌≡◌, ◌<◌, ◌≤◌, ◌∙◌, ℕ, zero, suc, Bool, List, [], ◌∷◌, ◌++◌, length, get_or, Option, Some, None, refl, sym, ap, subst, arith, take, ◌+◌, append_assoc, append-nil}
+use Rattle.std.proofs.Common.{◌≡◌, ◌<◌, ◌≤◌, ◌∙◌, ℕ, zero, suc, Bool, List, [], ◌∷◌, ◌++◌, length, get_or, Option, Some, None, refl, sym, ap, subst, inl, inr, arith, take, ◌+◌, append_assoc, append-nil}
 use Rattle.std.specs.Prelude.{map, slice_get}
 use Rattle.serde_json.specs.Data.{Data}
 use Rattle.serde_json.specs.View.{view}
@@ -8,7 +8,9 @@ use Rattle.std.proofs.lemmas.List.{map_more}
 use Rattle.sgt_notation.proofs.Gets.{get_before}
 use Rattle.sgt_appends.specs.declared.transaction.Operation.{Operation}
 use Rattle.sgt_appends.specs.declared.transaction.Operation.TheVariants.{Append, Read}
-use Rattle.sgt_clients.specs.Entries.{Names, SpellsAs, SpellsOperation, SpellsOrNone, counted, SpellAll}
+use Rattle.sgt_clients.specs.declared.entry.Kind.{Kind}
+use Rattle.sgt_clients.specs.declared.entry.Entry.{Entry}
+use Rattle.sgt_clients.specs.Entries.{Names, SpellsAs, SpellsOperation, SpellsOrNone, counted, SpellAll, commits, HasOperations, SpellsEntryOrOther}
 
 pub names_more : (keys more : List (List ℕ)) (tree : Data) (k : ℕ) → Names keys tree k → Names (keys ++ more) tree k
 names_more keys more tree k it = (it.0, it.1, get_before keys more k it.0 it.2)
@@ -57,3 +59,20 @@ spelled_one committed old more new items i v os grown o less is longer before on
     subst (λ l. SpellAll committed new (map view (take (i + 1) items)) l) (sym grown_is)
     (subst (λ ts. SpellAll committed new ts (os ++ counted committed o)) (sym trees)
     (all_one committed new (map view (take i items)) (view v) os o kept one))
+
+operations_more : (kind : Kind) (keys more : List (List ℕ)) (tree : Data) (os : List Operation) → HasOperations kind keys tree os
+    → HasOperations kind (keys ++ more) tree os
+operations_more kind keys more tree os it = elim it [
+  | inl w ↦ inl (w.0, w.1, w.2, w.3, all_more (commits kind) keys more w.1 os w.4)
+  | inr w ↦ inr w
+]
+
+pub entry_more : (keys more : List (List ℕ)) (tree : Data) (e : Option Entry) → SpellsEntryOrOther keys tree e
+    → SpellsEntryOrOther (keys ++ more) tree e
+entry_more keys more tree None it = it
+entry_more keys more tree (Some e) it = record {
+  process = it.process;
+  kind = it.kind;
+  function = it.function;
+  operations = operations_more e.kind keys more tree e.operations.items it.operations;
+}

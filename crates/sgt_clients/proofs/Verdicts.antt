@@ -3,8 +3,8 @@ use Rattle.std.proofs.Common.{Bool, refl}
 use Rattle.sgt_clients.specs.declared.clients.Clients.{Clients}
 use Rattle.sgt_clients.specs.declared.finding.Finding.{Finding}
 use Rattle.sgt_clients.specs.declared.finding.Finding.TheVariants.{Serial, Cycle, Fault}
-use Rattle.sgt_clients.specs.Findings.{IsFound}
-use Rattle.sgt_clients.specs.Checks.{IsVerdict, is_order}
+use Rattle.sgt_clients.specs.Findings.{IsFound, is_order}
+use Rattle.sgt_clients.specs.Checks.{IsVerdict}
 
 pub verdict_of : (strict : Bool) (clients : Clients) (f : Finding) → IsFound strict clients.transactions.items clients.spans.items f
     → IsVerdict strict clients (is_order f)

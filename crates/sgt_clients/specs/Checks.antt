@@ -1,16 +1,40 @@
--- The verdict of a check on what clients saw.
-use Rattle.std.specs.Prelude.{◌≡◌, ◌↔◌, Bool, true, false}
+-- What a check on what clients saw writes for each output, and how it ends.
+use Rattle.std.specs.Prelude.{◌≡◌, ◌<◌, ◌↔◌, ℕ, Bool, true, List, length, ⊤}
+use Rattle.sgt_check.specs.declared.fault.CheckFault.{CheckFault}
+use Rattle.sgt_check.specs.declared.fault.CheckFault.TheVariants as check_fault
 use Rattle.sgt_clients.specs.declared.clients.Clients.{Clients}
+use Rattle.sgt_clients.specs.declared.fault.ClientsFault.{ClientsFault}
+use Rattle.sgt_clients.specs.declared.fault.ClientsFault.TheVariants as fault
 use Rattle.sgt_clients.specs.declared.finding.Finding.{Finding}
-use Rattle.sgt_clients.specs.declared.finding.Finding.TheVariants.{Serial, Cycle, Fault}
-use Rattle.sgt_clients.specs.Findings.{HasOrder}
+use Rattle.sgt_clients.specs.declared.run.ClientsOutput.{ClientsOutput}
+use Rattle.sgt_clients.specs.declared.run.ClientsOutput.TheVariants as output
+use Rattle.sgt_clients.specs.Findings.{HasOrder, IsFound}
+use Rattle.sgt_clients.specs.GraphText.{graph_text}
+use Rattle.sgt_clients.specs.Inputs.{AreClients}
+use Rattle.sgt_clients.specs.ReportText.{report_text}
 
--- whether what the clients saw is serializable, or strictly serializable
+-- the text of the report and of the graph; nothing is claimed of the others
+abbrev pub IsOutput : ClientsOutput → Bool → Clients → Finding → List ℕ → Type 0
+IsOutput output.Report strict c f text = text ≡ report_text strict c f
+IsOutput output.Json strict c f text = ⊤
+IsOutput output.Graph strict c f text = text ≡ graph_text c f
+IsOutput output.Timeline strict c f text = ⊤
+
+-- the verdict: whether what the clients saw is serializable, or strictly serializable
 abbrev pub IsVerdict : Bool → Clients → Bool → Type 0
 IsVerdict strict clients sound = (sound ≡ true) ↔ HasOrder strict clients.transactions.items clients.spans.items
 
--- whether it is an order
-abbrev pub is_order : Finding → Bool
-is_order (Serial order) = true
-is_order (Cycle steps name) = false
-is_order (Fault reader read fault name) = false
+-- What a check guarantees for each output. It writes the text of that output for what the clients of the input saw, and
+-- returns the verdict on that.
+pub record IsChecked (strict : Bool) (output : ClientsOutput) (input written : List ℕ) (sound : Bool) : Type 0 where
+  pub clients : Clients
+  pub finding : Finding
+  pub read : AreClients input clients
+  pub found : IsFound strict clients.transactions.items clients.spans.items finding
+  pub text : IsOutput output strict clients finding written
+  pub verdict : IsVerdict strict clients sound
+
+-- an error of the input: it is too long
+abbrev pub IsFaultOf : List ℕ → ClientsFault → Type 0
+IsFaultOf input (fault.Check check_fault.TooLong) = 268435456 < length input
+IsFaultOf input _ = ⊤

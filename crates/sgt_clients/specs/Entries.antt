@@ -82,16 +82,25 @@ HasMember tree name member = get name tree ≡ Some member
 abbrev pub IsOther : Data → Type 0
 IsOther tree = (name : List ℕ) × HasMember tree (codes "process") (string name)
 
--- the operations of an entry that count: those of its value, or none if it may be silent
+-- the tree has no list of operations
+abbrev pub HasNoList : Data → Type 0
+HasNoList tree = (value : Data) → HasMember tree (codes "value") value → list value ≡ None
+
+-- the operations of an entry that count: those of its value, or none if it has no list of them and may be silent
 abbrev pub HasOperations : Kind → List (List ℕ) → Data → List Operation → Type 0
 HasOperations kind keys tree os =
     ((value : Data) × (trees : List Data) × HasMember tree (codes "value") value × (list value ≡ Some trees) × SpellAll (commits kind) keys trees os)
-    ⊎ ((may_be_silent kind ≡ true) × (os ≡ []))
+    ⊎ ((may_be_silent kind ≡ true) × HasNoList tree × (os ≡ []))
+
+-- if the tree names a function, it is that of transactions
+abbrev pub IsOfTransactions : Data → Type 0
+IsOfTransactions tree = (function : Data) → HasMember tree (codes "f") function → function ≡ string (codes "txn")
 
 -- the tree is an entry of this process and kind, with these operations
 pub record SpellsEntry (keys : List (List ℕ)) (tree : Data) (e : Entry) : Type 0 where
   pub process : HasMember tree (codes "process") (value_tree e.process)
   pub kind : HasMember tree (codes "type") (string (kind_word e.kind))
+  pub function : IsOfTransactions tree
   pub operations : HasOperations e.kind keys tree e.operations.items
 
 -- the tree is the entry, or one of no client

@@ -45,3 +45,9 @@ abbrev pub IsFound : Bool → List Transaction → List Span → Finding → Typ
 IsFound strict h spans (Serial order) = IsOrder strict h spans order.items
 IsFound strict h spans (Cycle steps name) = ¬ HasOrder strict h spans
 IsFound strict h spans (Fault reader read fault name) = ¬ HasOrder strict h spans
+
+-- whether it is an order
+abbrev pub is_order : Finding → Bool
+is_order (Serial order) = true
+is_order (Cycle steps name) = false
+is_order (Fault reader read fault name) = false

@@ -1,4 +1,13 @@
 pub mod Checks
 pub mod Entries
+pub mod Evidence
+pub mod Faults
 pub mod Findings
+pub mod GraphText
+pub mod Histories
+pub mod Inputs
+pub mod Objects
+pub mod Pieces
+pub mod Reading
+pub mod ReportText
 pub mod Times

@@ -13,7 +13,7 @@ use std::alloc::Global;
 /// The value that is appended to the keys that clients do not know.
 const MARK: u32 = 0;
 
-/// The transactions with the appends to their own keys, and the barriers behind them.
+/// The transactions with the appends to their own keys, and the barriers after them.
 pub(crate) fn with_barriers(
     alloc: Global,
     clients: &Clients,
@@ -157,7 +157,7 @@ fn note_begin(
     }
 }
 
-/// Adds a barrier behind those that have ended.
+/// Adds a barrier after those that have ended.
 fn add_barrier(
     alloc: Global,
     clients: &Clients,

@@ -1,6 +1,15 @@
 //! What clients saw: their transactions, in the order in which they began.
-ghost use Rattle.std.specs.Prelude.{◌≡◌, OnOk};
-ghost use Rattle.sgt_notation.specs.Numbering.{KnowsItems};
+ghost use Rattle.std.specs.Prelude.{◌≡◌, ◌<◌, ◌+◌, ◌^◌, ◌&&◌, ◌==◌, true, [], length, Some, None, IfOk, IfErr, OnOk};
+ghost use Rattle.std.specs.BTreeMap.{get};
+ghost use Rattle.std.specs.Ordering.{nat_cmp};
+ghost use Rattle.serde_json.specs.View.{view};
+ghost use Rattle.sgt_format.specs.Trees.{tree_of};
+ghost use Rattle.sgt_notation.specs.Numbering.{KnowsItems, texts_of};
+ghost use Rattle.sgt_clients.specs.Histories.{Past, nothing, counted, changed, ends_at, begun, ended, ended_here, with_active, answered, with_answer, invoked, ended_by, with_kind};
+ghost use Rattle.sgt_clients.specs.declared.entry.Kind.TheVariants as kind;
+ghost use Rattle.sgt_clients.specs.Inputs.{AreClients};
+ghost use Rattle.sgt_clients.specs.Reading.{Stores, Takes, TakesText, IsSame};
+ghost use Rattle.sgt_clients.specs.Faults.{IsOwn};
 
 use crate::entry::{Entry, Kind, read_entry};
 use crate::fault::{ClientsFault, Flaw, ReadError};
@@ -50,7 +59,10 @@ pub struct Clients {
 /// # Errors
 ///
 /// `Entry` with the first entry that is wrong, or `Check` if an allocation failed.
-pub fn read_clients(alloc: Global, text: &[u8]) -> Result<Clients, ClientsFault> {
+pub fn read_clients(alloc: Global, text: &[u8]) -> Result<Clients, ClientsFault>
+    ensures read { IfOk result (AreClients text.now) }
+    ensures own { IfErr result IsOwn }
+{
     let mut reader = ClientsReader::new(alloc);
     let mut place = next_object(text, Place { at: 0, line: 1 });
     while place.at < text.len() {
@@ -75,7 +87,7 @@ struct ClientsReader {
     events: Vec<Event>,
     keys: Items,
     /// The transaction that each process has invoked and not ended.
-    open: BTreeMap<u64, usize>,
+    active: BTreeMap<u64, usize>,
     /// How many entries there were.
     entries: usize,
     by_line: bool,
@@ -84,14 +96,17 @@ struct ClientsReader {
 impl ClientsReader {
     /// Nothing has been read.
     fn new(alloc: Global) -> Self
-        ensures { KnowsItems result.keys }
+        ensures known { KnowsItems result.keys }
+        ensures none { texts_of result.keys ≡ [] }
+        ensures nothing { Stores result nothing }
+        ensures by_line { result.by_line ≡ true }
     {
         ClientsReader {
             transactions: Vec::new(alloc),
             spans: Vec::new(alloc),
             events: Vec::new(alloc),
             keys: Items::new(alloc),
-            open: BTreeMap::new(alloc),
+            active: BTreeMap::new(alloc),
             entries: 0,
             by_line: true,
         }
@@ -99,11 +114,13 @@ impl ClientsReader {
 
     /// Reads the next entry, which starts on the line.
     fn take(&mut self, alloc: Global, line: u64, text: &[u8]) -> Result<(), ClientsFault>
-        requires { KnowsItems self.old.keys }
-        ensures { OnOk result (KnowsItems self.new.keys) }
+        requires known { KnowsItems self.old.keys }
+        requires few { self.old.entries + 1 < 2 ^ 64 }
+        ensures known { OnOk result (KnowsItems self.new.keys) }
+        ensures taken { OnOk result (Takes self.old self.new line text.now) }
+        ensures own { IfErr result IsOwn }
     {
-        self.entries = self.entries.saturating_add(1);
-        self.by_line = self.by_line && line == self.entries as u64;
+        self.count(line);
         match self.take_text(alloc, text) {
             Ok(()) => Ok(()),
             Err(ReadError::Flaw(flaw)) => Err(ClientsFault::Entry(line, self.entries, flaw)),
@@ -111,10 +128,23 @@ impl ClientsReader {
         }
     }
 
+    /// Counts the next entry, which starts on the line.
+    fn count(&mut self, line: u64)
+        requires { self.old.entries + 1 < 2 ^ 64 }
+        ensures keys { self.new.keys ≡ self.old.keys }
+        ensures entries { self.new.entries ≡ self.old.entries + 1 }
+        ensures by_line { self.new.by_line ≡ (self.old.by_line && line == self.old.entries + 1) }
+        ensures stored { (p : Past) → Stores self.old p → Stores self.new (counted p) }
+    {
+        self.entries += 1;
+        self.by_line = self.by_line && line == self.entries as u64;
+    }
+
     /// Reads the text of an entry.
     fn take_text(&mut self, alloc: Global, text: &[u8]) -> Result<(), ReadError>
         requires { KnowsItems self.old.keys }
-        ensures { OnOk result (KnowsItems self.new.keys) }
+        ensures known { OnOk result (KnowsItems self.new.keys) }
+        ensures taken { OnOk result (TakesText self.old self.new text.now) }
     {
         let tree = read_tree(alloc, text)?;
         match read_entry(alloc, &mut self.keys, &tree)? {
@@ -125,92 +155,112 @@ impl ClientsReader {
 
     /// Takes an entry.
     fn take_entry(&mut self, entry: Entry) -> Result<(), ReadError>
-        ensures { self.new.keys ≡ self.old.keys }
+        ensures same { IsSame self.old self.new }
+        ensures in_turn { OnOk result (entry.kind ≡ kind.Invoked → get nat_cmp self.old.active entry.process ≡ None) }
+        ensures stored { OnOk result ((p : Past) → Stores self.old p → Stores self.new (with_kind entry.kind entry p)) }
     {
         match entry.kind {
-            Kind::Invoked => self.begin(entry.process, entry.operations),
-            Kind::Ended(status) => Ok(self.end(entry.process, status, entry.operations)?),
+            Kind::Invoked => self.begin(entry),
+            Kind::Ended(status) => Ok(self.end(entry, status)?),
         }
     }
 
     /// The process begins a transaction. Its end is unknown as yet.
-    fn begin(&mut self, process: u64, operations: Vec<Operation>) -> Result<(), ReadError>
-        ensures { self.new.keys ≡ self.old.keys }
+    fn begin(&mut self, entry: Entry) -> Result<(), ReadError>
+        ensures same { IsSame self.old self.new }
+        ensures in_turn { OnOk result (get nat_cmp self.old.active entry.process ≡ None) }
+        ensures stored { OnOk result ((p : Past) → Stores self.old p → Stores self.new (invoked entry p)) }
     {
+        let process = entry.process;
         let number = self.transactions.len();
-        if self.open.contains_key(&process) {
+        if self.active.contains_key(&process) {
             return Err(ReadError::Flaw(Flaw::Invoked(process)));
         }
-        self.add(Status::Unknown, operations)?;
-        self.note_open(process, number)?;
+        self.add(Status::Unknown, entry)?;
+        self.note_active(process, number)?;
         Ok(())
     }
 
     /// Notes that the process has invoked the transaction.
-    fn note_open(&mut self, process: u64, number: usize) -> Result<(), NoMemory>
-        ensures { self.new.keys ≡ self.old.keys }
+    fn note_active(&mut self, process: u64, number: usize) -> Result<(), NoMemory>
+        ensures same { IsSame self.old self.new }
+        ensures stored { OnOk result ((p : Past) → Stores self.old p → Stores self.new (with_active process (Some number) p)) }
     {
-        self.open.insert(process, number)?;
+        self.active.insert(process, number)?;
         Ok(())
     }
 
-    /// The process ends its transaction. Without an invocation the transaction begins and ends here.
-    fn end(
-        &mut self,
-        process: u64,
-        status: Status,
-        operations: Vec<Operation>,
-    ) -> Result<(), NoMemory>
-        ensures { self.new.keys ≡ self.old.keys }
+    /// Removes and returns the transaction that the process has invoked and not ended.
+    fn remove_active(&mut self, process: u64) -> Option<usize>
+        ensures same { IsSame self.old self.new }
+        ensures was { result ≡ get nat_cmp self.old.active process }
+        ensures none { result ≡ None → (p : Past) → Stores self.old p → Stores self.new p }
+        ensures stored { (p : Past) → Stores self.old p → Stores self.new (with_active process None p) }
     {
-        match self.open.remove(&process) {
-            Some(number) => self.end_open(number, status, operations),
-            None => {
-                let number = self.transactions.len();
-                self.add(status, operations)?;
-                self.note_end(number, status)
-            }
+        self.active.remove(&process)
+    }
+
+    /// The process ends its transaction. Without an invocation the transaction begins and ends here.
+    fn end(&mut self, entry: Entry, status: Status) -> Result<(), NoMemory>
+        ensures same { IsSame self.old self.new }
+        ensures stored { OnOk result ((p : Past) → Stores self.old p → Stores self.new (ended_by (p.active entry.process) status entry p)) }
+    {
+        match self.remove_active(entry.process) {
+            Some(number) => self.end_active(number, status, entry),
+            None => self.add_ended(status, entry),
         }
     }
 
-    /// Ends the transaction. If it committed, its operations are those of its end.
-    fn end_open(
-        &mut self,
-        number: usize,
-        status: Status,
-        operations: Vec<Operation>,
-    ) -> Result<(), NoMemory>
-        ensures { self.new.keys ≡ self.old.keys }
+    /// Ends the transaction, which its process had invoked.
+    fn end_active(&mut self, number: usize, status: Status, entry: Entry) -> Result<(), NoMemory>
+        ensures same { IsSame self.old self.new }
+        ensures stored { OnOk result ((p : Past) → Stores self.old p → Stores self.new (ended status number (with_answer status entry number p))) }
     {
-        if let Some(transaction) = self.transactions.get_mut(number) {
-            transaction.status = status;
-            if status == Status::Committed {
-                transaction.operations = operations;
-            }
-        }
+        answer(&mut self.transactions, number, status, entry);
+        self.note_end(number, status)
+    }
+
+    /// Adds a transaction that begins and ends here.
+    fn add_ended(&mut self, status: Status, entry: Entry) -> Result<(), NoMemory>
+        ensures same { IsSame self.old self.new }
+        ensures stored { OnOk result ((p : Past) → Stores self.old p → Stores self.new (ended status (length p.transactions) (begun status entry p))) }
+    {
+        let number = self.transactions.len();
+        self.add(status, entry)?;
         self.note_end(number, status)
     }
 
     /// Notes that the transaction ends here, unless its end is unknown.
     fn note_end(&mut self, number: usize, status: Status) -> Result<(), NoMemory>
-        ensures { self.new.keys ≡ self.old.keys }
+        ensures same { IsSame self.old self.new }
+        ensures stored { OnOk result ((p : Past) → Stores self.old p → Stores self.new (ended status number p)) }
     {
-        if status == Status::Unknown {
-            return Ok(());
+        match status {
+            Status::Unknown => Ok(()),
+            Status::Committed | Status::Aborted => self.note_known_end(number),
         }
-        if let Some(span) = self.spans.get_mut(number) {
-            span.ended = Some(self.entries);
-        }
+    }
+
+    /// Notes that the transaction ends here.
+    fn note_known_end(&mut self, number: usize) -> Result<(), NoMemory>
+        ensures same { IsSame self.old self.new }
+        ensures stored { OnOk result ((p : Past) → Stores self.old p → Stores self.new (ended_here number p)) }
+    {
+        end_span(&mut self.spans, number, self.entries);
         self.events.push(Event::Ended(number))?;
         Ok(())
     }
 
     /// Adds a transaction that begins here.
-    fn add(&mut self, status: Status, operations: Vec<Operation>) -> Result<(), NoMemory>
-        ensures { self.new.keys ≡ self.old.keys }
+    fn add(&mut self, status: Status, entry: Entry) -> Result<(), NoMemory>
+        ensures same { IsSame self.old self.new }
+        ensures stored { OnOk result ((p : Past) → Stores self.old p → Stores self.new (begun status entry p)) }
     {
         self.events.push(Event::Began(self.transactions.len()))?;
-        self.transactions.push(Transaction { status, operations })?;
+        self.transactions.push(Transaction {
+            status,
+            operations: entry.operations,
+        })?;
         self.spans.push(Span {
             began: self.entries,
             ended: None,
@@ -219,8 +269,41 @@ impl ClientsReader {
     }
 }
 
+/// Notes in the span of the transaction that it ended at the entry.
+fn end_span(spans: &mut [Span], number: usize, entry: usize)
+    ensures { spans.new ≡ changed (ends_at entry) spans.old number }
+{
+    if number < spans.len() {
+        let began = spans[number].began;
+        spans[number] = Span {
+            began,
+            ended: Some(entry),
+        };
+    }
+}
+
+/// The transaction has its answer. If it committed, its operations are those of the answer.
+fn answer(transactions: &mut [Transaction], number: usize, status: Status, entry: Entry)
+    ensures { transactions.new ≡ changed (answered status entry) transactions.old number }
+{
+    if number >= transactions.len() {
+        return;
+    }
+    match status {
+        Status::Committed => {
+            transactions[number] = Transaction {
+                status,
+                operations: entry.operations,
+            };
+        }
+        Status::Aborted | Status::Unknown => transactions[number].status = status,
+    }
+}
+
 /// The tree of an entry's text: an object.
-fn read_tree(alloc: Global, text: &[u8]) -> Result<Value, ReadError> {
+fn read_tree(alloc: Global, text: &[u8]) -> Result<Value, ReadError>
+    ensures { IfOk result (λ tree. tree_of text.now ≡ Some (view tree)) }
+{
     match Value::from_slice(alloc, text) {
         Ok(tree) => if tree.is_object() {
             Ok(tree)

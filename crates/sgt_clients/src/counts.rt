@@ -1,5 +1,9 @@
 //! How many transactions there are.
 
+ghost use Rattle.std.specs.Prelude.{◌≡◌, length, count_by};
+ghost use Rattle.sgt_appends.specs.declared.transaction.Status.TheVariants.{Committed, Aborted, Unknown};
+ghost use Rattle.sgt_clients.specs.ReportText.{has_status};
+
 use sgt_appends::{Status, Transaction};
 
 /// How many transactions there are, and how they ended.
@@ -12,7 +16,12 @@ pub(crate) struct Counts {
 }
 
 /// Counts the transactions.
-pub(crate) fn count(history: &[Transaction]) -> Counts {
+pub(crate) fn count(history: &[Transaction]) -> Counts
+    ensures transactions { result.transactions ≡ length history.now }
+    ensures committed { result.committed ≡ count_by (has_status Committed) history.now }
+    ensures aborted { result.aborted ≡ count_by (has_status Aborted) history.now }
+    ensures unknown { result.unknown ≡ count_by (has_status Unknown) history.now }
+{
     Counts {
         transactions: history.len(),
         committed: count_of(history, Status::Committed),
@@ -22,12 +31,26 @@ pub(crate) fn count(history: &[Transaction]) -> Counts {
 }
 
 /// How many transactions have the status.
-fn count_of(history: &[Transaction], status: Status) -> usize {
-    let mut counted = 0usize;
+fn count_of(history: &[Transaction], status: Status) -> usize
+    ensures { result ≡ count_by (has_status status) history.now }
+{
+    let mut counted = 0;
     for transaction in history {
-        if transaction.status == status {
-            counted = counted.saturating_add(1);
+        if has_status(transaction, status) {
+            counted += 1;
         }
     }
     counted
+}
+
+/// Whether the transaction has the status.
+fn has_status(transaction: &Transaction, status: Status) -> bool
+    ensures { result ≡ has_status status transaction.now }
+{
+    matches!(
+        (status, transaction.status),
+        (Status::Committed, Status::Committed)
+            | (Status::Aborted, Status::Aborted)
+            | (Status::Unknown, Status::Unknown)
+    )
 }

@@ -3,7 +3,7 @@ ghost use Rattle.std.specs.Prelude.{◌≡◌, ◌++◌, ℕ, List, Some, None, 
 ghost use Rattle.serde_json.specs.Data.{string};
 ghost use Rattle.serde_json.specs.View.{view};
 ghost use Rattle.sgt_notation.specs.Numbering.{KnowsItems, texts_of};
-ghost use Rattle.sgt_clients.specs.Entries.{value_tree, kind_word, commits, may_be_silent, HasMember, IsOther, HasOperations, SpellsEntryOrOther};
+ghost use Rattle.sgt_clients.specs.Entries.{value_tree, kind_word, commits, may_be_silent, HasMember, IsOther, HasNoList, HasOperations, IsOfTransactions, SpellsEntryOrOther};
 
 use crate::fault::{Flaw, ReadError};
 use crate::operations::read_operations;
@@ -86,7 +86,9 @@ fn read_kind(tree: &Value) -> Result<Kind, ReadError>
 }
 
 /// Checks that the entry is a transaction's.
-fn check_function(tree: &Value) -> Result<(), ReadError> {
+fn check_function(tree: &Value) -> Result<(), ReadError>
+    ensures { OnOk result (IsOfTransactions (view tree.now)) }
+{
     let Some(function) = tree.get("f") else {
         return Ok(());
     };

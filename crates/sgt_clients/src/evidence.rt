@@ -1,5 +1,9 @@
 //! The operations that a witness names.
 
+ghost use Rattle.std.specs.Prelude.{◌≡◌, option_map};
+ghost use Rattle.sgt_clients.specs.ReportText.{operation_at};
+ghost use Rattle.sgt_clients.specs.Evidence.{put_of, seen_of};
+
 use crate::clients::Clients;
 use sgt_appends::Operation;
 
@@ -22,12 +26,16 @@ pub(crate) fn operation_at(
     clients: &Clients,
     transaction: usize,
     place: usize,
-) -> Option<&Operation> {
+) -> Option<&Operation>
+    ensures { option_map (λ o. o.now) result ≡ operation_at clients.now transaction place }
+{
     clients.transactions.get(transaction)?.operations.get(place)
 }
 
 /// The append at the position of the transaction.
-pub(crate) fn put_at(clients: &Clients, transaction: usize, place: usize) -> Option<Put> {
+pub(crate) fn put_at(clients: &Clients, transaction: usize, place: usize) -> Option<Put>
+    ensures { result ≡ put_of (operation_at clients.now transaction place) }
+{
     match operation_at(clients, transaction, place)? {
         Operation::Append { key, value } => Some(Put {
             key: *key,
@@ -38,7 +46,9 @@ pub(crate) fn put_at(clients: &Clients, transaction: usize, place: usize) -> Opt
 }
 
 /// The read at the position of the transaction.
-pub(crate) fn seen_at(clients: &Clients, transaction: usize, place: usize) -> Option<Seen<'_>> {
+pub(crate) fn seen_at(clients: &Clients, transaction: usize, place: usize) -> Option<Seen<'_>>
+    ensures { option_map (λ s. (s.key, s.values.now)) result ≡ seen_of (operation_at clients.now transaction place) }
+{
     match operation_at(clients, transaction, place)? {
         Operation::Read { key, values } => Some(Seen {
             key: *key,

@@ -1,9 +1,9 @@
 //! What a check finds of what clients saw.
-ghost use Rattle.std.specs.Prelude.{List, false, IfOk};
+ghost use Rattle.std.specs.Prelude.{◌≡◌, List, false, IfOk};
 ghost use Rattle.sgt_appends.specs.declared.transaction.Transaction.{Transaction};
 ghost use Rattle.sgt_appends.specs.Runs.{IsSerializable};
 ghost use Rattle.sgt_clients.specs.declared.clients.Span.{Span};
-ghost use Rattle.sgt_clients.specs.Findings.{IsFound};
+ghost use Rattle.sgt_clients.specs.Findings.{IsFound, is_order};
 
 use crate::clients::Clients;
 use crate::fault::ClientsFault;
@@ -44,6 +44,13 @@ pub enum Finding {
         fault: Fault,
         name: &'static str,
     },
+}
+
+/// Whether an order was found.
+pub(crate) fn is_serial(finding: &Finding) -> bool
+    ensures { result ≡ is_order finding.now }
+{
+    matches!(finding, Finding::Serial(_))
 }
 
 /// Checks what clients saw.

@@ -7,8 +7,14 @@
 //! - [`append_report`], [`append_json`], [`append_graph`] and [`append_timeline`] write what was found.
 //! - [`run_clients`] does all this, from the bytes of a source to those of a sink.
 //!
-//! Proved: the answer, for the transactions that were read, strict or not (`specs/Findings.antt`); and which operations and
-//! which kind of entry an object spells (`specs/Entries.antt`). Tested: how entries become transactions, and the texts.
+//! Proved, from the bytes of the input to those of the output (`specs/Checks.antt`):
+//! - the objects of the input (`specs/Objects.antt`), the entry that each spells (`specs/Entries.antt`), and the
+//!   transactions that these make (`specs/Histories.antt`, `specs/Inputs.antt`)
+//! - the answer, strict or not (`specs/Findings.antt`)
+//! - the texts of the report and the graph (`specs/ReportText.antt`, `GraphText.antt`)
+//!
+//! Tested: the object of JSON and the picture; that only a wrong input is refused, and why; that each line of a *no*
+//! holds; the names of anomalies.
 //!
 //! ```
 //! let clients = read_clients(alloc, text)?;

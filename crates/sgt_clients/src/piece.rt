@@ -1,5 +1,9 @@
 //! Texts made of pieces.
 
+ghost use Rattle.std.specs.Prelude.{◌≡◌, ◌++◌, flat_map, OnOk};
+ghost use Rattle.sgt_clients.specs.ReportText.{entry_of, placed, key_text, spaced, next_value, shown_text, values_text};
+ghost use Rattle.sgt_clients.specs.Pieces.{piece_text};
+
 use crate::clients::Clients;
 use sgt_format::{append_number, append_numbered};
 use sgt_model::NoMemory;
@@ -29,7 +33,9 @@ pub(crate) fn append_pieces(
     text: &mut Vec<u8>,
     clients: &Clients,
     pieces: &[Piece<'_>],
-) -> Result<(), NoMemory> {
+) -> Result<(), NoMemory>
+    ensures { OnOk result (text.new.items ≡ text.old.items ++ flat_map (piece_text clients.now) pieces.now) }
+{
     for piece in pieces {
         append_piece(text, clients, piece)?;
     }
@@ -37,7 +43,9 @@ pub(crate) fn append_pieces(
 }
 
 /// Appends the piece.
-fn append_piece(text: &mut Vec<u8>, clients: &Clients, piece: &Piece<'_>) -> Result<(), NoMemory> {
+fn append_piece(text: &mut Vec<u8>, clients: &Clients, piece: &Piece<'_>) -> Result<(), NoMemory>
+    ensures { OnOk result (text.new.items ≡ text.old.items ++ piece_text clients.now piece.now) }
+{
     match piece {
         Piece::Words(words) => Ok(text.extend_from_slice(words)?),
         Piece::Number(number) => Ok(append_number(text, *number)?),
@@ -49,7 +57,9 @@ fn append_piece(text: &mut Vec<u8>, clients: &Clients, piece: &Piece<'_>) -> Res
 }
 
 /// Appends the transaction and its entry.
-fn append_placed(text: &mut Vec<u8>, clients: &Clients, number: usize) -> Result<(), NoMemory> {
+fn append_placed(text: &mut Vec<u8>, clients: &Clients, number: usize) -> Result<(), NoMemory>
+    ensures { OnOk result (text.new.items ≡ text.old.items ++ placed clients.now number) }
+{
     append_numbered(text, b"t", number.saturating_add(1))?;
     let words: &[u8] = if clients.by_line {
         b" (line "
@@ -62,7 +72,9 @@ fn append_placed(text: &mut Vec<u8>, clients: &Clients, number: usize) -> Result
 }
 
 /// The entry at which the transaction ended, or else the one at which it began.
-pub(crate) fn entry_of(clients: &Clients, number: usize) -> usize {
+pub(crate) fn entry_of(clients: &Clients, number: usize) -> usize
+    ensures { result ≡ entry_of clients.now number }
+{
     match clients.spans.get(number) {
         Some(span) => span.ended.unwrap_or(span.began),
         None => 0,
@@ -70,7 +82,9 @@ pub(crate) fn entry_of(clients: &Clients, number: usize) -> usize {
 }
 
 /// Appends the text of the key.
-fn append_key(text: &mut Vec<u8>, clients: &Clients, key: u32) -> Result<(), NoMemory> {
+fn append_key(text: &mut Vec<u8>, clients: &Clients, key: u32) -> Result<(), NoMemory>
+    ensures { OnOk result (text.new.items ≡ text.old.items ++ key_text clients.now key) }
+{
     if let Some(name) = clients.keys.get(key as usize) {
         text.extend_from_slice(name.as_slice())?;
     }
@@ -78,21 +92,42 @@ fn append_key(text: &mut Vec<u8>, clients: &Clients, key: u32) -> Result<(), NoM
 }
 
 /// Appends the values in brackets.
-fn append_values(text: &mut Vec<u8>, values: &[u32]) -> Result<(), NoMemory> {
+fn append_values(text: &mut Vec<u8>, values: &[u32]) -> Result<(), NoMemory>
+    ensures { OnOk result (text.new.items ≡ text.old.items ++ values_text values.now) }
+{
     text.extend_from_slice(b"[")?;
-    if values.len() > MOST_SHOWN {
-        text.extend_from_slice(b"..")?;
-        append_each(text, &values[values.len() - MOST_SHOWN..])?;
-    } else if !values.is_empty() {
-        append_number(text, values[0])?;
-        append_each(text, &values[1..])?;
-    }
+    append_shown(text, values)?;
     text.extend_from_slice(b"]")?;
     Ok(())
 }
 
+/// Appends the values that are shown.
+fn append_shown(text: &mut Vec<u8>, values: &[u32]) -> Result<(), NoMemory>
+    ensures { OnOk result (text.new.items ≡ text.old.items ++ shown_text values.now) }
+{
+    if values.len() > MOST_SHOWN {
+        text.extend_from_slice(b"..")?;
+        append_each(text, &values[values.len() - MOST_SHOWN..])
+    } else {
+        append_spaced(text, values)
+    }
+}
+
+/// Appends the values, separated by spaces.
+fn append_spaced(text: &mut Vec<u8>, values: &[u32]) -> Result<(), NoMemory>
+    ensures { OnOk result (text.new.items ≡ text.old.items ++ spaced values.now) }
+{
+    if values.is_empty() {
+        return Ok(());
+    }
+    append_number(text, values[0])?;
+    append_each(text, &values[1..])
+}
+
 /// Appends each value after a space.
-fn append_each(text: &mut Vec<u8>, values: &[u32]) -> Result<(), NoMemory> {
+fn append_each(text: &mut Vec<u8>, values: &[u32]) -> Result<(), NoMemory>
+    ensures { OnOk result (text.new.items ≡ text.old.items ++ flat_map next_value values.now) }
+{
     for value in values {
         append_numbered(text, b" ", *value)?;
     }

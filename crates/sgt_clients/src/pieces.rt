@@ -1,5 +1,6 @@
 //! The objects of an input, one after another. Between them may stand white space, commas and brackets.
-ghost use Rattle.std.specs.Prelude.{◌<◌, ◌≤◌, length};
+ghost use Rattle.std.specs.Prelude.{◌≡◌, ◌≢◌, ◌<◌, ◌≤◌, ◌+◌, ◌-◌, ◌^◌, length, take, drop, slice_index, true, false};
+ghost use Rattle.sgt_clients.specs.Objects.{is_between, AreBetween, line_after, line_after_all, outside, after, after_brace, is_closed, IsObject};
 
 /// A position in a text: the next byte, and its line from 1.
 #[derive(Clone, Copy)]
@@ -9,12 +10,16 @@ pub(crate) struct Place {
 }
 
 /// Whether the byte may stand between two objects.
-fn is_between(byte: u8) -> bool {
+fn is_between(byte: u8) -> bool
+    ensures { result ≡ is_between byte }
+{
     matches!(byte, b' ' | b'\t' | b'\r' | b'\n' | b',' | b'[' | b']')
 }
 
 /// The line after the byte, if the byte is on this line.
-fn line_after(line: u64, byte: u8) -> u64 {
+fn line_after(line: u64, byte: u8) -> u64
+    ensures { result ≡ line_after line byte }
+{
     if byte == b'\n' {
         line.saturating_add(1)
     } else {
@@ -27,6 +32,9 @@ pub(crate) fn next_object(text: &[u8], from: Place) -> Place
     requires { from.at ≤ length text.now }
     ensures onwards { from.at ≤ result.at }
     ensures bounds { result.at ≤ length text.now }
+    ensures gap { AreBetween (take (result.at - from.at) (drop from.at text.now)) }
+    ensures line { result.line ≡ line_after_all from.line (take (result.at - from.at) (drop from.at text.now)) }
+    ensures starts { result.at < length text.now → is_between (slice_index text.now result.at) ≡ false }
 {
     let mut place = from;
     while place.at < text.len() && is_between(text[place.at]) {
@@ -40,7 +48,7 @@ pub(crate) fn next_object(text: &[u8], from: Place) -> Place
 #[derive(Clone, Copy)]
 struct Nesting {
     /// How many braces are open.
-    depth: u32,
+    depth: usize,
     /// Whether a string is open.
     in_string: bool,
     /// Whether the byte before was a backslash that escapes this one.
@@ -49,32 +57,51 @@ struct Nesting {
 
 impl Nesting {
     /// Whether nothing is open.
-    fn is_closed(self) -> bool {
+    fn is_closed(self) -> bool
+        ensures { result ≡ is_closed self }
+    {
         self.depth == 0 && !self.in_string
     }
 
     /// The same, after one more byte.
-    fn after(self, byte: u8) -> Nesting {
+    fn after(self, byte: u8) -> Nesting
+        requires { self.depth + 1 < 2 ^ 64 }
+        ensures { result ≡ after self byte }
+    {
         if self.escaped {
             return Nesting {
                 escaped: false,
                 ..self
             };
         }
-        match byte {
-            b'"' => Nesting {
+        if byte == b'"' {
+            return Nesting {
                 in_string: !self.in_string,
                 ..self
-            },
-            b'\\' => Nesting {
-                escaped: self.in_string,
+            };
+        }
+        if self.in_string {
+            return Nesting {
+                escaped: byte == b'\\',
+                ..self
+            };
+        }
+        self.after_brace(byte)
+    }
+
+    /// The same outside a string.
+    fn after_brace(self, byte: u8) -> Nesting
+        requires depth { self.depth + 1 < 2 ^ 64 }
+        requires in_string { self.in_string ≡ false }
+        requires escaped { self.escaped ≡ false }
+        ensures { result ≡ after_brace self byte }
+    {
+        match byte {
+            b'{' => Nesting {
+                depth: self.depth + 1,
                 ..self
             },
-            b'{' if !self.in_string => Nesting {
-                depth: self.depth.saturating_add(1),
-                ..self
-            },
-            b'}' if !self.in_string => Nesting {
+            b'}' => Nesting {
                 depth: self.depth.saturating_sub(1),
                 ..self
             },
@@ -85,9 +112,12 @@ impl Nesting {
 
 /// The end of the object that starts here: after the brace that closes it, or at the end of the text.
 pub(crate) fn object_end(text: &[u8], from: Place) -> Place
-    requires { from.at < length text.now }
+    requires within { from.at < length text.now }
+    requires starts { is_between (slice_index text.now from.at) ≡ false }
     ensures onwards { from.at < result.at }
     ensures bounds { result.at ≤ length text.now }
+    ensures object { IsObject (take (result.at - from.at) (drop from.at text.now)) (drop result.at text.now) }
+    ensures line { result.line ≡ line_after_all from.line (take (result.at - from.at) (drop from.at text.now)) }
 {
     let mut place = from;
     let mut nesting = Nesting {

@@ -1,10 +1,15 @@
 //! The lines of a report.
 
+ghost use Rattle.std.specs.Prelude.{◌≡◌, ◌++◌, Bool, List, [], codes, flat_map, if◌then◌else◌, OnOk};
+ghost use Rattle.sgt_clients.specs.ReportText.{report_text, finding_text, counts_text, order_text, next_text, no_text, step_text, why_text};
+ghost use Rattle.sgt_clients.specs.declared.finding.Why.TheVariants.{RealTime};
+
 use crate::clients::Clients;
-use crate::counts::{Counts, count};
+use crate::counts::count;
 use crate::finding::{Finding, Step, Why};
 use crate::piece::{Piece, append_pieces};
 use crate::witness_text::{append_fault, append_reason};
+use sgt_appends::Transaction;
 use sgt_format::append_numbered;
 use sgt_model::NoMemory;
 
@@ -18,11 +23,28 @@ pub fn append_report(
     clients: &Clients,
     finding: &Finding,
     strict: bool,
-) -> Result<(), NoMemory> {
-    append_counts(text, &count(clients.transactions.as_slice()))?;
+) -> Result<(), NoMemory>
+    ensures { OnOk result (text.new.items ≡ text.old.items ++ report_text strict clients.now finding.now) }
+{
+    append_counts(text, clients.transactions.as_slice())?;
+    append_strictly(text, strict)?;
+    append_finding(text, clients, finding)
+}
+
+/// Appends the word of a check that keeps real time.
+fn append_strictly(text: &mut Vec<u8>, strict: bool) -> Result<(), NoMemory>
+    ensures { OnOk result (text.new.items ≡ text.old.items ++ (if strict then codes "strictly " else [])) }
+{
     if strict {
         text.extend_from_slice(b"strictly ")?;
     }
+    Ok(())
+}
+
+/// Appends the lines of a finding.
+fn append_finding(text: &mut Vec<u8>, clients: &Clients, finding: &Finding) -> Result<(), NoMemory>
+    ensures { OnOk result (text.new.items ≡ text.old.items ++ finding_text clients.now finding.now) }
+{
     match finding {
         Finding::Serial(order) => append_order(text, order.as_slice()),
         Finding::Cycle(steps, name) => {
@@ -45,7 +67,10 @@ pub fn append_report(
 }
 
 /// Appends the line of the counts.
-fn append_counts(text: &mut Vec<u8>, counts: &Counts) -> Result<(), NoMemory> {
+fn append_counts(text: &mut Vec<u8>, history: &[Transaction]) -> Result<(), NoMemory>
+    ensures { OnOk result (text.new.items ≡ text.old.items ++ counts_text history.now) }
+{
+    let counts = count(history);
     append_numbered(text, b"transactions ", counts.transactions)?;
     append_numbered(text, b": ", counts.committed)?;
     append_numbered(text, b" committed, ", counts.aborted)?;
@@ -55,18 +80,30 @@ fn append_counts(text: &mut Vec<u8>, counts: &Counts) -> Result<(), NoMemory> {
 }
 
 /// Appends the line of a serial order.
-fn append_order(text: &mut Vec<u8>, order: &[usize]) -> Result<(), NoMemory> {
+fn append_order(text: &mut Vec<u8>, order: &[usize]) -> Result<(), NoMemory>
+    ensures { OnOk result (text.new.items ≡ text.old.items ++ (codes "serializable yes:" ++ order_text order.now ++ codes "\n")) }
+{
     text.extend_from_slice(b"serializable yes:")?;
-    if order.is_empty() {
-        text.extend_from_slice(b" none")?;
-    }
-    append_each(text, order)?;
+    append_all(text, order)?;
     text.extend_from_slice(b"\n")?;
     Ok(())
 }
 
+/// Appends the transactions, or that there is none.
+fn append_all(text: &mut Vec<u8>, order: &[usize]) -> Result<(), NoMemory>
+    ensures { OnOk result (text.new.items ≡ text.old.items ++ order_text order.now) }
+{
+    if order.is_empty() {
+        text.extend_from_slice(b" none")?;
+        return Ok(());
+    }
+    append_each(text, order)
+}
+
 /// Appends each transaction after a space.
-fn append_each(text: &mut Vec<u8>, order: &[usize]) -> Result<(), NoMemory> {
+fn append_each(text: &mut Vec<u8>, order: &[usize]) -> Result<(), NoMemory>
+    ensures { OnOk result (text.new.items ≡ text.old.items ++ flat_map next_text order.now) }
+{
     for transaction in order {
         append_numbered(text, b" t", transaction.saturating_add(1))?;
     }
@@ -74,7 +111,9 @@ fn append_each(text: &mut Vec<u8>, order: &[usize]) -> Result<(), NoMemory> {
 }
 
 /// Appends the line that names the anomaly.
-fn append_no(text: &mut Vec<u8>, name: &str) -> Result<(), NoMemory> {
+fn append_no(text: &mut Vec<u8>, name: &str) -> Result<(), NoMemory>
+    ensures { OnOk result (text.new.items ≡ text.old.items ++ no_text name.now) }
+{
     text.extend_from_slice(b"serializable no: ")?;
     text.extend_from_slice(name.as_bytes())?;
     text.extend_from_slice(b"\n")?;
@@ -82,7 +121,9 @@ fn append_no(text: &mut Vec<u8>, name: &str) -> Result<(), NoMemory> {
 }
 
 /// Appends a line for each step.
-fn append_steps(text: &mut Vec<u8>, clients: &Clients, steps: &[Step]) -> Result<(), NoMemory> {
+fn append_steps(text: &mut Vec<u8>, clients: &Clients, steps: &[Step]) -> Result<(), NoMemory>
+    ensures { OnOk result (text.new.items ≡ text.old.items ++ flat_map (step_text clients.now) steps.now) }
+{
     for step in steps {
         append_step(text, clients, step)?;
     }
@@ -90,7 +131,9 @@ fn append_steps(text: &mut Vec<u8>, clients: &Clients, steps: &[Step]) -> Result
 }
 
 /// Appends the line of a step.
-fn append_step(text: &mut Vec<u8>, clients: &Clients, step: &Step) -> Result<(), NoMemory> {
+fn append_step(text: &mut Vec<u8>, clients: &Clients, step: &Step) -> Result<(), NoMemory>
+    ensures { OnOk result (text.new.items ≡ text.old.items ++ step_text clients.now step.now) }
+{
     append_pieces(
         text,
         clients,
@@ -108,22 +151,27 @@ fn append_step(text: &mut Vec<u8>, clients: &Clients, step: &Step) -> Result<(),
 }
 
 /// Appends the reason of a step.
-pub(crate) fn append_why(
-    text: &mut Vec<u8>,
-    clients: &Clients,
-    step: &Step,
-) -> Result<(), NoMemory> {
+pub(crate) fn append_why(text: &mut Vec<u8>, clients: &Clients, step: &Step) -> Result<(), NoMemory>
+    ensures { OnOk result (text.new.items ≡ text.old.items ++ why_text clients.now step.now.from step.now.to step.now.why) }
+{
     match step.why {
         Why::Observed(reason) => append_reason(text, clients, step, &reason),
-        Why::RealTime => append_pieces(
-            text,
-            clients,
-            &[
-                Piece::Transaction(step.from),
-                Piece::Words(b" ended before "),
-                Piece::Transaction(step.to),
-                Piece::Words(b" began"),
-            ],
-        ),
+        Why::RealTime => append_ended_before(text, clients, step),
     }
+}
+
+/// Appends that the first transaction of the step ended before the second began.
+fn append_ended_before(text: &mut Vec<u8>, clients: &Clients, step: &Step) -> Result<(), NoMemory>
+    ensures { OnOk result (text.new.items ≡ text.old.items ++ why_text clients.now step.now.from step.now.to RealTime) }
+{
+    append_pieces(
+        text,
+        clients,
+        &[
+            Piece::Transaction(step.from),
+            Piece::Words(b" ended before "),
+            Piece::Transaction(step.to),
+            Piece::Words(b" began"),
+        ],
+    )
 }

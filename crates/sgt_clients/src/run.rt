@@ -1,15 +1,18 @@
 //! The command `check --model list-append`, from the bytes of a source to those of a sink.
-ghost use Rattle.std.specs.Prelude.{◌≡◌, ◌≢◌, ◌^◌, ◌+◌, ◌<◌, ◌≤◌, Bool, List, IfOk, Err};
+ghost use Rattle.std.specs.Prelude.{◌≡◌, ◌≢◌, ◌^◌, ◌+◌, ◌<◌, ◌≤◌, ℕ, Bool, List, IfOk, IfErr, IfSome, Err, take};
+ghost use Rattle.std.specs.Io.KnownBytes.{Appends};
 ghost use Rattle.sgt_check.specs.declared.fault.CheckFault.TheVariants as check_fault;
-ghost use Rattle.sgt_clients.specs.declared.clients.Clients.{Clients};
 ghost use Rattle.sgt_clients.specs.declared.fault.ClientsFault.{ClientsFault};
 ghost use Rattle.sgt_clients.specs.declared.fault.ClientsFault.TheVariants as fault;
-ghost use Rattle.sgt_clients.specs.Checks.{IsVerdict, is_order};
+ghost use Rattle.sgt_clients.specs.Checks.{IsChecked, IsOutput, IsFaultOf};
 ghost use Rattle.sgt_clients.specs.Findings.{IsFound};
+ghost use Rattle.sgt_clients.specs.Faults.{IsOwn};
+ghost use Rattle.sgt_clients.specs.ReportText.{report_text};
+ghost use Rattle.sgt_clients.specs.GraphText.{graph_text};
 
 use crate::clients::{Clients, read_clients};
 use crate::fault::ClientsFault;
-use crate::finding::{Finding, check_clients};
+use crate::finding::{Finding, check_clients, is_serial};
 use crate::graph_text::append_graph;
 use crate::json_text::append_json;
 use crate::picture::append_timeline;
@@ -50,35 +53,79 @@ pub fn run_clients<S: Source, T: Sink>(
 ) -> Result<bool, ClientsFault>
     requires reading { S.failures source.old + 1 < 2 ^ 64 }
     requires writing { T.failures sink.old + 1 < 2 ^ 64 }
-    ensures verdict { IfOk result (λ yes. (clients : Clients) × IsVerdict strict clients yes) }
+    ensures checked { IfOk result (λ sound. IfSome (S.rest source.old) (λ input. (written : List ℕ)
+        × Appends (T.held sink.old) (T.held sink.new) written × IsChecked strict output input written sound)) }
+    ensures fault { IfErr result (λ f. IfSome (S.rest source.old) (λ input. IsFaultOf input f)) }
     ensures nothing { (f : ClientsFault) → result ≡ Err f → f ≢ fault.Check check_fault.Writing → sink.new ≡ sink.old }
+    ensures part { result ≡ Err (fault.Check check_fault.Writing) → IfSome (S.rest source.old) (λ input. (written : List ℕ) × (sound : Bool) × (k : ℕ)
+        × IsChecked strict output input written sound × Appends (T.held sink.old) (T.held sink.new) (take k written)) }
     ensures bounded { S.given source.new ≤ S.given source.old + 268500992 }
+    ensures read_well { result ≢ Err (fault.Check check_fault.Reading) → S.failures source.new ≡ S.failures source.old }
+    ensures read_failed { result ≡ Err (fault.Check check_fault.Reading) → S.failures source.new ≡ S.failures source.old + 1 }
+    ensures wrote_well { result ≢ Err (fault.Check check_fault.Writing) → T.failures sink.new ≡ T.failures sink.old }
+    ensures write_failed { result ≡ Err (fault.Check check_fault.Writing) → T.failures sink.new ≡ T.failures sink.old + 1 }
 {
     let input = read_input(alloc, source)?;
-    let clients = read_clients(alloc, input.as_slice())?;
-    let finding = find(alloc, &clients, strict)?;
-    let text = text_of(alloc, &clients, &finding, output, strict)?;
-    let Ok(()) = write_all(sink, text.as_slice()) else {
+    let checked = check_text(alloc, input.as_slice(), output, strict)?;
+    let Ok(()) = write_all(sink, checked.text.as_slice()) else {
         return Err(ClientsFault::Check(CheckFault::Writing));
     };
-    Ok(is_serial(&finding))
+    Ok(checked.sound)
 }
 
-/// Whether an order was found.
-fn is_serial(finding: &Finding) -> bool
-    ensures { result ≡ is_order finding.now }
+/// The text of an output, and the verdict.
+#[derive(Drop)]
+struct Checked {
+    text: Vec<u8>,
+    /// Whether the history is serializable.
+    sound: bool,
+}
+
+/// Checks the client history in the text, for this output.
+fn check_text(
+    alloc: Global,
+    text: &[u8],
+    output: ClientsOutput,
+    strict: bool,
+) -> Result<Checked, ClientsFault>
+    ensures checked { IfOk result (λ c. IsChecked strict output text.now c.text.items c.sound) }
+    ensures own { IfErr result IsOwn }
 {
-    matches!(finding, Finding::Serial(_))
+    let clients = read_clients(alloc, text)?;
+    let finding = find(alloc, &clients, strict)?;
+    Ok(Checked {
+        text: text_of(alloc, &clients, &finding, output, strict)?,
+        sound: is_serial(&finding),
+    })
 }
 
 /// Checks what clients saw, strictly or not.
 fn find(alloc: Global, clients: &Clients, strict: bool) -> Result<Finding, ClientsFault>
-    ensures { IfOk result (IsFound strict clients.now.transactions.items clients.now.spans.items) }
+    ensures found { IfOk result (IsFound strict clients.now.transactions.items clients.now.spans.items) }
+    ensures own { IfErr result IsOwn }
 {
     if strict {
-        check_strictly(alloc, clients)
+        match check_strictly(alloc, clients) {
+            Ok(finding) => Ok(finding),
+            Err(error) => Err(own(error)),
+        }
     } else {
-        check_clients(alloc, clients)
+        match check_clients(alloc, clients) {
+            Ok(finding) => Ok(finding),
+            Err(error) => Err(own(error)),
+        }
+    }
+}
+
+/// The error of a check. It neither reads nor writes, so of the errors of a run only a failed allocation can be its own.
+fn own(error: ClientsFault) -> ClientsFault
+    ensures { IsOwn result }
+{
+    match error {
+        ClientsFault::Entry(line, entry, flaw) => ClientsFault::Entry(line, entry, flaw),
+        ClientsFault::Twice(entry, value, key) => ClientsFault::Twice(entry, value, key),
+        ClientsFault::Undecided => ClientsFault::Undecided,
+        ClientsFault::Check(_) => ClientsFault::Check(CheckFault::NoMemory),
     }
 }
 
@@ -89,17 +136,61 @@ fn text_of(
     finding: &Finding,
     output: ClientsOutput,
     strict: bool,
+) -> Result<Vec<u8>, NoMemory>
+    ensures { IfOk result (λ text. IsOutput output strict clients.now finding.now text.items) }
+{
+    match output {
+        ClientsOutput::Report => report_of(alloc, clients, finding, strict),
+        ClientsOutput::Json => json_of(alloc, clients, finding, strict),
+        ClientsOutput::Graph => graph_of(alloc, clients, finding),
+        ClientsOutput::Timeline => timeline_of(alloc, clients, finding, strict),
+    }
+}
+
+/// The text of the report.
+fn report_of(
+    alloc: Global,
+    clients: &Clients,
+    finding: &Finding,
+    strict: bool,
+) -> Result<Vec<u8>, NoMemory>
+    ensures { IfOk result (λ text. text.items ≡ report_text strict clients.now finding.now) }
+{
+    let mut text = Vec::new(alloc);
+    append_report(&mut text, clients, finding, strict)?;
+    Ok(text)
+}
+
+/// The text of the report as one object of JSON.
+fn json_of(
+    alloc: Global,
+    clients: &Clients,
+    finding: &Finding,
+    strict: bool,
 ) -> Result<Vec<u8>, NoMemory> {
     let mut text = Vec::new(alloc);
-    match output {
-        ClientsOutput::Report => append_report(&mut text, clients, finding, strict)?,
-        ClientsOutput::Json => append_json(&mut text, clients, finding, strict)?,
-        ClientsOutput::Graph => append_graph(&mut text, clients, finding)?,
-        ClientsOutput::Timeline => {
-            let mut report = Vec::new(alloc);
-            append_report(&mut report, clients, finding, strict)?;
-            append_timeline(alloc, &mut text, clients, finding, report.as_slice())?;
-        }
-    }
+    append_json(&mut text, clients, finding, strict)?;
+    Ok(text)
+}
+
+/// The text of the graph.
+fn graph_of(alloc: Global, clients: &Clients, finding: &Finding) -> Result<Vec<u8>, NoMemory>
+    ensures { IfOk result (λ text. text.items ≡ graph_text clients.now finding.now) }
+{
+    let mut text = Vec::new(alloc);
+    append_graph(&mut text, clients, finding)?;
+    Ok(text)
+}
+
+/// The text of the picture, with the report below it.
+fn timeline_of(
+    alloc: Global,
+    clients: &Clients,
+    finding: &Finding,
+    strict: bool,
+) -> Result<Vec<u8>, NoMemory> {
+    let report = report_of(alloc, clients, finding, strict)?;
+    let mut text = Vec::new(alloc);
+    append_timeline(alloc, &mut text, clients, finding, report.as_slice())?;
     Ok(text)
 }

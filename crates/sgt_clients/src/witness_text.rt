@@ -1,5 +1,10 @@
 //! The words of a witness.
 
+ghost use Rattle.std.specs.Prelude.{◌≡◌, ◌++◌, codes, OnOk};
+ghost use Rattle.std.specs.Fmt.{decimal};
+ghost use Rattle.sgt_appends.specs.declared.witness.Reason.TheVariants.{Seen, Missed};
+ghost use Rattle.sgt_clients.specs.ReportText.{transaction_text, placed, key_text, values_text, operation_at, read_text, with_value, with_values, in_order_text, reason_text, ahead_text, swapped_text, wrong_text, fault_text};
+
 use crate::clients::Clients;
 use crate::evidence::{put_at, seen_at};
 use crate::finding::Step;
@@ -13,7 +18,9 @@ pub(crate) fn append_reason(
     clients: &Clients,
     step: &Step,
     reason: &Reason,
-) -> Result<(), NoMemory> {
+) -> Result<(), NoMemory>
+    ensures { OnOk result (text.new.items ≡ text.old.items ++ reason_text clients.now step.now.from step.now.to reason.now) }
+{
     match reason {
         Reason::Seen { append, read } => append_seen(text, clients, step, *append, *read),
         Reason::Missed { read, append } => append_missed(text, clients, step, *read, *append),
@@ -35,7 +42,9 @@ fn append_placed_read(
     clients: &Clients,
     reader: usize,
     read: usize,
-) -> Result<(), NoMemory> {
+) -> Result<(), NoMemory>
+    ensures { OnOk result (text.new.items ≡ text.old.items ++ (placed clients.now reader ++ read_text clients.now (operation_at clients.now reader read))) }
+{
     append_pieces(text, clients, &[Piece::Placed(reader)])?;
     append_seen_values(text, clients, reader, read)
 }
@@ -46,7 +55,9 @@ fn append_read(
     clients: &Clients,
     reader: usize,
     read: usize,
-) -> Result<(), NoMemory> {
+) -> Result<(), NoMemory>
+    ensures { OnOk result (text.new.items ≡ text.old.items ++ (transaction_text reader ++ read_text clients.now (operation_at clients.now reader read))) }
+{
     append_pieces(text, clients, &[Piece::Transaction(reader)])?;
     append_seen_values(text, clients, reader, read)
 }
@@ -57,18 +68,32 @@ fn append_seen_values(
     clients: &Clients,
     reader: usize,
     read: usize,
-) -> Result<(), NoMemory> {
-    let Some(seen) = seen_at(clients, reader, read) else {
-        return Ok(());
-    };
+) -> Result<(), NoMemory>
+    ensures { OnOk result (text.new.items ≡ text.old.items ++ read_text clients.now (operation_at clients.now reader read)) }
+{
+    match seen_at(clients, reader, read) {
+        Some(seen) => append_key_values(text, clients, seen.key, seen.values),
+        None => Ok(()),
+    }
+}
+
+/// Appends the key and the values that were read.
+fn append_key_values(
+    text: &mut Vec<u8>,
+    clients: &Clients,
+    key: u32,
+    values: &[u32],
+) -> Result<(), NoMemory>
+    ensures { OnOk result (text.new.items ≡ text.old.items ++ (codes " read key " ++ key_text clients.now key ++ codes " as " ++ values_text values.now)) }
+{
     append_pieces(
         text,
         clients,
         &[
             Piece::Words(b" read key "),
-            Piece::Key(seen.key),
+            Piece::Key(key),
             Piece::Words(b" as "),
-            Piece::Values(seen.values),
+            Piece::Values(values),
         ],
     )
 }
@@ -80,7 +105,9 @@ fn append_seen(
     step: &Step,
     append: usize,
     read: usize,
-) -> Result<(), NoMemory> {
+) -> Result<(), NoMemory>
+    ensures { OnOk result (text.new.items ≡ text.old.items ++ reason_text clients.now step.now.from step.now.to (Seen append read)) }
+{
     append_read(text, clients, step.to, read)?;
     let Some(put) = put_at(clients, step.from, append) else {
         return Ok(());
@@ -105,7 +132,9 @@ fn append_missed(
     step: &Step,
     read: usize,
     append: usize,
-) -> Result<(), NoMemory> {
+) -> Result<(), NoMemory>
+    ensures { OnOk result (text.new.items ≡ text.old.items ++ reason_text clients.now step.now.from step.now.to (Missed read append)) }
+{
     append_read(text, clients, step.from, read)?;
     let Some(put) = put_at(clients, step.to, append) else {
         return Ok(());
@@ -130,7 +159,9 @@ fn append_in_order(
     step: &Step,
     first: usize,
     second: usize,
-) -> Result<(), NoMemory> {
+) -> Result<(), NoMemory>
+    ensures { OnOk result (text.new.items ≡ text.old.items ++ with_values (in_order_text step.now.from step.now.to) (operation_at clients.now step.now.from first) (operation_at clients.now step.now.to second)) }
+{
     let Some(put) = put_at(clients, step.from, first) else {
         return Ok(());
     };
@@ -160,8 +191,22 @@ pub(crate) fn append_fault(
     reader: usize,
     read: usize,
     fault: &Fault,
-) -> Result<(), NoMemory> {
+) -> Result<(), NoMemory>
+    ensures { OnOk result (text.new.items ≡ text.old.items ++ fault_text clients.now reader read fault.now) }
+{
     append_placed_read(text, clients, reader, read)?;
+    append_wrong(text, clients, reader, fault)
+}
+
+/// Appends what is wrong with a read of the reader.
+fn append_wrong(
+    text: &mut Vec<u8>,
+    clients: &Clients,
+    reader: usize,
+    fault: &Fault,
+) -> Result<(), NoMemory>
+    ensures { OnOk result (text.new.items ≡ text.old.items ++ wrong_text clients.now reader fault.now) }
+{
     match fault {
         Fault::Unwritten(value) => append_value(
             text,
@@ -192,7 +237,9 @@ fn append_value(
     clients: &Clients,
     words: &[u8],
     value: u32,
-) -> Result<(), NoMemory> {
+) -> Result<(), NoMemory>
+    ensures { OnOk result (text.new.items ≡ text.old.items ++ (words.now ++ decimal value)) }
+{
     append_pieces(
         text,
         clients,
@@ -206,16 +253,30 @@ fn append_ahead(
     clients: &Clients,
     reader: usize,
     append: usize,
-) -> Result<(), NoMemory> {
-    let Some(put) = put_at(clients, reader, append) else {
-        return Ok(());
-    };
+) -> Result<(), NoMemory>
+    ensures { OnOk result (text.new.items ≡ text.old.items ++ with_value (ahead_text reader) (operation_at clients.now reader append)) }
+{
+    match put_at(clients, reader, append) {
+        Some(put) => append_later(text, clients, reader, put.value),
+        None => Ok(()),
+    }
+}
+
+/// Appends that the reader appended the value only later.
+fn append_later(
+    text: &mut Vec<u8>,
+    clients: &Clients,
+    reader: usize,
+    value: u32,
+) -> Result<(), NoMemory>
+    ensures { OnOk result (text.new.items ≡ text.old.items ++ ahead_text reader value) }
+{
     append_pieces(
         text,
         clients,
         &[
             Piece::Words(b", with "),
-            Piece::Number(put.value as usize),
+            Piece::Number(value as usize),
             Piece::Words(b", which "),
             Piece::Transaction(reader),
             Piece::Words(b" appended only later"),
@@ -230,7 +291,9 @@ fn append_swapped(
     by: usize,
     first: usize,
     second: usize,
-) -> Result<(), NoMemory> {
+) -> Result<(), NoMemory>
+    ensures { OnOk result (text.new.items ≡ text.old.items ++ with_values (swapped_text clients.now by) (operation_at clients.now by first) (operation_at clients.now by second)) }
+{
     let Some(put) = put_at(clients, by, first) else {
         return Ok(());
     };

@@ -5,6 +5,9 @@ pub mod Shapes
 pub mod ReadProcedures
 pub mod Numerals
 pub mod LineTokens
+pub mod Written
+pub mod Words
+pub mod BracketedDigits
 pub mod PlainLines
 pub mod PlainCalls
 pub mod PlainRecords

@@ -1,6 +1,6 @@
 -- What a line spells that is a call in plain form.
-use Rattle.std.proofs.Common.{◌≡◌, ◌≤◌, ◌<◌, ◌-◌, ◌^◌, true, false, Bool, ℕ, ℤ, pos, negsuc, suc, List, [], ◌∷◌, ◌++◌, length, take, drop, Some, None, Option, subst, refl, arith, sym, ◌∙◌, ap, lt-ltb}
-use Rattle.std.specs.Prelude.{slice_index, codes, map, IsUtf8, Ok, option_and_then, IfSome}
+use Rattle.std.proofs.Common.{◌≡◌, ◌≤◌, ◌<◌, ◌-◌, ◌^◌, true, false, Bool, ℕ, ℤ, pos, negsuc, suc, List, [], ◌∷◌, ◌++◌, length, take, drop, Some, subst, refl, arith, sym, ◌∙◌, ap, lt-ltb}
+use Rattle.std.specs.Prelude.{slice_index, codes, map, IsUtf8, Ok, option_and_then}
 use Rattle.std.specs.Fmt.{decimal, signed_decimal}
 use Rattle.std.proofs.lemmas.Fmt.{IsAscii-signed}
 use Rattle.std.proofs.lemmas.List.{take-append-drop, take_all, length-drop, append-nil, append_assoc}
@@ -171,7 +171,7 @@ plain_start line gap rest call is_gap begins asks =
     (texts_are call.args asks.small) (few_texts call.args asks.few) (number_is call.procedure asks.procedure) refl in
     event_found line line _ (Some (Start call.procedure call.args)) all.utf8 refl refl found
 
-job_called : (line gap rest : List ℕ) (call : JobCall) → IsGap gap → line ≡ codes "[\"job\"," ++ (gap ++ rest) → IsCall rest call
+pub job_called : (line gap rest : List ℕ) (call : JobCall) → IsGap gap → line ≡ codes "[\"job\"," ++ (gap ++ rest) → IsCall rest call
     → job_of line ≡ Ok call
 unfolding print_spaced escape_byte
 job_called line gap rest call is_gap begins asks =
@@ -181,11 +181,6 @@ job_called line gap rest call is_gap begins asks =
     (map signed_decimal call.args) call.args (Some call) all.read refl small
     (texts_are call.args asks.small) (few_texts call.args asks.few) (number_is call.procedure asks.procedure) refl in
     job_found line line _ (Some call) all.utf8 refl refl found
-
-pub plain_job : (line gap rest : List ℕ) (found : Option JobCall) → IsGap gap → line ≡ codes "[\"job\"," ++ (gap ++ rest)
-    → IfSome found (λ call. IsCall rest call) → IfSome found (λ call. job_of line ≡ Ok call)
-plain_job line gap rest None is_gap begins asks = tt
-plain_job line gap rest (Some call) is_gap begins asks = job_called line gap rest call is_gap begins asks
 
 -- the parts of a call
 pub call_of : (text rest list more gap : List ℕ) (n p : ℕ) (args : List ℤ) → text ≡ decimal n ++ rest → IsGap gap

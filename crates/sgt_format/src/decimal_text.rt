@@ -1,5 +1,5 @@
 //! Numbers and keys in decimal.
-ghost use Rattle.std.specs.Prelude.{◌≡◌, ◌<◌, ◌≤◌, ◌+◌, ◌∷◌, ◌++◌, length, take, drop, OnOk, OnErr, vec_len, codes};
+ghost use Rattle.std.specs.Prelude.{◌≡◌, ◌<◌, ◌≤◌, ◌+◌, ◌-◌, ◌∷◌, ◌++◌, length, take, drop, OnOk, OnErr, vec_len, codes};
 ghost use Rattle.std.specs.Fmt.{decimal, signed_decimal};
 ghost use Rattle.sgt_format.specs.Decimals.{key_text, record_text, each_item, items_or_none};
 
@@ -9,6 +9,12 @@ use std::alloc::AllocError;
 
 /// An upper bound in bytes of a line of words, a key and a value, with its end.
 pub(crate) const LONGEST_LINE: usize = 64;
+
+/// How many bytes are copied at once.
+const CHUNK: usize = 32;
+
+/// The bytes of a line, and as many after it as are copied at once.
+pub(crate) const LINE_AND_CHUNK: usize = LONGEST_LINE + CHUNK;
 
 /// Appends a number in decimal.
 pub fn append_number<I: Integer>(line: &mut Vec<u8>, number: I) -> Result<(), AllocError>
@@ -32,7 +38,7 @@ pub fn append_numbered<I: Integer>(
 }
 
 /// Appends a line of words and then a number, with its end.
-#[inline]
+#[inline(always)]
 pub(crate) fn append_number_line(
     lines: &mut Vec<u8>,
     words: &[u8],
@@ -43,14 +49,36 @@ pub(crate) fn append_number_line(
         (lines.new.items ≡ lines.old.items ++ words.now ++ decimal number ++ codes "\n") }
     ensures err { OnErr result (lines.new.items ≡ lines.old.items) }
 {
-    let mut line = [0; LONGEST_LINE];
+    let mut line = [0; LINE_AND_CHUNK];
     let start = write_byte(b'\n', &mut line, LONGEST_LINE);
     let start = write_digits(number, &mut line, start);
     let start = write_words(words, &mut line, start);
-    lines.extend_from_slice(&line[start..])
+    append_written(lines, &line, start)
+}
+
+/// Appends what a line holds from `start` to its end at [`LONGEST_LINE`]. A line of at most 32 bytes is appended with
+/// what is after it, which is cut off: 32 bytes are copied at once.
+#[inline(always)]
+pub(crate) fn append_written(
+    lines: &mut Vec<u8>,
+    line: &[u8],
+    start: usize,
+) -> Result<(), AllocError>
+    requires { (start ≤ 64) × (length line.now ≡ 96) }
+    ensures ok { OnOk result (lines.new.items ≡ lines.old.items ++ take (64 - start) (drop start line.now)) }
+    ensures err { OnErr result (lines.new.items ≡ lines.old.items) }
+{
+    if start < LONGEST_LINE - CHUNK {
+        return lines.extend_from_slice(&line[start..LONGEST_LINE]);
+    }
+    let before = lines.len();
+    lines.extend_from_slice(&line[start..start + CHUNK])?;
+    lines.truncate(before + (LONGEST_LINE - start));
+    Ok(())
 }
 
 /// Writes a key and a value so that they end at `end`, and returns where they start.
+#[inline(always)]
 pub(crate) fn write_record(key: &Key, value: i64, text: &mut [u8], end: usize) -> usize
     requires { (43 ≤ end) × (end ≤ length text.old) }
     ensures start { (result ≤ end) × (end ≤ result + 43) }
@@ -62,6 +90,7 @@ pub(crate) fn write_record(key: &Key, value: i64, text: &mut [u8], end: usize) -
 }
 
 /// Writes a key so that it ends at `end`, and returns where it starts.
+#[inline(always)]
 pub(crate) fn write_key(key: &Key, text: &mut [u8], end: usize) -> usize
     requires { (22 ≤ end) × (end ≤ length text.old) }
     ensures start { (result ≤ end) × (end ≤ result + 22) }
@@ -73,6 +102,7 @@ pub(crate) fn write_key(key: &Key, text: &mut [u8], end: usize) -> usize
 }
 
 /// Writes a number in decimal so that it ends at `end`, and returns where it starts.
+#[inline(always)]
 pub(crate) fn write_signed(number: i64, text: &mut [u8], end: usize) -> usize
     requires { (20 ≤ end) × (end ≤ length text.old) }
     ensures start { (result ≤ end) × (end ≤ result + 20) }
@@ -86,7 +116,7 @@ pub(crate) fn write_signed(number: i64, text: &mut [u8], end: usize) -> usize
 }
 
 /// Writes words so that they end at `end`, and returns where they start.
-#[inline]
+#[inline(always)]
 pub(crate) fn write_words(words: &[u8], text: &mut [u8], end: usize) -> usize
     requires { (length words.now ≤ end) × (end ≤ length text.old) }
     ensures start { result + length words.now ≡ end }
@@ -98,6 +128,7 @@ pub(crate) fn write_words(words: &[u8], text: &mut [u8], end: usize) -> usize
 }
 
 /// Writes a byte before `end`, and returns its index.
+#[inline(always)]
 pub(crate) fn write_byte(byte: u8, text: &mut [u8], end: usize) -> usize
     requires { (0 < end) × (end ≤ length text.old) }
     ensures start { result + 1 ≡ end }
@@ -149,8 +180,19 @@ fn append_each_answer(line: &mut Vec<u8>, answers: &Answers) -> Result<(), Alloc
     ensures err { OnErr result (take (vec_len line.old) line.new.items ≡ line.old.items) }
 {
     for answer in answers.as_slice() {
-        line.extend_from_slice(b" ")?;
-        append_number(line, *answer)?;
+        append_answer(line, *answer)?;
     }
     Ok(())
+}
+
+/// Appends a number after a space.
+#[inline(always)]
+fn append_answer(lines: &mut Vec<u8>, answer: i64) -> Result<(), AllocError>
+    ensures ok { OnOk result (lines.new.items ≡ lines.old.items ++ codes " " ++ signed_decimal answer) }
+    ensures err { OnErr result (lines.new.items ≡ lines.old.items) }
+{
+    let mut line = [0; LINE_AND_CHUNK];
+    let start = write_signed(answer, &mut line, LONGEST_LINE);
+    let start = write_byte(b' ', &mut line, start);
+    append_written(lines, &line, start)
 }

@@ -31,9 +31,22 @@ pub fn read_job(alloc: Global, scratch: &mut Scratch, line: &[u8]) -> Result<Job
     ensures job { IfOk result (λ job. job_of line.now ≡ Ok job) }
     ensures error { IfErr result (λ error. error ≢ NoMemory → job_of line.now ≡ Err error) }
 {
-    if let Some(call) = plain_job(line) {
+    let mut call = JobCall {
+        procedure: 0,
+        args: Args::new(),
+    };
+    if plain_job(line, &mut call).is_some() {
         return Ok(call);
     }
+    read_other_job(alloc, scratch, line)
+}
+
+/// The same, of a line that is not in plain form.
+#[inline(never)]
+fn read_other_job(alloc: Global, scratch: &mut Scratch, line: &[u8]) -> Result<JobCall, LineError>
+    ensures job { IfOk result (λ job. job_of line.now ≡ Ok job) }
+    ensures error { IfErr result (λ error. error ≢ NoMemory → job_of line.now ≡ Err error) }
+{
     if let Some(call) = quick_job(line, scratch)? {
         return Ok(call);
     }

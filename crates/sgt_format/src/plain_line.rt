@@ -1,6 +1,6 @@
 //! Lines in plain form: no escape, no space but one after a comma, and whole numbers of at most eighteen digits. Most
 //! lines are written so.
-ghost use Rattle.std.specs.Prelude.{◌≡◌, ◌≤◌, ◌<◌, ◌∷◌, [], ◌++◌, ℕ, List, false, length, take, codes, Ok, Some, IfSome, IsTrue};
+ghost use Rattle.std.specs.Prelude.{◌≡◌, ◌≤◌, ◌<◌, ◌-◌, ◌∷◌, [], ◌++◌, ℕ, List, false, length, take, drop, slice_index, codes, Ok, Some, IfSome, IsTrue};
 ghost use Rattle.std.specs.Fmt.{decimal, signed_decimal};
 ghost use lib.Signed.{mag};
 ghost use Rattle.json.specs.Spaced.{IsGap};
@@ -12,18 +12,23 @@ ghost use Rattle.sgt_format.specs.PlainLines.{comma_behind, AreArguments, AreSma
 use crate::call::JobCall;
 use crate::record_line::RecordLine;
 use sgt_model::{Args, Event, Tid};
+use std::simd::prelude::*;
 
-/// Reads the event of a line in plain form, byte by byte, into `event`. If this returns `None`, the tokens decide.
+/// Reads the event of a line in plain form into `event`. If this returns `None`, the tokens decide. The third letter of
+/// the word is enough to tell which event it may be.
 #[inline(always)]
 pub(crate) fn plain_event(line: &[u8], event: &mut Event) -> Option<()>
     ensures { IfSome result (λ _. event_of line.now ≡ Ok event.new) }
 {
-    if let Some(rest) = item_behind(line, b"[\"step\",") {
-        *event = Event::Step(last_tid(rest)?);
+    if line.len() < 8 {
+        return None;
+    }
+    if line[4] == b'e' {
+        *event = Event::Step(tid_behind(line, b"[\"step\",")?);
         return Some(());
     }
-    if let Some(rest) = item_behind(line, b"[\"commit\",") {
-        *event = Event::Commit(last_tid(rest)?);
+    if line[4] == b'm' {
+        *event = Event::Commit(tid_behind(line, b"[\"commit\",")?);
         return Some(());
     }
     plain_start_or_quit(line, event)
@@ -32,22 +37,31 @@ pub(crate) fn plain_event(line: &[u8], event: &mut Event) -> Option<()>
 /// The same, of a start or a quit. A start's arguments are built here, so that a step needs no space for them.
 #[inline(never)]
 fn plain_start_or_quit(line: &[u8], event: &mut Event) -> Option<()>
+    requires { 8 ≤ length line.now }
     ensures { IfSome result (λ _. event_of line.now ≡ Ok event.new) }
 {
-    if let Some(rest) = item_behind(line, b"[\"start\",") {
-        let JobCall { procedure, args } = last_call(rest)?;
-        *event = Event::Start { procedure, args };
+    if line[4] == b'i' {
+        *event = Event::Quit(tid_behind(line, b"[\"quit\",")?);
         return Some(());
     }
-    *event = Event::Quit(last_tid(item_behind(line, b"[\"quit\",")?)?);
+    let at = item_index(line, b"[\"start\",")?;
+    let mut call = JobCall {
+        procedure: 0,
+        args: Args::new(),
+    };
+    last_call(&line[at..], &mut call)?;
+    let JobCall { procedure, args } = call;
+    *event = Event::Start { procedure, args };
     Some(())
 }
 
-/// The job of a line in plain form.
-pub(crate) fn plain_job(line: &[u8]) -> Option<JobCall>
-    ensures { IfSome result (λ call. job_of line.now ≡ Ok call) }
+/// Reads the job of a line in plain form into `call`.
+#[inline(always)]
+pub(crate) fn plain_job(line: &[u8], call: &mut JobCall) -> Option<()>
+    ensures { IfSome result (λ _. job_of line.now ≡ Ok call.new) }
 {
-    last_call(item_behind(line, b"[\"job\",")?)
+    last_call(item_behind(line, b"[\"job\",")?, call)?;
+    Some(())
 }
 
 /// The record of a line in plain form.
@@ -95,6 +109,47 @@ fn behind<'a>(text: &'a [u8], words: &[u8]) -> Option<&'a [u8]>
     Some(&text[words.len()..])
 }
 
+/// The index of the item after a comma that ends these words, if the line begins with them and goes on. One space
+/// before the item is skipped.
+#[inline(always)]
+fn item_index(line: &[u8], words: &[u8]) -> Option<usize>
+    requires { (8 ≤ length line.now) × (8 ≤ length words.now) }
+    ensures within { IfSome result (λ at. at ≤ length line.now) }
+    ensures item { IfSome result (λ at. (gap : List ℕ) × IsGap gap
+        × (line.now ≡ words.now ++ (gap ++ drop at line.now))) }
+{
+    let at = words.len();
+    if line.len() <= at || !begins_with(line, words) {
+        return None;
+    }
+    if line[at] == b' ' {
+        return Some(at + 1);
+    }
+    Some(at)
+}
+
+/// Whether a line begins with these words. Eight bytes are compared at once.
+#[inline(always)]
+fn begins_with(line: &[u8], words: &[u8]) -> bool
+    requires { (8 ≤ length line.now) × (8 ≤ length words.now) }
+    ensures { IsTrue result → line.now ≡ words.now ++ drop (length words.now) line.now }
+{
+    is_same_word(line, words) && behind(&line[8..], &words[8..]).is_some()
+}
+
+/// Whether two texts begin with the same eight bytes.
+#[tactic(auto, using(crate::proofs::Words::same_word))]
+#[inline(always)]
+fn is_same_word(text: &[u8], words: &[u8]) -> bool
+    requires { (8 ≤ length text.now) × (8 ≤ length words.now) }
+    ensures { IsTrue result → take 8 text.now ≡ take 8 words.now }
+{
+    let marks = u8x8::from_slice(text)
+        .simd_eq(u8x8::from_slice(words))
+        .to_bitmask();
+    marks == 255
+}
+
 /// The items after a comma that ends these bytes, if the text begins with them. One space before the items is skipped.
 #[inline(always)]
 fn item_behind<'a>(text: &'a [u8], words: &[u8]) -> Option<&'a [u8]>
@@ -107,47 +162,91 @@ fn item_behind<'a>(text: &'a [u8], words: &[u8]) -> Option<&'a [u8]>
     }
 }
 
-/// The transaction of a text that is its number and a closing bracket.
+/// The transaction of a line that is these words, its number and a closing bracket. One space before the number is
+/// skipped.
+#[inline(always)]
+fn tid_behind(line: &[u8], words: &[u8]) -> Option<Tid>
+    requires { (8 ≤ length line.now) × (8 ≤ length words.now) }
+    ensures number { IfSome result (λ t. (gap : List ℕ) × IsGap gap
+        × (line.now ≡ words.now ++ (gap ++ (decimal t ++ 93 ∷ [])))) }
+    ensures small { IfSome result (λ t. t < 4_294_967_296) }
+{
+    let at = item_index(line, words)?;
+    let t = last_tid(&line[at..])?;
+    Some(t)
+}
+
+/// The transaction of a text that is its number, of at most ten digits, and a closing bracket. The bracket is looked for
+/// first, since it ends the digits.
 #[tactic(auto, using(crate::proofs::PlainLines::number_last))]
 #[inline(always)]
 fn last_tid(text: &[u8]) -> Option<Tid>
     ensures number { IfSome result (λ t. text.now ≡ decimal t ++ 93 ∷ []) }
     ensures small { IfSome result (λ t. t < 4_294_967_296) }
 {
-    let (number, digits) = leading_digits(text)?;
-    if digits + 1 != text.len() || text[digits] != b']' {
+    if text.len() < 2 || 11 < text.len() || text[text.len() - 1] != b']' {
+        return None;
+    }
+    let (number, digits) = bracketed_digits(text)?;
+    if digits + 1 != text.len() {
         return None;
     }
     Some(Tid(u32::try_from(number).ok()?))
 }
 
-/// The call of a text that is a procedure, a list of arguments and a closing bracket.
-fn last_call(text: &[u8]) -> Option<JobCall>
-    ensures { IfSome result (λ call. IsCall text.now call) }
+/// The natural number at the front of a text that ends with a closing bracket, and how many digits it has there.
+#[tactic(auto, using(crate::proofs::PlainLines::one_digit, crate::proofs::PlainLines::one_more_digit))]
+#[inline(always)]
+fn bracketed_digits(text: &[u8]) -> Option<(u64, usize)>
+    requires some { (1 < length text.now) × (length text.now ≤ 11) }
+    requires bracket { slice_index text.now (length text.now - 1) ≡ 93 }
+    ensures digits { IfSome result (λ found. take found.1 text.now ≡ decimal found.0) }
+    ensures within { IfSome result (λ found. found.1 < length text.now) }
 {
-    let (number, rest) = natural_and_rest(text)?;
-    let procedure = u16::try_from(number).ok()?;
-    let args = last_arguments(behind(item_behind(rest, b",")?, b"[")?)?;
-    Some(JobCall { procedure, args })
+    if !is_digit(text[0]) {
+        return None;
+    }
+    let mut number = u64::from(text[0] - b'0');
+    let mut digits = 1;
+    if number == 0 {
+        return Some((number, digits));
+    }
+    while is_digit(text[digits]) {
+        number = 10 * number + u64::from(text[digits] - b'0');
+        digits += 1;
+    }
+    Some((number, digits))
 }
 
-/// The arguments of a text that is at most four of them, separated by commas, and two closing brackets.
-fn last_arguments(text: &[u8]) -> Option<Args>
-    ensures text { IfSome result (λ args. AreArguments false text.now args) }
-    ensures small { IfSome result (λ args. AreSmall args) }
-    ensures few { IfSome result (λ args. length args ≤ 4) }
+/// Reads the call of a text that is a procedure, a list of arguments and a closing bracket into `call`.
+#[inline(always)]
+fn last_call(text: &[u8], call: &mut JobCall) -> Option<()>
+    ensures { IfSome result (λ _. IsCall text.now call.new) }
 {
-    let mut args = Args::new();
+    let (number, rest) = natural_and_rest(text)?;
+    call.procedure = u16::try_from(number).ok()?;
+    last_arguments(behind(item_behind(rest, b",")?, b"[")?, &mut call.args)?;
+    Some(())
+}
+
+/// Reads the arguments of a text that is at most four of them, separated by commas, and two closing brackets.
+#[inline(always)]
+fn last_arguments(text: &[u8], args: &mut Args) -> Option<()>
+    ensures text { IfSome result (λ _. AreArguments false text.now args.new) }
+    ensures small { IfSome result (λ _. AreSmall args.new) }
+    ensures few { IfSome result (λ _. length args.new ≤ 4) }
+{
+    args.clear();
     let mut rest = text;
     while !is_closing(rest) {
         if args.len() == 4 {
             return None;
         }
-        let (number, more) = next_argument(rest, &args)?;
+        let (number, more) = next_argument(rest, args)?;
         args.push(number);
         rest = more;
     }
-    Some(args)
+    Some(())
 }
 
 /// Whether a text is the brackets that close the arguments and the line.

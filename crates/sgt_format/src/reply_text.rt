@@ -1,13 +1,14 @@
 //! The line of a reply.
-ghost use Rattle.std.specs.Prelude.{◌≡◌, ◌++◌, take, IfOk, OnOk, OnErr, vec_len, codes};
+ghost use Rattle.std.specs.Prelude.{◌≡◌, ◌++◌, take, Some, None, IfOk, OnOk, OnErr, vec_len, codes};
 ghost use Rattle.std.specs.Fmt.{signed_decimal};
 ghost use Rattle.sgt_model.specs.ShortReplies.{full_cause, full_fate, reply_with};
 ghost use Rattle.sgt_format.specs.Decimals.{record_text};
 ghost use Rattle.sgt_format.specs.ReplyText.{cause_text, over_text, looked_text, committed_text, fell_text, aborted_text, refused_text, reply_text, text};
 
 use crate::decimal_text::{
-    LONGEST_LINE, append_answers, append_number_line, append_numbered, append_tids,
-    append_tids_or_none, write_byte, write_key, write_record, write_signed, write_words,
+    LINE_AND_CHUNK, LONGEST_LINE, append_answers, append_number_line, append_numbered, append_tids,
+    append_tids_or_none, append_written, write_byte, write_key, write_record, write_signed,
+    write_words,
 };
 use sgt_model::{
     Answers, Key, NoMemory, Reply, ReplyLists, ShortCause, ShortFate, ShortReply, Tids,
@@ -32,6 +33,7 @@ pub fn append_reply(lines: &mut Vec<u8>, reply: &Reply) -> Result<(), NoMemory>
 }
 
 /// Appends the line of a reply with these lists, as [`append_reply`] does.
+#[inline(always)]
 pub fn append_short_reply(
     lines: &mut Vec<u8>,
     reply: &ShortReply,
@@ -50,6 +52,7 @@ pub fn append_short_reply(
 }
 
 /// On an error the lines still begin with what they held.
+#[inline(always)]
 fn append_line(
     lines: &mut Vec<u8>,
     reply: &ShortReply,
@@ -66,68 +69,91 @@ fn append_line(
         ShortReply::Spent => lines.extend_from_slice(b"spent\n"),
         ShortReply::Full => lines.extend_from_slice(b"full\n"),
         ShortReply::Unknown => lines.extend_from_slice(b"unknown\n"),
-        ShortReply::Over(fate) => append_over(lines, fate, &lists.walk),
-        ShortReply::Looked { key, value } => append_looked(lines, key, *value),
-        ShortReply::Wrote { key, value } => append_wrote(lines, key, *value),
+        ShortReply::Over(fate) => append_over(lines, *fate, &lists.walk),
+        ShortReply::Looked { key, value } => append_looked(lines, *key, *value),
+        ShortReply::Wrote { key, value } => append_wrote(lines, *key, *value),
         ShortReply::Ended => lines.extend_from_slice(b"ended\n"),
         ShortReply::NotEnded => lines.extend_from_slice(b"not ended\n"),
         ShortReply::Waits(first) => append_number_line(lines, b"waits ", u64::from(first.0)),
         ShortReply::Committed => append_committed(lines, &lists.answers),
-        ShortReply::Aborted(cause) => append_aborted(lines, cause, &lists.walk, &lists.fell),
+        ShortReply::Aborted(cause) => append_aborted(lines, *cause, &lists.walk, &lists.fell),
         ShortReply::Refused(code) => append_refused(lines, *code, &lists.fell),
     }
 }
 
 /// On an error the lines still begin with what they held.
-fn append_over(lines: &mut Vec<u8>, fate: &ShortFate, walk: &Tids) -> Result<(), AllocError>
+#[inline(never)]
+fn append_over(lines: &mut Vec<u8>, fate: ShortFate, walk: &Tids) -> Result<(), AllocError>
     ensures ok { OnOk result
-        (lines.new.items ≡ lines.old.items ++ over_text (full_fate fate.now walk.now) ++ codes "\n") }
+        (lines.new.items ≡ lines.old.items ++ over_text (full_fate fate walk.now) ++ codes "\n") }
     ensures err { OnErr result (take (vec_len lines.old) lines.new.items ≡ lines.old.items) }
 {
     match fate {
         ShortFate::Committed => lines.extend_from_slice(b"over committed\n"),
         ShortFate::Aborted(cause) => {
             lines.extend_from_slice(b"over aborted ")?;
-            append_cause(lines, cause, walk)?;
+            append_cause(lines, &cause, walk)?;
             lines.extend_from_slice(b"\n")
         }
         ShortFate::Fell(first) => append_number_line(lines, b"over fell ", u64::from(first.0)),
     }
 }
 
-fn append_looked(lines: &mut Vec<u8>, key: &Key, value: Option<i64>) -> Result<(), AllocError>
+#[inline(always)]
+fn append_looked(lines: &mut Vec<u8>, key: Key, value: Option<i64>) -> Result<(), AllocError>
     ensures ok { OnOk result
-        (lines.new.items ≡ lines.old.items ++ looked_text key.now value ++ codes "\n") }
+        (lines.new.items ≡ lines.old.items ++ looked_text key value ++ codes "\n") }
     ensures err { OnErr result (lines.new.items ≡ lines.old.items) }
 {
-    let mut line = [0; LONGEST_LINE];
-    let start = match value {
-        Some(value) => {
-            let end = write_byte(b'\n', &mut line, LONGEST_LINE);
-            write_record(key, value, &mut line, end)
-        }
-        None => {
-            let end = write_words(b" none\n", &mut line, LONGEST_LINE);
-            write_key(key, &mut line, end)
-        }
-    };
-    let start = write_words(b"read ", &mut line, start);
-    lines.extend_from_slice(&line[start..])
+    match value {
+        Some(value) => append_found(lines, key, value),
+        None => append_nothing(lines, key),
+    }
 }
 
-fn append_wrote(lines: &mut Vec<u8>, key: &Key, value: i64) -> Result<(), AllocError>
+/// Appends the line of a read that found a value.
+#[inline(never)]
+fn append_found(lines: &mut Vec<u8>, key: Key, value: i64) -> Result<(), AllocError>
     ensures ok { OnOk result
-        (lines.new.items ≡ lines.old.items ++ codes "wrote " ++ record_text key.now value ++ codes "\n") }
+        (lines.new.items ≡ lines.old.items ++ looked_text key (Some value) ++ codes "\n") }
     ensures err { OnErr result (lines.new.items ≡ lines.old.items) }
 {
-    let mut line = [0; LONGEST_LINE];
+    let mut line = [0; LINE_AND_CHUNK];
     let start = write_byte(b'\n', &mut line, LONGEST_LINE);
-    let start = write_record(key, value, &mut line, start);
+    let start = write_record(&key, value, &mut line, start);
+    let start = write_words(b"read ", &mut line, start);
+    append_written(lines, &line, start)
+}
+
+/// Appends the line of a read that found no value.
+#[inline(never)]
+fn append_nothing(lines: &mut Vec<u8>, key: Key) -> Result<(), AllocError>
+    ensures ok { OnOk result
+        (lines.new.items ≡ lines.old.items ++ looked_text key None ++ codes "\n") }
+    ensures err { OnErr result (lines.new.items ≡ lines.old.items) }
+{
+    let mut line = [0; LINE_AND_CHUNK];
+    let end = write_words(b" none\n", &mut line, LONGEST_LINE);
+    let start = write_key(&key, &mut line, end);
+    let start = write_words(b"read ", &mut line, start);
+    append_written(lines, &line, start)
+}
+
+#[inline(never)]
+fn append_wrote(lines: &mut Vec<u8>, key: Key, value: i64) -> Result<(), AllocError>
+    ensures ok { OnOk result
+        (lines.new.items ≡ lines.old.items ++ codes "wrote " ++ record_text key value ++ codes "\n") }
+    ensures err { OnErr result (lines.new.items ≡ lines.old.items) }
+{
+    let mut line = [0; LINE_AND_CHUNK];
+    let start = write_byte(b'\n', &mut line, LONGEST_LINE);
+    let start = write_record(&key, value, &mut line, start);
     let start = write_words(b"wrote ", &mut line, start);
-    lines.extend_from_slice(&line[start..])
+    append_written(lines, &line, start)
 }
 
 /// On an error the lines still begin with what they held.
+#[inline(never)]
 fn append_committed(lines: &mut Vec<u8>, answers: &Answers) -> Result<(), AllocError>
     ensures ok { OnOk result
         (lines.new.items ≡ lines.old.items ++ committed_text answers.now ++ codes "\n") }
@@ -145,36 +171,39 @@ fn append_committed(lines: &mut Vec<u8>, answers: &Answers) -> Result<(), AllocE
 }
 
 /// Appends the line of a transaction that is committed with one answer.
+#[inline(always)]
 fn append_answered(lines: &mut Vec<u8>, answer: i64) -> Result<(), AllocError>
     ensures ok { OnOk result
         (lines.new.items ≡ lines.old.items ++ codes "committed " ++ signed_decimal answer ++ codes "\n") }
     ensures err { OnErr result (lines.new.items ≡ lines.old.items) }
 {
-    let mut line = [0; LONGEST_LINE];
+    let mut line = [0; LINE_AND_CHUNK];
     let start = write_byte(b'\n', &mut line, LONGEST_LINE);
     let start = write_signed(answer, &mut line, start);
     let start = write_words(b"committed ", &mut line, start);
-    lines.extend_from_slice(&line[start..])
+    append_written(lines, &line, start)
 }
 
 /// On an error the lines still begin with what they held.
 #[tactic(auto, using(crate::proofs::Begins::still_begins))]
+#[inline(never)]
 fn append_aborted(
     lines: &mut Vec<u8>,
-    cause: &ShortCause,
+    cause: ShortCause,
     walk: &Tids,
     fell: &Tids,
 ) -> Result<(), AllocError>
     ensures ok { OnOk result (lines.new.items
-        ≡ lines.old.items ++ aborted_text (full_cause cause.now walk.now) fell.now ++ codes "\n") }
+        ≡ lines.old.items ++ aborted_text (full_cause cause walk.now) fell.now ++ codes "\n") }
     ensures err { OnErr result (take (vec_len lines.old) lines.new.items ≡ lines.old.items) }
 {
     lines.extend_from_slice(b"aborted ")?;
-    append_cause(lines, cause, walk)?;
+    append_cause(lines, &cause, walk)?;
     append_fell(lines, fell)
 }
 
 /// On an error the lines still begin with what they held.
+#[inline(never)]
 fn append_refused(lines: &mut Vec<u8>, code: u16, fell: &Tids) -> Result<(), AllocError>
     ensures ok { OnOk result
         (lines.new.items ≡ lines.old.items ++ refused_text code fell.now ++ codes "\n") }

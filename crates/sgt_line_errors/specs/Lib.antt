@@ -1,1 +1,2 @@
 pub mod FaultyLines
+pub mod Refusals

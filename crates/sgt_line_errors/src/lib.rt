@@ -6,6 +6,8 @@
 //! bytes of another source and stores them, so the line can be read again. [`explain`] combines the two. No run
 //! depends on this: its output and its end stay the same. If memory runs out for an explanation, there is none.
 //!
+//! [`explain_opening`] and [`explain_procedure`] explain a text that is refused, without a run.
+//!
 //! Parts of the input are shortened when shown, and contain only printable ASCII.
 //!
 //! ```
@@ -33,6 +35,7 @@ mod misfit;
 mod opening;
 mod part;
 mod record;
+mod refusal;
 mod remembering;
 mod request;
 mod search;
@@ -41,4 +44,5 @@ mod tree;
 pub use command::Command;
 pub use diagnosis::diagnose;
 pub use explanation::explain;
+pub use refusal::{explain_opening, explain_procedure};
 pub use remembering::Remembering;

@@ -1,5 +1,5 @@
 //! An entry, read in place in the history.
-ghost use Rattle.std.specs.Prelude.{◌≡◌, ◌≤◌, ◌↔◌, length, IsTrue};
+ghost use Rattle.std.specs.Prelude.{◌≡◌, ◌≤◌, ◌↔◌, false, length, IsTrue, None};
 ghost use Rattle.sgt_model.specs.Fates.{is_start};
 ghost use Rattle.sgt_model.specs.Questions.{named_by, started_in, over_in};
 ghost use Rattle.sgt_model.specs.Questions.{refuses_start, is_wait, is_commit, is_ask, is_quit, is_ending, tells_end};
@@ -79,7 +79,7 @@ impl<'a> EntryRef<'a> {
     }
 
     // A copy. If only a copy is passed to a call, the original is never written to memory.
-    fn copied(&self) -> EntryRef<'a>
+    pub(crate) fn copied(&self) -> EntryRef<'a>
         ensures { result ≡ self.now }
     {
         EntryRef {
@@ -90,15 +90,15 @@ impl<'a> EntryRef<'a> {
     }
 
     // Whether both are the same entry, of a frequent kind. For other kinds the result means nothing.
-    #[inline]
-    fn is_surely_same(&self, other: &EntryRef<'_>) -> bool
+    #[inline(always)]
+    pub(crate) fn is_surely_same(&self, other: &EntryRef<'_>) -> bool
         ensures { IsTrue result → self.now ≡ other.now }
     {
         self.has_surely_same_event(other) && self.has_surely_same_reply(other)
     }
 
     // Whether the events are the same, of a frequent kind.
-    #[inline]
+    #[inline(always)]
     fn has_surely_same_event(&self, other: &EntryRef<'_>) -> bool
         ensures { IsTrue result → self.now.event ≡ other.now.event }
     {
@@ -117,15 +117,16 @@ impl<'a> EntryRef<'a> {
     }
 
     // Whether the replies are the same, of a frequent kind.
-    #[inline]
+    #[inline(always)]
     fn has_surely_same_reply(&self, other: &EntryRef<'_>) -> bool
         ensures { IsTrue result → self.now.reply ≡ other.now.reply }
     {
         match (&self.stored.reply, &other.stored.reply) {
+            (StoredReply::Started(t), StoredReply::Started(u)) => t == u,
             (StoredReply::Committed { .. }, StoredReply::Committed { .. }) => {
                 are_same_values(self.answers(), other.answers())
             }
-            (reply, another) => reply.is_plain() && reply.is_same(another),
+            (reply, another) => reply.is_same_plain(another),
         }
     }
 
@@ -255,6 +256,23 @@ impl<'a> EntryRef<'a> {
         ensures { result ≡ is_wait self.now.reply }
     {
         matches!(self.stored.reply, StoredReply::Waits(_))
+    }
+
+    /// Whether it is a step that read, wrote or came to its procedure's end. Such a step starts and ends no transaction,
+    /// and reports no end.
+    #[inline]
+    pub fn is_progress(&self) -> bool
+        ensures { IsTrue result → (started_in self.now.event self.now.reply ≡ None)
+            × (over_in self.now.event self.now.reply ≡ None) × (is_ending self.now.reply ≡ false) }
+    {
+        matches!(self.stored.event, StoredEvent::Step(_))
+            && matches!(
+                self.stored.reply,
+                StoredReply::Looked { .. }
+                    | StoredReply::Missed { .. }
+                    | StoredReply::Wrote { .. }
+                    | StoredReply::Ended
+            )
     }
 
     /// Whether it commits a transaction.

@@ -209,16 +209,16 @@ impl History {
                 let _count = lists.answers.len();
                 self.push_commit(*t, lists.answers.as_slice())
             }
-            _ => self.push_any(event, &reply, lists),
+            _ => self.push_any(event, reply, lists),
         }
     }
 
     // Adds an entry of any kind.
     #[inline(never)]
-    fn push_any(&mut self, event: &Event, reply: &ShortReply, lists: &ReplyLists)
+    fn push_any(&mut self, event: &Event, reply: ShortReply, lists: &ReplyLists)
         requires { 0 < self.old.room }
         ensures entries { self.new.entries
-            ≡ self.old.entries ++ record { event = event.now; reply = reply_with reply.now lists.now } ∷ [] }
+            ≡ self.old.entries ++ record { event = event.now; reply = reply_with reply lists.now } ∷ [] }
         ensures room { self.new.room + 1 ≡ self.old.room }
         ensures capacities { self.new.capacities ≡ self.old.capacities }
     {
@@ -229,7 +229,7 @@ impl History {
             walk: lists.walk.as_slice(),
             fell: lists.fell.as_slice(),
         };
-        self.push_parts(BareEvent::of(event), reply, &lists);
+        self.push_parts(BareEvent::of(event), &reply, &lists);
     }
 
     // Adds an entry in parts, of any kind.
@@ -319,30 +319,46 @@ impl History {
         ensures room { self.new.room + 1 ≡ self.old.room }
         ensures capacities { self.new.capacities ≡ self.old.capacities }
     {
-        // Most entries have no lists.
-        if entry.stored.is_plain() {
-            self.push_plain(entry.stored.event, entry.stored.reply);
-        } else {
-            self.push_lists(entry);
-        }
-    }
-
-    // Adds an entry of another history, with its lists.
-    fn push_lists(&mut self, entry: &EntryRef<'_>)
-        requires { 0 < self.old.room }
-        ensures entries { self.new.entries ≡ self.old.entries ++ entry.now ∷ [] }
-        ensures room { self.new.room + 1 ≡ self.old.room }
-        ensures capacities { self.new.capacities ≡ self.old.capacities }
-    {
+        // The frequent kinds are written straight to their position.
         match (&entry.stored.event, &entry.stored.reply) {
+            (StoredEvent::Step(t), StoredReply::Looked { table, id, value }) => self.push_plain(
+                StoredEvent::Step(*t),
+                StoredReply::Looked {
+                    table: *table,
+                    id: *id,
+                    value: *value,
+                },
+            ),
+            (StoredEvent::Step(t), StoredReply::Wrote { table, id, value }) => self.push_plain(
+                StoredEvent::Step(*t),
+                StoredReply::Wrote {
+                    table: *table,
+                    id: *id,
+                    value: *value,
+                },
+            ),
+            (StoredEvent::Step(t), StoredReply::Ended) => {
+                self.push_plain(StoredEvent::Step(*t), StoredReply::Ended)
+            }
             (StoredEvent::Start { procedure, .. }, StoredReply::Started(t)) => {
                 self.push_start(*procedure, entry.args(), *t)
             }
             (StoredEvent::Commit(t), StoredReply::Committed { .. }) => {
                 self.push_commit(*t, entry.answers())
             }
-            _ => self.push_parts(entry.bare_event(), &entry.short(), &entry.lists()),
+            _ => self.push_other(&entry.copied()),
         }
+    }
+
+    // Adds an entry of another history, of any kind.
+    #[inline(never)]
+    fn push_other(&mut self, entry: &EntryRef<'_>)
+        requires { 0 < self.old.room }
+        ensures entries { self.new.entries ≡ self.old.entries ++ entry.now ∷ [] }
+        ensures room { self.new.room + 1 ≡ self.old.room }
+        ensures capacities { self.new.capacities ≡ self.old.capacities }
+    {
+        self.push_parts(entry.bare_event(), &entry.short(), &entry.lists());
     }
 
     /// The entry at this index, read in place.
@@ -387,23 +403,34 @@ impl History {
         requires there { index < length other.now.entries }
         ensures { IsTrue result ↔ (slice_get self.now.entries place ≡ slice_get other.now.entries index) }
     {
-        // Most entries have no lists, and are read where they are.
-        self.is_same_plain(place, other, index) || self.is_same_entry(place, other, index)
+        // Most entries are steps, and are read where they are.
+        self.is_same_step(place, other, index) || self.is_same_entry(place, other, index)
     }
 
-    // Whether both entries have no lists and are the same.
+    // Whether both entries are the same step, of a frequent kind.
     #[inline(always)]
-    fn is_same_plain(&self, place: usize, other: &History, index: usize) -> bool
+    fn is_same_step(&self, place: usize, other: &History, index: usize) -> bool
         requires here { place < length self.now.entries }
         requires there { index < length other.now.entries }
         ensures { IsTrue result → slice_get self.now.entries place ≡ slice_get other.now.entries index }
     {
-        self.entries[place].is_same_plain(&other.entries[index])
+        self.entries[place].is_same_step(&other.entries[index])
+    }
+
+    // Whether both entries are the same, a start or a commit at first.
+    #[inline(never)]
+    fn is_same_entry(&self, place: usize, other: &History, index: usize) -> bool
+        requires here { place < length self.now.entries }
+        requires there { index < length other.now.entries }
+        ensures { IsTrue result ↔ (slice_get self.now.entries place ≡ slice_get other.now.entries index) }
+    {
+        self.entry(place).is_surely_same(&other.entry(index))
+            || self.is_same_of_any_kind(place, other, index)
     }
 
     // Whether both entries are the same, of any kind.
     #[inline(never)]
-    fn is_same_entry(&self, place: usize, other: &History, index: usize) -> bool
+    fn is_same_of_any_kind(&self, place: usize, other: &History, index: usize) -> bool
         requires here { place < length self.now.entries }
         requires there { index < length other.now.entries }
         ensures { IsTrue result ↔ (slice_get self.now.entries place ≡ slice_get other.now.entries index) }

@@ -21,9 +21,7 @@ impl Span {
     }
 
     /// Adds the items at the end of a list that has capacity for them, and returns their span. It allocates nothing.
-    ///
-    /// It is not inlined: most entries have no lists, and so pay nothing for it.
-    #[inline(never)]
+    #[inline(always)]
     pub fn append<T: Copy>(list: &mut Vec<T>, items: &[T]) -> Self
         requires room { vec_len list.old + length items.now ≤ vec_capacity list.old }
         requires few { length items.now ≤ 32 }

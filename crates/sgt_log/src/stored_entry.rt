@@ -47,19 +47,17 @@ impl StoredEntry {
         StoredEntry { event, reply }
     }
 
-    /// Whether its event and its reply are of kinds that have no lists.
-    #[inline]
-    pub fn is_plain(&self) -> bool
-        ensures { IsTrue result → HasNoArgs self.now.event × HasNoLists self.now.reply }
-    {
-        self.event.is_plain() && self.reply.is_plain()
-    }
-
-    /// Whether both are of kinds that have no lists, and the same. Then they are the same entry, even of different histories.
+    /// Whether both are the same step, which read, wrote or ended. It has no lists, so they are the same entry even if
+    /// they are of different histories.
     #[inline(always)]
-    pub fn is_same_plain(&self, other: &Self) -> bool
+    pub fn is_same_step(&self, other: &Self) -> bool
         ensures { IsTrue result → HasNoArgs self.now.event × HasNoLists self.now.reply × (self.now ≡ other.now) }
     {
-        self.is_plain() && self.event.is_same(&other.event) && self.reply.is_same(&other.reply)
+        match (&self.event, &other.event) {
+            (StoredEvent::Step(t), StoredEvent::Step(u)) => {
+                t == u && self.reply.is_same_access(&other.reply)
+            }
+            _ => false,
+        }
     }
 }

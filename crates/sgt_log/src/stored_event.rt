@@ -1,7 +1,7 @@
 //! An event in few bytes, as the history stores it.
-ghost use Rattle.std.specs.Prelude.{◌≡◌, ◌+◌, ◌≤◌, ◌↔◌, IsTrue, length, vec_len, vec_capacity};
+ghost use Rattle.std.specs.Prelude.{◌≡◌, ◌+◌, ◌≤◌, length, vec_len, vec_capacity};
 ghost use Rattle.sgt_log.specs.Spans.{part_of, HasMore};
-ghost use Rattle.sgt_log.specs.StoredEntries.{bare_of, args_at, event_of, IsEvent, HasNoArgs};
+ghost use Rattle.sgt_log.specs.StoredEntries.{bare_of, args_at, event_of, IsEvent};
 ghost use Rattle.sgt_log.specs.EntryParts.{full_event};
 
 use crate::bare::BareEvent;
@@ -9,7 +9,7 @@ use crate::span::Span;
 use sgt_model::{Event, Tid};
 
 /// An event. Its arguments are in the list of values: as many as `count`, from the index `from`.
-#[derive(Clone, Copy, PartialEq, Eq)]
+#[derive(Clone, Copy)]
 pub enum StoredEvent {
     Start {
         procedure: u16,
@@ -48,22 +48,6 @@ impl StoredEvent {
             BareEvent::Commit(t) => StoredEvent::Commit(t),
             BareEvent::Quit(t) => StoredEvent::Quit(t),
         }
-    }
-
-    /// Whether it is of a kind that has no arguments.
-    #[inline]
-    pub fn is_plain(&self) -> bool
-        ensures { IsTrue result → HasNoArgs self.now }
-    {
-        !matches!(self, StoredEvent::Start { .. })
-    }
-
-    /// Whether both are the same in all that is stored. If they are of one history, they are the same event.
-    #[inline(always)]
-    pub fn is_same(&self, other: &Self) -> bool
-        ensures { IsTrue result ↔ (self.now ≡ other.now) }
-    {
-        self == other
     }
 
     /// The event without its arguments.

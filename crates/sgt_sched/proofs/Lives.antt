@@ -1,7 +1,8 @@
 -- The list of live transactions: the index of one in it, and what changes there.
-use Rattle.std.proofs.Common.{◌≡◌, ℕ, zero, suc, ◌<◌, ◌≤◌, ◌+◌, arith, Bool, true, false, not, cond, nat_eq, nat_lt, ◌⊎◌, inl, inr, List, [], ◌∷◌, ◌++◌, take, drop, length, Some, None, refl, sym, ap, ◌∙◌, subst, slice_get, slice_set, get_or, position}
+use Rattle.std.proofs.Common.{◌≡◌, ℕ, zero, suc, ◌<◌, ◌≤◌, ◌+◌, ◌-◌, arith, Bool, true, false, not, cond, nat_eq, nat_lt, ◌⊎◌, inl, inr, List, [], ◌∷◌, ◌++◌, take, drop, length, Some, None, refl, sym, ap, ◌∙◌, subst, slice_get, slice_set, get_or, position}
 use Rattle.std.specs.List.{position_or_len}
 use Rattle.std.proofs.lemmas.Bool.{false_from_ne_true, ltb-true, ltb-false, eqb-true, eqb-false}
+use Rattle.std.proofs.lemmas.List.{take-append-le}
 use Rattle.std.proofs.lemmas.Option.{same_Some, slice_get_read}
 use Rattle.sgt_sched.specs.LiveProgress.{Progress}
 use Rattle.sgt_model.specs.Walks.{Member, Rising}
@@ -108,6 +109,62 @@ has_index t live m missing = absurd (omega (arith, before_end t live m, missed _
 pub changed_at : (t : ℕ) (rows seen : List (ℕ × Progress)) (i : ℕ) (r s : ℕ × Progress) (f : Progress → Progress) → rows ≡ seen
     → s ≡ (r.0, f r.1) → IsFirst t seen i r → slice_set rows i s ≡ changed t f seen
 changed_at t rows seen i r s f same is first = ap (λ l. slice_set l i s) same ∙ (ap (slice_set seen i) is ∙ first.change f)
+
+-- places: the live ones, then those that are used again
+
+-- a place among the live ones is set
+pub take_set : (n : ℕ) (rows : List (ℕ × Progress)) (i : ℕ) (r : ℕ × Progress)
+    → take n (slice_set rows i r) ≡ slice_set (take n rows) i r
+take_set zero rows i r = refl
+take_set (suc n) [] i r = refl
+take_set (suc n) (q ∷ rest) zero r = refl
+take_set (suc n) (q ∷ rest) (suc i) r = ap (λ l. q ∷ l) (take_set n rest i r)
+
+-- a place of a live one is a place
+pub below_places : (n i : ℕ) (rows : List (ℕ × Progress)) → i < length (take n rows) → (i < n) × (i < length rows)
+below_places zero i rows h = absurd (omega (arith, h))
+below_places (suc n) i [] h = absurd (omega (arith, h))
+below_places (suc n) zero (q ∷ rest) h = (omega arith, omega arith)
+below_places (suc n) (suc i) (q ∷ rest) h =
+    let r = below_places n i rest (omega (arith, h)) in (omega (arith, r.0), omega (arith, r.1))
+
+-- what stands there
+pub place_read : (n i : ℕ) (rows : List (ℕ × Progress)) (d : ℕ × Progress) → i < n → get_or rows i d ≡ get_or (take n rows) i d
+place_read zero i rows d h = absurd (omega (arith, h))
+place_read (suc n) i [] d h = refl
+place_read (suc n) zero (q ∷ rest) d h = refl
+place_read (suc n) (suc i) (q ∷ rest) d h = place_read n i rest d (omega (arith, h))
+
+-- the place of one that ended is moved behind the others
+pub place_moved : (n i : ℕ) (rows : List (ℕ × Progress)) (r : ℕ × Progress) → i ≤ n → n < length rows
+    → take n ((take i rows ++ drop (suc i) rows) ++ r ∷ []) ≡ take i (take (suc n) rows) ++ drop (suc i) (take (suc n) rows)
+place_moved n i [] r h w = absurd (omega (arith, w))
+place_moved n zero (q ∷ rest) r h w = take-append-le n rest (r ∷ []) (omega (arith, w))
+place_moved zero (suc i) (q ∷ rest) r h w = absurd (omega (arith, h))
+place_moved (suc n) (suc i) (q ∷ rest) r h w = ap (λ l. q ∷ l) (place_moved n i rest r (omega (arith, h)) (omega (arith, w)))
+
+-- the place of the last one is the first behind the others
+pub place_left : (n : ℕ) (rows : List (ℕ × Progress))
+    → take n rows ≡ take n (take (suc n) rows) ++ drop (suc n) (take (suc n) rows)
+place_left zero [] = refl
+place_left (suc n) [] = refl
+place_left zero (q ∷ rest) = refl
+place_left (suc n) (q ∷ rest) = ap (λ l. q ∷ l) (place_left n rest)
+
+-- without the one at this index, whose place was moved behind the others or was the last
+pub moved_behind : (n i : ℕ) (rows : List (ℕ × Progress)) (r : ℕ × Progress) → i < n → n ≤ length rows
+    → take (n - 1) ((take i rows ++ drop (suc i) rows) ++ r ∷ []) ≡ take i (take n rows) ++ drop (suc i) (take n rows)
+moved_behind zero i rows r h w = absurd (omega (arith, h))
+moved_behind (suc n) i rows r h w =
+    let e : suc n - 1 ≡ n = omega arith in
+    ap (λ m. take m ((take i rows ++ drop (suc i) rows) ++ r ∷ [])) e ∙ place_moved n i rows r (omega (arith, h)) (omega (arith, w))
+
+pub left_last : (n i : ℕ) (rows : List (ℕ × Progress)) → i < n → n ≤ i + 1
+    → take (n - 1) rows ≡ take i (take n rows) ++ drop (suc i) (take n rows)
+left_last n i rows h last =
+    let e : n - 1 ≡ i = omega (arith, h, last) in
+    let f : suc i ≡ n = omega (arith, h, last) in
+    ap (λ m. take m rows) e ∙ subst (λ m. take i rows ≡ take i (take m rows) ++ drop (suc i) (take m rows)) f (place_left i rows)
 
 -- one that is dropped
 

@@ -1,5 +1,5 @@
 -- The effect of a call on a live transaction.
-use Rattle.std.proofs.Common.{◌≡◌, ℕ, Bool, true, false, nat_lt, List, Option, Some, None, Result, Ok, Err, inl, refl, sym, subst}
+use Rattle.std.proofs.Common.{◌≡◌, ℕ, Bool, true, false, nat_lt, Option, Some, None, Result, Ok, Err, inl, refl, sym, subst}
 use Rattle.std.specs.Prelude.{OnErr}
 use Rattle.std.proofs.lemmas.Result.{IfOk-weaker}
 use Rattle.sgt_records.specs.declared.records.Records.{Ghosts as RecordsGhosts}
@@ -16,7 +16,6 @@ use Rattle.sgt_model.specs.Settings.{Rules}
 use Rattle.sgt_model.specs.Left.{next_left}
 use Rattle.sgt_model.specs.State.{State}
 use Rattle.sgt_model.specs.CallEffects.{IfOpen, CycleAbortEffect, StepOn, StepEffect, CommitOn, CommitEffect, CallEffect}
-use Rattle.sgt_model.specs.declared.reply.Reply.TheVariants as reply
 use Rattle.sgt_model.specs.declared.short_reply.ReplyLists.{ReplyLists}
 use Rattle.sgt_model.specs.declared.short_reply.ShortReply.{ShortReply}
 use Rattle.sgt_sched.specs.declared.operation.Operation.{Operation}

@@ -14,5 +14,7 @@ pub fn leave(live: &mut Live, read_from: &mut Vec<(Tid, Tid)>, t: Tid)
     ensures read_from { read_from.new.items ≡ unread t read_from.old.items }
 {
     live.remove(t);
-    read_from.retain(|&(source, reader)| source != t && reader != t);
+    if !read_from.is_empty() {
+        read_from.retain(|&(source, reader)| source != t && reader != t);
+    }
 }

@@ -1,25 +1,30 @@
 //! The list of the live transactions.
 ghost use Rattle.std.specs.Prelude.{◌≡◌, ◌≤◌, [], ◌∷◌, ◌++◌, length, Some, OnOk, OnErr, position};
 ghost use Rattle.sgt_model.specs.Walks.{Rising};
-ghost use Rattle.sgt_sched.specs.LiveList.{numbers, has_number, progress_at, with_look, with_store, changed, others_live};
+ghost use Rattle.sgt_sched.specs.LiveList.{numbers, has_number, progress_at, started, with_look, with_store, changed, others_live};
 ghost use Rattle.sgt_sched.specs.SchedulerView.{IsAlong};
 
 use crate::running::Running;
-use sgt_model::{NoMemory, Tid, Tids};
-use sgt_proc::{Checked, Cursor};
+use sgt_model::{Args, NoMemory, Tid, Tids};
+use sgt_proc::Checked;
 use std::alloc::Global;
 use std::marker::Model;
 
 /// The live transactions with the progress of each, in the order of their starts. A call searches the list at most once:
 /// the result is an index.
+///
+/// The place of an ended transaction is kept, and used again by the next one that starts.
 #[derive(Drop)]
 pub struct Live {
+    // The live ones, then places to use again.
     running: Vec<Running>,
+    count: usize,
+    alloc: Global,
 }
 
 impl Model for Live {
     ghost use Rattle.std.specs.Coded.{codes};
-    ghost use Rattle.std.specs.Prelude.{ℕ, List};
+    ghost use Rattle.std.specs.Prelude.{◌≤◌, ℕ, List, length, take};
     ghost use Rattle.sgt_model.specs.Codes.{coded_procedure};
     ghost use Rattle.sgt_proc.specs.Codes.{coded_left};
     ghost use Rattle.sgt_sched.specs.LiveProgress.{Progress};
@@ -28,7 +33,9 @@ impl Model for Live {
 
     ghost coded = { Prim.hlevel (codes, coded_procedure, coded_left) };
 
-    ghost view = { λ l. l.running.items };
+    ghost view = { λ l. take l.count l.running.items };
+
+    ghost invariant = { λ l. l.count ≤ length l.running.items };
 }
 
 impl Live {
@@ -38,6 +45,8 @@ impl Live {
     {
         Live {
             running: Vec::new(alloc),
+            count: 0,
+            alloc,
         }
     }
 
@@ -45,7 +54,15 @@ impl Live {
     pub fn len(&self) -> usize
         ensures { result ≡ length self.now }
     {
-        self.running.len()
+        self.count
+    }
+
+    // Those that are live.
+    #[inline(always)]
+    fn live(&self) -> &[Running]
+        ensures { result.now ≡ self.now }
+    {
+        &self.running[..self.count]
     }
 
     /// Their numbers.
@@ -54,7 +71,7 @@ impl Live {
         ensures { result ≡ numbers self.now }
     {
         let mut tids = Tids::new();
-        for running in self.running.as_slice() {
+        for running in self.live() {
             tids.push(running.tid);
         }
         tids
@@ -64,7 +81,7 @@ impl Live {
     pub fn index(&self, t: Tid) -> Option<usize>
         ensures { result ≡ position (has_number t) self.now }
     {
-        self.running.iter().position(|running| running.tid == t)
+        self.live().iter().position(|running| running.tid == t)
     }
 
     /// The transaction t, which is live and has this index.
@@ -75,17 +92,26 @@ impl Live {
         &self.running[index]
     }
 
-    /// Adds one that was just started, as the last. `NoMemory` if an allocation failed; then nothing has changed.
-    pub fn start(&mut self, t: Tid, procedure: u16, cursor: Cursor) -> Result<(), NoMemory>
-        ensures ok { OnOk result (self.new ≡ self.old ++ (t, record { procedure = procedure; cursor = cursor }) ∷ []) }
+    /// Adds one that was just started, as the last. It runs this procedure, which has this number, with these arguments.
+    /// `NoMemory` if an allocation failed; then nothing has changed.
+    #[inline(always)]
+    pub fn start(
+        &mut self,
+        t: Tid,
+        procedure: u16,
+        checked: &Checked,
+        args: &Args,
+    ) -> Result<(), NoMemory>
+        ensures ok { OnOk result (self.new ≡ self.old ++ (t, started procedure checked.now args.now) ∷ []) }
         ensures err { OnErr result (self.new ≡ self.old) }
     {
-        self.running.reserve(1)?;
-        self.running.push_reserved(Running {
-            tid: t,
-            procedure,
-            cursor,
-        });
+        if self.count < self.running.len() {
+            self.running[self.count].restart(t, procedure, checked, args);
+            self.count += 1;
+            return Ok(());
+        }
+        add(&mut self.running, self.alloc, t, procedure, checked, args)?;
+        self.count += 1;
         Ok(())
     }
 
@@ -109,7 +135,8 @@ impl Live {
         self.running[index].store(procedures);
     }
 
-    /// Removes the transaction, which has ended. The others are moved in one block, not one by one. It allocates nothing.
+    /// Removes the transaction, which has ended. Its place is kept behind the others, which are moved in one block. It
+    /// allocates nothing.
     pub fn remove(&mut self, t: Tid)
         requires rising { Rising (numbers self.old) }
         ensures { self.new ≡ others_live t self.old }
@@ -117,6 +144,29 @@ impl Live {
         let Some(index) = self.index(t) else {
             return;
         };
-        self.running.remove(index);
+        if index + 1 < self.count {
+            let ended = self.running.remove(index);
+            self.running.push_reserved(ended);
+        }
+        self.count -= 1;
     }
+}
+
+// Adds a place with a transaction that was just started, as the last.
+#[inline(never)]
+fn add(
+    running: &mut Vec<Running>,
+    alloc: Global,
+    t: Tid,
+    procedure: u16,
+    checked: &Checked,
+    args: &Args,
+) -> Result<(), NoMemory>
+    ensures ok { OnOk result (running.new.items ≡ running.old.items ++ (t, started procedure checked.now args.now) ∷ []) }
+    ensures err { OnErr result (running.new.items ≡ running.old.items) }
+{
+    running.reserve(1)?;
+    let added = Running::start(alloc, t, procedure, checked, args)?;
+    running.push_reserved(added);
+    Ok(())
 }

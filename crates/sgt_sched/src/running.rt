@@ -1,14 +1,15 @@
 //! One live transaction, and the progress of its procedure.
-ghost use Rattle.std.specs.Prelude.{◌≡◌, ℤ, List};
+ghost use Rattle.std.specs.Prelude.{◌≡◌, ℤ, List, IfOk};
 ghost use Rattle.sgt_model.specs.Left.{next_left};
 ghost use Rattle.sgt_model.specs.Traces.{Ends};
 ghost use Rattle.sgt_proc.specs.Nexts.{answers_at, seen_with, PutsValue};
-ghost use Rattle.sgt_sched.specs.LiveList.{with_look, with_store};
+ghost use Rattle.sgt_sched.specs.LiveList.{started, with_look, with_store};
 ghost use Rattle.sgt_sched.specs.LiveProgress.{left_kept};
 ghost use Rattle.sgt_sched.specs.SchedulerView.{IsAlong};
 
-use sgt_model::{Answers, Tid};
+use sgt_model::{Answers, Args, NoMemory, Tid};
 use sgt_proc::{Ahead, Checked, Cursor};
+use std::alloc::Global;
 use std::marker::Model;
 
 /// A live transaction: its number, that of its procedure, and the procedure's progress. It holds no procedure: its calls take
@@ -17,7 +18,8 @@ use std::marker::Model;
 pub struct Running {
     pub tid: Tid,
     pub procedure: u16,
-    pub cursor: Cursor,
+    // In a place of its own, so that a list of these moves few bytes.
+    pub cursor: Box<Cursor>,
 }
 
 impl Model for Running {
@@ -35,12 +37,39 @@ impl Model for Running {
       r.tid,
       record {
         procedure = r.procedure;
-        cursor = r.cursor;
+        cursor = r.cursor.value;
       },
     ) };
 }
 
 impl Running {
+    /// Starts a transaction that runs this procedure with these arguments. `NoMemory` if an allocation failed.
+    pub fn start(
+        alloc: Global,
+        tid: Tid,
+        procedure: u16,
+        checked: &Checked,
+        args: &Args,
+    ) -> Result<Self, NoMemory>
+        ensures { IfOk result (λ running. running ≡ (tid, started procedure checked.now args.now)) }
+    {
+        let cursor = Box::new(alloc, checked.begin(args))?;
+        Ok(Running {
+            tid,
+            procedure,
+            cursor,
+        })
+    }
+
+    /// The same, in place of a transaction that has ended. It allocates nothing.
+    pub fn restart(&mut self, tid: Tid, procedure: u16, checked: &Checked, args: &Args)
+        ensures { self.new ≡ (tid, started procedure checked.now args.now) }
+    {
+        self.tid = tid;
+        self.procedure = procedure;
+        checked.restart(&mut self.cursor, args);
+    }
+
     /// What the procedure does next, without its answers.
     #[inline(always)]
     pub fn ahead(&self) -> Ahead

@@ -6,7 +6,9 @@ use Rattle.std.proofs.Crossing.{crosses}
 use Rattle.sgt_model.proofs.procedure.Expr.TheLaws.TheKnot as expr
 use Rattle.sgt_model.proofs.procedure.Statement.TheLaws.TheKnot as statement
 use Rattle.sgt_sched.specs.contracts.fates.Fates as Fates
+use Rattle.sgt_proc.specs.contracts.cursor.Cursor as Cursor
 use Rattle.sgt_sched.specs.contracts.live.Live as Live
+use Rattle.sgt_sched.specs.contracts.running.Running as Running
 use Rattle.sgt_sched.specs.contracts.sched.Sched as Sched
 use Rattle.sgt_engine.specs.contracts.engine.Engine as Engine
 use Rattle.sgt_session.specs.contracts.round.Round as Round
@@ -20,8 +22,14 @@ use Rattle.sgt_log.proofs.history.History.TheSendSync as history
 use Rattle.std.proofs.sync.ledger.Book.TheSendSync as book
 use Rattle.sgt_model.specs.contracts.database.Database as Database
 
+cursor_send : IsSend (Cursor.the_field).row
+cursor_send = search (sendable, crosses, expr.crosses, statement.crosses) depth 40
+
+running_send : IsSend (Running.the_field).row
+running_send = search (sendable, crosses, cursor_send) depth 40
+
 live_send : IsSend (Live.the_field).row
-live_send = search (sendable, crosses, expr.crosses, statement.crosses) depth 40
+live_send = search (sendable, crosses, running_send) depth 40
 
 fates_send : IsSend (Fates.the_field).row
 fates_send = search (sendable, crosses) depth 40

@@ -1,12 +1,13 @@
 -- A history as the merge of the sessions' receipts.
 use Rattle.std.proofs.Common.{◌≡◌, ℕ, zero, suc, ◌+◌, ◌-◌, ◌<◌, ◌≤◌, nat_eq, true, false, cond, List, [], ◌∷◌, All, length, drop, set, replicate, slice_get, slice_index, slice_index_or, Some, refl, ap, sym, subst, ◌∙◌, ⊎_elim, ◌⊎◌, arith}
 use Rattle.std.specs.Prelude.{count_by}
+use Rattle.std.proofs.lemmas.List.{length-set}
 use Rattle.std.specs.List.{sum_by}
 use Rattle.std.proofs.lemmas.List.Sums.{sum_by-cons}
 use Rattle.std.proofs.lemmas.Bool.Decides.{nat_tests}
 use Rattle.sgt_model.specs.declared.entry.Entry.{Entry}
 use Rattle.sgt_session.specs.declared.receipt.Receipt.{Receipt}
-use Rattle.sgt_session.specs.Receipts.{receipt_of, entry_of, ReceiptStands}
+use Rattle.sgt_session.specs.Receipts.{receipt_of, entry_of, ReceiptStands, IsReceiptAt}
 use Rattle.sgt_session.specs.Accounts.{named, Rises, AccountsForHistory}
 
 -- the entries from number n on are the sessions' remaining receipts, taken one by one
@@ -192,12 +193,12 @@ checks_first history S le =
     let b = begins 64 S le in ((λ m. subst (λ (T : List (List Receipt)). Merge 0 history T) b m), omega (arith, ap total b))
 
 -- the entry with a number below the count
-pub entry_there : (history : List Entry) (n : ℕ) → n < length history → (e : Entry) × (slice_get history n ≡ Some e)
+entry_there : (history : List Entry) (n : ℕ) → n < length history → (e : Entry) × (slice_get history n ≡ Some e)
 entry_there [] n within = absurd (omega (arith, within))
 entry_there (e ∷ es) zero within = (e, refl)
 entry_there (e ∷ es) (suc n) within = entry_there es n (omega (arith, within))
 
-pub checks_next : (history : List Entry) (S : List (List Receipt)) (n : ℕ) (at : List ℕ) (i : ℕ) (e : Entry)
+checks_next : (history : List Entry) (S : List (List Receipt)) (n : ℕ) (at : List ℕ) (i : ℕ) (e : Entry)
     → Checked history S n at → slice_get history n ≡ Some e → i < length S → length S ≤ length at
     → slice_get (slice_index_or S i []) (slice_index at i) ≡ Some (receipt_of n e) → Checked history S (n + 1)
     (set at i (slice_index at i + 1))
@@ -212,6 +213,44 @@ checks_next history S n at i e c is lt le get =
       ))),
       omega (arith, t.2, c.1),
     )
+
+-- an element that is replaced twice, read, or replaced by itself
+
+set-read : (xs : List ℕ) (i x : ℕ) → i < length xs → slice_index (set xs i x) i ≡ x
+set-read [] i x lt = absurd (omega arith)
+set-read (y ∷ xs) zero x lt = refl
+set-read (y ∷ xs) (suc i) x lt = set-read xs i x (omega arith)
+
+set-twice : (xs : List ℕ) (i x y : ℕ) → set (set xs i x) i y ≡ set xs i y
+set-twice [] i x y = refl
+set-twice (z ∷ xs) zero x y = refl
+set-twice (z ∷ xs) (suc i) x y = ap (λ zs. z ∷ zs) (set-twice xs i x y)
+
+set-itself : (xs : List ℕ) (i : ℕ) → i < length xs → set xs i (slice_index xs i) ≡ xs
+set-itself [] i lt = absurd (omega arith)
+set-itself (y ∷ xs) zero lt = refl
+set-itself (y ∷ xs) (suc i) lt = ap (λ zs. y ∷ zs) (set-itself xs i (omega arith))
+
+-- several receipts of one session in turn
+pub checks_run : (history : List Entry) (S : List (List Receipt)) (n : ℕ) (at : List ℕ) (i c : ℕ)
+    → Checked history S n at → n + c ≤ length history → i < length S → length S ≤ length at
+    → ((k : ℕ) → k < c → IsReceiptAt (slice_index_or S i []) (slice_index at i + k) history (n + k))
+    → Checked history S (n + c) (set at i (slice_index at i + c))
+checks_run history S n at i zero k within lt le are =
+    let one : n + 0 ≡ n = omega arith in
+    let two : slice_index at i + 0 ≡ slice_index at i = omega arith in
+    rw (one, two, set-itself at i (omega arith)) k
+checks_run history S n at i (suc c) k within lt le are =
+    let before = checks_run history S n at i c k (omega arith) lt le (λ j less. are j (omega arith)) in
+    let there = entry_there history (n + c) (omega arith) in
+    let at' = set at i (slice_index at i + c) in
+    let long = length-set at i (slice_index at i + c) in
+    let read = set-read at i (slice_index at i + c) (omega arith) in
+    let next = checks_next history S (n + c) at' i there.0 before there.1 lt (omega (arith, long))
+    (rw read (are c (omega arith) there.0 there.1)) in
+    let one : n + suc c ≡ n + c + 1 = omega arith in
+    let two : slice_index at i + suc c ≡ slice_index at i + c + 1 = omega arith in
+    rw (one, two) (rw (read, set-twice at i (slice_index at i + c) (slice_index at i + c + 1)) at next)
 
 pub checks_last : (history : List Entry) (S : List (List Receipt)) (at : List ℕ) → Checked history S (length history) at
     → length history ≡ sum_by length S → AccountsForHistory history S

@@ -1,11 +1,10 @@
 //! Whether the receipts of all sessions are the entries of the history, each once.
-ghost use Rattle.std.specs.Prelude.{◌≡◌, ◌+◌, ◌^◌, ◌<◌, ◌≤◌, IsTrue, [], length, IfSome, slice_index, slice_index_or};
+ghost use Rattle.std.specs.Prelude.{◌≡◌, ℕ, ◌+◌, ◌^◌, ◌<◌, ◌≤◌, IsTrue, [], length, IfSome, slice_index, slice_index_or};
 ghost use Rattle.std.specs.List.{sum_by};
 ghost use Rattle.sgt_session.specs.Accounts.{AccountsForHistory};
 ghost use Rattle.sgt_session.specs.Receipts.{IsReceiptAt};
 
 use crate::named::Named;
-use crate::receipts::Receipts;
 use crate::session::Session;
 use sgt_log::History;
 
@@ -15,42 +14,47 @@ pub fn accounts<N: Named>(history: &History, sessions: &[Session<N>]) -> bool
     ensures { IsTrue result → AccountsForHistory history.now.entries sessions.now }
 {
     let mut at = [0usize; 64];
-    for p in 0..history.len() {
-        match owner(sessions, &at, history, p) {
-            Some(i) => at[i] += 1,
-            None => return false,
-        }
+    let mut p = 0;
+    while p < history.len() {
+        let Some(run) = next_run(sessions, &at, history, p) else {
+            return false;
+        };
+        at[run.session] += run.count;
+        p += run.count;
     }
     true
 }
 
-/// The session whose next receipt is that of the entry with this number.
-fn owner<N: Named>(
+/// Receipts of one session that are those of entries in turn.
+#[derive(Clone, Copy)]
+struct Run {
+    session: usize,
+    count: usize,
+}
+
+/// The session whose next receipts are those of the entries from this number on, and how many of them in turn.
+fn next_run<N: Named>(
     sessions: &[Session<N>],
     at: &[usize; 64],
     history: &History,
     number: usize,
-) -> Option<usize>
+) -> Option<Run>
     requires few { length sessions.now ≤ 64 }
     requires there { number < length history.now.entries }
-    ensures index { IfSome result (λ i. i < length sessions.now) }
-    ensures receipt { IfSome result (λ i. IsReceiptAt
-        (slice_index_or sessions.now i []) (slice_index at.now i) history.now.entries number) }
-    ensures fits { IfSome result (λ i. slice_index at.now i + 1 < 2 ^ 64) }
+    ensures session { IfSome result (λ run. run.session < length sessions.now) }
+    ensures some { IfSome result (λ run. 0 < run.count) }
+    ensures within { IfSome result (λ run. number + run.count ≤ length history.now.entries) }
+    ensures receipts { IfSome result (λ run. (k : ℕ) → k < run.count → IsReceiptAt
+        (slice_index_or sessions.now run.session []) (slice_index at.now run.session + k) history.now.entries (number + k)) }
+    ensures fits { IfSome result (λ run. slice_index at.now run.session + run.count < 2 ^ 64) }
 {
-    for i in 0..sessions.len() {
-        if is_next(sessions[i].receipts(), at[i], history, number) {
-            return Some(i);
+    for session in 0..sessions.len() {
+        let count = sessions[session]
+            .receipts()
+            .run_at(at[session], history, number);
+        if count > 0 {
+            return Some(Run { session, count });
         }
     }
     None
-}
-
-/// Whether the receipt at this index is that of the entry with this number.
-fn is_next(receipts: &Receipts, at: usize, history: &History, number: usize) -> bool
-    requires { number < length history.now.entries }
-    ensures receipt { IsTrue result → IsReceiptAt receipts.now.receipts at history.now.entries number }
-    ensures fits { IsTrue result → at + 1 < 2 ^ 64 }
-{
-    receipts.is_at(at, history, number)
 }

@@ -1,5 +1,5 @@
 //! The receipts of a session.
-ghost use Rattle.std.specs.Prelude.{◌≡◌, ◌+◌, ◌≤◌, ◌<◌, ◌^◌, ◌↔◌, [], ◌∷◌, ◌++◌, List, length, reverse, IsTrue, Some, OnOk, slice_get};
+ghost use Rattle.std.specs.Prelude.{◌≡◌, ℕ, ◌+◌, ◌≤◌, ◌<◌, ◌^◌, ◌↔◌, [], ◌∷◌, ◌++◌, List, length, reverse, IsTrue, Some, OnOk, slice_get};
 ghost use Rattle.std.specs.Result.{IsOk};
 ghost use Rattle.std.specs.Option.{option_map};
 ghost use Rattle.sgt_model.specs.declared.entry.Entry.{Entry};
@@ -15,6 +15,9 @@ use std::marker::Model;
 /// How many receipts are prefaulted at a time: about 3 MB.
 const AT_ONCE: usize = 65_536;
 
+/// How many receipts of capacity an allocation adds beyond those that were requested, so that allocations are rare.
+const AHEAD: usize = 64;
+
 /// The receipts of one session, in the order of its calls. A receipt takes 48 bytes, and its lists take 4 for each
 /// transaction and 8 for each value.
 ///
@@ -25,12 +28,14 @@ pub struct Receipts {
     numbers: Vec<u64>,
     // The entries that have these numbers.
     calls: History,
+    // How many more receipts there is capacity for.
+    room: usize,
     // How far the memory is prefaulted.
     touched: usize,
 }
 
 impl Model for Receipts {
-    ghost use Rattle.std.specs.Prelude.{◌≡◌, ◌-◌, length, min};
+    ghost use Rattle.std.specs.Prelude.{◌≡◌, ◌+◌, ◌≤◌, length};
     ghost use Rattle.std.specs.Vec.{vec_len, vec_capacity};
     ghost use Rattle.sgt_session.specs.Receipts.{ReceiptsView, receipts_of};
 
@@ -38,10 +43,13 @@ impl Model for Receipts {
 
     ghost view = { λ r. record {
       receipts = receipts_of r.numbers.items r.calls.entries;
-      room = min r.calls.room (vec_capacity r.numbers - vec_len r.numbers);
+      room = r.room;
     } };
 
-    ghost invariant = { λ r. length r.numbers.items ≡ length r.calls.entries };
+    ghost invariant = { λ r.
+        (length r.numbers.items ≡ length r.calls.entries)
+        × (vec_len r.numbers + r.room ≤ vec_capacity r.numbers)
+        × (r.room ≤ r.calls.room) };
 }
 
 impl Receipts {
@@ -52,6 +60,7 @@ impl Receipts {
         Receipts {
             numbers: Vec::new(alloc),
             calls: History::new(alloc),
+            room: 0,
             touched: 0,
         }
     }
@@ -110,11 +119,29 @@ impl Receipts {
         self.calls.entry(place)
     }
 
-    /// Whether the receipt at an index is that of a history's entry with this number.
-    pub(crate) fn is_at(&self, place: usize, history: &History, number: usize) -> bool
+    /// How many receipts in turn, from an index on, are those of a history's entries from this number on.
+    pub(crate) fn run_at(&self, place: usize, history: &History, number: usize) -> usize
+        requires { number ≤ length history.now.entries }
+        ensures receipts { (k : ℕ) → k < result
+            → IsReceiptAt self.now.receipts (place + k) history.now.entries (number + k) }
+        ensures within { number + result ≤ length history.now.entries }
+        ensures fits { 0 < result → place + result < 2 ^ 64 }
+    {
+        let left = self.len().saturating_sub(place);
+        let most = (history.len() - number).min(left);
+        for k in 0..most {
+            if !self.is_at(place + k, history, number + k) {
+                return k;
+            }
+        }
+        most
+    }
+
+    // Whether the receipt at an index is that of a history's entry with this number.
+    #[inline(always)]
+    fn is_at(&self, place: usize, history: &History, number: usize) -> bool
         requires { number < length history.now.entries }
-        ensures receipt { IsTrue result → IsReceiptAt self.now.receipts place history.now.entries number }
-        ensures fits { IsTrue result → place + 1 < 2 ^ 64 }
+        ensures { IsTrue result → IsReceiptAt self.now.receipts place history.now.entries number }
     {
         if place < self.len() && self.numbers[place] == number as u64 {
             self.calls.is_same_at(place, history, number)
@@ -156,8 +183,26 @@ impl Receipts {
         ensures no_less { self.old.room ≤ self.new.room }
         ensures enough { count ≤ self.old.room → IsOk result }
     {
-        self.numbers.reserve(count)?;
-        self.calls.reserve(count)
+        if count <= self.room {
+            return Ok(());
+        }
+        self.grow(count)
+    }
+
+    // Adds capacity.
+    #[cold]
+    #[inline(never)]
+    fn grow(&mut self, count: usize) -> Result<(), NoMemory>
+        requires { self.old.room < count }
+        ensures receipts { self.new.receipts ≡ self.old.receipts }
+        ensures room { OnOk result (count ≤ self.new.room) }
+        ensures no_less { self.old.room ≤ self.new.room }
+    {
+        let room = count.saturating_add(AHEAD);
+        self.numbers.reserve(room)?;
+        self.calls.reserve(room)?;
+        self.room = room;
+        Ok(())
     }
 
     /// Allocates memory for this many more receipts, without the contents of their lists. Receipts and capacity stay.
@@ -194,5 +239,6 @@ impl Receipts {
         let place = history.len() - 1;
         self.numbers.push_reserved(place as u64);
         self.calls.push_entry(&history.entry(place));
+        self.room -= 1;
     }
 }

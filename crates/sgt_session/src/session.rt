@@ -3,7 +3,8 @@ ghost use Rattle.std.specs.Prelude.{◌≡◌, ◌+◌, ◌<◌, ◌≤◌, ◌&
 ghost use Rattle.std.specs.List.{sum_by};
 ghost use Rattle.sgt_model.specs.declared.event.Event.TheVariants.{Commit};
 ghost use Rattle.sgt_session.specs.declared.receipt.Receipt.{Receipt};
-ghost use Rattle.sgt_model.specs.Questions.{is_wait};
+ghost use Rattle.sgt_model.specs.Questions.{is_wait, started_in};
+ghost use Rattle.sgt_session.specs.Own.{with_one, open_by};
 ghost use Rattle.sgt_session.specs.Receipts.{entry_of, IsWaitOf};
 
 use crate::named::Named;
@@ -11,6 +12,7 @@ use crate::own::{make_receipt_room, note};
 use crate::receipt::Receipt;
 use crate::receipts::Receipts;
 use crate::shared::Shared;
+use crate::waiters::Waiters;
 use sgt_access::Accesses;
 use sgt_graph::Graph;
 use sgt_log::EntryRef;
@@ -121,7 +123,7 @@ impl<N: Named> Session<N> {
         ensures event { IfOk result (λ r. r.event ≡ event) }
         ensures receipts { MatchResult result (λ r. self.new ≡ self.old ++ r ∷ []) (λ _. self.new ≡ self.old) }
     {
-        self.make(rt, shared, event)?;
+        self.make(rt, shared, &event)?;
         Ok(self.last())
     }
 
@@ -130,17 +132,17 @@ impl<N: Named> Session<N> {
         &mut self,
         rt: &W,
         shared: &Shared<N, R, A, G>,
-        event: Event,
+        event: &Event,
     ) -> Result<(), NoMemory>
         ensures { MatchResult result
-            (λ _. (r : Receipt) × (r.event ≡ event) × (self.new ≡ self.old ++ r ∷ []))
+            (λ _. (r : Receipt) × (r.event ≡ event.now) × (self.new ≡ self.old ++ r ∷ []))
             (λ _. self.new ≡ self.old) }
     {
         // A start can wait, and a session that is alone delays nobody.
         if shared.sessions > 1 && matches!(event, Event::Start { .. }) {
             self.receipts.touch_room();
         }
-        self.make_one(rt, shared, &event, false)?;
+        self.make_one(rt, shared, event, false)?;
         Ok(())
     }
 
@@ -202,8 +204,7 @@ impl<N: Named> Session<N> {
         round.apply(event, &mut self.share, &mut self.receipts)?;
         let entry = self.receipts.last_entry();
         let waited = shared.waiters.end_hold(rt, turn, round, &entry, may_wait);
-        note(&mut self.own, &entry);
-        shared.waiters.wake_after(&entry);
+        note_and_wake(&mut self.own, &shared.waiters, &entry);
         Ok(waited)
     }
 
@@ -214,6 +215,21 @@ impl<N: Named> Session<N> {
     {
         self.share.empty()
     }
+}
+
+/// Records what an entry says of the session's own transactions, and wakes all waiting commits if it ends one. Most
+/// entries do neither.
+#[inline]
+fn note_and_wake(own: &mut Vec<Tid>, waiters: &Waiters, entry: &EntryRef<'_>)
+    requires { length (with_one (started_in entry.now.event entry.now.reply) own.old.items) ≤ vec_capacity own.old }
+    ensures own { own.new.items ≡ open_by own.old.items entry.now.event entry.now.reply }
+    ensures count { vec_len own.new ≡ length (open_by own.old.items entry.now.event entry.now.reply) }
+{
+    if entry.is_progress() {
+        return;
+    }
+    note(own, entry);
+    waiters.wake_after(entry);
 }
 
 /// Lends each session's part and count to `seen` until all are together, and returns them.

@@ -208,7 +208,7 @@ fn steps<N: Named, W: Wait>(
 ) -> bool {
     let mut is_made = true;
     for _ in 0..3 {
-        is_made = is_made && session.make(rt, shared, Event::Step(t)).is_ok();
+        is_made = is_made && session.make(rt, shared, &Event::Step(t)).is_ok();
     }
     is_made
 }
@@ -278,7 +278,7 @@ fn starts_short<N: Named, W: Wait>(
     match started(rt, shared, session, event) {
         Some(t) => {
             *newest = t;
-            session.make(rt, shared, Event::Step(t)).is_ok()
+            session.make(rt, shared, &Event::Step(t)).is_ok()
         }
         None => false,
     }
@@ -294,7 +294,7 @@ fn wakes_unless_ended<N: Named, W: Wait>(
     newest: &mut Tid,
 ) {
     if !is_raised(&stage.has_ended) && starts(rt, shared, session, newest, start(BALANCE, &[2])) {
-        let _ = session.make(rt, shared, Event::Commit(*newest));
+        let _ = session.make(rt, shared, &Event::Commit(*newest));
     }
 }
 
@@ -320,7 +320,7 @@ fn does<N: Named, W: Wait>(
         }
         Deed::CallsCommit(behind) => {
             session
-                .make(rt, shared, Event::Commit(before(*newest, *behind)))
+                .make(rt, shared, &Event::Commit(before(*newest, *behind)))
                 .is_ok()
         }
         Deed::Commits(behind) => {
@@ -331,7 +331,7 @@ fn does<N: Named, W: Wait>(
         Deed::Counts(count) => session.receipts().len() == *count,
         Deed::Quits(behind) => {
             session
-                .make(rt, shared, Event::Quit(before(*newest, *behind)))
+                .make(rt, shared, &Event::Quit(before(*newest, *behind)))
                 .is_ok()
         }
         Deed::StartsShort(procedure, args) => {

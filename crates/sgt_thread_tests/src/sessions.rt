@@ -33,7 +33,7 @@ fn close_late<N: Named, W: Wait>(
     requires { N.sessions ≡ N.parts }
 {
     let (mut sessions, mut last) = (sessions, last);
-    let _ = last.make(rt, &shared, Event::Quit(Tid(0)));
+    let _ = last.make(rt, &shared, &Event::Quit(Tid(0)));
     let _ = sessions.push(last);
     closed(shared, sessions)
 }

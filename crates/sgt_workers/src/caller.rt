@@ -13,13 +13,19 @@ use sgt_session::{Named, Session, Shared};
 use std::alloc::Global;
 use std::sync::Wait;
 
-/// The result of one attempt at a job.
+/// The result of one attempt at a job. Entries are named by their numbers.
 #[derive(Drop)]
 enum Attempt<X> {
     /// This transaction was aborted by a cycle or in cascade. The job may be tried again.
     Failed(Tid),
-    /// The job needs no further attempt.
-    Final(Outcome<X>),
+    /// This entry committed the transaction.
+    Done(u64),
+    /// This entry aborted the transaction, whose procedure raised a code.
+    Asked(u64),
+    /// This entry refused the start.
+    Refused(u64),
+    /// The worker stopped.
+    Halted(Halt<X>),
 }
 
 /// Why a worker stops during an attempt. Its transaction, if live, must be quit.
@@ -74,13 +80,16 @@ impl<'a, N: Named, R: Records, A: Accesses, G: Graph, T: Gate, W: Wait> Caller<
         let mut attempts = Vec::new(alloc);
         for _ in 0..tries {
             match self.attempt(job) {
-                Attempt::Final(outcome) => return outcome,
                 Attempt::Failed(t) => {
                     self.gate.failed(self.number, job.number, t);
                     if attempts.push(t).is_err() {
                         return Outcome::NoMemory;
                     }
                 }
+                Attempt::Done(number) => return Outcome::Done(number),
+                Attempt::Asked(number) => return Outcome::Asked(number),
+                Attempt::Refused(number) => return Outcome::Refused(number),
+                Attempt::Halted(halt) => return halt.into_outcome(),
             }
         }
         Outcome::Gave(attempts)
@@ -92,12 +101,12 @@ impl<'a, N: Named, R: Records, A: Accesses, G: Graph, T: Gate, W: Wait> Caller<
             procedure: job.procedure,
             args: job.args.copied(),
         };
-        match self.call(start) {
+        match self.call(&start) {
             Ok(()) => match self.session.last_entry().started() {
                 Some(t) => self.attempt_with(t),
-                None => Attempt::Final(Outcome::Refused(self.session.last_number())),
+                None => Attempt::Refused(self.session.last_number()),
             },
-            Err(halt) => Attempt::Final(halt.into_outcome()),
+            Err(halt) => Attempt::Halted(halt),
         }
     }
 
@@ -107,15 +116,16 @@ impl<'a, N: Named, R: Records, A: Accesses, G: Graph, T: Gate, W: Wait> Caller<
             Ok(attempt) => attempt,
             Err(halt) => {
                 self.quit(t);
-                Attempt::Final(halt.into_outcome())
+                Attempt::Halted(halt)
             }
         }
     }
 
     /// Steps until the procedure ends, and commits.
     fn run_transaction(&mut self, t: Tid) -> Result<Attempt<T::Note>, Halt<T::Note>> {
+        let step = Event::Step(t);
         for _ in self.rt.forever() {
-            self.call(Event::Step(t))?;
+            self.call(&step)?;
             let entry = self.session.last_entry();
             if entry.is_at_end() {
                 break;
@@ -130,7 +140,7 @@ impl<'a, N: Named, R: Records, A: Accesses, G: Graph, T: Gate, W: Wait> Caller<
     }
 
     /// One call, if the gate allows it. Its entry is the session's last.
-    fn call(&mut self, event: Event) -> Result<(), Halt<T::Note>>
+    fn call(&mut self, event: &Event) -> Result<(), Halt<T::Note>>
         ensures { OnOk result (0 < length self.new.session) }
     {
         self.pass()?;
@@ -152,17 +162,17 @@ impl<'a, N: Named, R: Records, A: Accesses, G: Graph, T: Gate, W: Wait> Caller<
     /// Quits a transaction, so that no other waits for it. If it is live, this allocates nothing and succeeds. If it
     /// has ended or was aborted in cascade, the reply says so, which is one entry more, or an allocation fails.
     fn quit(&mut self, t: Tid) {
-        let _ = self.session.make(self.rt, self.shared, Event::Quit(t));
+        let _ = self.session.make(self.rt, self.shared, &Event::Quit(t));
     }
 }
 
 /// The result of the attempt by the last entry of this transaction; the entry has this number.
 fn attempt_of<X>(t: Tid, number: u64, entry: &EntryRef<'_>) -> Result<Attempt<X>, Halt<X>> {
     if entry.is_commit() {
-        return Ok(Attempt::Final(Outcome::Done(number)));
+        return Ok(Attempt::Done(number));
     }
     if entry.is_ask() {
-        return Ok(Attempt::Final(Outcome::Asked(number)));
+        return Ok(Attempt::Asked(number));
     }
     if entry.is_by_cycle() || entry.tells_fall() {
         return Ok(Attempt::Failed(t));

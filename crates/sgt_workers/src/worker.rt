@@ -71,10 +71,11 @@ pub fn work<N: Named, R: Records, A: Accesses, G: Graph, T: Gate, W: Wait>(
         session,
     };
     for _ in rt.forever() {
-        let Take::Job(job) = taker.take(rt) else {
+        let taken = taker.take(rt);
+        let Take::Job(job) = &taken else {
             break;
         };
-        let outcome = caller.run_job(alloc, &job, tries);
+        let outcome = caller.run_job(alloc, job, tries);
         gate.finished(number, job.number, &outcome);
         let leaves = matches!(outcome, Outcome::Left(_));
         put_outcome(rt, outcomes, job.number, outcome);

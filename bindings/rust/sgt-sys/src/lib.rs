@@ -1,5 +1,5 @@
-//! The functions and structs of `sgt.h` and `sgt_shared.h`, as they are there, which say what each does and what a caller owes. The
-//! crate `sgt` is what programs use.
+//! The functions and structs of `sgt.h` and `sgt_shared.h`. The headers say what each does and what its caller must ensure. Programs
+//! use the crate `sgt`.
 #![allow(clippy::missing_safety_doc)] // the headers say it
 
 use std::os::raw::{c_char, c_void};
@@ -48,7 +48,7 @@ pub struct Fault {
     pub place: [u64; 128],
 }
 
-/// `sgt_reply`: what an event was answered.
+/// `sgt_reply`: the reply to an event.
 #[repr(C)]
 #[derive(Clone, Copy, Debug, Default, PartialEq, Eq)]
 pub struct Reply {
@@ -69,7 +69,7 @@ pub struct Reply {
     pub fell: [u32; 32],
 }
 
-/// `sgt_event`: what was asked.
+/// `sgt_event`: an event.
 #[repr(C)]
 #[derive(Clone, Copy, Debug, Default, PartialEq, Eq)]
 pub struct Event {
@@ -96,7 +96,7 @@ pub struct Shared {
     _opaque: [u8; 0],
 }
 
-/// `sgt_ticket`: the name of a transaction.
+/// `sgt_ticket`: identifies a transaction.
 #[repr(C)]
 #[derive(Clone, Copy, Debug, Default, PartialEq, Eq, Hash)]
 pub struct Ticket {
@@ -106,7 +106,7 @@ pub struct Ticket {
     pub spare: u32,
 }
 
-/// `sgt_call`: a call of a committed or refused transaction, and what it was told.
+/// `sgt_call`: a call of a committed or refused transaction, with its answers or its code.
 #[repr(C)]
 #[derive(Clone, Copy, Debug, Default, PartialEq, Eq)]
 pub struct Call {
@@ -120,7 +120,7 @@ pub struct Call {
     pub answer: [i64; 8],
 }
 
-/// `sgt_outcome`: what a call of `sgt_run_many` was answered.
+/// `sgt_outcome`: the outcome of a call of `sgt_run_many`.
 #[repr(C)]
 #[derive(Clone, Copy, Debug, Default, PartialEq, Eq)]
 pub struct Outcome {
@@ -175,7 +175,7 @@ pub struct RunOptions {
     pub spare: u32,
 }
 
-/// `sgt_shared_outcome`: what became of a run of a shared engine.
+/// `sgt_shared_outcome`: the outcome of a run of a shared engine.
 #[repr(C)]
 #[derive(Clone, Copy, Debug, Default)]
 pub struct SharedOutcome {
@@ -247,6 +247,15 @@ extern "C" {
     pub fn sgt_part(engine: *const Engine, part: *mut u64) -> u32;
     pub fn sgt_reply_text(reply: *const Reply, text: *mut u8, room: usize, length: *mut u64) -> u32;
     pub fn sgt_fault_text(fault: *const Fault, text: *mut u8, room: usize, length: *mut u64) -> u32;
+    pub fn sgt_explain_opening(opening: *const u8, length: usize, text: *mut u8, room: usize, written: *mut u64) -> u32;
+    pub fn sgt_explain_procedure(
+        number: u64,
+        procedure: *const u8,
+        length: usize,
+        text: *mut u8,
+        room: usize,
+        written: *mut u64,
+    ) -> u32;
     pub fn sgt_version() -> *const c_char;
     pub fn sgt_status_text(status: u32) -> *const c_char;
 

@@ -14,18 +14,19 @@ use sgt_access::Accesses;
 use sgt_cascade::fallers;
 use sgt_commit::unwind;
 use sgt_graph::Graph;
-use sgt_model::{ReplyLists, ShortCause, ShortFate, ShortReply, Tid, Tids};
+use sgt_model::{ReplyLists, ShortCause, ShortFate, Tid, Tids};
 use sgt_records::Records;
 
 impl<R: Records, A: Accesses, G: Graph> Sched<R, A, G> {
     // Aborts a live transaction, and in cascade those that have read from it. The path of a cycle is in the lists already.
-    pub(super) fn abort(&mut self, t: Tid, cause: ShortCause, lists: &mut ReplyLists) -> ShortReply
+    // The reply is that it was aborted for this cause.
+    #[inline(never)]
+    pub(super) fn abort(&mut self, t: Tid, cause: ShortCause, lists: &mut ReplyLists)
         requires live { (state self.old).nodes t ≡ true }
-        ensures aborts { Turns (WithLists (AbortEffect t (full_cause cause lists.old.walk)) lists.new) self.old result self.new }
-        ensures reply { result ≡ Aborted cause }
+        ensures { Turns (WithLists (AbortEffect t (full_cause cause lists.old.walk)) lists.new)
+            self.old (Aborted cause) self.new }
     {
         lists.fell = self.undo(t, cause, &lists.walk);
-        ShortReply::Aborted(cause)
     }
 
     // Undoes a live transaction for this cause, with the path of a cycle, and in cascade those that have read from it. It

@@ -4,6 +4,7 @@ ghost use Rattle.sgt_model.specs.declared.event.Event.TheVariants.{Commit};
 ghost use Rattle.sgt_model.specs.CallEffects.{CommitEffect, CommitOn, CommitsIn, RefusesIn};
 ghost use Rattle.sgt_model.specs.Left.{next_left};
 ghost use Rattle.sgt_model.specs.Traces.{Raises};
+ghost use Rattle.sgt_model.specs.declared.short_reply.ShortReply.TheVariants.{Refused};
 ghost use Rattle.sgt_proc.specs.declared.next.Ahead.TheVariants.{Ends};
 ghost use Rattle.sgt_proc.specs.Nexts.{answers_at};
 ghost use Rattle.sgt_sched.specs.Replies.{WithLists};
@@ -62,7 +63,7 @@ impl<R: Records, A: Accesses, G: Graph> Sched<R, A, G> {
     }
 
     // The same, for a live transaction whose procedure raises this code.
-    #[inline(never)]
+    #[inline(always)]
     fn commit_asked(&mut self, t: Tid, code: u16, lists: &mut ReplyLists) -> ShortReply
         requires live { (state self.old).nodes t ≡ true }
         ensures { Turns (WithLists (CommitOn (asks_of self.old) t (Raises code)) lists.new) self.old result self.new }
@@ -71,19 +72,22 @@ impl<R: Records, A: Accesses, G: Graph> Sched<R, A, G> {
             Asks::AtStep => ShortReply::NotEnded,
             Asks::AtCommit => match decide(&self.graph, t) {
                 Some(predecessor) => ShortReply::Waits(predecessor),
-                None => self.refuse(t, code, lists),
+                None => {
+                    self.refuse(t, code, lists);
+                    ShortReply::Refused(code)
+                }
             },
         }
     }
 
-    // Refuses a live transaction that has no predecessor, and undoes it.
-    fn refuse(&mut self, t: Tid, code: u16, lists: &mut ReplyLists) -> ShortReply
+    // Refuses a live transaction that has no predecessor, and undoes it. The reply is the refusal with this code.
+    #[inline(never)]
+    fn refuse(&mut self, t: Tid, code: u16, lists: &mut ReplyLists)
         requires live { (state self.old).nodes t ≡ true }
         requires first { (u : ℕ) → (state self.old).pairs u t ≡ false }
-        ensures { Turns (WithLists (RefusesIn t code) lists.new) self.old result self.new }
+        ensures { Turns (WithLists (RefusesIn t code) lists.new) self.old (Refused code) self.new }
     {
         lists.fell = self.undo(t, ShortCause::Asked(code), &lists.walk);
-        ShortReply::Refused(code)
     }
 
     // Commits a live transaction, which has this index, is at its end and has no predecessor.

@@ -28,7 +28,8 @@ impl<R: Records, A: Accesses, G: Graph> Sched<R, A, G> {
         ensures { Turns (WithLists (QuitEffect t) lists.new) self.old result self.new }
     {
         if self.is_live(t) {
-            return self.abort(t, ShortCause::Quit, lists);
+            self.abort(t, ShortCause::Quit, lists);
+            return ShortReply::Aborted(ShortCause::Quit);
         }
         self.answer_not_live(t, lists)
     }

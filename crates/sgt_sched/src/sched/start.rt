@@ -45,8 +45,8 @@ impl<R: Records, A: Accesses, G: Graph> Sched<R, A, G> {
             Err(refusal) => return Ok(refusal),
         };
         self.fates.reserve()?;
-        let cursor = self.procedures[usize::from(procedure)].begin(args);
-        self.live.start(t, procedure, cursor)?;
+        let checked = &self.procedures[usize::from(procedure)];
+        self.live.start(t, procedure, checked, args)?;
         self.graph.add(t);
         self.fates.start();
         Ok(ShortReply::Started(t))

@@ -218,13 +218,17 @@ impl<R: Records, A: Accesses, G: Graph> Sched<R, A, G> {
     }
 
     // Aborts a live transaction whose procedure raises this code, or leaves it to its commit.
-    #[inline(never)]
+    #[inline(always)]
     fn step_asked(&mut self, t: Tid, code: u16, lists: &mut ReplyLists) -> ShortReply
         requires live { (state self.old).nodes t ≡ true }
         ensures { Turns (WithLists (StepOn (asks_of self.old) t (Raises code)) lists.new) self.old result self.new }
     {
         match self.limits.asks {
-            Asks::AtStep => self.abort(t, ShortCause::Asked(code), lists),
+            Asks::AtStep => {
+                let cause = ShortCause::Asked(code);
+                self.abort(t, cause, lists);
+                ShortReply::Aborted(cause)
+            }
             Asks::AtCommit => ShortReply::Ended,
         }
     }

@@ -5,6 +5,6 @@ use Rattle.sgt_c.proofs.run.run_on.Goals as goal
 pub returns-in_err-last-clause-stopped : goal.returns-in_err-last-clause-stopped
 returns-in_err-last-clause-stopped c =
     err_holds c.from_residual-in_err-last.result
-    (stopped_at_end c.args.t c.in_ok-steps.steps.wrote c.args.engine.now c.step_on.new.engine c.in_ok-steps.steps.last c.apply.new.self
+    (stopped_at_end c.args.t c.in_ok-steps.steps.wrote c.args.engine.now c.step_on.new.engine c.in_ok-steps.steps.last c.answer.new.self
     c.in_ok-steps.ensures.stepped (c.in_ok-steps.ensures.at_end (sym c.is_end.ensures ∙ c.if-not-is_end.false))
     c.in_err-last.ensures.unchanged)

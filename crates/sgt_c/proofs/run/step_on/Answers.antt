@@ -1,8 +1,8 @@
 use Rattle.std.proofs.Common.{rules}
-use Rattle.sgt_c.proofs.Runs.{one_more}
+use Rattle.sgt_c.proofs.Runs.{one_more_in_short}
 use Rattle.sgt_c.proofs.run.step_on.Goals as goal
 
 pub loop-preserved : goal.loop-preserved
 loop-preserved c =
-    one_more c.args.t c.loop.wrote c.args.engine.now c.loop.engine c.in_ok-last.last _ c.apply.new.self
+    one_more_in_short c.args.t c.loop.wrote c.args.engine.now c.loop.engine c.in_ok-last.last _ c.answer.new.self
     c.loop.invariant c.in_ok-last.ensures.adds (search rules) (search rules)

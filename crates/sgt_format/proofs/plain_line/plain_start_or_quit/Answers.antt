@@ -1,13 +1,16 @@
+use Rattle.std.proofs.Common.{refl, subst}
+use Rattle.std.proofs.lemmas.List.{take_rest}
+use Rattle.sgt_format.specs.PlainLines.{IsCall}
 use Rattle.sgt_format.proofs.PlainLines.{plain_quit}
 use Rattle.sgt_format.proofs.PlainCalls.{plain_start}
 use Rattle.sgt_format.proofs.plain_line.plain_start_or_quit.Goals as goal
 
-pub returns-in-Some : goal.returns-in-Some
-returns-in-Some c =
-    plain_start _ c.in-Some.ensures.0 _ _ c.in-Some.ensures.1 c.in-Some.ensures.2
-    c.in_ok-procedure.ensures
+pub returns-then-line-eq105 : goal.returns-then-line-eq105
+returns-then-line-eq105 c =
+    plain_quit _ c.in_ok-tid_behind.ensures.number.0 _ _ c.in_ok-tid_behind.ensures.number.1 c.in_ok-tid_behind.ensures.number.2 refl
+    c.in_ok-tid_behind.ensures.small
 
 pub returns : goal.returns
 returns c =
-    plain_quit _ c.in_ok-item_behind.ensures.0 _ _ c.in_ok-item_behind.ensures.1 c.in_ok-item_behind.ensures.2
-    c.in_ok-last_tid.ensures.number c.in_ok-last_tid.ensures.small
+    plain_start _ c.in_ok-at.ensures.item.0 _ c.last_call.new.call c.in_ok-at.ensures.item.1 c.in_ok-at.ensures.item.2
+    (subst (λ rest. IsCall rest c.last_call.new.call) (take_rest c.args.line.now c.in_ok-at.at) c.in_ok-last_call.ensures)

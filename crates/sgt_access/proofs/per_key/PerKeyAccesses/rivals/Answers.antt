@@ -1,4 +1,6 @@
-use Rattle.std.proofs.Common.{sym, ◌∙◌}
+use Rattle.std.proofs.Common.{◌≡◌, ℕ, true, nat_eq, sym, ap, ◌∙◌}
+use Rattle.sgt_model.specs.AccessList.{ListedAccess, is_conflicting, is_listed, lists_conflicting}
+use Rattle.sgt_access.proofs.Counts.{any_same}
 use Rattle.sgt_access.proofs.per_key.PerKeyAccesses.rivals.Goals as goal
 
 pub rivals_among-requires : goal.rivals_among-requires
@@ -6,14 +8,23 @@ rivals_among-requires c =
     record {
       few = record {
         among = c.requires.few.among;
-        few =
-            c.requires.few.few;
-        all = λ t h. c.requires.few.all t (c.of_key.ensures.listed t h);
+        few = c.requires.few.few;
+        all = λ t h. c.requires.few.all t (listed t h);
       };
     }
+  where
+    listed : (t : ℕ) → is_listed c.as_slice.result.now t ≡ true → is_listed c.args.self.now.0 t ≡ true
+    listed t h = ap (λ v. is_listed v.0 t) (sym c.self.view_is)
+        ∙ sym (any_same c.self.inside.whole c.self.inside.accesses.items c.self.invariant.0 (λ (a : ListedAccess). nat_eq a.by t))
+        ∙ ap (λ xs. is_listed xs t) (sym c.as_slice.ensures.value) ∙ h
 
 pub returns-clause-exact : goal.returns-clause-exact
 returns-clause-exact c = λ u. (
-  λ m. let both = (c.rivals_among.ensures.exact u).0 m in (both.0, sym (c.of_key.ensures.conflicting u c.args.kind) ∙ both.1),
-  λ h. (c.rivals_among.ensures.exact u).1 (h.0, c.of_key.ensures.conflicting u c.args.kind ∙ h.1),
+  λ m. let both = (c.rivals_among.ensures.exact u).0 m in (both.0, sym (same u) ∙ both.1),
+  λ h. (c.rivals_among.ensures.exact u).1 (h.0, same u ∙ h.1),
 )
+  where
+    same : (u : ℕ) → lists_conflicting c.as_slice.result.now u c.args.key c.args.kind ≡ lists_conflicting c.args.self.now.0 u c.args.key c.args.kind
+    same u = ap (λ xs. lists_conflicting xs u c.args.key c.args.kind) c.as_slice.ensures.value
+        ∙ any_same c.self.inside.whole c.self.inside.accesses.items c.self.invariant.0 (is_conflicting u c.args.key c.args.kind)
+        ∙ ap (λ v. lists_conflicting v.0 u c.args.key c.args.kind) c.self.view_is

@@ -1,4 +1,4 @@
-use Rattle.std.proofs.Common.{◌≡◌, ◌≢◌, ℕ, true, [], position, Some, refl, ap, sym, subst}
+use Rattle.std.proofs.Common.{◌≡◌, ◌≢◌, true, [], position, Some, refl, ap, sym, subst}
 use Rattle.sgt_model.specs.CallEffects.{StepOn}
 use Rattle.sgt_cycle.specs.Walk.{NoWalk}
 use Rattle.sgt_sched.specs.LiveList.{has_number}

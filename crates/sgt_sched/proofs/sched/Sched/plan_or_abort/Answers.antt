@@ -1,9 +1,5 @@
-use Rattle.std.proofs.Common.{refl, subst}
+use Rattle.std.proofs.Common.{refl}
 use Rattle.std.proofs.lemmas.Bool.{true≢false}
-use Rattle.sgt_model.specs.declared.reply.Cause.TheVariants.{Cycle}
-use Rattle.sgt_model.specs.CallEffects.{AbortEffect}
-use Rattle.sgt_model.specs.ShortReplies.{reply_with}
-use Rattle.sgt_sched.specs.Scheduler.{state}
 use Rattle.sgt_sched.proofs.sched.Sched.plan_or_abort.Goals as goal
 
 pub returns-in-Free : goal.returns-in-Free
@@ -18,9 +14,8 @@ returns-in-Closes g c = record {
   closes = λ h. (
     c.in-Closes.walk,
     c.in-Closes.ensures.plan,
-    subst (λ r. AbortEffect c.args.t (Cycle c.in-Closes.walk) (state c.args.self.now) (reply_with r c.abort.new.lists)
-        (state c.abort.new.self)) c.abort.ensures.reply c.abort.ensures.aborts.turn,
+    c.abort.ensures.turn,
   );
   free = tt;
-  kept = c.abort.ensures.aborts.kept;
+  kept = c.abort.ensures.kept;
 }

@@ -1,6 +1,5 @@
 use Rattle.std.proofs.Common.{sym, subst}
 use Rattle.sgt_model.specs.CallEffects.{StartEffect}
-use Rattle.sgt_model.specs.ShortReplies.{no_lists}
 use Rattle.sgt_sched.specs.Scheduler.{state, rules_of}
 use Rattle.sgt_sched.proofs.sched.Sched.start.Goals as goal
 

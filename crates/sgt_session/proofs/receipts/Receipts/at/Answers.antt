@@ -5,13 +5,13 @@ use Rattle.sgt_session.proofs.receipts.Receipts.at.Goals as goal
 
 pub at-entry-requires : goal.at-entry-requires
 at-entry-requires c =
-    let long = receipts-length c.self.inside.numbers.items c.self.inside.calls.entries c.self.invariant in
+    let long = receipts-length c.self.inside.numbers.items c.self.inside.calls.entries c.self.invariant.0 in
     let is = ap (λ r. length r.receipts) c.self.view_is in
-    omega (arith, long, is, c.requires, c.self.invariant)
+    omega (arith, long, is, c.requires, c.self.invariant.0)
 
 pub returns : goal.returns
 returns c =
-    let long = receipts-length c.self.inside.numbers.items c.self.inside.calls.entries c.self.invariant in
+    let long = receipts-length c.self.inside.numbers.items c.self.inside.calls.entries c.self.invariant.0 in
     let is = ap (λ r. length r.receipts) c.self.view_is in
     let number : slice_get c.self.inside.numbers.items c.args.place ≡ Some c.index.result.now =
     slice_get-get_or c.self.inside.numbers.items c.args.place c.index.result.now (omega (arith, long, is, c.requires))

@@ -6,11 +6,11 @@ use Rattle.sgt_session.proofs.receipts.Receipts.entry.Goals as goal
 
 pub entry-requires : goal.entry-requires
 entry-requires c =
-    let long = receipts-length c.self.inside.numbers.items c.self.inside.calls.entries c.self.invariant in
+    let long = receipts-length c.self.inside.numbers.items c.self.inside.calls.entries c.self.invariant.0 in
     let is = ap (λ r. length r.receipts) c.self.view_is in
-    omega (arith, long, is, c.requires, c.self.invariant)
+    omega (arith, long, is, c.requires, c.self.invariant.0)
 
 pub returns : goal.returns
 returns c =
     sym (ap (λ r. option_map entry_of (slice_get r.receipts c.args.place)) c.self.view_is)
-    ∙ receipts-entry c.self.inside.numbers.items c.self.inside.calls.entries c.args.place c.self.invariant ∙ c.entry.ensures.entry
+    ∙ receipts-entry c.self.inside.numbers.items c.self.inside.calls.entries c.args.place c.self.invariant.0 ∙ c.entry.ensures.entry

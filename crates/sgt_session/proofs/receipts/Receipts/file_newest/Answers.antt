@@ -11,5 +11,5 @@ returns-clause-filed c e past is =
     let there : slice_get c.args.history.now.entries (length past) ≡ Some c.entry.result = rw place at c.entry.ensures.entry in
     let entry : c.entry.result ≡ e = same_Some c.entry.result e (sym there ∙ last.1) in
     ap₂ receipts_of c.push_reserved.ensures.items c.push_entry.ensures.entries
-    ∙ receipts-more c.self.inside.numbers.items c.self.inside.calls.entries (c.len-place.result - 1) c.entry.result c.self.invariant
+    ∙ receipts-more c.self.inside.numbers.items c.self.inside.calls.entries (c.len-place.result - 1) c.entry.result c.self.invariant.0
     ∙ ap₂ (λ rs r. rs ++ r ∷ []) (ap (λ r. r.receipts) c.self.view_is) (ap₂ receipt_of place entry)

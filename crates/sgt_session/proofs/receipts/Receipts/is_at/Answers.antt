@@ -6,19 +6,19 @@ use Rattle.sgt_session.proofs.receipts.Receipts.is_at.Goals as goal
 
 pub index-requires : goal.index-requires
 index-requires c =
-    let long = receipts-length c.self.inside.numbers.items c.self.inside.calls.entries c.self.invariant in
+    let long = receipts-length c.self.inside.numbers.items c.self.inside.calls.entries c.self.invariant.0 in
     let is = ap (λ r. length r.receipts) c.self.view_is in
     omega (arith, long, is, c.len.ensures, c.if-place-len.true, c.self.inside.numbers.ok.0)
 
 pub is_same_at-requires-clause-here : goal.is_same_at-requires-clause-here
 is_same_at-requires-clause-here c =
-    let long = receipts-length c.self.inside.numbers.items c.self.inside.calls.entries c.self.invariant in
+    let long = receipts-length c.self.inside.numbers.items c.self.inside.calls.entries c.self.invariant.0 in
     let is = ap (λ r. length r.receipts) c.self.view_is in
-    omega (arith, long, is, c.len.ensures, c.if-place-len.true, c.self.invariant)
+    omega (arith, long, is, c.len.ensures, c.if-place-len.true, c.self.invariant.0)
 
-pub returns-then-index-number-clause-receipt : goal.returns-then-index-number-clause-receipt
-returns-then-index-number-clause-receipt c t e there =
-    let long = receipts-length c.self.inside.numbers.items c.self.inside.calls.entries c.self.invariant in
+pub returns-then-index-number : goal.returns-then-index-number
+returns-then-index-number c t e there =
+    let long = receipts-length c.self.inside.numbers.items c.self.inside.calls.entries c.self.invariant.0 in
     let is = ap (λ r. length r.receipts) c.self.view_is in
     let number : slice_get c.self.inside.numbers.items c.args.place ≡ Some c.index.result.now =
     slice_get-get_or c.self.inside.numbers.items c.args.place c.index.result.now

@@ -11,5 +11,5 @@ returns c =
           no-items c.self.inside.numbers.items (omega (arith, none, c.self.inside.numbers.ok.0)) in sym is
           ∙ ap (λ ns. receipts_of ns c.self.inside.calls.entries) empty),
       λ none. let empty : c.self.inside.numbers.items ≡ [] =
-          receipts-none c.self.inside.numbers.items c.self.inside.calls.entries c.self.invariant (is ∙ none) in search rules,
+          receipts-none c.self.inside.numbers.items c.self.inside.calls.entries c.self.invariant.0 (is ∙ none) in search rules,
     )

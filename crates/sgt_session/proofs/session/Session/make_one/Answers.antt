@@ -19,12 +19,12 @@ invariant_of-self-2 g c =
       noted c.self.inside.receipts.receipts c.apply.new.receipts.receipts c.make_receipt_room.new.own.items _ filed.0
           (c.in_ok-room.ensures.own ∙ c.self.invariant.2)
           (rw c.in_ok-room.ensures.receipts at filed.5)
-          (rw same at c.note.ensures.own),
+          (rw same at c.note_and_wake.ensures.own),
       fits c.self.inside.own.items c.make_receipt_room.new.own.items _ filed.0 _ _ _
           c.in_ok-room.ensures.own
           filed.1
           c.in_ok-room.ensures.room
-          (rw same at c.note.ensures.count)
+          (rw same at c.note_and_wake.ensures.count)
           c.in_ok-apply.ensures.room,
     )
 

@@ -1,0 +1,97 @@
+use Rattle.std.proofs.Common.{rules, ◌≡◌, ◌-◌, ◌<◌, ◌+◌, ℕ, true, false, nat_eq, List, length, get_or, vec_len, arith, sym, subst, ap, ◌∙◌, ⊎_elim}
+use Rattle.std.specs.List.{AllWithin}
+use Rattle.std.proofs.lemmas.Bool.{cases_eq, eqb-true}
+use Rattle.std.proofs.lemmas.List.{get_or_default}
+use Rattle.sgt_model.specs.AccessList.{ListedAccess}
+use Rattle.sgt_access.specs.Filters.{IsOneLess}
+use Rattle.sgt_access.proofs.Counts.{one_taken, others_taken, stands_forgotten, same_read}
+use Rattle.sgt_access.proofs.per_key.take_out.Goals as goal
+
+pub loop-index-preserved-then-eq : goal.loop-index-preserved-then-eq
+loop-index-preserved-then-eq c =
+    record {
+      within = let within = c.loop-index.invariant.within in omega (arith, within, long);
+      none = none;
+      others = λ p. others_taken old new x c.args.t (eqb-true x.by c.args.t test) test less p ∙ c.loop-index.invariant.others p;
+      covered = λ start. c.lower.ensures old new (c.loop-index.invariant.covered start) less;
+    }
+  where
+    x : ListedAccess
+    x = c.swap_remove-access.result
+
+    old : List ListedAccess
+    old = c.loop-index.accesses.items
+
+    new : List ListedAccess
+    new = c.swap_remove-access.new.self.items
+
+    at : ℕ
+    at = c.loop-index.index - 1
+
+    some : 0 < c.loop-index.index
+    some = c.loop-index-test.true
+
+    short : at < length old
+    short = let within = c.loop-index.invariant.within in omega (arith, within, some)
+
+    same : c.index.result.now ≡ x
+    same = same_read old at c.index.result.now x short c.index.ensures c.swap_remove-access.ensures.value
+
+    test : nat_eq x.by c.args.t ≡ true
+    test = ap (λ (a : ListedAccess). nat_eq a.by c.args.t) (sym same) ∙ ap (λ (a : ListedAccess). nat_eq a.by c.args.t) (sym c.behind-accesses.view_is)
+        ∙ sym c.eq.ensures ∙ c.if-eq.true
+
+    less : IsOneLess x old new
+    less = subst (IsOneLess x old) (sym c.swap_remove-access.ensures.items)
+        (one_taken old at x short c.swap_remove-access.ensures.value)
+
+    long : length new + 1 ≡ length old
+    long = search rules
+
+    sized : vec_len c.loop-index.accesses ≡ length old
+    sized = search rules
+
+    none : AllWithin (λ (a : ListedAccess). nat_eq a.by c.args.t ≡ false) new at (length new)
+    none k d low high = ⊎_elim
+        (λ e. subst (λ (a : ListedAccess). nat_eq a.by c.args.t ≡ false)
+        (sym (ap (λ n. get_or new n d) e ∙ c.swap_remove-access.ensures.by_index.0 d (omega (arith, high, long, e, sized))))
+        (c.loop-index.invariant.none (vec_len c.loop-index.accesses - 1) d (omega (arith, high, long, e, some, sized)) (omega (arith, short, sized))))
+        (λ ne. subst (λ (a : ListedAccess). nat_eq a.by c.args.t ≡ false)
+        (sym (c.swap_remove-access.ensures.by_index.1 k d ne (omega (arith, high, long, sized))))
+        (c.loop-index.invariant.none k d (omega (arith, low, ne, some)) (omega (arith, high, long))))
+        (cases_eq k at)
+
+pub loop-index-preserved : goal.loop-index-preserved
+loop-index-preserved c =
+    record {
+      within = let within = c.loop-index.invariant.within in omega (arith, within);
+      none = λ k d low high. ⊎_elim
+          (λ e. subst (λ n. nat_eq (get_or old n d).by c.args.t ≡ false) (sym e)
+          (ap (λ (a : ListedAccess). nat_eq a.by c.args.t) (get_or_default old at d c.index.result.now short ∙ sym c.index.ensures)
+          ∙ ap (λ (a : ListedAccess). nat_eq a.by c.args.t) (sym c.behind-accesses.view_is) ∙ sym c.eq.ensures ∙ c.if-eq.false))
+          (λ ne. c.loop-index.invariant.none k d (omega (arith, low, ne, some)) high)
+          (cases_eq k at);
+      others = c.loop-index.invariant.others;
+      covered = c.loop-index.invariant.covered;
+    }
+  where
+    old : List ListedAccess
+    old = c.loop-index.accesses.items
+
+    at : ℕ
+    at = c.loop-index.index - 1
+
+    some : 0 < c.loop-index.index
+    some = c.loop-index-test.true
+
+    short : at < length old
+    short = let within = c.loop-index.invariant.within in omega (arith, within, some)
+
+pub returns-clause-rest : goal.returns-clause-rest
+returns-clause-rest c list stands =
+    let done = c.loop-index-test.false in
+    stands_forgotten list c.args.accesses.now.items c.loop-index.accesses.items c.args.t stands c.loop-index.invariant.others
+    (λ k d low high. c.loop-index.invariant.none k d (omega (arith, done)) high)
+
+pub returns-clause-covered : goal.returns-clause-covered
+returns-clause-covered c start = c.loop-index.invariant.covered start

@@ -1,0 +1,61 @@
+-- A reply and its short form.
+use Rattle.std.proofs.Common.{◌≡◌, ℕ, [], refl, ap, ◌∙◌, sym}
+use Rattle.sgt_model.specs.declared.reply.Cause.{Cause}
+use Rattle.sgt_model.specs.declared.reply.Cause.TheVariants as cause
+use Rattle.sgt_model.specs.declared.reply.Fate.{Fate}
+use Rattle.sgt_model.specs.declared.reply.Fate.TheVariants as fate
+use Rattle.sgt_model.specs.declared.reply.Reply.{Reply}
+use Rattle.sgt_model.specs.declared.reply.Reply.TheVariants as reply
+use Rattle.sgt_model.specs.declared.short_reply.ShortReply.TheVariants as bare
+use Rattle.sgt_model.specs.Fates.{is_start}
+use Rattle.sgt_model.specs.ShortReplies.{answers_in, cause_walk, fate_walk, fell_in, full_cause, full_fate, full_reply, short_cause, short_fate, short_reply, walk_in}
+
+whole_cause : (c : Cause) → full_cause (short_cause c) (cause_walk c) ≡ c
+whole_cause (cause.Cycle walk) = refl
+whole_cause (cause.Asked code) = refl
+whole_cause cause.Quit = refl
+
+whole_fate : (f : Fate) → full_fate (short_fate f) (fate_walk f) ≡ f
+whole_fate fate.Committed = refl
+whole_fate (fate.Aborted c) = ap fate.Aborted (whole_cause c)
+whole_fate (fate.Fell t) = refl
+
+-- a reply is its short form with its lists
+pub whole : (r : Reply) → full_reply (short_reply r) (answers_in r) (walk_in r) (fell_in r) ≡ r
+whole (reply.Started t) = refl
+whole reply.NoProcedure = refl
+whole reply.BadArgs = refl
+whole reply.Spent = refl
+whole reply.Full = refl
+whole reply.Unknown = refl
+whole (reply.Over f) = ap reply.Over (whole_fate f)
+whole (reply.Looked k v) = refl
+whole (reply.Wrote k v) = refl
+whole reply.Ended = refl
+whole reply.NotEnded = refl
+whole (reply.Waits t) = refl
+whole (reply.Committed answers) = refl
+whole (reply.Aborted c fell) = ap (λ c. reply.Aborted c fell) (whole_cause c)
+whole (reply.Refused code fell) = refl
+
+-- a reply whose short form starts a transaction
+pub started_in_short : (r : Reply) (t : ℕ) → short_reply r ≡ bare.Started t → r ≡ reply.Started t
+started_in_short r t is = sym (whole r) ∙ ap (λ s. full_reply s (answers_in r) (walk_in r) (fell_in r)) is
+
+-- whether a reply starts a transaction does not depend on its lists
+pub start_without : (r : Reply) → is_start r ≡ is_start (full_reply (short_reply r) [] [] [])
+start_without (reply.Started t) = refl
+start_without reply.NoProcedure = refl
+start_without reply.BadArgs = refl
+start_without reply.Spent = refl
+start_without reply.Full = refl
+start_without reply.Unknown = refl
+start_without (reply.Over f) = refl
+start_without (reply.Looked k v) = refl
+start_without (reply.Wrote k v) = refl
+start_without reply.Ended = refl
+start_without reply.NotEnded = refl
+start_without (reply.Waits t) = refl
+start_without (reply.Committed answers) = refl
+start_without (reply.Aborted c fell) = refl
+start_without (reply.Refused code fell) = refl

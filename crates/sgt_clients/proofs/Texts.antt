@@ -1,0 +1,79 @@
+-- The words on operations that there are, or are not.
+use Rattle.std.proofs.Common.{◌≡◌, ◌++◌, ◌∙◌, ℕ, List, [], ◌∷◌, length, append_assoc, Option, Some, None, refl, ap, sym, append-nil}
+use Rattle.std.specs.Prelude.{codes, count_by}
+use Rattle.sgt_appends.specs.declared.transaction.Operation.{Operation}
+use Rattle.sgt_appends.specs.declared.transaction.Operation.TheVariants.{Append, Read}
+use Rattle.sgt_appends.specs.declared.transaction.Status.TheVariants.{Committed, Aborted, Unknown}
+use Rattle.sgt_appends.specs.declared.transaction.Transaction.{Transaction}
+use Rattle.sgt_clients.specs.declared.clients.Clients.{Clients}
+use Rattle.sgt_clients.specs.declared.counts.Counts.{Counts}
+use Rattle.sgt_clients.specs.declared.evidence.Put.{Put}
+use Rattle.sgt_clients.specs.Evidence.{put_of, seen_of}
+use Rattle.sgt_clients.specs.ReportText.{key_text, values_text, read_text, with_value, has_status}
+
+-- a piece after the text so far
+pub grow : (start before after : List ℕ) (came piece : List ℕ) → before ≡ start ++ came → after ≡ before ++ piece
+    → after ≡ start ++ (came ++ piece)
+grow start before after came piece first second = second ∙ ap (λ l. l ++ piece) first ∙ append_assoc start came piece
+
+-- words and a number after the text so far
+pub grow_number : (start before after : List ℕ) (came words number : List ℕ) → before ≡ start ++ came
+    → after ≡ (before ++ words) ++ number → after ≡ start ++ ((came ++ words) ++ number)
+grow_number start before after came words number first second =
+    second ∙ ap (λ l. (l ++ words) ++ number) first ∙ ap (λ l. l ++ number) (append_assoc start came words)
+    ∙ append_assoc start (came ++ words) number
+
+-- three texts, four and five
+pub three : (a b c : List ℕ) → a ++ (b ++ (c ++ [])) ≡ (a ++ b) ++ c
+three a b c = ap (λ l. a ++ (b ++ l)) (append-nil c) ∙ sym (append_assoc a b c)
+
+pub four : (a b c d : List ℕ) → a ++ (b ++ (c ++ (d ++ []))) ≡ ((a ++ b) ++ c) ++ d
+four a b c d = sym (append_assoc a b (c ++ (d ++ []))) ∙ three (a ++ b) c d
+
+pub five : (a b c d e : List ℕ) → a ++ (b ++ (c ++ (d ++ (e ++ [])))) ≡ (((a ++ b) ++ c) ++ d) ++ e
+five a b c d e =
+    sym (append_assoc a b (c ++ (d ++ (e ++ [])))) ∙ sym (append_assoc (a ++ b) c (d ++ (e ++ []))) ∙ three ((a ++ b) ++ c) d e
+
+-- the words on four counts
+pub of_counts : (words : ℕ → ℕ → ℕ → ℕ → List ℕ) (h : List Transaction) (n : Counts) → n.transactions ≡ length h
+    → n.committed ≡ count_by (has_status Committed) h → n.aborted ≡ count_by (has_status Aborted) h
+    → n.unknown ≡ count_by (has_status Unknown) h
+    → words n.transactions n.committed n.aborted n.unknown
+    ≡ words (length h) (count_by (has_status Committed) h) (count_by (has_status Aborted) h) (count_by (has_status Unknown) h)
+of_counts words h n transactions committed aborted unknown =
+    ap (λ m. words m n.committed n.aborted n.unknown) transactions
+    ∙ ap (λ m. words (length h) m n.aborted n.unknown) committed
+    ∙ ap (λ m. words (length h) (count_by (has_status Committed) h) m n.unknown) aborted
+    ∙ ap (λ m. words (length h) (count_by (has_status Committed) h) (count_by (has_status Aborted) h) m) unknown
+
+-- no read, no words
+pub read_none : (c : Clients) (o : Option Operation) (text : List ℕ) → seen_of o ≡ None → text ≡ text ++ read_text c o
+read_none c None text none = sym (append-nil text)
+read_none c (Some (Append k value)) text none = sym (append-nil text)
+read_none c (Some (Read k values)) text none = absurd (cc)
+
+abbrev read_words : Clients → Option (ℕ × List ℕ) → List ℕ
+read_words c (Some it) = codes " read key " ++ key_text c it.0 ++ codes " as " ++ values_text it.1
+read_words c None = []
+
+pub read_some : (c : Clients) (o : Option Operation) (k : ℕ) (values : List ℕ) → seen_of o ≡ Some (k, values)
+    → codes " read key " ++ key_text c k ++ codes " as " ++ values_text values ≡ read_text c o
+read_some c None k values some = absurd (cc)
+read_some c (Some (Append key value)) k values some = absurd (cc)
+read_some c (Some (Read key seen)) k values some =
+    ap (read_words c) (sym some)
+
+-- no append, no words
+pub value_none : (words : ℕ → List ℕ) (o : Option Operation) → put_of o ≡ None → with_value words o ≡ []
+value_none words None none = refl
+value_none words (Some (Append k value)) none = absurd (cc)
+value_none words (Some (Read k values)) none = refl
+
+abbrev value_words : (ℕ → List ℕ) → Option Put → List ℕ
+value_words words (Some it) = words it.value
+value_words words None = []
+
+pub value_some : (words : ℕ → List ℕ) (o : Option Operation) (put : Put) → put_of o ≡ Some put → with_value words o ≡ words put.value
+value_some words None put some = absurd (cc)
+value_some words (Some (Append k value)) put some = ap (value_words words) some
+value_some words (Some (Read k values)) put some = absurd (cc)

@@ -1,0 +1,7 @@
+use Rattle.std.proofs.Common.{◌≡◌, ◌++◌, take}
+use Rattle.std.specs.List.{flat_map}
+use Rattle.sgt_clients.specs.GraphText.{arrow_text}
+use Rattle.sgt_clients.proofs.graph_text.append_arrows.Given as goal
+
+abbrev pub invariant-loop-step : goal.invariant-loop-step
+invariant-loop-step l = l.text.items ≡ l.fn.text.items ++ flat_map (arrow_text l.clients) (take l.step-index l.steps)

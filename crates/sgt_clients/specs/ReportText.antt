@@ -1,0 +1,170 @@
+-- The lines of a report on what clients saw.
+use Rattle.std.specs.Prelude.{◌+◌, ◌-◌, ◌^◌, ◌++◌, ℕ, Bool, true, false, nat_lt, if◌then◌else◌, min, List, [], ◌∷◌, length, drop, Option, Some, None, option_and_then, slice_get, codes, count_by}
+use Rattle.std.specs.Option.{option_map_or}
+use Rattle.std.specs.List.{flat_map}
+use Rattle.std.specs.Fmt.{decimal}
+use Rattle.sgt_appends.specs.declared.transaction.Operation.{Operation}
+use Rattle.sgt_appends.specs.declared.transaction.Operation.TheVariants.{Append, Read}
+use Rattle.sgt_appends.specs.declared.transaction.Status.{Status}
+use Rattle.sgt_appends.specs.declared.transaction.Status.TheVariants.{Committed, Aborted, Unknown}
+use Rattle.sgt_appends.specs.declared.transaction.Transaction.{Transaction}
+use Rattle.sgt_appends.specs.declared.fault.Fault.{Fault}
+use Rattle.sgt_appends.specs.declared.fault.Fault.TheVariants as fault
+use Rattle.sgt_appends.specs.declared.witness.Reason.{Reason}
+use Rattle.sgt_appends.specs.declared.witness.Reason.TheVariants.{Seen, Missed, InOrder}
+use Rattle.sgt_clients.specs.declared.clients.Clients.{Clients}
+use Rattle.sgt_clients.specs.declared.clients.Span.{Span}
+use Rattle.sgt_clients.specs.declared.finding.Why.{Why}
+use Rattle.sgt_clients.specs.declared.finding.Why.TheVariants.{Observed, RealTime}
+use Rattle.sgt_clients.specs.declared.finding.Step.{Step}
+use Rattle.sgt_clients.specs.declared.finding.Finding.{Finding}
+use Rattle.sgt_clients.specs.declared.finding.Finding.TheVariants as finding
+
+-- an index, counted from 1; at most 2^64 - 1
+abbrev pub from_one : ℕ → ℕ
+from_one n = min (n + 1) (2 ^ 64 - 1)
+
+-- a transaction: `t3`
+abbrev pub transaction_text : ℕ → List ℕ
+transaction_text t = codes "t" ++ decimal (from_one t)
+
+-- the entry at which the span ended, or else the one at which it began
+abbrev pub entry_of_span : Span → ℕ
+entry_of_span s = option_map_or (λ entry. entry) s.ended s.began
+
+-- the entry of transaction t
+abbrev pub entry_of : Clients → ℕ → ℕ
+entry_of c t = option_map_or entry_of_span (slice_get c.spans.items t) 0
+
+-- a transaction and its entry: `t3 (line 7)`, or `t3 (entry 7)` if entries are not one a line
+abbrev pub placed : Clients → ℕ → List ℕ
+placed c t = transaction_text t ++ (if c.by_line then codes " (line " else codes " (entry ") ++ decimal (entry_of c t) ++ codes ")"
+
+-- the text of a key
+abbrev pub key_text : Clients → ℕ → List ℕ
+key_text c k = option_map_or (λ text. text.items) (slice_get c.keys.items k) []
+
+-- a value after a space
+abbrev pub next_value : ℕ → List ℕ
+next_value v = codes " " ++ decimal v
+
+-- values separated by spaces
+abbrev pub spaced : List ℕ → List ℕ
+spaced [] = []
+spaced (v ∷ vs) = decimal v ++ flat_map next_value vs
+
+-- the values that are shown: of more than 16 only the last 16, after two points
+abbrev pub shown_text : List ℕ → List ℕ
+shown_text vs = if nat_lt 16 (length vs) then codes ".." ++ flat_map next_value (drop (length vs - 16) vs) else spaced vs
+
+-- the values in brackets
+abbrev pub values_text : List ℕ → List ℕ
+values_text vs = codes "[" ++ shown_text vs ++ codes "]"
+
+-- the operation at a position of a transaction, if there is one
+abbrev pub operation_at : Clients → ℕ → ℕ → Option Operation
+operation_at c t p = option_and_then (λ x. slice_get x.operations.items p) (slice_get c.transactions.items t)
+
+-- the key and the values that a read saw
+abbrev pub read_text : Clients → Option Operation → List ℕ
+read_text c (Some (Read k values)) = codes " read key " ++ key_text c k ++ codes " as " ++ values_text values.items
+read_text c (Some (Append k value)) = []
+read_text c None = []
+
+-- the words on the value of an append
+abbrev pub with_value : (ℕ → List ℕ) → Option Operation → List ℕ
+with_value words (Some (Append k value)) = words value
+with_value words (Some (Read k values)) = []
+with_value words None = []
+
+-- the words on the values of two appends
+abbrev pub with_values : (ℕ → ℕ → List ℕ) → Option Operation → Option Operation → List ℕ
+with_values words one other = with_value (λ v. with_value (words v) other) one
+
+-- a value that was seen, or missed, and who appended it
+abbrev pub of_appender : List ℕ → ℕ → ℕ → List ℕ
+of_appender with t v = with ++ decimal v ++ codes ", which " ++ transaction_text t ++ codes " appended"
+
+-- two values that were seen in this order, and who appended them
+abbrev pub in_order_text : ℕ → ℕ → ℕ → ℕ → List ℕ
+in_order_text t u v w = codes ", with " ++ decimal v ++ codes " of " ++ transaction_text t ++ codes " before " ++ decimal w
+    ++ codes " of " ++ transaction_text u
+
+-- what was observed that puts transaction t before u
+abbrev pub reason_text : Clients → ℕ → ℕ → Reason → List ℕ
+reason_text c t u (Seen append read) = transaction_text u ++ read_text c (operation_at c u read)
+    ++ with_value (of_appender (codes ", with ") t) (operation_at c t append)
+reason_text c t u (Missed read append) = transaction_text t ++ read_text c (operation_at c t read)
+    ++ with_value (of_appender (codes ", without ") u) (operation_at c u append)
+reason_text c t u (InOrder first second reader read) = placed c reader ++ read_text c (operation_at c reader read)
+    ++ with_values (in_order_text t u) (operation_at c t first) (operation_at c u second)
+
+-- the reason of a step
+abbrev pub why_text : Clients → ℕ → ℕ → Why → List ℕ
+why_text c t u (Observed reason) = reason_text c t u reason
+why_text c t u RealTime = transaction_text t ++ codes " ended before " ++ transaction_text u ++ codes " began"
+
+-- the line of a step
+abbrev pub step_text : Clients → Step → List ℕ
+step_text c s = codes "  " ++ placed c s.from ++ codes " before " ++ placed c s.to ++ codes ": " ++ why_text c s.from s.to s.why ++ codes "\n"
+
+-- a value of its own that a transaction saw too early
+abbrev pub ahead_text : ℕ → ℕ → List ℕ
+ahead_text t v = codes ", with " ++ decimal v ++ codes ", which " ++ transaction_text t ++ codes " appended only later"
+
+-- two values in another order than their transaction appended them
+abbrev pub swapped_text : Clients → ℕ → ℕ → ℕ → List ℕ
+swapped_text c t v w = codes ", with " ++ decimal w ++ codes " before " ++ decimal v ++ codes ", but " ++ placed c t ++ codes " appended "
+    ++ decimal v ++ codes " first"
+
+-- what is wrong with a read
+abbrev pub wrong_text : Clients → ℕ → Fault → List ℕ
+wrong_text c reader (fault.Unwritten value) = codes ", but no transaction that may have committed appends " ++ decimal value
+wrong_text c reader (fault.Twice value) = codes ", with a value twice: " ++ decimal value
+wrong_text c reader fault.EndsOtherwise = codes ", which does not end with what " ++ transaction_text reader ++ codes " had appended"
+wrong_text c reader (fault.Ahead append) = with_value (ahead_text reader) (operation_at c reader append)
+wrong_text c reader (fault.Swapped by first second) = with_values (swapped_text c by) (operation_at c by first) (operation_at c by second)
+
+-- a read, and what is wrong with it
+abbrev pub fault_text : Clients → ℕ → ℕ → Fault → List ℕ
+fault_text c reader read fault = placed c reader ++ read_text c (operation_at c reader read) ++ wrong_text c reader fault
+
+-- whether the status is this one
+abbrev pub is_status : Status → Status → Bool
+is_status Committed Committed = true
+is_status Aborted Aborted = true
+is_status Unknown Unknown = true
+is_status one other = false
+
+-- whether the transaction has the status
+abbrev pub has_status : Status → Transaction → Bool
+has_status status t = is_status status t.status
+
+-- the number of transactions, and how they ended
+abbrev pub counts_text : List Transaction → List ℕ
+counts_text h = codes "transactions " ++ decimal (length h) ++ codes ": " ++ decimal (count_by (has_status Committed) h)
+    ++ codes " committed, " ++ decimal (count_by (has_status Aborted) h) ++ codes " aborted, "
+    ++ decimal (count_by (has_status Unknown) h) ++ codes " unknown\n"
+
+-- a transaction of an order, after a space
+abbrev pub next_text : ℕ → List ℕ
+next_text t = codes " " ++ transaction_text t
+
+-- a serial order, `none` if it has no transaction
+abbrev pub order_text : List ℕ → List ℕ
+order_text [] = codes " none"
+order_text (t ∷ ts) = flat_map next_text (t ∷ ts)
+
+-- the line that names the anomaly
+abbrev pub no_text : List ℕ → List ℕ
+no_text name = codes "serializable no: " ++ name ++ codes "\n"
+
+-- the lines of a finding
+abbrev pub finding_text : Clients → Finding → List ℕ
+finding_text c (finding.Serial order) = codes "serializable yes:" ++ order_text order.items ++ codes "\n"
+finding_text c (finding.Cycle steps name) = no_text name.now ++ flat_map (step_text c) steps.items
+finding_text c (finding.Fault reader read fault name) = no_text name.now ++ codes "  " ++ fault_text c reader read fault ++ codes "\n"
+
+-- the lines of a report
+abbrev pub report_text : Bool → Clients → Finding → List ℕ
+report_text strict c f = counts_text c.transactions.items ++ (if strict then codes "strictly " else []) ++ finding_text c f

@@ -1,0 +1,189 @@
+//! Explains in one line, for a person, why the text of an opening or of a procedure is refused.
+ghost use Rattle.std.specs.Prelude.{◌≢◌, IfOk, OnOk, IsSome};
+ghost use Rattle.sgt_format.specs.declared.errors.OpeningError.{OpeningError};
+ghost use Rattle.sgt_line_errors.specs.Refusals.{SpellsNoOpening, SpellsNoProcedure};
+
+use crate::account::account_fault;
+use crate::flaw::find_flaw;
+use crate::json_text::json_fault;
+use crate::limit::limit_fault;
+use crate::message::{Piece, told};
+use crate::misfit::misfit;
+use crate::opening::opening_fault;
+use serde_json::Value;
+use sgt_format::{OpeningError, items, read_opening, read_procedure_line, read_tree};
+use sgt_model::NoMemory;
+use sgt_proc::Flaw;
+use sgt_smallbank::PROCEDURES;
+use std::alloc::Global;
+
+/// Explains why a text is no opening that allows at least so many live transactions, in one line without newline:
+/// where its first error is, and what was expected there. None if it is one.
+///
+/// # Errors
+///
+/// `NoMemory` if an allocation failed.
+pub fn explain_opening(
+    alloc: Global,
+    least: u32,
+    opening: &[u8],
+) -> Result<Option<String>, NoMemory>
+    ensures refused { IfOk result (λ text. IsSome text → SpellsNoOpening least opening.now) }
+{
+    let Err(error) = read_opening(alloc, least, opening) else {
+        return Ok(None);
+    };
+    opening_text(alloc, &error, least, opening)
+}
+
+/// Explains in the same way why a text is no procedure, as one item of an opening's list. The explanation names the
+/// procedure by this number.
+///
+/// # Errors
+///
+/// `NoMemory` if an allocation failed.
+pub fn explain_procedure(
+    alloc: Global,
+    number: u64,
+    procedure: &[u8],
+) -> Result<Option<String>, NoMemory>
+    ensures refused { IfOk result (λ text. IsSome text → SpellsNoProcedure number procedure.now) }
+{
+    let Err(error) = read_procedure_line(alloc, number, procedure) else {
+        return Ok(None);
+    };
+    procedure_text(alloc, &error, procedure)
+}
+
+// The error of an opening, from its text.
+fn opening_text(
+    alloc: Global,
+    error: &OpeningError,
+    least: u32,
+    opening: &[u8],
+) -> Result<Option<String>, NoMemory>
+    ensures { OnOk result (error.now ≢ OpeningError.NoMemory) }
+{
+    match error {
+        OpeningError::NoMemory => Err(NoMemory),
+        OpeningError::NotJson => json_fault(alloc, opening),
+        _ => match read_tree(alloc, opening)? {
+            Some(tree) => opening_tree_fault(alloc, error, least, &tree),
+            None => Ok(None),
+        },
+    }
+}
+
+// The error of an opening, from its tree.
+fn opening_tree_fault(
+    alloc: Global,
+    error: &OpeningError,
+    least: u32,
+    opening: &Value,
+) -> Result<Option<String>, NoMemory> {
+    match error {
+        OpeningError::BadLine => opening_fault(alloc, opening),
+        OpeningError::BadLimits => limit_fault(alloc, least, member(opening, "limits")),
+        OpeningError::BadOpening(_) => account_fault(alloc, member(opening, "accounts")),
+        OpeningError::ProcShape(number, _) | OpeningError::ProcFlaw(number, _) => {
+            match procedure(opening, *number) {
+                Some(tree) => procedure_fault(alloc, error, tree),
+                None => Ok(None),
+            }
+        }
+        OpeningError::NotJson | OpeningError::NoMemory => Ok(None),
+    }
+}
+
+// The error of a procedure, from its text.
+fn procedure_text(
+    alloc: Global,
+    error: &OpeningError,
+    procedure: &[u8],
+) -> Result<Option<String>, NoMemory>
+    ensures { OnOk result (error.now ≢ OpeningError.NoMemory) }
+{
+    match error {
+        OpeningError::NoMemory => Err(NoMemory),
+        OpeningError::NotJson => json_fault(alloc, procedure),
+        _ => match read_tree(alloc, procedure)? {
+            Some(tree) => procedure_fault(alloc, error, &tree),
+            None => Ok(None),
+        },
+    }
+}
+
+// The error of a procedure, from its tree.
+fn procedure_fault(
+    alloc: Global,
+    error: &OpeningError,
+    procedure: &Value,
+) -> Result<Option<String>, NoMemory> {
+    match error {
+        OpeningError::ProcShape(number, place) => {
+            misfit_fault(alloc, *number, procedure, place.as_slice())
+        }
+        OpeningError::ProcFlaw(number, flaw) => flaw_fault(alloc, *number, procedure, *flaw),
+        _ => Ok(None),
+    }
+}
+
+// The error in the procedure of this number, at the position of its first shape error.
+fn misfit_fault(
+    alloc: Global,
+    number: u64,
+    procedure: &Value,
+    place: &[u64],
+) -> Result<Option<String>, NoMemory> {
+    match misfit(alloc, procedure, place)? {
+        Some(what) => located(alloc, number, place, &what),
+        None => Ok(None),
+    }
+}
+
+// The error in the procedure of this number, which has this flaw.
+fn flaw_fault(
+    alloc: Global,
+    number: u64,
+    procedure: &Value,
+    flaw: Flaw,
+) -> Result<Option<String>, NoMemory> {
+    match find_flaw(alloc, procedure, flaw)? {
+        Some(found) => located(alloc, number, found.place.as_slice(), &found.what),
+        None => Ok(None),
+    }
+}
+
+// The error at a position of the procedure of this number. The position is shown as in the fault's own line.
+fn located<'a>(
+    alloc: Global,
+    number: u64,
+    place: &'a [u64],
+    what: &'a str,
+) -> Result<Option<String>, NoMemory> {
+    told(
+        alloc,
+        &[
+            Piece::Words("procedure "),
+            Piece::Count(number),
+            Piece::Words(", at "),
+            Piece::Place(place),
+            Piece::Words(": "),
+            Piece::Words(what),
+        ],
+    )
+}
+
+// The items of a member of an object, or none.
+fn member<'a>(tree: &'a Value, name: &str) -> &'a [Value] {
+    match tree.get(name) {
+        Some(member) => items(member).unwrap_or(&[]),
+        None => &[],
+    }
+}
+
+// The opening's procedure of this number.
+fn procedure(opening: &Value, number: u64) -> Option<&Value> {
+    let index = number.checked_sub(u64::from(PROCEDURES))?;
+    member(opening, "procedures").get(index as usize)
+}

@@ -1,0 +1,121 @@
+"""A front process: it reads the lines of some clients, asks the server's process, and writes the replies. It decides nothing by itself."""
+
+import contextlib
+import json
+import marshal
+import os
+import select
+import signal
+import socket
+from multiprocessing.connection import Connection, Pipe
+from typing import Union
+
+from bank import Procedure
+from sgt import LEAST, MOST, pack_calls, unpack_outcomes
+
+LONGEST = 1000  # bytes of a line
+read_json = json.JSONDecoder().raw_decode  # a value, and where it ends: three times as fast as `json.loads`
+FRONTS = 3  # processes: each waits while the server runs what it has asked, so they are more than are busy at a time
+Request = Union[tuple[Procedure, list[int]], str]  # a line asks for a call, or it says a word: {"rows": true} says rows
+
+
+def start_fronts(port: int, procedures: dict[str, Procedure]) -> tuple[int, list[Connection]]:
+    """Starts the front processes, before anything is opened that they must not share. Their port, and a connection to each."""
+    listener = socket.create_server(("127.0.0.1", port), backlog=1024)
+    listener.setblocking(False)
+    listener.setsockopt(socket.IPPROTO_TCP, socket.TCP_NODELAY, 1)
+    fronts: list[Connection] = []
+    for _ in range(FRONTS):
+        front, server = Pipe()
+        fronts.append(front)
+        if os.fork() == 0:
+            for it in fronts:
+                it.close()  # else a front would not see the end of the server
+            Front(listener, server, procedures).run()
+        server.close()
+    with listener:
+        return listener.getsockname()[1], fronts
+
+
+class Front:
+    """It waits for the replies to what it has asked. What comes in meanwhile is asked next, at once."""
+
+    def __init__(self, listener: socket.socket, server: Connection, procedures: dict[str, Procedure]) -> None:
+        self.listener, self.server = listener, server
+        self.requests = {frozenset(it.request): it for it in procedures.values() if it.request}
+        self.clients: dict[int, tuple[socket.socket, bytes]] = {}  # with the beginning of a line
+        self.poll = select.epoll()
+        self.poll.register(listener, select.EPOLLIN)
+        self.poll.register(server, select.EPOLLIN)  # it says nothing unasked, but ends
+
+    def run(self) -> None:
+        """Runs until the server has ended. Signals are for the server."""
+        for number in (signal.SIGTERM, signal.SIGINT):
+            signal.signal(number, signal.SIG_IGN)
+        with contextlib.suppress(EOFError, ConnectionError):
+            self.numbers: dict[str, int] = marshal.loads(self.server.recv_bytes())  # of the procedures, once the server has recovered
+            while True:
+                self.turn()
+        os._exit(0)
+
+    def turn(self) -> None:
+        """Waits for lines, has the server run what they ask, and replies."""
+        asked: list[tuple[int, Request]] = []
+        while not asked:
+            for number, _ in self.poll.poll():
+                if number == self.listener.fileno():
+                    self.accept()
+                elif number == self.server.fileno():
+                    raise EOFError
+                else:
+                    asked += [(number, self.request(line)) for line in self.receive(number)]
+        calls = pack_calls([(self.numbers[it[0].name], *it[1]) for _, it in asked if not isinstance(it, str)])
+        self.server.send_bytes(marshal.dumps((calls, [it for _, it in asked if isinstance(it, str)])))
+        outcomes, of_words = marshal.loads(self.server.recv_bytes())
+        replies, of_words = iter(unpack_outcomes(outcomes)), iter(of_words)
+        lines: dict[int, str] = {}
+        for number, it in asked:
+            line = next(of_words) if isinstance(it, str) else it[0].line(it[1][0], next(replies).reply)
+            lines[number] = lines.get(number, "") + line
+        for number, line in lines.items():
+            try:
+                self.clients[number][0].sendall(line.encode())
+            except (BlockingIOError, ConnectionError):  # it is gone, or takes no replies; it can ask again with its id
+                self.clients.pop(number)[0].close()
+
+    def request(self, line: bytes) -> Request:
+        """What a line asks for."""
+        try:
+            text = line.strip().decode()
+            asked, end = read_json(text)
+            procedure = self.requests.get(frozenset(asked.keys()))
+        except (ValueError, RecursionError, AttributeError):
+            return ""
+        if end < len(text):
+            return ""
+        if procedure and all(type(value) is int and LEAST <= value <= MOST for value in asked.values()):
+            return procedure, [asked[key] for key in procedure.request]
+        return "".join(key for key, value in asked.items() if value is True)
+
+    def accept(self) -> None:
+        try:
+            client, _ = self.listener.accept()
+        except (BlockingIOError, ConnectionError):
+            return  # another front has it
+        client.setblocking(False)
+        self.poll.register(client, select.EPOLLIN)
+        self.clients[client.fileno()] = client, b""
+
+    def receive(self, number: int) -> list[bytes]:
+        """The lines that have come from a client. One that is gone, or sends a line that is too long, is dropped."""
+        client, heard = self.clients[number]
+        try:
+            data = client.recv(16_384)
+        except ConnectionError:
+            data = b""
+        *lines, heard = (heard + data).split(b"\n")
+        if not data or max(map(len, (*lines, heard))) > LONGEST:
+            self.clients.pop(number)[0].close()
+            return []
+        self.clients[number] = client, heard
+        return lines
