@@ -709,16 +709,19 @@ def takes_the_tries(sgt):
 
 def tells_threads_that_could_not_be_made(sgt):
     """Each thread takes its stack from the address space. With a little more of it from run to run the first thread is refused,
-    then the second, then the third, and then none."""
+    then the second, then the third, and then none. With no more than the stacks need, the threads run and the job is told that
+    there is no memory."""
+    unchanged = sgt.run("bank", given=OPENING)[1]
     refused = 0
     for megabytes in range(4, 2048):
         came = sgt.run("bank", "--workers", "3", given=OPENING + JOB, address_space=megabytes << 20)
         if came == (0, DEPOSITED, ""):
             break
-        same("standard output", "", came[1])
-        if came != (2, "", "no memory\n"):
-            same("status and standard error", (2, "workers not started\n"), (came[0], came[2]))
-            refused += 1
+        if came != (0, "0 no memory\n" + unchanged, ""):
+            same("standard output", "", came[1])
+            if came != (2, "", "no memory\n"):
+                same("status and standard error", (2, "workers not started\n"), (came[0], came[2]))
+                refused += 1
     else:
         raise Differs("no run of three workers ended well")
     if refused < 3:
