@@ -32,9 +32,7 @@ NO_TARGET = "int LLVMFuzzerTestOneInput(const char *data, unsigned long size) { 
 
 # What has to come in a run of so many calls, so that it tests what it is for.
 WANTED = ("tried again", "waited", "timed out", "quit", "cuts", "committed")
-WANTED_OF_RUNS = ("for others", "timed out", "cuts", "committed")
-# The library takes the machine for one that has a processor for each thread, so that each may have its runs carried out by others.
-ROOMY = [f"-DPROCESSORS={THREADS}", "-Wl,--wrap=sysconf"]
+WANTED_OF_RUNS = ("timed out", "cuts", "committed")
 
 
 def parts_of(text):
@@ -115,8 +113,7 @@ def compare_replies(told, entries):
 
 def judge(folder, are_runs=False):
     """Judges a run by what it wrote. How many entries and parts there are. If all are runs, nobody is ever live between two calls, so
-    each transaction was told to the one thread that asked for it: none was carried out twice, or for a thread that was told that it
-    timed out."""
+    each transaction was told to the one thread that asked for it, and none is of a thread that was told that it timed out."""
     parts = parts_of((folder / "history").read_text())
     try:
         rows, ends = judged(parts)
@@ -159,12 +156,12 @@ def threads_are_told_what_the_history_says(room):
     return ran_and_judged(room, [], CALLS, STEPPED, WANTED)
 
 
-def threads_carry_out_runs_of_others(room):
-    return ran_and_judged(room, ROOMY, FEW_CALLS, 0, WANTED_OF_RUNS)
+def threads_run_without_steps(room):
+    return ran_and_judged(room, [], FEW_CALLS, 0, WANTED_OF_RUNS)
 
 
-def threads_carry_out_runs_of_others_beside_steps(room):
-    return ran_and_judged(room, ROOMY, FEW_CALLS, FEW_STEPPED, (*WANTED, "for others"))
+def threads_run_beside_few_steps(room):
+    return ran_and_judged(room, [], FEW_CALLS, FEW_STEPPED, WANTED)
 
 
 def sanitized(room, flags):
@@ -173,11 +170,11 @@ def sanitized(room, flags):
     if not compiler:
         return f"left out: no compiler here has {flags[1]}"
     run([built(room, compiler, C_FLAGS, C_SOURCES / "shared_calls.c", flags, [SHARED])])
-    program = built(room, compiler, C_FLAGS, C_SOURCES / "shared_runs.c", [*flags, *ROOMY], [SHARED])
+    program = built(room, compiler, C_FLAGS, C_SOURCES / "shared_runs.c", flags, [SHARED])
     told = []
     for stepped in (STEPPED, FEW_STEPPED, 0):
-        folder, counts = ran(room, program, SANITIZED_CALLS, stepped)
-        told.append(f"{judge(folder, stepped == 0)}, {counts['for others']} for others")
+        folder, _ = ran(room, program, SANITIZED_CALLS, stepped)
+        told.append(judge(folder, stepped == 0))
     return f"{compiler}: " + "; ".join(told)
 
 
@@ -224,8 +221,8 @@ def keeps_its_word_whatever_is_called(room):
 CASES = [
     tells_the_status_of_each_call,
     threads_are_told_what_the_history_says,
-    threads_carry_out_runs_of_others,
-    threads_carry_out_runs_of_others_beside_steps,
+    threads_run_without_steps,
+    threads_run_beside_few_steps,
     threads_do_not_race,
     threads_stay_within_their_memory,
     goes_on_where_each_allocation_is_refused,

@@ -1,11 +1,9 @@
 /*
  * See sgt_shared.h. Every call enters, holds the lock while it works, releases it where it rests, and leaves.
  *
- * A run takes a microsecond, which is less than it takes to move the lock and the engine's memory to another processor. So a run that
- * finds the lock taken is written into a seat, and whoever holds the lock carries it out before leaving: flat combining (Hendler,
- * Incze, Shavit and Tzafrir, SPAA 2010). A thread sits only while nobody is live and no cut is awaited: then its run never waits, so
- * any thread can carry it out. It spins there for a while, and then sleeps until it gets the lock. If there are more threads than
- * processors nobody sits. The lock alone puts threads to sleep and wakes them, so no wake-up depends on seats.
+ * A run takes less than a microsecond, which is less than it takes to move the lock and the engine's memory to another processor, or to
+ * wake a thread. So a thread that comes back for the lock takes it again, though others wait: they sleep, in the order in which they
+ * came, and only the first of them looks now and then. When it has waited long the lock is owed to it, and others leave it alone.
  */
 #define _POSIX_C_SOURCE 200809L
 #include <pthread.h>
@@ -16,18 +14,19 @@
 #include <stdlib.h>
 #include <string.h>
 #include <time.h>
-#include <unistd.h>
 
 #include "sgt_shared.h"
 
 enum { MOST_LIVE = 32, MOST_ARGS = 4, MOST_PROCEDURE = 65535 };
 
 enum {
-    MOST_SEATS = 16,
-    MOST_SERVED = 64,    /* runs of others in one hold: somebody waits for this thread too */
-    MOST_PASSED = 500,   /* so often others come first while a thread sleeps for the lock: then it is owed to that thread */
-    MOST_SPIN = 50000,   /* nanoseconds in a seat, far more than its turn takes, and as much as it takes to be woken */
-    LOOKS = 32,          /* looks from a seat between two at the clock */
+    MOST_SPIN = 5000,    /* nanoseconds for which a thread looks whether the lock is free, before it sleeps */
+    PATIENCE = 200,      /* nanoseconds for which the lock has to stay free then: its last holder may be about to come back */
+    LOOK = 1000,         /* nanoseconds of a look of the first of those that wait */
+    NAP = 50000,         /* nanoseconds for which the first of those that wait sleeps between two looks */
+    MOST_NAPS = 16,      /* so often it sleeps. Then the lock is owed to it */
+    MOST_PASSED = 500,   /* so often others come first while a thread that has rested waits for the lock. Then the lock is owed to it */
+    TURNS = 16,          /* threads that wait are woken one by one, if they are not more than these */
     APART = 128          /* bytes from what one thread writes to what another does: processors fetch two cache lines at once */
 };
 
@@ -49,23 +48,8 @@ struct deadline {
 /* A run that a thread asks for. */
 struct run {
     struct call call;
-    sgt_shared_outcome *out; /* where its outcome goes; all zero */
     struct deadline until;
     uint32_t tries;
-    uint32_t status;
-    bool is_done;
-};
-
-/*
- * A place from which a thread has its run carried out. It makes a FREE seat OWNED, writes its run there and makes it ASKED. Whoever holds
- * the lock makes it TAKEN, carries the run out, and makes it DONE; then the thread reads the status and makes it FREE. As long as it is
- * ASKED the thread may take its run back, by making it FREE. So a run is carried out by one thread, and once.
- */
-enum { FREE, OWNED, ASKED, TAKEN, DONE };
-
-struct seat {
-    alignas(APART) atomic_uint state;
-    struct run run;
 };
 
 /* What threads rest for until it is announced. */
@@ -90,18 +74,24 @@ struct queue {
     size_t first, count, room;
 };
 
+/* Those that wait for the lock, in the order in which they came. */
+struct line {
+    pthread_mutex_t lock;
+    pthread_cond_t turns[TURNS]; /* each waits at that of its ticket */
+    uint64_t tickets;            /* so many have come */
+    uint64_t first;              /* the ticket of the first that waits */
+};
+
 struct sgt_shared {
-    alignas(APART) atomic_uint inside; /* threads that are in a call */
-    alignas(APART) atomic_bool is_held; /* whether the lock is, to look at before trying it; from here to the seats all is read often */
-    atomic_bool is_owed;         /* whether the lock is owed to a thread that sleeps for it */
-    atomic_bool was_quiet;       /* whether runs could be carried out for others, when somebody left last */
-    atomic_uint asleep;          /* threads that sleep for the lock */
+    alignas(APART) atomic_bool is_held; /* whether the lock is, to look at before trying it */
+    atomic_bool is_owed;         /* whether the lock is owed to a thread that has rested */
+    atomic_bool is_claimed;      /* whether it is owed to the first that waits in line */
+    atomic_uint asleep;          /* threads that have rested, and sleep for the lock */
     atomic_uint resting;         /* threads that rest */
-    unsigned chairs;             /* so many seats are used: one for each processor */
+    atomic_uint waiting;         /* threads that wait for the lock and have not rested */
     unsigned forks;              /* how many forks this process comes from, as of the opening */
-    struct seat seats[MOST_SEATS];
+    alignas(APART) struct line line;
     alignas(APART) pthread_mutex_t lock; /* of all that follows, but for `config` and `number`, which never change */
-    unsigned next;               /* the seat that is served next */
     unsigned passed;             /* how often others came first while a thread slept for the lock */
     struct event changed;        /* a transaction has ended, or a cut is over */
     struct event queued;         /* a call can be drained */
@@ -190,14 +180,72 @@ static void wake(sgt_shared *s)
     s->passed = 0;
 }
 
-/* Takes the lock: at once if it is free, as sleeping and waking take long, but not if it is owed to another. */
+/* Leaves the processor to the thread that shares it, for a moment. */
+static void relax(void)
+{
+#if defined(__x86_64__) || defined(__i386__)
+    __builtin_ia32_pause();
+#elif defined(__aarch64__)
+    __asm__ volatile("yield");
+#endif
+}
+
+/* Whether the lock looks free for a thread that is owed it, or not. */
+static bool is_free(const sgt_shared *s, bool claims)
+{
+    return !atomic_load_explicit(&s->is_held, memory_order_relaxed) && !atomic_load_explicit(&s->is_owed, memory_order_relaxed)
+        && (claims || !atomic_load_explicit(&s->is_claimed, memory_order_relaxed));
+}
+
+/* Looks for so many nanoseconds whether the lock is free, and stays so for a moment. Whether it has got the lock. */
+static bool look_out(sgt_shared *s, int64_t ns, bool claims)
+{
+    const int64_t begin = now();
+    int64_t since = INT64_MAX; /* when it was found free */
+    for (int64_t at = begin; at - begin < ns; at = now()) {
+        if (!is_free(s, claims)) since = INT64_MAX;
+        else if (since == INT64_MAX) since = at;
+        if (since != INT64_MAX && (claims || at - since >= PATIENCE) && try_lock(s)) return true;
+        relax();
+    }
+    return false;
+}
+
+/* Waits in line for the lock. */
+static void line_up(sgt_shared *s)
+{
+    struct line *line = &s->line;
+    pthread_mutex_lock(&line->lock);
+    const uint64_t ticket = line->tickets++;
+    pthread_cond_t *turn = &line->turns[ticket % TURNS];
+    while (ticket != line->first) pthread_cond_wait(turn, &line->lock);
+    for (unsigned naps = 0; !look_out(s, naps > MOST_NAPS ? MOST_SPIN : LOOK, naps > MOST_NAPS); naps++) {
+        if (naps >= MOST_NAPS) atomic_store_explicit(&s->is_claimed, true, memory_order_relaxed);
+        const struct timespec end = in_ns(NAP);
+        if (naps != MOST_NAPS) pthread_cond_timedwait(turn, &line->lock, &end);
+    }
+    atomic_store_explicit(&s->is_claimed, false, memory_order_relaxed);
+    line->first++;
+    pthread_cond_broadcast(&line->turns[line->first % TURNS]);
+    pthread_mutex_unlock(&line->lock);
+}
+
+/* Wakes the first that waits in line: this thread is about to rest, and does not come back soon. */
+static void beckon(sgt_shared *s)
+{
+    if (atomic_load_explicit(&s->waiting, memory_order_relaxed) == 0) return;
+    pthread_mutex_lock(&s->line.lock);
+    pthread_cond_broadcast(&s->line.turns[s->line.first % TURNS]);
+    pthread_mutex_unlock(&s->line.lock);
+}
+
+/* Takes the lock: at once if it is free. */
 static void lock(sgt_shared *s)
 {
-    if (!atomic_load_explicit(&s->is_owed, memory_order_relaxed) && try_lock(s)) return;
-    atomic_fetch_add_explicit(&s->asleep, 1, memory_order_relaxed);
-    pthread_mutex_lock(&s->lock);
-    atomic_store_explicit(&s->is_held, true, memory_order_relaxed);
-    wake(s);
+    if (is_free(s, false) && try_lock(s)) return;
+    const bool is_alone = atomic_fetch_add_explicit(&s->waiting, 1, memory_order_relaxed) == 0;
+    if (!is_alone || !look_out(s, MOST_SPIN, false)) line_up(s);
+    atomic_fetch_sub_explicit(&s->waiting, 1, memory_order_relaxed);
 }
 
 /* Counts a call that came before those of threads that sleep for the lock. */
@@ -220,6 +268,7 @@ static bool rest(sgt_shared *s, struct event *event, const struct deadline *unti
     const uint64_t count = event->count;
     event->resting++;
     atomic_fetch_add_explicit(&s->resting, 1, memory_order_relaxed);
+    beckon(s);
     atomic_store_explicit(&s->is_held, false, memory_order_relaxed);
     const int failed = until->never ? pthread_cond_wait(&event->announced, &s->lock)
                                     : pthread_cond_timedwait(&event->announced, &s->lock, &until->at);
@@ -255,33 +304,20 @@ static bool is_misuse(const sgt_shared *s)
     return s->forks != atomic_load_explicit(&forks, memory_order_relaxed);
 }
 
-/* Counts this thread in. */
-static uint32_t come_in(sgt_shared *s)
+static uint32_t enter(sgt_shared *s)
 {
     if (!s) return SGT_CLOSED;
     if (is_misuse(s)) return SGT_MISUSE;
-    atomic_fetch_add_explicit(&s->inside, 1, memory_order_acquire);
+    lock(s);
     return SGT_OK;
 }
 
-static void go_out(sgt_shared *s) { atomic_fetch_sub_explicit(&s->inside, 1, memory_order_release); }
-
-static uint32_t enter(sgt_shared *s)
-{
-    uint32_t status = come_in(s);
-    if (status == SGT_OK) lock(s);
-    return status;
-}
-
 static void cut_if_due(sgt_shared *s);
-static void serve(sgt_shared *s);
 
 static uint32_t leave(sgt_shared *s, uint32_t status)
 {
     if (s->config.cut_after) cut_if_due(s);
-    serve(s);
     unlock(s);
-    go_out(s);
     return status;
 }
 
@@ -355,9 +391,10 @@ static void call_hook(sgt_shared *s, const sgt_ended *ended)
  */
 static void deliver(sgt_shared *s, uint32_t tid)
 {
-    sgt_ended ended = {.sequence = s->sequence++, .ticket = ticket_of(s, tid)};
-    uint64_t count = 0;
+    const uint64_t sequence = s->sequence++;
     if (!s->config.ended && !s->config.keeps_ended) return;
+    sgt_ended ended = {.sequence = sequence, .ticket = ticket_of(s, tid)};
+    uint64_t count = 0;
     sgt_calls(&s->engine, s->read, &ended.call, 1, &count, &s->read);
     if (s->config.keeps_ended) {
         s->queue.at[s->queue.first + s->queue.count++] = ended;
@@ -521,12 +558,11 @@ static sgt_shared *made(const sgt_shared_config *config)
     s->cut_at = config->cut_after;
     s->forks = atomic_load(&forks);
     s->number = atomic_fetch_add(&opened, 1) + 1;
-    const long processors = sysconf(_SC_NPROCESSORS_ONLN);
-    s->chairs = processors < 1 ? 1 : processors > MOST_SEATS ? MOST_SEATS : (unsigned)processors;
-    atomic_store(&s->was_quiet, true);
     pthread_condattr_init(&attributes);
     pthread_condattr_setclock(&attributes, CLOCK_MONOTONIC);
     pthread_mutex_init(&s->lock, 0);
+    pthread_mutex_init(&s->line.lock, 0);
+    for (unsigned i = 0; i < TURNS; i++) pthread_cond_init(&s->line.turns[i], &attributes);
     pthread_cond_init(&s->changed.announced, &attributes);
     pthread_cond_init(&s->queued.announced, &attributes);
     pthread_condattr_destroy(&attributes);
@@ -538,6 +574,8 @@ static void unmade(sgt_shared *s)
     sgt_close(&s->engine);
     pthread_cond_destroy(&s->queued.announced);
     pthread_cond_destroy(&s->changed.announced);
+    for (unsigned i = 0; i < TURNS; i++) pthread_cond_destroy(&s->line.turns[i]);
+    pthread_mutex_destroy(&s->line.lock);
     pthread_mutex_destroy(&s->lock);
     free(s->queue.at);
     free(s);
@@ -573,11 +611,21 @@ uint32_t sgt_shared_take(sgt_shared **shared, sgt_engine *engine, const sgt_shar
     return SGT_OK;
 }
 
+/* Whether another thread is in a call. */
+static bool is_used(sgt_shared *s)
+{
+    if (!try_lock(s)) return true;
+    const bool rests = atomic_load_explicit(&s->resting, memory_order_relaxed) > 0;
+    const bool waits = atomic_load_explicit(&s->waiting, memory_order_relaxed) > 0;
+    unlock(s);
+    return rests || waits;
+}
+
 uint32_t sgt_shared_close(sgt_shared **shared)
 {
     if (!shared || !*shared) return SGT_CLOSED;
     if (is_misuse(*shared)) return SGT_MISUSE;
-    if (atomic_load_explicit(&(*shared)->inside, memory_order_acquire) > 0) return SGT_BUSY;
+    if (is_used(*shared)) return SGT_BUSY;
     unmade(*shared);
     *shared = 0;
     return SGT_OK;
@@ -588,8 +636,8 @@ uint32_t sgt_shared_close(sgt_shared **shared)
 static bool is_call(struct call *call, uint64_t procedure, const int64_t *args, size_t count)
 {
     if (procedure > MOST_PROCEDURE || count > MOST_ARGS || (count > 0 && !args)) return false;
-    *call = (struct call){.procedure = (uint32_t)procedure, .count = (uint32_t)count};
-    if (count > 0) memcpy(call->args, args, count * sizeof *args);
+    call->procedure = (uint32_t)procedure, call->count = (uint32_t)count;
+    for (size_t i = 0; i < count; i++) call->args[i] = args[i];
     return true;
 }
 
@@ -627,7 +675,7 @@ static bool is_conflict(const sgt_reply *reply)
     return (reply->kind == SGT_ABORTED && reply->cause == SGT_BY_CYCLE) || (reply->kind == SGT_OVER && reply->cause == SGT_BY_FALL);
 }
 
-/* Runs it. If the engine is quiet it never waits, so that any thread may. */
+/* Runs it. */
 static uint32_t run(sgt_shared *s, const struct run *it, sgt_shared_outcome *out)
 {
     if (is_late(&it->until)) return SGT_TIMED_OUT;
@@ -643,140 +691,18 @@ static uint32_t run(sgt_shared *s, const struct run *it, sgt_shared_outcome *out
     }
 }
 
-/* Runs for others */
+/* Runs it beside others, so that it may fail after a reply. Then only `tries` and `waits` are written. */
+static uint32_t run_beside(sgt_shared *s, const struct run *it, sgt_shared_outcome *outcome)
+{
+    sgt_shared_outcome out = *outcome;
+    const uint32_t status = run(s, it, &out);
+    if (status == SGT_OK) *outcome = out;
+    outcome->tries = out.tries, outcome->waits = out.waits;
+    return status;
+}
 
-/* Whether no run would wait for anybody. */
+/* Whether nobody is live, so that a run never waits. */
 static bool is_quiet(const sgt_shared *s) { return s->lives == 0 && s->committing == 0 && s->cutters == 0; }
-
-/* Hands an outcome over to another thread: no more of it than is used, as each cache line costs. */
-static void hand_over(sgt_shared_outcome *to, const sgt_shared_outcome *from)
-{
-    const sgt_reply *reply = &from->reply;
-    const size_t used = offsetof(sgt_shared_outcome, reply.answer) + reply->answers * sizeof *reply->answer;
-    memcpy(to, from, reply->walked == 0 && reply->fallen == 0 ? used : sizeof *from);
-}
-
-/* Begins to fetch a seat from the processor that wrote it. */
-static void fetch(const struct seat *seat)
-{
-#if defined(__GNUC__)
-    __builtin_prefetch(seat, 1);
-#else
-    (void)seat;
-#endif
-}
-
-/* Carries out the run of a seat, if one is asked for there. */
-static bool serve_seat(sgt_shared *s, struct seat *seat)
-{
-    unsigned asked = ASKED;
-    if (atomic_load_explicit(&seat->state, memory_order_relaxed) != ASKED) return false;
-    if (!atomic_compare_exchange_strong_explicit(&seat->state, &asked, TAKEN, memory_order_acquire, memory_order_relaxed)) return false;
-    sgt_shared_outcome out = {0};
-    fetch(&s->seats[s->next]);
-    seat->run.status = run(s, &seat->run, &out);
-    seat->run.is_done = true;
-    hand_over(seat->run.out, &out);
-    if (s->config.cut_after) cut_if_due(s);
-    pass(s);
-    atomic_store_explicit(&seat->state, DONE, memory_order_release);
-    return true;
-}
-
-/*
- * Carries out what is asked for in the seats, in turn, from where the last hold stopped. A thread in a hook of another engine does not, and
- * does not sit either: what a hook of this engine may call would depend on which thread it is called on.
- */
-static void serve(sgt_shared *s)
-{
-    unsigned served = 0;
-    for (unsigned idle = 0; idle < s->chairs && served < MOST_SERVED && is_quiet(s) && !hooks; idle++) {
-        struct seat *seat = &s->seats[s->next];
-        s->next = (s->next + 1) % s->chairs;
-        if (serve_seat(s, seat)) served++, idle = 0;
-    }
-    const bool quiet = is_quiet(s);
-    if (atomic_load_explicit(&s->was_quiet, memory_order_relaxed) != quiet) {
-        atomic_store_explicit(&s->was_quiet, quiet, memory_order_relaxed);
-    }
-}
-
-/* Sits down with a run. The seat, or null if there is none, or if to sit is no use. */
-static struct seat *sit(sgt_shared *s, const struct run *run)
-{
-    static atomic_uint threads;
-    static _Thread_local unsigned number;
-    const unsigned inside = atomic_load_explicit(&s->inside, memory_order_relaxed);
-    if (inside > s->chairs + atomic_load_explicit(&s->resting, memory_order_relaxed)) return 0;
-    if (hooks || !atomic_load_explicit(&s->was_quiet, memory_order_relaxed)) return 0;
-    if (number == 0) number = 1 + atomic_fetch_add_explicit(&threads, 1, memory_order_relaxed);
-    for (unsigned i = 0; i < s->chairs; i++) {
-        struct seat *seat = &s->seats[(number + i) % s->chairs];
-        unsigned free = FREE;
-        if (!atomic_compare_exchange_strong_explicit(&seat->state, &free, OWNED, memory_order_acquire, memory_order_relaxed)) continue;
-        seat->run = *run;
-        atomic_store_explicit(&seat->state, ASKED, memory_order_release);
-        return seat;
-    }
-    return 0;
-}
-
-/* Leaves the processor to the thread that shares it, for a moment. */
-static void relax(void)
-{
-#if defined(__x86_64__) || defined(__i386__)
-    __builtin_ia32_pause();
-#elif defined(__aarch64__)
-    __asm__ volatile("yield");
-#endif
-}
-
-static bool has_run(struct seat *seat) { return atomic_load_explicit(&seat->state, memory_order_acquire) == DONE; }
-
-/* Whether the lock looks free. */
-static bool is_free(sgt_shared *s)
-{
-    return !atomic_load_explicit(&s->is_held, memory_order_relaxed) && !atomic_load_explicit(&s->is_owed, memory_order_relaxed);
-}
-
-/* Looks for a while whether the run of a seat is carried out, or the lock is free. Whether it has got the lock. */
-static bool look_out(sgt_shared *s, struct seat *seat)
-{
-    int64_t end = 0;
-    for (unsigned looks = 1; !has_run(seat); looks++) {
-        if (is_free(s) && try_lock(s)) return true;
-        if (looks % LOOKS == 0) {
-            const int64_t at = now();
-            if (end == 0) end = at + MOST_SPIN;
-            if (at >= end) return false;
-        }
-        relax();
-    }
-    return false;
-}
-
-/* Waits in a seat until the run is carried out, or takes it back, with the lock. Whether it has the lock. */
-static bool wait_in(sgt_shared *s, struct seat *seat, struct run *run)
-{
-    unsigned state = ASKED;
-    bool holds = look_out(s, seat);
-    const bool is_back = atomic_compare_exchange_strong(&seat->state, &state, FREE);
-    if (!holds && state != DONE) lock(s), holds = true;
-    if (is_back) return holds;
-    *run = seat->run; /* whoever took it has released the lock, or has told it */
-    atomic_store_explicit(&seat->state, FREE, memory_order_release);
-    return holds;
-}
-
-/* Waits until this thread has the lock, or another one has carried out its run. Whether it has the lock. */
-static bool take_turn(sgt_shared *s, struct run *run)
-{
-    if (is_free(s) && try_lock(s)) return true;
-    struct seat *seat = sit(s, run);
-    if (seat) return wait_in(s, seat, run);
-    lock(s);
-    return true;
-}
 
 uint32_t sgt_shared_run(sgt_shared *shared, uint64_t procedure, const int64_t *args, size_t count, const sgt_run_options *options,
                         sgt_shared_outcome *outcome)
@@ -784,20 +710,13 @@ uint32_t sgt_shared_run(sgt_shared *shared, uint64_t procedure, const int64_t *a
     static const sgt_run_options plain = SGT_RUN_OPTIONS;
     if (!options) options = &plain;
     if (!outcome || outcome->size < sizeof *outcome || options->size < sizeof *options) return SGT_BAD_CALL;
-    sgt_shared_outcome out = {0};
-    struct run it = {.out = &out, .tries = options->tries, .until = deadline_in(options->wait_ns)};
+    struct run it;
+    it.tries = options->tries, it.until = deadline_in(options->wait_ns);
     outcome->tries = outcome->waits = 0;
     if (!is_call(&it.call, procedure, args, count)) return SGT_BAD_CALL;
-    uint32_t status = come_in(shared);
+    uint32_t status = enter(shared);
     if (status != SGT_OK) return status;
-    const bool holds = take_turn(shared, &it);
-    status = it.is_done ? it.status : run(shared, &it, &out);
-    if (holds) leave(shared, status);
-    else go_out(shared);
-    out.size = outcome->size;
-    if (status == SGT_OK) *outcome = out;
-    outcome->tries = out.tries, outcome->waits = out.waits;
-    return status;
+    return leave(shared, is_quiet(shared) ? run(shared, &it, outcome) : run_beside(shared, &it, outcome));
 }
 
 /* Steps */

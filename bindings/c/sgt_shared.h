@@ -74,8 +74,7 @@ typedef struct sgt_live {
 /*
  * The configuration of a shared engine. Begin with SGT_SHARED_CONFIG, which asks for nothing, and set the fields that you need.
  *
- * The hooks are called under the lock, so nothing else happens meanwhile, on whichever thread holds it: it may be another one than the
- * thread whose call it is. A call from a hook to the same engine is SGT_MISUSE.
+ * The hooks are called under the lock, so nothing else happens meanwhile. A call from a hook to the same engine is SGT_MISUSE.
  */
 typedef struct sgt_shared_config {
     size_t size;        /* sizeof(sgt_shared_config) */
@@ -154,10 +153,7 @@ uint32_t sgt_shared_close(sgt_shared **shared);
 /*
  * Runs a procedure from its start to its commit. `options` may be null.
  *
- * If nobody else is live it takes one hold of the lock. If another thread has the lock just then, that thread may carry it out before it
- * returns from its own call; it does so for no more than 64 calls of others.
- *
- * Otherwise it waits as often as it has to: at SGT_FULL and at SGT_WAITS for the end of another transaction. After a cycle or a cascading
+ * If nobody else is live it takes one hold of the lock. Otherwise it waits as often as it has to: at SGT_FULL and at SGT_WAITS for the end of another transaction. After a cycle or a cascading
  * abort it tries again. The reply is the last one: SGT_COMMITTED, SGT_REFUSED, SGT_ABORTED with SGT_BY_CODE, or that to a start that is
  * refused for good (SGT_NO_PROCEDURE, SGT_BAD_ARGS, SGT_SPENT). If the tries are used up, it is the SGT_ABORTED or SGT_OVER of the last
  * one; if another thread quit it, SGT_OVER with SGT_BY_QUIT.

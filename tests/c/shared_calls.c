@@ -572,7 +572,7 @@ static void pay_all(struct payers *it)
     CHECK(sgt_shared_get(it->shared, 2, 101, &value) == SGT_OK && value == 1000 + 100 * (int64_t)it->paid);
 }
 
-/* Is told of each payment once, in their order, and calls both engines, on whichever thread it is called. */
+/* Is told of each payment once, in their order, and calls both engines. */
 static void hears_payers(void *context, const sgt_ended *call)
 {
     struct payers *it = context;

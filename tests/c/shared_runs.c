@@ -12,10 +12,7 @@
  *     rows       the committed database at the end
  *
  * In all, CALLS calls are made by the threads. Of 100 transactions STEPPED are made step by step, 99 at most, and the others by one call.
- * It prints how many runs timed out, were tried again and so on, as `name count` lines. `for others` are those that another thread
- * carried out.
- *
- * With -DPROCESSORS=N and -Wl,--wrap=sysconf the library takes this machine for one with so many processors.
+ * It prints how many runs timed out, were tried again and so on, as `name count` lines.
  */
 #include <inttypes.h>
 #include <pthread.h>
@@ -26,12 +23,10 @@
 #include <stdlib.h>
 #include <string.h>
 #include <time.h>
-#include <unistd.h>
 
 #include "sgt_shared.h"
 
-/* A run hears of its own and of 64 of others. */
-enum { MOST_THREADS = 64, ACCOUNTS = 5, TEXT = 1024, ROWS = 64, HEARD = 65 };
+enum { MOST_THREADS = 64, ACCOUNTS = 5, TEXT = 1024, ROWS = 64 };
 
 static const char opening[] = "{\"limits\":[8,4000000000,1],\"accounts\":[[0,100,100000,100000],[1,101,100000,100000],"
                               "[2,102,100000,100000],[3,103,100000,100000],[4,104,100000,100000]],\"procedures\":[]}";
@@ -45,9 +40,9 @@ static unsigned stepped;
 static atomic_bool over;
 static FILE *history, *ended, *drained;
 
-enum count { RUNS, FOR_OTHERS, AGAIN, WAITED, STEPPED, COMMITTED, TIMED_OUT, QUIT, STALE, ABANDONED, CUTS, LISTED, COUNTS };
-static const char *const names[] = {"runs",      "for others", "tried again", "waited",    "stepped", "committed",
-                                    "timed out", "quit",       "stale",       "abandoned", "cuts",    "listed"};
+enum count { RUNS, AGAIN, WAITED, STEPPED, COMMITTED, TIMED_OUT, QUIT, STALE, ABANDONED, CUTS, LISTED, COUNTS };
+static const char *const names[] = {"runs",      "tried again", "waited", "stepped",   "committed", "timed out",
+                                    "quit",      "stale",       "abandoned", "cuts",   "listed"};
 static atomic_long counts[COUNTS];
 
 static void count(enum count which) { atomic_fetch_add(&counts[which], 1); }
@@ -95,10 +90,6 @@ static void write_ended(FILE *to, const sgt_ended *told)
     else fprintf(to, "\tcommitted %" PRId64 "\n", call->answer[0]);
 }
 
-/* The transactions of which the hook was told on this thread, since it began its last run. */
-static _Thread_local sgt_ticket heard[HEARD];
-static _Thread_local unsigned many_heard;
-
 static int64_t now(void)
 {
     struct timespec at;
@@ -111,26 +102,13 @@ static void dawdle(int64_t ns)
     for (const int64_t end = now() + ns; now() < end;) {}
 }
 
-/*
- * It dawdles now and then: for a while, so that runs of others gather that are carried out in one hold; or for longer than they spin, so
- * that their threads give up while one of them is being carried out.
- */
+/* It dawdles now and then: for a while, or for longer than a thread that wants the lock looks for it before it sleeps. */
 static void tell_ended(void *context, const sgt_ended *call)
 {
     (void)context;
     if (call->sequence % 8 == 0) dawdle(20000);
     if (call->sequence % 64 == 1) dawdle(120000);
     write_ended(ended, call);
-    if (many_heard < HEARD) heard[many_heard] = call->ticket;
-    many_heard++;
-}
-
-static bool is_heard(const sgt_ticket *ticket)
-{
-    for (unsigned i = 0; i < many_heard && i < HEARD; i++) {
-        if (memcmp(&heard[i], ticket, sizeof *ticket) == 0) return true;
-    }
-    return false;
 }
 
 static void write_entries(void *context, sgt_engine *engine, uint64_t part)
@@ -170,7 +148,7 @@ static void log_reply(struct thread *it, const sgt_ticket *ticket, const char *a
     write_reply(it->log, reply);
 }
 
-/* A deadline: none in most cases, else some microseconds, about as long as a thread spins or longer. */
+/* A deadline: none in most cases, else some microseconds, about as long as a thread waits for the lock, or longer. */
 static int64_t drawn_wait(struct thread *it)
 {
     if (draw(it, 3) > 0) return SGT_FOREVER;
@@ -193,9 +171,7 @@ static void run_one(struct thread *it)
     sgt_run_options options = SGT_RUN_OPTIONS;
     options.wait_ns = drawn_wait(it);
     options.tries = (uint32_t)draw(it, 4);
-    many_heard = 0;
     uint32_t status = sgt_shared_run(shared, procedure, args, takes[procedure], &options, &outcome);
-    must(many_heard <= HEARD, "a run carries out too many of others");
     count(RUNS);
     if (outcome.tries > 1) count(AGAIN);
     if (outcome.waits > 0) count(WAITED);
@@ -205,7 +181,6 @@ static void run_one(struct thread *it)
         return;
     }
     if (outcome.reply.kind == SGT_COMMITTED) count(COMMITTED);
-    if (outcome.reply.kind == SGT_COMMITTED && !is_heard(&outcome.ticket)) count(FOR_OTHERS);
     log_reply(it, &outcome.ticket, "run", &outcome.reply);
 }
 
@@ -326,12 +301,6 @@ static void write_rows(void)
     }
     fclose(to);
 }
-
-#ifdef PROCESSORS
-long __real_sysconf(int name);
-long __wrap_sysconf(int name);
-long __wrap_sysconf(int name) { return name == _SC_NPROCESSORS_ONLN ? PROCESSORS : __real_sysconf(name); }
-#endif
 
 int main(int argc, char **argv)
 {
