@@ -687,14 +687,13 @@ def takes_the_workers(sgt):
 
 
 def takes_the_tries(sgt):
-    """Each job reads a record many times and then writes it, so two that overlap close a cycle."""
-    jobs = 400
+    """Each job reads a record many times and then writes it, so two that overlap close a cycle. On a busy machine it takes more jobs."""
     look = ",".join(['["look",0,1,101,5]'] * 60)
     procedure = f'[0,[{look},["put",1,101,["sum",["reg",0],1]],["answer",["reg",0]]]]'
     opening = f'{{"limits":[16,4000000],"accounts":[[1,101,0,0]],"procedures":[{procedure}]}}\n'
     for tries in (1, 3):
-        for _ in range(30):
-            given = opening + '["job",5,[]]\n' * jobs
+        for draw in range(30):
+            given = opening + '["job",5,[]]\n' * (400 << draw // 5)
             status, out, err = sgt.run("bank", "--workers", "16", "--tries", str(tries), given=given)
             same("status", (0, ""), (status, err))
             gave = set(re.findall(r"^[0-9]+ gave ([0-9]+)$", out, re.M))
