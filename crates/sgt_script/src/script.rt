@@ -34,6 +34,9 @@ use sgt_smallbank::replay_is_bank;
 use sgt_textbook::{legal_are_commit_ordered, legal_are_recoverable, legal_are_serializable};
 use std::alloc::Global;
 
+/// For how many bytes of answers memory is allocated at once: more than the lines of one read mostly get.
+const GATHERED: usize = 262_144;
+
 /// What the next line requests, if there is one. An event is put into `event`.
 #[inline(always)]
 fn next_script_line<S: Source>(
@@ -312,6 +315,9 @@ fn answer_lines<S: Source, T: Sink, X: Observer>(
 {
     let mut scratch = Scratch::new(alloc);
     let mut gathered = Vec::new(alloc);
+    if gathered.reserve(GATHERED).is_err() {
+        return Err(stop(sink, &mut gathered, Fault::NoMemory));
+    }
     let mut event = Event::Step(Tid(0));
     loop {
         flush_before_read(lines, sink, &mut gathered)?;
