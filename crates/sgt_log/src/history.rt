@@ -171,15 +171,15 @@ impl History {
 
     /// Adds an entry, for which there is capacity: the event, and the reply with these lists. It allocates nothing.
     #[inline(always)]
-    pub fn push(&mut self, event: &Event, reply: ShortReply, lists: &ReplyLists)
+    pub fn push(&mut self, event: &Event, reply: &ShortReply, lists: &ReplyLists)
         requires { 0 < self.old.room }
         ensures entries { self.new.entries
-            ≡ self.old.entries ++ record { event = event.now; reply = reply_with reply lists.now } ∷ [] }
+            ≡ self.old.entries ++ record { event = event.now; reply = reply_with reply.now lists.now } ∷ [] }
         ensures room { self.new.room + 1 ≡ self.old.room }
         ensures capacities { self.new.capacities ≡ self.old.capacities }
     {
         // The frequent kinds are written straight to their position.
-        match (event, &reply) {
+        match (event, reply) {
             (
                 Event::Step(t),
                 ShortReply::Looked {
@@ -219,10 +219,10 @@ impl History {
 
     // Adds an entry of any kind.
     #[inline(never)]
-    fn push_any(&mut self, event: &Event, reply: ShortReply, lists: &ReplyLists)
+    fn push_any(&mut self, event: &Event, reply: &ShortReply, lists: &ReplyLists)
         requires { 0 < self.old.room }
         ensures entries { self.new.entries
-            ≡ self.old.entries ++ record { event = event.now; reply = reply_with reply lists.now } ∷ [] }
+            ≡ self.old.entries ++ record { event = event.now; reply = reply_with reply.now lists.now } ∷ [] }
         ensures room { self.new.room + 1 ≡ self.old.room }
         ensures capacities { self.new.capacities ≡ self.old.capacities }
     {
@@ -233,7 +233,7 @@ impl History {
             walk: lists.walk.as_slice(),
             fell: lists.fell.as_slice(),
         };
-        self.push_parts(BareEvent::of(event), &reply, &lists);
+        self.push_parts(BareEvent::of(event), reply, &lists);
     }
 
     // Adds an entry in parts, of any kind.
