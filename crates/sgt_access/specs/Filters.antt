@@ -1,5 +1,5 @@
 -- Accesses in any order that represent a list, and the filter in front of them: a spot for each hash of a key.
-use Rattle.std.specs.Prelude.{◌≡◌, ℕ, ◌+◌, ◌*◌, ◌%◌, ◌<◌, ◌≤◌, ◌⊎◌, Bool, false, not, ◌&&◌, cond, nat_eq, count_by, unsigned_abs, List, length, slice_index_or}
+use Rattle.std.specs.Prelude.{◌≡◌, ℕ, ◌+◌, ◌*◌, ◌/◌, ◌%◌, ◌^◌, ◌<◌, ◌≤◌, ◌⊎◌, Bool, false, not, ◌&&◌, cond, nat_eq, count_by, unsigned_abs, List, length, slice_index_or}
 use Rattle.sgt_model.specs.Contents.{Key}
 use Rattle.sgt_model.specs.AccessList.{ListedAccess}
 use Rattle.sgt_access.specs.declared.spot.Spot.{Spot}
@@ -14,7 +14,7 @@ IsOneLess access accesses rest = (p : ListedAccess → Bool) → count_by p rest
 
 -- the index of a key's spot
 abbrev pub spot_at : Key → ℕ
-spot_at key = (unsigned_abs key.1 % 1021 + key.0 * 128) % 1024
+spot_at key = ((unsigned_abs key.1 * 8 + key.0) * 15485907386658061715) % 2 ^ 64 / 2 ^ 54
 
 -- an access is of this spot, and of a transaction other than u
 abbrev pub is_at : ℕ → ListedAccess → Bool

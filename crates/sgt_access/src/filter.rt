@@ -11,8 +11,8 @@ use sgt_model::{Key, Tid};
 /// How many spots there are.
 const SPOTS: usize = 1024;
 
-/// The numbers of a table have so many hashes, a prime.
-const HASHES: u64 = 1021;
+/// The factor of the hash (Knuth 1973, section 6.4): the leading bits of a product with it depend on all bits of a number.
+const FACTOR: u64 = 0xD6E8_FEB8_6659_FD93;
 
 /// A spot for each hash of a key, with what is known of the accesses of such keys. Most are empty, so most keys turn out to
 /// have no access of another transaction, at once.
@@ -47,7 +47,9 @@ impl Filter {
             → Covers self.new.spots (accesses ++ access ∷ []) }
     {
         let index = spot_of(access.key);
-        self.spots[index] = self.spots[index].raised(access.by);
+        let mut spot = self.spots[index];
+        spot.raise(access.by);
+        self.spots[index] = spot;
     }
 
     /// Removes an access.
@@ -57,7 +59,9 @@ impl Filter {
             → Covers self.new.spots rest }
     {
         let index = spot_of(access.key);
-        self.spots[index] = self.spots[index].lowered();
+        let mut spot = self.spots[index];
+        spot.lower();
+        self.spots[index] = spot;
     }
 }
 
@@ -67,5 +71,6 @@ fn spot_of(key: Key) -> usize
     ensures index { result ≡ spot_at key }
     ensures within { result < 1024 }
 {
-    ((key.id().unsigned_abs() % HASHES) as usize + usize::from(key.table()) * 128) % SPOTS
+    let number = key.id().unsigned_abs() * 8 + u64::from(key.table());
+    (number.wrapping_mul(FACTOR) >> 54) as usize
 }

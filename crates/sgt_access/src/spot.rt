@@ -30,40 +30,31 @@ impl Spot {
         self.count != 0 && (self.is_shared || self.by != t)
     }
 
-    /// With one more, of t.
+    /// Adds one more, of t.
     #[inline(always)]
-    pub fn raised(self, t: Tid) -> Spot
-        ensures first { self.count ≡ 0 → result ≡ record { count = 1; by = t; is_shared = false } }
-        ensures next { self.count ≢ 0 → result
-            ≡ record { count = min (self.count + 1) 4294967295; by = self.by; is_shared = self.is_shared || not (nat_eq self.by t) } }
+    pub fn raise(&mut self, t: Tid)
+        ensures first { self.old.count ≡ 0 → self.new ≡ record { count = 1; by = t; is_shared = false } }
+        ensures next { self.old.count ≢ 0 → self.new
+            ≡ record { count = min (self.old.count + 1) 4294967295; by = self.old.by; is_shared = self.old.is_shared || not (nat_eq self.old.by t) } }
     {
         if self.count == 0 {
-            return Spot {
-                count: 1,
-                by: t,
-                is_shared: false,
-            };
+            self.count = 1;
+            self.by = t;
+            self.is_shared = false;
+            return;
         }
-        Spot {
-            count: self.count.saturating_add(1),
-            by: self.by,
-            is_shared: self.is_shared || self.by != t,
-        }
+        self.count = self.count.saturating_add(1);
+        self.is_shared = self.is_shared || self.by != t;
     }
 
-    /// With one less.
+    /// Removes one.
     #[inline(always)]
-    pub fn lowered(self) -> Spot
-        ensures { result
-            ≡ record { count = cond (nat_eq self.count 4294967295) self.count (self.count - 1); by = self.by; is_shared = self.is_shared } }
+    pub fn lower(&mut self)
+        ensures { self.new
+            ≡ record { count = cond (nat_eq self.old.count 4294967295) self.old.count (self.old.count - 1); by = self.old.by; is_shared = self.old.is_shared } }
     {
-        if self.count == u32::MAX {
-            return self;
-        }
-        Spot {
-            count: self.count.saturating_sub(1),
-            by: self.by,
-            is_shared: self.is_shared,
+        if self.count != u32::MAX {
+            self.count = self.count.saturating_sub(1);
         }
     }
 }

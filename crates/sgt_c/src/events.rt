@@ -16,7 +16,7 @@ use crate::handle::Handle;
 use crate::held::Held;
 use crate::reply_struct::{SgtReply, write_reply};
 use crate::status;
-use sgt_model::{Event, NoMemory, Tid};
+use sgt_model::{Event, NoMemory, ShortReply, Tid};
 use std::alloc::Global;
 
 /// Starts a transaction of the procedure with this number and these arguments.
@@ -144,9 +144,10 @@ fn answer(held: &mut Held, event: Event, reply: &mut SgtReply) -> Result<(), NoM
         → IsOk result }
     ensures quits { (t : ℕ) → event ≡ Quit t → live held.old.engine.past t ≡ true → IsOk result }
 {
-    match &held.engine.answer(&event) {
-        Ok(short) => {
-            write_reply(reply, short, held.engine.reply_lists());
+    let mut short = ShortReply::Unknown;
+    match held.engine.answer(&event, &mut short) {
+        Ok(()) => {
+            write_reply(reply, &short, held.engine.reply_lists());
             Ok(())
         }
         Err(NoMemory) => Err(NoMemory),

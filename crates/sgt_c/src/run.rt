@@ -113,7 +113,9 @@ pub fn run(engine: &mut SgtEngine, procedure: u16, args: Args) -> Result<Outcome
     ensures gave_up { OnErr result
         ((started : Option ℕ) × GivesUp (Start procedure args) started engine.old engine.new) }
 {
-    match engine.answer(&Event::Start { procedure, args })? {
+    let mut reply = ShortReply::Unknown;
+    engine.answer(&Event::Start { procedure, args }, &mut reply)?;
+    match reply {
         ShortReply::Started(t) => match run_on(engine, t) {
             Ok(Steps { wrote, last }) => Ok(Outcome {
                 started: Some(t),
@@ -143,7 +145,8 @@ fn run_on(engine: &mut SgtEngine, t: Tid) -> Result<Steps, NoMemory>
     if !is_end(&steps.last) {
         return Ok(steps);
     }
-    let last = engine.answer(&Event::Commit(t))?;
+    let mut last = ShortReply::Unknown;
+    engine.answer(&Event::Commit(t), &mut last)?;
     Ok(Steps {
         wrote: steps.wrote,
         last,
@@ -159,8 +162,9 @@ fn step_on(engine: &mut SgtEngine, t: Tid) -> Result<Steps, NoMemory>
 {
     let step = Event::Step(t);
     let mut wrote = false;
+    let mut last = ShortReply::Unknown;
     for _ in 0..u64::MAX {
-        let last = engine.answer(&step)?;
+        engine.answer(&step, &mut last)?;
         if !is_access(&last) {
             return Ok(Steps { wrote, last });
         }
@@ -175,8 +179,9 @@ fn quit(engine: &mut SgtEngine, t: Tid)
     requires { live engine.old.past t ≡ true }
     ensures { (r : Reply) × (engine.new ≡ with_entry (Quit t) r engine.old) }
 {
-    match engine.answer(&Event::Quit(t)) {
-        Ok(_) => (),
+    let mut reply = ShortReply::Unknown;
+    match engine.answer(&Event::Quit(t), &mut reply) {
+        Ok(()) => (),
         Err(NoMemory) => unreachable!(),
     }
 }

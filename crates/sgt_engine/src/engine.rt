@@ -25,7 +25,7 @@ mod put;
 
 use crate::changes::changes;
 use crate::past::Past;
-use crate::room::{file, make_room};
+use crate::room::make_room;
 pub use cut::CutError;
 pub use procedures::AddError;
 pub use put::PutError;
@@ -158,13 +158,15 @@ impl<R: Records, A: Accesses, G: Graph> Engine<R, A, G> {
             → IsOk result }
         ensures quits { (t : ℕ) → event ≡ Quit t → live self.old.past t ≡ true → IsOk result }
     {
-        let reply = self.answer(&event)?;
+        let mut reply = ShortReply::Unknown;
+        self.answer(&event, &mut reply)?;
         Ok(reply.with_lists(self.reply_lists()))
     }
 
-    /// The same, with the reply in short: [`Engine::reply_lists`] lends its lists until the next event.
-    pub fn answer(&mut self, event: &Event) -> Result<ShortReply, NoMemory>
-        ensures adds { IfOk result (λ r. Answers event.now self.old r self.new) }
+    /// The same, with the reply in short, which is written to its place: [`Engine::reply_lists`] lends its lists until the next
+    /// event.
+    pub fn answer(&mut self, event: &Event, reply: &mut ShortReply) -> Result<(), NoMemory>
+        ensures adds { OnOk result (Answers event.now self.old reply.new self.new) }
         ensures legal { Legal (setting_of self.new) self.new.past }
         ensures replay { ReplayAgrees (setting_of self.new) self.new.past }
         ensures no_cycle { Acyclic (Pair self.new.past) }
@@ -185,8 +187,9 @@ impl<R: Records, A: Accesses, G: Graph> Engine<R, A, G> {
         headline_holds();
 
         make_room(&mut self.history, &self.sched, event)?;
-        let reply = self.sched.answer(event, &mut self.lists)?;
-        Ok(file(&mut self.history, event, reply, &self.lists))
+        self.sched.answer(event, &mut self.lists, reply)?;
+        self.history.push(event, reply, &self.lists);
+        Ok(())
     }
 
     /// The lists of the reply to the newest event, if there was one. A list that the reply does not have may hold anything.

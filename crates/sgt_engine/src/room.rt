@@ -1,14 +1,13 @@
-//! Capacity in the history for an event and for the ends of the live transactions, and the entry that uses it.
-ghost use Rattle.std.specs.Prelude.{◌≡◌, ◌+◌, ◌<◌, ◌≤◌, [], ◌∷◌, ◌++◌, length, OnOk};
+//! Capacity in the history for an event and for the ends of the live transactions.
+ghost use Rattle.std.specs.Prelude.{◌≡◌, ◌+◌, ◌≤◌, length, OnOk};
 ghost use Rattle.std.specs.Result.{IsOk};
-ghost use Rattle.sgt_model.specs.ShortReplies.{reply_with};
 ghost use Rattle.sgt_sched.specs.Endings.{EndsOne};
 ghost use Rattle.sgt_sched.specs.Scheduler.{state, asks_of};
 
 use sgt_access::Accesses;
 use sgt_graph::Graph;
 use sgt_log::History;
-use sgt_model::{Event, NoMemory, ReplyLists, ShortReply};
+use sgt_model::{Event, NoMemory};
 use sgt_records::Records;
 use sgt_sched::Sched;
 
@@ -57,24 +56,4 @@ fn add_room<R: Records, A: Accesses, G: Graph>(
         history.reserve(needed)?;
     }
     Ok(())
-}
-
-/// Adds an entry, for which there is capacity, and returns its reply. It allocates nothing.
-#[inline(always)]
-pub fn file(
-    history: &mut History,
-    event: &Event,
-    reply: ShortReply,
-    lists: &ReplyLists,
-) -> ShortReply
-    requires { 0 < history.old.room }
-    ensures reply { result ≡ reply }
-    ensures entries { history.new.entries
-        ≡ history.old.entries ++ record { event = event.now; reply = reply_with reply lists.now } ∷ [] }
-    ensures room { history.new.room + 1 ≡ history.old.room }
-    ensures capacities { history.new.capacities ≡ history.old.capacities }
-{
-    let filed = reply;
-    history.push(event, filed, lists);
-    reply
 }

@@ -31,6 +31,10 @@ const MOST_VALUES: usize = 12;
 /// How many entries of capacity an allocation adds beyond those that were requested, so that allocations are rare.
 const AHEAD: usize = 64;
 
+/// The fewest items that a list gets its first memory for. Lists of 128 KB and more grow without being copied, where the
+/// allocator moves whole pages; memory that is not used takes no pages.
+const FIRST: usize = 16_384;
+
 /// The most entries of capacity that can be counted, in the list that takes the most for each.
 const MOST_ROOM: usize = usize::MAX / MOST_TIDS - AHEAD;
 
@@ -167,15 +171,15 @@ impl History {
 
     /// Adds an entry, for which there is capacity: the event, and the reply with these lists. It allocates nothing.
     #[inline(always)]
-    pub fn push(&mut self, event: &Event, reply: ShortReply, lists: &ReplyLists)
+    pub fn push(&mut self, event: &Event, reply: &ShortReply, lists: &ReplyLists)
         requires { 0 < self.old.room }
         ensures entries { self.new.entries
-            ≡ self.old.entries ++ record { event = event.now; reply = reply_with reply lists.now } ∷ [] }
+            ≡ self.old.entries ++ record { event = event.now; reply = reply_with reply.now lists.now } ∷ [] }
         ensures room { self.new.room + 1 ≡ self.old.room }
         ensures capacities { self.new.capacities ≡ self.old.capacities }
     {
         // The frequent kinds are written straight to their position.
-        match (event, &reply) {
+        match (event, reply) {
             (
                 Event::Step(t),
                 ShortReply::Looked {
@@ -215,10 +219,10 @@ impl History {
 
     // Adds an entry of any kind.
     #[inline(never)]
-    fn push_any(&mut self, event: &Event, reply: ShortReply, lists: &ReplyLists)
+    fn push_any(&mut self, event: &Event, reply: &ShortReply, lists: &ReplyLists)
         requires { 0 < self.old.room }
         ensures entries { self.new.entries
-            ≡ self.old.entries ++ record { event = event.now; reply = reply_with reply lists.now } ∷ [] }
+            ≡ self.old.entries ++ record { event = event.now; reply = reply_with reply.now lists.now } ∷ [] }
         ensures room { self.new.room + 1 ≡ self.old.room }
         ensures capacities { self.new.capacities ≡ self.old.capacities }
     {
@@ -229,7 +233,7 @@ impl History {
             walk: lists.walk.as_slice(),
             fell: lists.fell.as_slice(),
         };
-        self.push_parts(BareEvent::of(event), &reply, &lists);
+        self.push_parts(BareEvent::of(event), reply, &lists);
     }
 
     // Adds an entry in parts, of any kind.
@@ -504,8 +508,19 @@ fn reserve_lists(
         × (vec_len tids.new + room * 64 ≤ vec_capacity tids.new)
         × (vec_len values.new + room * 12 ≤ vec_capacity values.new)) }
 {
-    entries.reserve(room)?;
-    tids.reserve(room * MOST_TIDS)?;
-    values.reserve(room * MOST_VALUES)?;
+    reserve_items(entries, room)?;
+    reserve_items(tids, room * MOST_TIDS)?;
+    reserve_items(values, room * MOST_VALUES)?;
+    Ok(())
+}
+
+// Provides capacity in a list for so many more items. Its items stay, and it loses no capacity.
+fn reserve_items<T: Copy>(list: &mut Vec<T>, count: usize) -> Result<(), NoMemory>
+    ensures items { (list.new.items ≡ list.old.items) × (vec_len list.new ≡ vec_len list.old) }
+    ensures no_less { vec_capacity list.old ≤ vec_capacity list.new }
+    ensures enough { OnOk result (vec_len list.new + count ≤ vec_capacity list.new) }
+{
+    let least = if list.is_empty() { FIRST } else { 0 };
+    list.reserve(count.max(least))?;
     Ok(())
 }

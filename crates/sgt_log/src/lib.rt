@@ -11,7 +11,7 @@
 //! let mut history = History::new(alloc);
 //! history.reserve(1)?;
 //! let lists = ReplyLists::new();
-//! history.push(&Event::Step(Tid(0)), ShortReply::Wrote { key, value: 50 }, &lists);   // allocates nothing
+//! history.push(&Event::Step(Tid(0)), &ShortReply::Wrote { key, value: 50 }, &lists);   // allocates nothing
 //! for place in 0..history.len() {
 //!     let entry = history.entry(place);
 //!     if entry.is_commit() {

@@ -83,6 +83,30 @@ if_step b m m' s c ys ns held inside is here few choice args registers answers p
   whole_size : size (to_come m.path.items m.at b) ≡ 1 + (size (block_of ys.items) + size (block_of ns.items)) + size R
   whole_size = ap (λ x. size (followed_by x (outer m.path.items b))) here_is
 
+-- past an If whose branch is empty
+
+pub if_passed : (b : Block) (m m' : Place) (s : Statement) (c : Cond) (ys ns : Vec Statement Global) (held : Bool) → IsIn b m → s ≡ If c ys ns
+    → behind m.at (inner m.path.items b) ≡ in_front s (behind (m.at + 1) (inner m.path.items b)) → m.at < 64
+    → truth_of (cond_text c) m.args m.registers ≡ holds held → cond held (block_of ys.items) (block_of ns.items) ≡ empty → m'.args ≡ m.args
+    → m'.registers ≡ m.registers → m'.answers ≡ m.answers → m'.path.items ≡ m.path.items → m'.at ≡ m.at + 1 → Passes b m m'
+if_passed b m m' s c ys ns held inside is here few choice none args registers answers path at = record {
+  same = rw (args, registers, answers, at, path)
+      (ap (λ x. reach (followed_by x R) m.args m.registers m.answers) (sym none)
+      ∙ reach_branch held (cond_text c) (block_of ys.items) (block_of ns.items) R m.args m.registers m.answers choice
+      ∙ sym (ap (λ x. reach (followed_by x (outer m.path.items b)) m.args m.registers m.answers) here_is));
+  inside = record { path = rw path inside.path; few = rw at (omega (arith, few)) };
+  nearer = rw (at, path) (omega (arith, whole_size));
+} where
+  R : Block
+  R = to_come m.path.items (m.at + 1) b
+
+  here_is : behind m.at (inner m.path.items b) ≡ choose (cond_text c) (block_of ys.items) (block_of ns.items)
+      (behind (m.at + 1) (inner m.path.items b))
+  here_is = here ∙ (ap (λ x. in_front x (behind (m.at + 1) (inner m.path.items b))) is ∙ before_if c ys ns _)
+
+  whole_size : size (to_come m.path.items m.at b) ≡ 1 + (size (block_of ys.items) + size (block_of ns.items)) + size R
+  whole_size = ap (λ x. size (followed_by x (outer m.path.items b))) here_is
+
 -- out of a branch
 
 module _ (list : List Statement) (b : Block) (m : Place) (is_list : block_of list ≡ inner m.path.items b) (ended : length list ≤ m.at) where

@@ -1,7 +1,7 @@
 //! A position in a procedure, with the registers and answers there.
-ghost use Rattle.std.specs.Prelude.{◌≡◌, ◌≤◌, ◌<◌, [], Ok};
+ghost use Rattle.std.specs.Prelude.{◌≡◌, ◌≤◌, ◌<◌, [], Ok, cond, IsTrue};
 ghost use Rattle.arrayvec.specs.ArrayVec.{array_vec_len};
-ghost use Rattle.sgt_model.specs.Syntax.{Block};
+ghost use Rattle.sgt_model.specs.Syntax.{Block, empty};
 ghost use Rattle.sgt_model.specs.ProcedureTexts.{expr_text, in_front, block_of};
 ghost use Rattle.sgt_model.specs.Meaning.{fresh, value_of};
 ghost use Rattle.sgt_model.specs.Executions.{and_then, in_turn, key_of};
@@ -180,8 +180,16 @@ impl Place {
                 Err(code) => stop.stand(Stop::Asks(code)),
             },
             Statement::Ask { code } => stop.stand(Stop::Asks(*code)),
-            Statement::If { cond, .. } => match test(cond, self.args.as_slice(), &self.registers) {
+            Statement::If { cond, yes, no } => match test(
+                cond,
+                self.args.as_slice(),
+                &self.registers,
+            ) {
                 Ok(held) => {
+                    if is_branch_empty(held, yes, no) {
+                        self.at += 1;
+                        return Went::On;
+                    }
                     self.path.push(Turn { at: self.at, held });
                     self.at = 0;
                     Went::Inside
@@ -240,6 +248,14 @@ impl Place {
     {
         value(expr, self.args.as_slice(), &self.registers)
     }
+}
+
+/// Whether the branch that an If takes has no statements.
+#[inline(always)]
+fn is_branch_empty(held: bool, yes: &[Statement], no: &[Statement]) -> bool
+    ensures { IsTrue result → cond held (block_of yes.now) (block_of no.now) ≡ empty }
+{
+    if held { yes.is_empty() } else { no.is_empty() }
 }
 
 /// The innermost list of a path; empty if the path does not follow Ifs.

@@ -12,7 +12,7 @@ ghost use Rattle.sgt_model.specs.State.{State};
 ghost use Rattle.sgt_model.specs.Walks.{AtMost, Rising};
 ghost use Rattle.sgt_proc.specs.Nexts.{PutsValue};
 ghost use Rattle.sgt_model.specs.ShortReplies.{reply_with};
-ghost use Rattle.sgt_sched.specs.Replies.{WithLists};
+ghost use Rattle.sgt_sched.specs.Replies.{WithLists, with_reply};
 ghost use Rattle.sgt_model.specs.Questions.{is_ending};
 ghost use Rattle.sgt_sched.specs.Endings.{EndsOne};
 ghost use Rattle.sgt_sched.specs.LiveList.{has_number};
@@ -98,20 +98,31 @@ impl<R: Records, A: Accesses, G: Graph> Sched<R, A, G> {
         })
     }
 
-    /// Makes the call of an event: starts, steps, commits or quits. It returns the reply without its lists, and writes those that
-    /// the reply has to `lists`.
+    /// Makes the call of an event: starts, steps, commits or quits. It writes the reply without its lists to `reply`, and those
+    /// that the reply has to `lists`.
     ///
     /// `NoMemory` if an allocation failed; then nothing has changed. An event that ends a live transaction allocates nothing.
-    pub fn answer(&mut self, event: &Event, lists: &mut ReplyLists) -> Result<ShortReply, NoMemory>
-        ensures done { Tries (WithLists (CallEffect (rules_of self.old) event.now) lists.new) self.old result self.new }
+    pub fn answer(
+        &mut self,
+        event: &Event,
+        lists: &mut ReplyLists,
+        reply: &mut ShortReply,
+    ) -> Result<(), NoMemory>
+        ensures done { Tries (WithLists (CallEffect (rules_of self.old) event.now) lists.new) self.old (with_reply result reply.new) self.new }
         ensures lists { OnErr result (lists.new ≡ lists.old) }
         ensures no_memory { EndsOne (asks_of self.old) event.now (state self.old) → IsOk result }
     {
         match event {
-            Event::Start { procedure, args } => self.answer_start(*procedure, args),
-            Event::Step(t) => self.answer_step(*t, lists),
-            Event::Commit(t) => Ok(self.answer_commit(*t, lists)),
-            Event::Quit(t) => Ok(self.answer_quit(*t, lists)),
+            Event::Start { procedure, args } => self.answer_start(*procedure, args, reply),
+            Event::Step(t) => self.answer_step(*t, lists, reply),
+            Event::Commit(t) => {
+                *reply = self.answer_commit(*t, lists);
+                Ok(())
+            }
+            Event::Quit(t) => {
+                *reply = self.answer_quit(*t, lists);
+                Ok(())
+            }
         }
     }
 

@@ -26,13 +26,16 @@ use sgt_format::{
 };
 use sgt_input::{Fault, Lines, Sink, Source, at_line, opening_of, read_records, write_all};
 use sgt_model::{
-    Entry, Event, NoMemory, Tid, headline_holds, histories_go_on, replays_hold_values,
+    Entry, Event, NoMemory, ShortReply, Tid, headline_holds, histories_go_on, replays_hold_values,
     some_reply_is_legal,
 };
 use sgt_notation::{append_cut_comment, append_operations, transcripts_spell_textbooks};
 use sgt_smallbank::replay_is_bank;
 use sgt_textbook::{legal_are_commit_ordered, legal_are_recoverable, legal_are_serializable};
 use std::alloc::Global;
+
+/// For how many bytes of answers memory is allocated at once: more than the lines of one read mostly get.
+const GATHERED: usize = 262_144;
 
 /// What the next line requests, if there is one. An event is put into `event`.
 #[inline(always)]
@@ -80,11 +83,12 @@ fn next_script_line<S: Source>(
     Ok(Some(kind))
 }
 
-/// Answers an event, and appends the text of the answer.
+/// Answers an event, and appends the text of the answer. The reply is written to a place that all events share.
 #[inline(always)]
 fn answer_event(
     engine: &mut SgtEngine,
     event: &Event,
+    reply: &mut ShortReply,
     output: Output,
     text: &mut Vec<u8>,
 ) -> Result<(), NoMemory>
@@ -95,9 +99,9 @@ fn answer_event(
     ensures legal { Legal (setting_of engine.new) engine.new.past }
     ensures kept { OnErr result (text.new.items ≡ text.old.items) }
 {
-    match engine.answer(event) {
-        Ok(reply) => match output {
-            Output::Replies => append_short_reply(text, &reply, engine.reply_lists()),
+    match engine.answer(event, reply) {
+        Ok(()) => match output {
+            Output::Replies => append_short_reply(text, reply, engine.reply_lists()),
             Output::History => append_newest(engine, text),
             Output::Records => Ok(()),
         },
@@ -253,6 +257,7 @@ fn answer_line<X: Observer>(
     engine: &mut SgtEngine,
     kind: LineKind,
     event: &Event,
+    reply: &mut ShortReply,
     number: u64,
     output: Output,
     text: &mut Vec<u8>,
@@ -264,7 +269,7 @@ fn answer_line<X: Observer>(
 {
     match kind {
         LineKind::Event => {
-            answer_event(engine, event, output, text)?;
+            answer_event(engine, event, reply, output, text)?;
             observer.answered(engine, number);
             Ok(())
         }
@@ -312,7 +317,11 @@ fn answer_lines<S: Source, T: Sink, X: Observer>(
 {
     let mut scratch = Scratch::new(alloc);
     let mut gathered = Vec::new(alloc);
+    if gathered.reserve(GATHERED).is_err() {
+        return Err(stop(sink, &mut gathered, Fault::NoMemory));
+    }
     let mut event = Event::Step(Tid(0));
+    let mut reply = ShortReply::Unknown;
     loop {
         flush_before_read(lines, sink, &mut gathered)?;
         observer.written(lines);
@@ -322,6 +331,7 @@ fn answer_lines<S: Source, T: Sink, X: Observer>(
                 engine,
                 kind,
                 &event,
+                &mut reply,
                 lines.number(),
                 output,
                 &mut gathered,

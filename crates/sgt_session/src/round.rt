@@ -15,7 +15,7 @@ use sgt_access::Accesses;
 use sgt_engine::Engine;
 use sgt_graph::Graph;
 use sgt_log::History;
-use sgt_model::{Event, NoMemory};
+use sgt_model::{Event, NoMemory, ShortReply};
 use sgt_records::Records;
 use std::marker::Model;
 use std::sync::ledger::{Book, Share};
@@ -73,7 +73,8 @@ impl<N: Named, R: Records, A: Accesses, G: Graph> Round<N, R, A, G> {
         ensures unchanged { OnErr result ((self.new ≡ self.old) × (mine.new ≡ mine.old) × (receipts.new ≡ receipts.old)) }
         ensures quits { (t : ℕ) → event.now ≡ Quit t → live self.old.past t ≡ true → IsOk result }
     {
-        self.engine.answer(event)?;
+        let mut reply = ShortReply::Unknown;
+        self.engine.answer(event, &mut reply)?;
         self.calls.add(mine, 1);
         receipts.file_newest(self.engine.history());
         Ok(())

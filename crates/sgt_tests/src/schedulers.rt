@@ -7,7 +7,7 @@ use json::Scratch;
 use sgt_access::{Accesses, OneList};
 use sgt_format::{Opening, read_event, read_opening};
 use sgt_graph::{Graph, PairGraph};
-use sgt_model::{Event, Key, Kind, NoMemory, Reply, ReplyLists, Tid, Tids};
+use sgt_model::{Event, Key, Kind, NoMemory, Reply, ReplyLists, ShortReply, Tid, Tids};
 use sgt_records::{ListRecords, Records};
 use sgt_sched::Sched;
 use std::alloc::{AllocError, Global};
@@ -81,8 +81,9 @@ fn shortened(
     lists: &mut ReplyLists,
     event: &Event,
 ) -> Result<String, Fail> {
-    match sched.answer(event, lists) {
-        Ok(reply) => {
+    let mut reply = ShortReply::Unknown;
+    match sched.answer(event, lists, &mut reply) {
+        Ok(()) => {
             let answers = &lists.answers;
             Ok(format!(in alloc; "{reply:?}, {answers:?}")?)
         }

@@ -1,7 +1,7 @@
 //! Starts.
 ghost use Rattle.sgt_model.specs.CallEffects.{StartEffect};
 ghost use Rattle.sgt_sched.specs.Admission.{Admits};
-ghost use Rattle.sgt_sched.specs.Replies.{WithAnyLists};
+ghost use Rattle.sgt_sched.specs.Replies.{WithAnyLists, with_reply};
 ghost use Rattle.sgt_sched.specs.Scheduler.{state, rules_of, Tries};
 
 use crate::arguments::args_fit;
@@ -28,28 +28,34 @@ impl<R: Records, A: Accesses, G: Graph> Sched<R, A, G> {
     pub fn start(&mut self, procedure: u16, args: &Args) -> Result<Reply, NoMemory>
         ensures { Tries (StartEffect (rules_of self.old) procedure args.now) self.old result self.new }
     {
-        let reply = self.answer_start(procedure, args)?;
+        let mut reply = ShortReply::Unknown;
+        self.answer_start(procedure, args, &mut reply)?;
         Ok(reply.with_lists(&ReplyLists::new()))
     }
 
-    // The same, with the reply in short. No reply to a start has lists.
+    // The same, with the reply in short, which is written to its place. No reply to a start has lists.
     pub(super) fn answer_start(
         &mut self,
         procedure: u16,
         args: &Args,
-    ) -> Result<ShortReply, NoMemory>
-        ensures { Tries (WithAnyLists (StartEffect (rules_of self.old) procedure args.now)) self.old result self.new }
+        reply: &mut ShortReply,
+    ) -> Result<(), NoMemory>
+        ensures { Tries (WithAnyLists (StartEffect (rules_of self.old) procedure args.now)) self.old (with_reply result reply.new) self.new }
     {
         let t = match self.admit(procedure, args) {
             Ok(t) => t,
-            Err(refusal) => return Ok(refusal),
+            Err(refusal) => {
+                *reply = refusal;
+                return Ok(());
+            }
         };
         self.fates.reserve()?;
         let checked = &self.procedures[usize::from(procedure)];
         self.live.start(t, procedure, checked, args)?;
         self.graph.add(t);
         self.fates.start();
-        Ok(ShortReply::Started(t))
+        *reply = ShortReply::Started(t);
+        Ok(())
     }
 
     // The number of a transaction that may start, or why it may not.

@@ -8,7 +8,7 @@ ghost use Rattle.sgt_model.specs.Numbers.{IsValue};
 ghost use Rattle.sgt_model.specs.Traces.{Raises};
 ghost use Rattle.sgt_model.specs.Walks.{Member};
 ghost use Rattle.sgt_cycle.specs.Walk.{NoWalk};
-ghost use Rattle.sgt_sched.specs.Replies.{WithLists, WithAnyLists};
+ghost use Rattle.sgt_sched.specs.Replies.{WithLists, WithAnyLists, with_reply};
 ghost use Rattle.sgt_sched.specs.Endings.{EndsOne, IsBlocked};
 ghost use Rattle.sgt_sched.specs.LiveList.{has_number};
 ghost use Rattle.sgt_sched.specs.Operations.{kind_of, next_of, WritesValue};
@@ -45,28 +45,39 @@ impl<R: Records, A: Accesses, G: Graph> Sched<R, A, G> {
         ensures no_memory { EndsOne (asks_of self.old) (Step t) (state self.old) → IsOk result }
     {
         let mut lists = ReplyLists::new();
-        let reply = self.answer_step(t, &mut lists)?;
+        let mut reply = ShortReply::Unknown;
+        self.answer_step(t, &mut lists, &mut reply)?;
         Ok(reply.with_lists(&lists))
     }
 
-    // The same, with the reply in short.
+    // The same, with the reply in short, which is written to its place.
     pub(super) fn answer_step(
         &mut self,
         t: Tid,
         lists: &mut ReplyLists,
-    ) -> Result<ShortReply, NoMemory>
-        ensures done { Tries (WithLists (StepEffect (asks_of self.old) t) lists.new) self.old result self.new }
+        reply: &mut ShortReply,
+    ) -> Result<(), NoMemory>
+        ensures done { Tries (WithLists (StepEffect (asks_of self.old) t) lists.new) self.old (with_reply result reply.new) self.new }
         ensures lists { OnErr result (lists.new ≡ lists.old) }
         ensures no_memory { EndsOne (asks_of self.old) (Step t) (state self.old) → IsOk result }
     {
         let Some(index) = self.index(t) else {
-            return Ok(self.answer_not_live(t, lists));
+            *reply = self.answer_not_live(t, lists);
+            return Ok(());
         };
         match self.ahead_at(t, index) {
-            Ahead::Look(key) => self.access(t, index, key, Operation::Look, lists),
-            Ahead::Put(key, value) => self.access(t, index, key, Operation::Store(value), lists),
-            Ahead::Ends => Ok(ShortReply::Ended),
-            Ahead::Asks(code) => Ok(self.step_asked(t, code, lists)),
+            Ahead::Look(key) => self.access(t, index, key, Operation::Look, lists, reply),
+            Ahead::Put(key, value) => {
+                self.access(t, index, key, Operation::Store(value), lists, reply)
+            }
+            Ahead::Ends => {
+                *reply = ShortReply::Ended;
+                Ok(())
+            }
+            Ahead::Asks(code) => {
+                *reply = self.step_asked(t, code, lists);
+                Ok(())
+            }
         }
     }
 
@@ -80,18 +91,27 @@ impl<R: Records, A: Accesses, G: Graph> Sched<R, A, G> {
         key: Key,
         operation: Operation,
         lists: &mut ReplyLists,
-    ) -> Result<ShortReply, NoMemory>
+        reply: &mut ShortReply,
+    ) -> Result<(), NoMemory>
         requires live { (state self.old).nodes t ≡ true }
         requires at { position (has_number t) (parts self.old).live ≡ Some index }
         requires in_range { WritesValue operation }
-        ensures done { Tries (WithLists (StepOn (asks_of self.old) t (next_of key operation)) lists.new) self.old result self.new }
+        ensures done { Tries (WithLists (StepOn (asks_of self.old) t (next_of key operation)) lists.new) self.old (with_reply result reply.new) self.new }
         ensures lists { OnErr result (lists.new ≡ lists.old) }
         ensures no_memory { IsBlocked (state self.old) t key (kind_of operation) → IsOk result }
     {
         if self.accesses.has_rival(t, key, operation.kind()) {
-            return self.access_after(t, index, key, operation, lists);
+            return self.access_after(t, index, key, operation, lists, reply);
         }
-        self.make_access(t, index, key, operation, &Tids::new(), Link::default())
+        self.make_access(
+            t,
+            index,
+            key,
+            operation,
+            &Tids::new(),
+            Link::default(),
+            reply,
+        )
     }
 
     // The same, if others have conflicting accesses. Each kind of access has its own copy of it.
@@ -103,19 +123,21 @@ impl<R: Records, A: Accesses, G: Graph> Sched<R, A, G> {
         key: Key,
         operation: Operation,
         lists: &mut ReplyLists,
-    ) -> Result<ShortReply, NoMemory>
+        reply: &mut ShortReply,
+    ) -> Result<(), NoMemory>
         requires live { (state self.old).nodes t ≡ true }
         requires at { position (has_number t) (parts self.old).live ≡ Some index }
         requires in_range { WritesValue operation }
-        ensures done { Tries (WithLists (StepOn (asks_of self.old) t (next_of key operation)) lists.new) self.old result self.new }
+        ensures done { Tries (WithLists (StepOn (asks_of self.old) t (next_of key operation)) lists.new) self.old (with_reply result reply.new) self.new }
         ensures lists { OnErr result (lists.new ≡ lists.old) }
         ensures no_memory { IsBlocked (state self.old) t key (kind_of operation) → IsOk result }
     {
         let rivals = self.accesses.rivals(t, key, operation.kind());
         let Some(link) = self.plan_or_abort(t, &rivals, lists) else {
-            return Ok(ShortReply::Aborted(ShortCause::Cycle));
+            *reply = ShortReply::Aborted(ShortCause::Cycle);
+            return Ok(());
         };
-        self.make_access(t, index, key, operation, &rivals, link)
+        self.make_access(t, index, key, operation, &rivals, link, reply)
     }
 
     // Makes an access of a live transaction, which has this index, after these rivals.
@@ -128,18 +150,19 @@ impl<R: Records, A: Accesses, G: Graph> Sched<R, A, G> {
         operation: Operation,
         rivals: &Tids,
         link: Link,
-    ) -> Result<ShortReply, NoMemory>
+        reply: &mut ShortReply,
+    ) -> Result<(), NoMemory>
         requires live { (state self.old).nodes t ≡ true }
         requires at { position (has_number t) (parts self.old).live ≡ Some index }
         requires in_range { WritesValue operation }
         requires rivals { AreRivals (state self.old) t key (kind_of operation) rivals.now }
         requires free { NoWalk (state self.old).pairs t rivals.now }
         requires planned { rivals.now ≢ [] → G.is_planned (parts self.old).graph t rivals.now link }
-        ensures { Tries (WithAnyLists (StepOn (asks_of self.old) t (next_of key operation))) self.old result self.new }
+        ensures { Tries (WithAnyLists (StepOn (asks_of self.old) t (next_of key operation))) self.old (with_reply result reply.new) self.new }
     {
         match operation {
-            Operation::Look => self.make_look(t, index, key, rivals, link),
-            Operation::Store(value) => self.make_store(t, index, key, value, rivals, link),
+            Operation::Look => self.make_look(t, index, key, rivals, link, reply),
+            Operation::Store(value) => self.make_store(t, index, key, value, rivals, link, reply),
         }
     }
 
@@ -152,13 +175,14 @@ impl<R: Records, A: Accesses, G: Graph> Sched<R, A, G> {
         key: Key,
         writers: &Tids,
         link: Link,
-    ) -> Result<ShortReply, NoMemory>
+        reply: &mut ShortReply,
+    ) -> Result<(), NoMemory>
         requires live { (state self.old).nodes t ≡ true }
         requires at { position (has_number t) (parts self.old).live ≡ Some index }
         requires writers { AreRivals (state self.old) t key Look writers.now }
         requires free { NoWalk (state self.old).pairs t writers.now }
         requires planned { writers.now ≢ [] → G.is_planned (parts self.old).graph t writers.now link }
-        ensures { Tries (WithAnyLists (MakesLook t key)) self.old result self.new }
+        ensures { Tries (WithAnyLists (MakesLook t key)) self.old (with_reply result reply.new) self.new }
     {
         let top = self.records.top(key);
         let value = top.value();
@@ -168,7 +192,8 @@ impl<R: Records, A: Accesses, G: Graph> Sched<R, A, G> {
         self.accesses.note(t, key, Kind::Look);
         note_read(&mut self.read_from, &top, t);
         self.live.look(t, index, self.procedures.as_slice(), value);
-        Ok(ShortReply::Looked { key, value })
+        *reply = ShortReply::Looked { key, value };
+        Ok(())
     }
 
     // Makes a write of a live transaction, which has this index, after these rivals.
@@ -181,14 +206,15 @@ impl<R: Records, A: Accesses, G: Graph> Sched<R, A, G> {
         value: i64,
         rivals: &Tids,
         link: Link,
-    ) -> Result<ShortReply, NoMemory>
+        reply: &mut ShortReply,
+    ) -> Result<(), NoMemory>
         requires live { (state self.old).nodes t ≡ true }
         requires at { position (has_number t) (parts self.old).live ≡ Some index }
         requires in_range { IsValue value }
         requires rivals { AreRivals (state self.old) t key Store rivals.now }
         requires free { NoWalk (state self.old).pairs t rivals.now }
         requires planned { rivals.now ≢ [] → G.is_planned (parts self.old).graph t rivals.now link }
-        ensures { Tries (WithAnyLists (MakesStore t key value)) self.old result self.new }
+        ensures { Tries (WithAnyLists (MakesStore t key value)) self.old (with_reply result reply.new) self.new }
     {
         self.records.reserve(key)?;
         self.accesses.reserve(key)?;
@@ -196,7 +222,8 @@ impl<R: Records, A: Accesses, G: Graph> Sched<R, A, G> {
         self.records.write(t, key, value);
         self.accesses.note(t, key, Kind::Store);
         self.live.store(t, index, self.procedures.as_slice());
-        Ok(ShortReply::Wrote { key, value })
+        *reply = ShortReply::Wrote { key, value };
+        Ok(())
     }
 
     // Returns what links edges from these rivals to a live transaction. If they would close a cycle, it aborts the transaction;

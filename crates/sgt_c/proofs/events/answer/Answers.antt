@@ -1,6 +1,5 @@
 use Rattle.std.proofs.Common.{Some, ap, subst, sym}
-use Rattle.std.specs.Prelude.{IfOk}
-use Rattle.sgt_engine.specs.EngineView.{Answers, EngineView}
+use Rattle.sgt_engine.specs.EngineView.{EngineView}
 use Rattle.sgt_engine.proofs.Entries.{answered_with}
 use Rattle.sgt_c.specs.declared.held.Held.{Held}
 use Rattle.sgt_c.specs.Calls.{Headline}
@@ -9,7 +8,7 @@ use Rattle.sgt_c.proofs.events.answer.Goals as goal
 
 pub returns-in-Ok-clause-ok : goal.returns-in-Ok-clause-ok
 returns-in-Ok-clause-ok c =
-    let done = subst (λ r. IfOk r (λ s. Answers c.args.event c.args.held.now.engine s c.answer.new.self)) c.in-Ok.is c.answer.ensures.adds in (
+    let done = c.in-Ok.ensures.adds in (
       done.reply,
       (
         ap (λ (e : EngineView). Some (record { engine = e; part = c.args.held.now.part })) done.adds,

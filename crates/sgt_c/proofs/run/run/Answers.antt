@@ -8,7 +8,7 @@ pub run_on-requires : goal.run_on-requires
 run_on-requires c =
     run_live c.args.engine.now c.answer.new.self c.args.procedure c.args.args c.in-Started.t
     (subst (λ s. Answers (Start c.args.procedure c.args.args) c.args.engine.now s c.answer.new.self) c.in-Started.is
-    c.in_ok-last.ensures.adds)
+    c.in_ok-answer.ensures.adds)
     c.answer.ensures.legal
 
 pub returns-in-Err-clause-gave_up : goal.returns-in-Err-clause-gave_up
@@ -16,5 +16,5 @@ returns-in-Err-clause-gave_up c =
     gave_up (Start c.args.procedure c.args.args) c.in-Started.t c.args.engine.now c.answer.new.self c.run_on.new.engine
     c.quit.new.engine
     (subst (λ s. Answers (Start c.args.procedure c.args.args) c.args.engine.now s c.answer.new.self) c.in-Started.is
-    c.in_ok-last.ensures.adds)
+    c.in_ok-answer.ensures.adds)
     c.in-Err.ensures.stopped c.quit.ensures

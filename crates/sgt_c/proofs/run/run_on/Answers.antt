@@ -2,9 +2,9 @@ use Rattle.std.proofs.Common.{sym, ◌∙◌}
 use Rattle.sgt_c.proofs.Runs.{err_holds, stopped_at_end}
 use Rattle.sgt_c.proofs.run.run_on.Goals as goal
 
-pub returns-in_err-last-clause-stopped : goal.returns-in_err-last-clause-stopped
-returns-in_err-last-clause-stopped c =
-    err_holds c.from_residual-in_err-last.result
+pub returns-in_err-answer-clause-stopped : goal.returns-in_err-answer-clause-stopped
+returns-in_err-answer-clause-stopped c =
+    err_holds c.from_residual-in_err-answer.result
     (stopped_at_end c.args.t c.in_ok-steps.steps.wrote c.args.engine.now c.step_on.new.engine c.in_ok-steps.steps.last c.answer.new.self
     c.in_ok-steps.ensures.stepped (c.in_ok-steps.ensures.at_end (sym c.is_end.ensures ∙ c.if-not-is_end.false))
-    c.in_err-last.ensures.unchanged)
+    c.in_err-answer.ensures.unchanged)

@@ -4,5 +4,5 @@ use Rattle.sgt_c.proofs.run.step_on.Goals as goal
 
 pub loop-preserved : goal.loop-preserved
 loop-preserved c =
-    one_more_in_short c.args.t c.loop.wrote c.args.engine.now c.loop.engine c.in_ok-last.last _ c.answer.new.self
-    c.loop.invariant c.in_ok-last.ensures.adds (search rules) (search rules)
+    one_more_in_short c.args.t c.loop.wrote c.args.engine.now c.loop.engine c.answer.new.reply _ c.answer.new.self
+    c.loop.invariant c.in_ok-answer.ensures.adds (search rules) (search rules)

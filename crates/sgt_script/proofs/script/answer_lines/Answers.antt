@@ -10,7 +10,7 @@ use Rattle.sgt_script.proofs.script.answer_lines.Goals as goal
 pub loop-gathered-init : goal.loop-gathered-init
 loop-gathered-init g c = record {
   so = answered-none c.args.output c.args.lines.now (g.S.Source.rest c.args.source.now) (g.T.Sink.held c.args.sink.now)
-      c.new-gathered.result.items
+      c.reserve.new.self.items
       (setting_of c.args.engine.now) c.args.engine.now.past (search rules) c.requires.fresh;
   ended = λ going. going;
   counted = search rules;
@@ -18,6 +18,17 @@ loop-gathered-init g c = record {
   reading = search rules;
   writing = search rules;
 }
+
+pub returns-then-is_err-clause-some : goal.returns-then-is_err-clause-some
+returns-then-is_err-clause-some g c =
+    let none = answered-none c.args.output c.args.lines.now (g.S.Source.rest c.args.source.now) (g.T.Sink.held c.args.sink.now)
+    c.new-gathered.result.items (setting_of c.args.engine.now) c.args.engine.now.past (search rules) c.requires.fresh in
+    some-refused c.args.output (setting_of c.args.engine.now) (c.args.lines.now.number + 1)
+    (cut_left c.args.lines.now (g.S.Source.rest c.args.source.now))
+    (bytes_left c.args.lines.now (g.S.Source.rest c.args.source.now)) (g.T.Sink.held c.args.sink.now)
+    c.args.lines.now (g.S.Source.rest c.args.source.now) (g.S.Source.rest c.args.source.now)
+    (g.T.Sink.held c.args.sink.now) _ c.new-gathered.result.items c.reserve.new.self.items
+    (part_at c.args.engine.now) _ _ none (search rules) c.stop.ensures.written refl
 
 pub loop-gathered-preserved : goal.loop-gathered-preserved
 loop-gathered-preserved g c =

@@ -13,11 +13,11 @@ use Rattle.sgt_engine.proofs.engine.Engine.answer.Goals as goal
 pub invariant_of-self-2 : goal.invariant_of-self-2
 invariant_of-self-2 g c =
     let s = setting (contents_of c.self.inside.opening) c.self.inside.sched.procedures.items c.self.inside.sched.limits in
-    let kept = kept_entry c.calls_simulate.ensures s _ c.self.inside.history.entries c.file.new.history.entries (state c.self.inside.sched)
-    (state c.answer.new.self) c.args.event.now (reply_with c.in_ok-reply.reply c.answer.new.lists)
+    let kept = kept_entry c.calls_simulate.ensures s _ c.self.inside.history.entries c.push.new.self.entries (state c.self.inside.sched)
+    (state c.answer.new.self) c.args.event.now (reply_with c.answer.new.reply c.answer.new.lists)
     (same_setting _ _ _ _ _ c.answer.ensures.done.kept.0 c.answer.ensures.done.kept.1)
-    (added _ _ _ _ _ c.file.ensures.entries c.make_room.ensures.entries)
-    (c.self.invariant.0, c.self.invariant.1) c.in_ok-reply.ensures.done.done in
+    (added _ _ _ _ _ c.push.ensures.entries c.make_room.ensures.entries)
+    (c.self.invariant.0, c.self.invariant.1) c.in_ok-answer.ensures.done.done in
     let left = room_left (record {
       sound = c.states_are_sound.ensures;
       verdicts = c.verdicts_agree.ensures;
@@ -27,10 +27,10 @@ invariant_of-self-2 g c =
     })
     (setting (contents_of c.self.inside.opening) c.self.inside.sched.procedures.items c.self.inside.sched.limits)
     (reverse c.self.inside.history.entries) c.self.invariant.0 (state c.self.inside.sched) c.self.invariant.1 c.args.event.now
-    (state c.answer.new.self) (reply_with c.in_ok-reply.reply c.answer.new.lists) c.make_room.new.history.room
-    c.in_ok-reply.ensures.done.done c.make_room.ensures.ends
+    (state c.answer.new.self) (reply_with c.answer.new.reply c.answer.new.lists) c.make_room.new.history.room
+    c.in_ok-answer.ensures.done.done c.make_room.ensures.ends
     c.in_ok-make_room.ensures.room in
-    (kept.0, kept.1, omega (arith, left, c.file.ensures.room), newest_added _ _ _ _ _ c.file.ensures.entries)
+    (kept.0, kept.1, omega (arith, left, c.push.ensures.room), newest_added _ _ _ _ _ c.push.ensures.entries)
 
 pub returns-clause-legal : goal.returns-clause-legal
 returns-clause-legal g c = (invariant_of-self-2 g c).0
@@ -44,14 +44,14 @@ returns-clause-order g c = (c.headline_holds.ensures _ _ (invariant_of-self-2 g 
 pub returns-clause-adds : goal.returns-clause-adds
 returns-clause-adds g c =
     let s = setting (contents_of c.self.inside.opening) c.self.inside.sched.procedures.items c.self.inside.sched.limits in record {
-      reply = reply_with c.in_ok-reply.reply c.answer.new.lists;
-      is_short = short_with c.in_ok-reply.reply c.answer.new.lists ∙ sym c.file.ensures.reply;
-      adds = entry_added c.self.inside.opening _ _ _ _ c.self.inside.history.entries c.file.new.history.entries c.args.event.now
-          (reply_with c.in_ok-reply.reply c.answer.new.lists) c.args.self.now c.answer.ensures.done.kept.0 c.answer.ensures.done.kept.1
-          (added _ _ _ _ _ c.file.ensures.entries c.make_room.ensures.entries) c.self.view_is;
+      reply = reply_with c.answer.new.reply c.answer.new.lists;
+      is_short = short_with c.answer.new.reply c.answer.new.lists;
+      adds = entry_added c.self.inside.opening _ _ _ _ c.self.inside.history.entries c.push.new.self.entries c.args.event.now
+          (reply_with c.answer.new.reply c.answer.new.lists) c.args.self.now c.answer.ensures.done.kept.0 c.answer.ensures.done.kept.1
+          (added _ _ _ _ _ c.push.ensures.entries c.make_room.ensures.entries) c.self.view_is;
       legal = legal_reply c.calls_simulate.ensures s _ (reverse c.self.inside.history.entries) _ (state c.self.inside.sched)
-          (state c.answer.new.self) c.args.event.now (reply_with c.in_ok-reply.reply c.answer.new.lists) (ap setting_of c.self.view_is)
-          (ap (λ e. e.past) c.self.view_is) (c.self.invariant.0, c.self.invariant.1) c.in_ok-reply.ensures.done.done;
+          (state c.answer.new.self) c.args.event.now (reply_with c.answer.new.reply c.answer.new.lists) (ap setting_of c.self.view_is)
+          (ap (λ e. e.past) c.self.view_is) (c.self.invariant.0, c.self.invariant.1) c.in_ok-answer.ensures.done.done;
     }
 
 pub returns-in_err-make_room-clause-no_memory : goal.returns-in_err-make_room-clause-no_memory
@@ -66,8 +66,8 @@ returns-in_err-make_room-clause-no_memory g c = λ r legal e.
     (state c.self.inside.sched) c.self.invariant.0 c.self.invariant.1 c.args.event.now r legal e in
     absurd (true≢false (sym (c.make_room.ensures.no_memory ends) ∙ ap is_ok c.in_err-make_room.was))
 
-pub returns-in_err-reply-clause-no_memory : goal.returns-in_err-reply-clause-no_memory
-returns-in_err-reply-clause-no_memory g c = λ r legal e.
+pub returns-in_err-answer-clause-no_memory : goal.returns-in_err-answer-clause-no_memory
+returns-in_err-answer-clause-no_memory g c = λ r legal e.
     let ends = ends_seen (record {
       sound = c.states_are_sound.ensures;
       verdicts = c.verdicts_agree.ensures;
@@ -76,10 +76,10 @@ returns-in_err-reply-clause-no_memory g c = λ r legal e.
       counts = c.endings_agree.ensures.counts;
     }) _ c.args.self.now c.self.view_is
     (state c.self.inside.sched) c.self.invariant.0 c.self.invariant.1 c.args.event.now r legal e in
-    absurd (true≢false (sym (c.answer.ensures.no_memory ends) ∙ ap is_ok c.in_err-reply.was))
+    absurd (true≢false (sym (c.answer.ensures.no_memory ends) ∙ ap is_ok c.in_err-answer.was))
 
-pub file-requires : goal.file-requires
-file-requires g c =
+pub push-requires : goal.push-requires
+push-requires g c =
     let left = room_left (record {
       sound = c.states_are_sound.ensures;
       verdicts = c.verdicts_agree.ensures;
@@ -89,8 +89,8 @@ file-requires g c =
     })
     (setting (contents_of c.self.inside.opening) c.self.inside.sched.procedures.items c.self.inside.sched.limits)
     (reverse c.self.inside.history.entries) c.self.invariant.0 (state c.self.inside.sched) c.self.invariant.1 c.args.event.now
-    (state c.answer.new.self) (reply_with c.in_ok-reply.reply c.answer.new.lists) c.make_room.new.history.room
-    c.in_ok-reply.ensures.done.done c.make_room.ensures.ends
+    (state c.answer.new.self) (reply_with c.answer.new.reply c.answer.new.lists) c.make_room.new.history.room
+    c.in_ok-answer.ensures.done.done c.make_room.ensures.ends
     c.in_ok-make_room.ensures.room in
     omega (arith, left)
 

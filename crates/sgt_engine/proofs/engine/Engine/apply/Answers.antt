@@ -6,12 +6,12 @@ use Rattle.sgt_engine.proofs.engine.Engine.apply.Goals as goal
 
 pub returns-clause-adds : goal.returns-clause-adds
 returns-clause-adds g c =
-    let done = c.in_ok-reply.ensures.adds in
+    let done = c.in_ok-answer.ensures.adds in
     let told : done.reply ≡ c.with_lists.result = answered_with _ _ _ _ _ done c.reply_lists.ensures ∙ sym c.with_lists.ensures in
     done.adds ∙ ap (λ r. with_entry c.args.event r c.args.self.now) told
 
 pub returns-clause-reply : goal.returns-clause-reply
 returns-clause-reply g c =
-    let done = c.in_ok-reply.ensures.adds in
+    let done = c.in_ok-answer.ensures.adds in
     let told : done.reply ≡ c.with_lists.result = answered_with _ _ _ _ _ done c.reply_lists.ensures ∙ sym c.with_lists.ensures in
     subst (LegalReply (setting_of c.args.self.now) c.args.self.now.past c.args.event) told done.legal

@@ -4,6 +4,7 @@ use Rattle.sgt_model.specs.AccessList.{lists_conflicting}
 use Rattle.sgt_model.specs.CallEffects.{StepOn}
 use Rattle.sgt_model.specs.Walks.{last_of}
 use Rattle.sgt_sched.specs.Operations.{kind_of, next_of}
+use Rattle.sgt_sched.specs.Replies.{with_reply}
 use Rattle.sgt_sched.specs.Scheduler.{asks_of}
 use Rattle.sgt_sched.proofs.Accessed.{no_rivals, no_walk}
 use Rattle.sgt_sched.proofs.Stepped.{made_with, whatever}
@@ -28,8 +29,8 @@ make_access-requires-clause-planned g c κs lives some = absurd (some c.new.ensu
 
 pub returns : goal.returns
 returns g c = record {
-  done = made_with (StepOn (asks_of c.args.self.now) c.args.t (next_of c.args.key c.args.operation)) c.args.lists.now c.make_access.result
-      refl c.make_access.ensures;
+  done = made_with (StepOn (asks_of c.args.self.now) c.args.t (next_of c.args.key c.args.operation)) c.args.lists.now
+      (with_reply c.make_access.result c.make_access.new.reply) refl c.make_access.ensures;
   lists = whatever c.make_access.result refl;
   no_memory = λ b. absurd (true≢false (sym (c.if-has_rival.ensures.exact.1 (
     last_of c.args.t b.0,

@@ -3,7 +3,7 @@ use Rattle.sgt_model.specs.CallEffects.{StepOn}
 use Rattle.sgt_cycle.specs.Walk.{NoWalk}
 use Rattle.sgt_sched.specs.LiveList.{has_number}
 use Rattle.sgt_sched.proofs.Stepped.{made_with, whatever, rejected}
-use Rattle.sgt_sched.specs.Replies.{WithLists}
+use Rattle.sgt_sched.specs.Replies.{WithLists, with_reply}
 use Rattle.sgt_sched.specs.Operations.{kind_of, next_of}
 use Rattle.sgt_sched.specs.Scheduler.{parts, state, asks_of, Tries}
 use Rattle.sgt_sched.specs.Steps.{AreRivals}
@@ -61,9 +61,9 @@ pub returns : goal.returns
 returns g c = record {
   done = subst
       (λ s. Tries (WithLists (StepOn (asks_of s) c.args.t (next_of c.args.key c.args.operation)) c.plan_or_abort.new.lists)
-      c.args.self.now c.make_access.result c.make_access.new.self) c.in-Some.ensures.free.0
+      c.args.self.now (with_reply c.make_access.result c.make_access.new.reply) c.make_access.new.self) c.in-Some.ensures.free.0
       (made_with (StepOn (asks_of c.plan_or_abort.new.self) c.args.t (next_of c.args.key c.args.operation)) c.plan_or_abort.new.lists
-      c.make_access.result c.in-Some.ensures.free.0 c.make_access.ensures);
+      (with_reply c.make_access.result c.make_access.new.reply) c.in-Some.ensures.free.0 c.make_access.ensures);
   lists = whatever c.make_access.result c.in-Some.ensures.free.1;
   no_memory = λ b. absurd (free_seen c.args.self.now.kept c.args.t c.requires.live c.args.key (kind_of c.args.operation)
       c.rivals-rivals.result

@@ -1,12 +1,13 @@
 use Rattle.std.proofs.lemmas.Result.{IfOk-weaker}
 use Rattle.sgt_model.specs.ShortReplies.{reply_with}
 use Rattle.sgt_sched.proofs.Stepped.{called}
+use Rattle.sgt_sched.specs.Replies.{with_reply}
 use Rattle.sgt_sched.specs.Scheduler.{state, rules_of}
 use Rattle.sgt_sched.proofs.sched.Sched.answer.Goals as goal
 
 pub returns-in-Start-clause-done : goal.returns-in-Start-clause-done
 returns-in-Start-clause-done g c = record {
-  done = IfOk-weaker c.answer_start.result _ _
+  done = IfOk-weaker (with_reply c.answer_start.result c.answer_start.new.reply) _ _
       (λ b done. (called (rules_of c.args.self.now) (state c.args.self.now) _
       (state c.answer_start.new.self) c.args.event.now _ c.in-Start.is) (done _)) c.answer_start.ensures.done;
   refused = c.answer_start.ensures.refused;
@@ -15,7 +16,7 @@ returns-in-Start-clause-done g c = record {
 
 pub returns-in-Step-clause-done : goal.returns-in-Step-clause-done
 returns-in-Step-clause-done g c = record {
-  done = IfOk-weaker c.answer_step.result _ _
+  done = IfOk-weaker (with_reply c.answer_step.result c.answer_step.new.reply) _ _
       (λ b done. (called (rules_of c.args.self.now) (state c.args.self.now) (reply_with b c.answer_step.new.lists)
       (state c.answer_step.new.self) c.args.event.now _ c.in-Step.is) done) c.answer_step.ensures.done.done;
   refused = c.answer_step.ensures.done.refused;

@@ -9,12 +9,13 @@ use Rattle.sgt_proc.specs.Nexts.{answers_at}
 use Rattle.sgt_sched.specs.Operations.{next_by}
 use Rattle.sgt_sched.proofs.Stepped.{steps_on, not_live}
 use Rattle.sgt_sched.specs.Endings.{StepEnds}
+use Rattle.sgt_sched.specs.Replies.{with_reply}
 use Rattle.sgt_sched.specs.Scheduler.{state}
 use Rattle.sgt_sched.proofs.sched.Sched.answer_step.Goals as goal
 
 pub returns-in-Look-clause-done : goal.returns-in-Look-clause-done
 returns-in-Look-clause-done g c = record {
-  done = IfOk-weaker c.access.result _ _
+  done = IfOk-weaker (with_reply c.access.result c.access.new.reply) _ _
       (λ b done. (steps_on c.args.self.now.limits.asks c.args.t _ (reply_with b c.access.new.lists) _ _
       (c.in-Some.ensures.unended.0 refl).begun
       (c.in-Some.ensures.unended.0 refl).unended (ap (next_by (state c.args.self.now) c.args.t) (sym c.in-Look.is)
@@ -30,7 +31,7 @@ returns-in-Put-clause-done g c =
     let next = ap (Puts c.in-Put.key) (to_z-of_z w64 c.in-Put.value fits) ∙ (ap (next_by (state c.args.self.now) c.args.t)
     (sym c.in-Put.is) ∙ c.ahead_at.ensures.next) in
     record {
-      done = IfOk-weaker c.access-in-Put.result _ _ (λ b done.
+      done = IfOk-weaker (with_reply c.access-in-Put.result c.access-in-Put.new.reply) _ _ (λ b done.
           (steps_on c.args.self.now.limits.asks c.args.t (state c.args.self.now) (reply_with b c.access-in-Put.new.lists) _
           (Puts c.in-Put.key (to_z w64 (of_z w64 c.in-Put.value)))
           (c.in-Some.ensures.unended.0 refl).begun (c.in-Some.ensures.unended.0 refl).unended next) done)

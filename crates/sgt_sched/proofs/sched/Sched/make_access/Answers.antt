@@ -3,7 +3,7 @@ use Rattle.std.proofs.lemmas.Int.{to_z-of_z}
 use Rattle.sgt_model.specs.CallEffects.{StepOn, MakesLook, MakesStore}
 use Rattle.sgt_model.specs.Numbers.{IsValue}
 use Rattle.sgt_model.specs.Traces.{Looks, Puts}
-use Rattle.sgt_sched.specs.Replies.{WithAnyLists}
+use Rattle.sgt_sched.specs.Replies.{WithAnyLists, with_reply}
 use Rattle.sgt_sched.specs.Operations.{kind_of, next_of, WritesValue}
 use Rattle.sgt_sched.specs.Scheduler.{Tries, state, asks_of}
 use Rattle.sgt_sched.specs.Steps.{AreRivals}
@@ -25,18 +25,20 @@ make_store-requires-clause-in_range g c κs lives =
 
 pub returns-in-Look : goal.returns-in-Look
 returns-in-Look g c = subst
-    (λ o. Tries (WithAnyLists (StepOn (asks_of c.args.self.now) c.args.t (next_of c.args.key o))) c.args.self.now c.make_look.result
-    c.make_look.new.self) (sym c.in-Look.is)
-    (made (MakesLook c.args.t c.args.key) (StepOn (asks_of c.args.self.now) c.args.t (Looks c.args.key)) c.make_look.result
+    (λ o. Tries (WithAnyLists (StepOn (asks_of c.args.self.now) c.args.t (next_of c.args.key o))) c.args.self.now
+    (with_reply c.make_look.result c.make_look.new.reply) c.make_look.new.self) (sym c.in-Look.is)
+    (made (MakesLook c.args.t c.args.key) (StepOn (asks_of c.args.self.now) c.args.t (Looks c.args.key))
+    (with_reply c.make_look.result c.make_look.new.reply)
     (λ _ _ _. inr) c.make_look.ensures)
 
 pub returns-in-Store : goal.returns-in-Store
 returns-in-Store g c =
     let fits : SFits w64 c.in-Store.value = search rules in
-    subst (λ o. Tries (WithAnyLists (StepOn (asks_of c.args.self.now) c.args.t (next_of c.args.key o))) c.args.self.now c.make_store.result
-    c.make_store.new.self) (sym c.in-Store.is)
+    subst (λ o. Tries (WithAnyLists (StepOn (asks_of c.args.self.now) c.args.t (next_of c.args.key o))) c.args.self.now
+    (with_reply c.make_store.result c.make_store.new.reply) c.make_store.new.self) (sym c.in-Store.is)
     (made (MakesStore c.args.t c.args.key c.in-Store.value) (StepOn (asks_of c.args.self.now) c.args.t
-    (Puts c.args.key c.in-Store.value)) c.make_store.result
+    (Puts c.args.key c.in-Store.value)) (with_reply c.make_store.result c.make_store.new.reply)
     (λ _ _ _. inr) (subst
-    (λ v. Tries (WithAnyLists (MakesStore c.args.t c.args.key v)) c.args.self.now c.make_store.result c.make_store.new.self)
+    (λ v. Tries (WithAnyLists (MakesStore c.args.t c.args.key v)) c.args.self.now (with_reply c.make_store.result c.make_store.new.reply)
+    c.make_store.new.self)
     (to_z-of_z w64 c.in-Store.value fits) c.make_store.ensures))

@@ -6,7 +6,7 @@ use Rattle.sgt_sched.proofs.sched.Sched.start.Goals as goal
 pub returns : goal.returns
 returns g c = record {
   done = subst (λ r. StartEffect (rules_of c.args.self.now) c.args.procedure c.args.args.now (state c.args.self.now) r
-      (state c.answer_start.new.self)) (sym c.with_lists.ensures) (c.in_ok-reply.ensures.done _);
+      (state c.answer_start.new.self)) (sym c.with_lists.ensures) (c.in_ok-answer_start.ensures.done _);
   refused = tt;
   kept = c.answer_start.ensures.kept;
 }
