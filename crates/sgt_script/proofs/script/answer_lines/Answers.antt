@@ -10,7 +10,7 @@ use Rattle.sgt_script.proofs.script.answer_lines.Goals as goal
 pub loop-gathered-init : goal.loop-gathered-init
 loop-gathered-init g c = record {
   so = answered-none c.args.output c.args.lines.now (g.S.Source.rest c.args.source.now) (g.T.Sink.held c.args.sink.now)
-      c.new-gathered.result.items
+      c.reserve.new.self.items
       (setting_of c.args.engine.now) c.args.engine.now.past (search rules) c.requires.fresh;
   ended = λ going. going;
   counted = search rules;
