@@ -9,35 +9,41 @@ use Rattle.sgt_input.specs.Intake.{AtRest, Intake, IsGiven, taken}
 use Rattle.sgt_input.proofs.Breaks.{break-whole, whole-behind}
 
 -- a whole one
-pub ahead-found : (i : Intake) (n : ℕ) → IsBreak (take i.within i.held) (Some n) → n ≤ 65536 → i.ended ≡ false
-    → (k : Intake) × IsGiven i k × (k.line ≡ take n i.held)
-ahead-found i n at few going =
+pub given-found : (i k : Intake) (n : ℕ) → IsBreak (take i.within i.held) (Some n) → n ≤ 65536 → i.ended ≡ false
+    → k.line ≡ take n i.held → k.held ≡ drop (n + 1) i.held → k.number ≡ i.number + 1 → k.within ≡ i.within - (n + 1)
+    → k.ended ≡ i.ended → IsGiven i k
+given-found i k n at few going line held number rest ended =
     let inside : n < i.within = grind (arith, common_steps, at.0) in
     let within : n < length i.held = grind (arith, common_steps, at.0) in
     let same : take n (take i.within i.held) ≡ take n i.held = grind (arith, common_steps, inside) in
     let size : length (take n i.held) ≡ n = grind (arith, common_steps, within) in
     let parts : i.held ≡ (take n i.held ++ 10 ∷ []) ++ drop (n + 1) i.held = grind (arith, common_steps, at.1, inside, within) in
-    let k : Intake = record {
-      line = take n i.held;
-      number = i.number + 1;
-      held = drop (n + 1) i.held;
-      within = i.within - (n + 1);
-      ended = i.ended;
-    } in
-    let bytes : taken k ≡ take n i.held ++ 10 ∷ [] = rw going refl in
-    let count : length (taken k) ≡ n + 1 = ap length bytes ∙ grind (arith, common_steps, size) in (
-      k,
-      record {
-        bytes = parts ∙ ap (λ l. l ++ drop (n + 1) i.held) (sym bytes);
-        within = omega (arith, count, inside);
-        number = refl;
-        ended = refl;
-        unbroken = ap has_break (sym same) ∙ at.2;
-        short = omega (arith, size, few);
-        last = λ ended. absurd (cc (ended, going));
-      },
-      refl,
-    )
+    let going' : k.ended ≡ false = ended ∙ going in
+    let bytes : taken k ≡ take n i.held ++ 10 ∷ [] = rw going' (ap (λ l. l ++ 10 ∷ []) line) in
+    let count : length (taken k) ≡ n + 1 = ap length bytes ∙ grind (arith, common_steps, size) in
+    record {
+      bytes = parts ∙ ap (λ l. l ++ drop (n + 1) i.held) (sym bytes) ∙ ap (λ l. taken k ++ l) (sym held);
+      within = omega (arith, count, inside, rest);
+      number = number;
+      ended = ended;
+      unbroken = ap has_break (line ∙ sym same) ∙ at.2;
+      short = omega (arith, size, few, ap length line);
+      last = λ last. absurd (cc (last, going'));
+    }
+
+pub ahead-found : (i : Intake) (n : ℕ) → IsBreak (take i.within i.held) (Some n) → n ≤ 65536 → i.ended ≡ false
+    → (k : Intake) × IsGiven i k × (k.line ≡ take n i.held)
+ahead-found i n at few going = (
+  record {
+    line = take n i.held;
+    number = i.number + 1;
+    held = drop (n + 1) i.held;
+    within = i.within - (n + 1);
+    ended = i.ended;
+  },
+  given-found i _ n at few going refl refl refl refl refl,
+  refl,
+)
 
 -- the last one, without a newline
 pub ahead-last : (i : Intake) → has_break (take i.within i.held) ≡ false → length i.held ≤ i.within → length i.held ≤ 65536

@@ -1,5 +1,5 @@
 -- Laws of newlines.
-use Rattle.std.proofs.Common.{◌≡◌, ◌≢◌, ℕ, zero, suc, ◌+◌, ◌*◌, ◌<◌, ◌≤◌, Bool, true, false, cond, not, eqb, ltb, map, List, [], ◌∷◌, ◌++◌, length, take, get_or, refl, ap, sym, ◌∙◌, arith, suc-le-suc, subst, ◌-◌, drop, inl, inr}
+use Rattle.std.proofs.Common.{◌≡◌, ◌≢◌, ℕ, zero, suc, ◌+◌, ◌*◌, ◌<◌, ◌≤◌, Bool, true, false, cond, not, eqb, ltb, map, List, [], ◌∷◌, ◌++◌, length, take, get_or, refl, ap, sym, ◌∙◌, arith, suc-le-suc, lt-ltb, subst, ◌-◌, drop, inl, inr}
 use Rattle.std.proofs.lemmas.Grind.{common_steps}
 use Rattle.std.proofs.lemmas.Bool.Decides.{nat_tests}
 use Rattle.std.proofs.Math.Seq.{take-add, take-append-add}
@@ -11,7 +11,7 @@ use lib.Count.{count_trailing_zeros}
 use lib.Lanes.{chunk, mask_l}
 use Rattle.std.specs.List.{prefix_len}
 use Rattle.std.proofs.lemmas.Simd.{length-chunk, run_in_chunk_fails, run_in_chunk_stops, trailing_mask_l}
-use Rattle.memchr.specs.Find.{IsFirstByte, IsLastByte, NoneAfter, NoneBefore, Passes, is_byte}
+use Rattle.memchr.specs.Find.{IsFirstByte, IsLastByte, NoneBefore, Passes, is_byte}
 use Rattle.sgt_input.specs.Lines.{has_break, AreWhole, IsBreak}
 
 -- no newline in either of two lists of bytes
@@ -142,15 +142,15 @@ break-whole bytes n k are at = break-behind-none n k bytes are.1 at.0 at.1
 
 -- some lines are whole exactly if there is a newline
 pub whole-some : (bytes : List ℕ) (n : ℕ) → AreWhole bytes n → 0 < n → has_break bytes ≡ true
-whole-some bytes n (inside, none, inl zero) some = absurd (omega arith)
+whole-some bytes n (inside, none, inl empty) some = absurd (omega arith)
 whole-some bytes n (inside, none, inr ten) some = has_break-at bytes (n - 1) (omega arith) ten
 
 pub whole-none : (bytes : List ℕ) (n : ℕ) → AreWhole bytes n → n ≡ 0 → has_break bytes ≡ false
-whole-none bytes n are zero = ap (λ k. has_break (drop k bytes)) (sym zero) ∙ are.1
+whole-none bytes n are empty = ap (λ k. has_break (drop k bytes)) (sym empty) ∙ are.1
 
 pub whole-is : (bytes : List ℕ) (n : ℕ) → AreWhole bytes n → ltb 0 n ≡ has_break bytes
 whole-is bytes zero are = sym (whole-none bytes zero are refl)
-whole-is bytes (suc n) are = sym (whole-some bytes (suc n) are (omega arith))
+whole-is bytes (suc n) are = lt-ltb 0 (suc n) (omega arith) ∙ sym (whole-some bytes (suc n) are (omega arith))
 
 pub whole-zero : (bytes : List ℕ) (n : ℕ) → AreWhole bytes n → has_break bytes ≡ false → n ≡ 0
 whole-zero bytes zero are none = refl
@@ -161,19 +161,25 @@ pub whole-behind : (bytes : List ℕ) (n k : ℕ) → AreWhole bytes n → IsBre
 whole-behind bytes n k are at =
     let before : k < n = break-whole bytes n k are at in
     let back : k + 1 + (n - (k + 1)) ≡ n = omega (arith, before) in (
-      grind (arith, common_steps, are.0, before),
+      omega (arith, length-drop (k + 1) bytes, are.0),
       ap has_break (drop-drop (n - (k + 1)) (k + 1) bytes ∙ ap (λ m. drop m bytes) back) ∙ are.1,
       last (are.2) back,
     )
   where
     last : (n ≡ 0) ⊎ (get_or bytes (n - 1) 0 ≡ 10) → k + 1 + (n - (k + 1)) ≡ n
         → (n - (k + 1) ≡ 0) ⊎ (get_or (drop (k + 1) bytes) (n - (k + 1) - 1) 0 ≡ 10)
-    last (inl zero) back = inl (omega (arith, zero))
+    last (inl empty) back = inl (omega (arith, empty))
     last (inr ten) back = by (n - (k + 1)) refl
       where
         by : (m : ℕ) → m ≡ n - (k + 1) → (m ≡ 0) ⊎ (get_or (drop (k + 1) bytes) (m - 1) 0 ≡ 10)
         by zero is = inl refl
-        by (suc m) is = inr (get_or-drop (k + 1) bytes m 0 ∙ ap (λ i. get_or bytes i 0) (omega (arith, is, back)) ∙ ten)
+        by (suc m) is = inr (ap (λ i. get_or (drop (k + 1) bytes) i 0) (omega arith) ∙ get_or-drop (k + 1) bytes m 0 ∙ ap (λ i. get_or bytes i 0) (omega (arith, is, back)) ∙ ten)
+
+drop-front : (front bytes : List ℕ) (n : ℕ) → drop (length front + n + 1) (front ++ bytes) ≡ drop (n + 1) bytes
+drop-front [] bytes n = ap (λ k. drop k bytes) (omega arith)
+drop-front (x ∷ xs) bytes n =
+    let more : length (x ∷ xs) + n + 1 ≡ suc (length xs + n + 1) = omega arith in
+    ap (λ k. drop k (x ∷ (xs ++ bytes))) more ∙ drop-front xs bytes n
 
 -- the last newline among bytes after some that have none
 pub whole-last : (front bytes : List ℕ) (found : Option ℕ) → has_break front ≡ false → IsLastByte (is_byte 10) bytes found
@@ -185,7 +191,7 @@ whole-last front bytes None none last = (
 )
 whole-last front bytes (Some n) none last =
     let inside : n < length bytes = last.0.high in
-    let behind : drop (length front + n + 1) (front ++ bytes) ≡ drop (n + 1) bytes = grind (arith, common_steps, inside) in (
+    let behind : drop (length front + n + 1) (front ++ bytes) ≡ drop (n + 1) bytes = drop-front front bytes n in (
       omega (arith, length-append front bytes, inside),
       ap has_break behind ∙ no_break-each (drop (n + 1) bytes) (λ k fits ten. last.0.after (n + 1 + k) (omega arith)
           (omega (arith, length-drop (n + 1) bytes, fits)) (eq-eqb _ 10 (sym (get_or-drop (n + 1) bytes k 0) ∙ ten))),
@@ -203,3 +209,8 @@ whole-within bytes from within stop found is inside fits none last =
     subst (λ n. AreWhole (take within bytes) (option_map_or (λ k. n + k + 1) found 0)) size
     (subst (λ xs. AreWhole xs (option_map_or (λ k. length (take from bytes) + k + 1) found 0)) whole
     (whole-last (take from bytes) (take (stop - from) (drop from bytes)) found none last))
+
+-- if 64 bytes are whole lines, so many are held and within the limit
+pub whole-wide : (held : List ℕ) (within n : ℕ) → AreWhole (take within held) n → 64 ≤ n → (64 ≤ length held) × (64 ≤ within)
+whole-wide held within n are wide =
+    (omega (arith, are.0, length-take within held), omega (arith, are.0, length-take within held))

@@ -1,6 +1,6 @@
 -- Laws of known bytes.
 use Rattle.std.proofs.Common.{◌≡◌, ℕ, ◌+◌, ◌≤◌, List, ◌++◌, length, take, drop, refl, ap, sym, ◌∙◌, arith, append_assoc, inl, inr}
-use Rattle.std.specs.Prelude.{Result, Ok, Err, OnErr, Option, None, Some, Bool, true, false, is_some, ◌⊎◌, if◌then◌else◌}
+use Rattle.std.specs.Prelude.{Result, Ok, Err, OnErr, Option, None, Some, Bool, true, false, if◌then◌else◌}
 use Rattle.std.proofs.lemmas.Grind.{common_steps}
 use Rattle.sgt_input.specs.Lines.{has_break}
 use Rattle.sgt_input.specs.Intake.{Intake, bytes_left, AtRest, IsReady, has_whole_line}

@@ -1,4 +1,4 @@
-use Rattle.std.proofs.Common.{rules, ◌∙◌, ap, sym, take}
+use Rattle.std.proofs.Common.{◌∙◌, ap, take}
 use Rattle.sgt_input.specs.Intake.{has_whole_line}
 use Rattle.sgt_input.proofs.Breaks.{whole-is}
 use Rattle.sgt_input.proofs.lines.Lines.has_line.Goals as goal
