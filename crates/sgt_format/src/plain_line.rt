@@ -1,6 +1,6 @@
 //! Lines in plain form: no escape, no space but one after a comma, and whole numbers of at most eighteen digits. Most
 //! lines are written so.
-ghost use Rattle.std.specs.Prelude.{◌≡◌, ◌≤◌, ◌<◌, ◌-◌, ◌∷◌, [], ◌++◌, ℕ, List, false, length, take, drop, slice_index, codes, Ok, Some, IfSome, IsTrue};
+ghost use Rattle.std.specs.Prelude.{◌≡◌, ◌≤◌, ◌<◌, ◌+◌, ◌-◌, ◌∷◌, [], ◌++◌, ℕ, List, false, length, take, drop, slice_index, codes, Ok, Some, IfSome, IsTrue};
 ghost use Rattle.std.specs.Fmt.{decimal, signed_decimal};
 ghost use lib.Signed.{mag};
 ghost use Rattle.json.specs.Spaced.{IsGap};
