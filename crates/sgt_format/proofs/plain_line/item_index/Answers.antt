@@ -1,5 +1,5 @@
 use Rattle.std.proofs.Common.{rules, ◌∷◌, [], ◌++◌, length, inl, refl, ap, ◌∙◌, arith}
-use Rattle.sgt_format.proofs.EventsAhead.{no_newline-space, no_newline-words}
+use Rattle.sgt_format.proofs.EventsAhead.{no_newline-space}
 use Rattle.sgt_format.proofs.Words.{one_then}
 use Rattle.sgt_format.proofs.plain_line.item_index.Goals as goal
 
