@@ -9,6 +9,7 @@ pub mod Written
 pub mod Words
 pub mod BracketedDigits
 pub mod PlainLines
+pub mod EventsAhead
 pub mod PlainCalls
 pub mod PlainRecords
 pub mod WrittenRecords

@@ -1,10 +1,15 @@
 -- The calls of lines in plain form.
-use Rattle.std.specs.Prelude.{◌≡◌, ◌<◌, ◌≤◌, ℕ, ℤ, Bool, false, List, [], ◌∷◌, ◌++◌, length, map, ⊤}
+use Rattle.std.specs.Prelude.{◌≡◌, ◌<◌, ◌≤◌, ℕ, ℤ, Bool, false, ◌||◌, nat_eq, List, [], ◌∷◌, ◌++◌, length, map, ⊤}
 use Rattle.std.specs.Fmt.{decimal, signed_decimal}
 use lib.Signed.{mag}
 use Rattle.json.specs.Token.{Token, end_array, number}
 use Rattle.json.specs.Spaced.{IsGap, AreGaps, print_spaced}
 use Rattle.sgt_format.specs.declared.call.JobCall.{JobCall}
+
+-- whether a newline is among these bytes
+abbrev pub has_newline : List ℕ → Bool
+has_newline [] = false
+has_newline (x ∷ xs) = nat_eq x 10 || has_newline xs
 
 -- the tokens of numbers, and of the brackets that close their list and the line
 abbrev pub number_tokens : List ℤ → List Token

@@ -56,8 +56,8 @@ pub(crate) fn append_number_line(
     append_written(lines, &line, start)
 }
 
-/// Appends what a line holds from `start` to its end at [`LONGEST_LINE`]. A line of at most 32 bytes is appended with
-/// what is after it, which is cut off: 32 bytes are copied at once.
+/// Appends what a line holds from `start` to its end at [`LONGEST_LINE`]. If there is capacity, a line of at most 32 bytes is
+/// appended with what is after it, which is cut off: 32 bytes are copied at once.
 #[inline(always)]
 pub(crate) fn append_written(
     lines: &mut Vec<u8>,
@@ -68,13 +68,23 @@ pub(crate) fn append_written(
     ensures ok { OnOk result (lines.new.items ≡ lines.old.items ++ take (64 - start) (drop start line.now)) }
     ensures err { OnErr result (lines.new.items ≡ lines.old.items) }
 {
-    if start < LONGEST_LINE - CHUNK {
-        return lines.extend_from_slice(&line[start..LONGEST_LINE]);
+    if start < LONGEST_LINE - CHUNK || lines.capacity() - lines.len() < CHUNK {
+        return append_exactly(lines, line, start);
     }
     let before = lines.len();
     lines.extend_from_slice(&line[start..start + CHUNK])?;
     lines.truncate(before + (LONGEST_LINE - start));
     Ok(())
+}
+
+/// The same, of any line. It stands apart, so that the calls that it makes are not in the way of most lines.
+#[inline(never)]
+fn append_exactly(lines: &mut Vec<u8>, line: &[u8], start: usize) -> Result<(), AllocError>
+    requires { (start ≤ 64) × (length line.now ≡ 96) }
+    ensures ok { OnOk result (lines.new.items ≡ lines.old.items ++ take (64 - start) (drop start line.now)) }
+    ensures err { OnErr result (lines.new.items ≡ lines.old.items) }
+{
+    lines.extend_from_slice(&line[start..LONGEST_LINE])
 }
 
 /// Writes a key and a value so that they end at `end`, and returns where they start.

@@ -48,6 +48,7 @@ pub use event_line::read_event;
 pub use job_line::read_job;
 pub use laws::written_records_are_read;
 pub use opening::{Opening, read_opening};
+pub use plain_line::read_event_ahead;
 pub use procedure_line::read_procedure_line;
 pub use record_line::{Record, RecordLine, read_record_line};
 pub use record_text::append_records;

@@ -1,13 +1,13 @@
 //! Lines in plain form: no escape, no space but one after a comma, and whole numbers of at most eighteen digits. Most
 //! lines are written so.
-ghost use Rattle.std.specs.Prelude.{◌≡◌, ◌≤◌, ◌<◌, ◌-◌, ◌∷◌, [], ◌++◌, ℕ, List, false, length, take, drop, slice_index, codes, Ok, Some, IfSome, IsTrue};
+ghost use Rattle.std.specs.Prelude.{◌≡◌, ◌≤◌, ◌<◌, ◌+◌, ◌-◌, ◌∷◌, [], ◌++◌, ℕ, List, false, length, take, drop, slice_index, codes, Ok, Some, IfSome, IsTrue};
 ghost use Rattle.std.specs.Fmt.{decimal, signed_decimal};
 ghost use lib.Signed.{mag};
 ghost use Rattle.json.specs.Spaced.{IsGap};
 ghost use Rattle.sgt_format.specs.EventLines.{event_of};
 ghost use Rattle.sgt_format.specs.JobLines.{job_of};
 ghost use Rattle.sgt_format.specs.RecordLines.{record_line_of};
-ghost use Rattle.sgt_format.specs.PlainLines.{comma_behind, AreArguments, AreSmall, IsCall};
+ghost use Rattle.sgt_format.specs.PlainLines.{comma_behind, has_newline, AreArguments, AreSmall, IsCall};
 
 use crate::call::JobCall;
 use crate::record_line::RecordLine;
@@ -32,6 +32,50 @@ pub(crate) fn plain_event(line: &[u8], event: &mut Event) -> Option<()>
         return Some(());
     }
     plain_start_or_quit(line, event)
+}
+
+/// Reads a step or a commit in plain form at the front of a text into `event`, and returns the length of its line, which a
+/// newline follows. If this returns `None`, the line may still be any line.
+#[inline(always)]
+pub fn read_event_ahead(text: &[u8], event: &mut Event) -> Option<usize>
+    requires { length text.now ≡ 64 }
+    ensures end { IfSome result (λ len. (len < 64) × (slice_index text.now len ≡ 10)) }
+    ensures unbroken { IfSome result (λ len. has_newline (take len text.now) ≡ false) }
+    ensures event { IfSome result (λ len. event_of (take len text.now) ≡ Ok event.new) }
+{
+    if text[4] == b'e' {
+        let (t, len) = tid_ahead(text, b"[\"step\",")?;
+        *event = Event::Step(t);
+        return Some(len);
+    }
+    if text[4] == b'm' {
+        let (t, len) = tid_ahead(text, b"[\"commit\",")?;
+        *event = Event::Commit(t);
+        return Some(len);
+    }
+    None
+}
+
+/// The transaction of a line that is these words, its number of at most eight digits and a closing bracket, at the front of a
+/// text, and the length of the line, which a newline follows. One space before the number is skipped.
+#[inline(always)]
+fn tid_ahead(text: &[u8], words: &[u8]) -> Option<(Tid, usize)>
+    requires size { length text.now ≡ 64 }
+    requires words { (8 ≤ length words.now) × (length words.now ≤ 10) }
+    requires unbroken { has_newline words.now ≡ false }
+    ensures number { IfSome result (λ found. (gap : List ℕ) × IsGap gap
+        × (take found.1 text.now ≡ words.now ++ (gap ++ (decimal found.0 ++ 93 ∷ [])))) }
+    ensures small { IfSome result (λ found. found.0 < 4_294_967_296) }
+    ensures end { IfSome result (λ found. (found.1 < 64) × (slice_index text.now found.1 ≡ 10)) }
+    ensures unbroken { IfSome result (λ found. has_newline (take found.1 text.now) ≡ false) }
+{
+    let at = item_index(text, words)?;
+    let (number, digits) = leading_digits(&text[at..at + 8])?;
+    let last = at + digits;
+    if text[last] != b']' || text[last + 1] != b'\n' {
+        return None;
+    }
+    Some((Tid(u32::try_from(number).ok()?), last + 1))
 }
 
 /// The same, of a start or a quit. A start's arguments are built here, so that a step needs no space for them.
@@ -115,6 +159,8 @@ fn behind<'a>(text: &'a [u8], words: &[u8]) -> Option<&'a [u8]>
 fn item_index(line: &[u8], words: &[u8]) -> Option<usize>
     requires { (8 ≤ length line.now) × (8 ≤ length words.now) }
     ensures within { IfSome result (λ at. at ≤ length line.now) }
+    ensures near { IfSome result (λ at. at ≤ length words.now + 1) }
+    ensures unbroken { has_newline words.now ≡ false → IfSome result (λ at. has_newline (take at line.now) ≡ false) }
     ensures item { IfSome result (λ at. (gap : List ℕ) × IsGap gap
         × (line.now ≡ words.now ++ (gap ++ drop at line.now))) }
 {

@@ -1,18 +1,18 @@
 -- Laws of newlines.
-use Rattle.std.proofs.Common.{◌≡◌, ◌≢◌, ℕ, zero, suc, ◌+◌, ◌*◌, ◌<◌, ◌≤◌, Bool, true, false, cond, not, eqb, ltb, map, List, [], ◌∷◌, ◌++◌, length, take, get_or, refl, ap, sym, ◌∙◌, arith, suc-le-suc, subst, ◌-◌, drop}
+use Rattle.std.proofs.Common.{◌≡◌, ◌≢◌, ℕ, zero, suc, ◌+◌, ◌*◌, ◌<◌, ◌≤◌, Bool, true, false, cond, not, eqb, ltb, map, List, [], ◌∷◌, ◌++◌, length, take, get_or, refl, ap, sym, ◌∙◌, arith, suc-le-suc, lt-ltb, subst, ◌-◌, drop, inl, inr}
 use Rattle.std.proofs.lemmas.Grind.{common_steps}
 use Rattle.std.proofs.lemmas.Bool.Decides.{nat_tests}
 use Rattle.std.proofs.Math.Seq.{take-add, take-append-add}
-use Rattle.std.proofs.lemmas.List.{get_or-append-add, length-append, length-take}
-use Rattle.std.specs.Prelude.{Option, None, Some, is_some, min}
+use Rattle.std.proofs.lemmas.List.{get_or-append-add, get_or-drop, drop-drop, length-append, length-drop, length-take}
+use Rattle.std.specs.Prelude.{Option, None, Some, min, ◌⊎◌}
 use Rattle.std.proofs.lemmas.Bool.{true≢false, eqb-true, eq-eqb, ltb-true, ltb-false}
-use Rattle.std.specs.Option.{option_map}
+use Rattle.std.specs.Option.{option_map, option_map_or}
 use lib.Count.{count_trailing_zeros}
 use lib.Lanes.{chunk, mask_l}
 use Rattle.std.specs.List.{prefix_len}
 use Rattle.std.proofs.lemmas.Simd.{length-chunk, run_in_chunk_fails, run_in_chunk_stops, trailing_mask_l}
-use Rattle.memchr.specs.Find.{IsFirstByte, NoneBefore, Passes, is_byte}
-use Rattle.sgt_input.specs.Lines.{has_break, IsBreak}
+use Rattle.memchr.specs.Find.{IsFirstByte, IsLastByte, NoneBefore, Passes, is_byte}
+use Rattle.sgt_input.specs.Lines.{has_break, AreWhole, IsBreak}
 
 -- no newline in either of two lists of bytes
 pub no_break-append : (xs ys : List ℕ) → has_break xs ≡ false → has_break ys ≡ false → has_break (xs ++ ys) ≡ false
@@ -24,16 +24,6 @@ pub has_break-at : (bytes : List ℕ) (n : ℕ) → n < length bytes → get_or 
 has_break-at [] n inside ten = absurd (omega arith)
 has_break-at (x ∷ xs) zero inside ten = grind (arith, nat_tests)
 has_break-at (x ∷ xs) (suc n) inside ten = grind (arith, nat_tests, has_break-at xs n)
-
--- a position is known exactly if there is a newline
-pub found-is : (bytes : List ℕ) (found : Option ℕ) → IsBreak bytes found → is_some found ≡ has_break bytes
-found-is bytes None at = sym at
-found-is bytes (Some n) at = sym (has_break-at bytes n at.0 at.1)
-
--- no position is known if there is no newline
-pub found-none : (bytes : List ℕ) (found : Option ℕ) → IsBreak bytes found → has_break bytes ≡ false → found ≡ None
-found-none bytes None at none = refl
-found-none bytes (Some n) at none = absurd (true≢false (sym (has_break-at bytes n at.0 at.1) ∙ none))
 
 -- no newline among fewer bytes
 pub no_break-fewer : (m n : ℕ) (bytes : List ℕ) → m ≤ n → has_break (take n bytes) ≡ false → has_break (take m bytes) ≡ false
@@ -136,3 +126,91 @@ break-near bytes from within stop n is fits none first ten =
         by-place true e is-ten = true≢false (sym (has_break-at (take from bytes) k (grind (arith, common_steps, ltb-true k from e))
             (grind (arith, common_steps, ltb-true k from e))) ∙ none)
         by-place false e is-ten = first.before k (omega (arith, ltb-false k from e)) below (eq-eqb _ 10 is-ten)
+
+-- ---- whole lines
+
+-- a newline after the first m bytes
+break-behind-none : (m n : ℕ) (bytes : List ℕ) → has_break (drop m bytes) ≡ false → n < length bytes → get_or bytes n 0 ≡ 10 → n < m
+break-behind-none zero n bytes none inside ten = absurd (true≢false (sym (has_break-at bytes n inside ten) ∙ none))
+break-behind-none (suc m) zero bytes none inside ten = omega arith
+break-behind-none (suc m) (suc n) [] none inside ten = absurd (omega arith)
+break-behind-none (suc m) (suc n) (x ∷ bytes) none inside ten = omega (arith, break-behind-none m n bytes none (omega arith) ten)
+
+-- the first newline is in the whole lines
+pub break-whole : (bytes : List ℕ) (n k : ℕ) → AreWhole bytes n → IsBreak bytes (Some k) → k < n
+break-whole bytes n k are at = break-behind-none n k bytes are.1 at.0 at.1
+
+-- some lines are whole exactly if there is a newline
+pub whole-some : (bytes : List ℕ) (n : ℕ) → AreWhole bytes n → 0 < n → has_break bytes ≡ true
+whole-some bytes n (inside, none, inl empty) some = absurd (omega arith)
+whole-some bytes n (inside, none, inr ten) some = has_break-at bytes (n - 1) (omega arith) ten
+
+pub whole-none : (bytes : List ℕ) (n : ℕ) → AreWhole bytes n → n ≡ 0 → has_break bytes ≡ false
+whole-none bytes n are empty = ap (λ k. has_break (drop k bytes)) (sym empty) ∙ are.1
+
+pub whole-is : (bytes : List ℕ) (n : ℕ) → AreWhole bytes n → ltb 0 n ≡ has_break bytes
+whole-is bytes zero are = sym (whole-none bytes zero are refl)
+whole-is bytes (suc n) are = lt-ltb 0 (suc n) (omega arith) ∙ sym (whole-some bytes (suc n) are (omega arith))
+
+pub whole-zero : (bytes : List ℕ) (n : ℕ) → AreWhole bytes n → has_break bytes ≡ false → n ≡ 0
+whole-zero bytes zero are none = refl
+whole-zero bytes (suc n) are none = absurd (true≢false (sym (whole-some bytes (suc n) are (omega arith)) ∙ none))
+
+-- after the first line
+pub whole-behind : (bytes : List ℕ) (n k : ℕ) → AreWhole bytes n → IsBreak bytes (Some k) → AreWhole (drop (k + 1) bytes) (n - (k + 1))
+whole-behind bytes n k are at =
+    let before : k < n = break-whole bytes n k are at in
+    let back : k + 1 + (n - (k + 1)) ≡ n = omega (arith, before) in (
+      omega (arith, length-drop (k + 1) bytes, are.0),
+      ap has_break (drop-drop (n - (k + 1)) (k + 1) bytes ∙ ap (λ m. drop m bytes) back) ∙ are.1,
+      last (are.2) back,
+    )
+  where
+    last : (n ≡ 0) ⊎ (get_or bytes (n - 1) 0 ≡ 10) → k + 1 + (n - (k + 1)) ≡ n
+        → (n - (k + 1) ≡ 0) ⊎ (get_or (drop (k + 1) bytes) (n - (k + 1) - 1) 0 ≡ 10)
+    last (inl empty) back = inl (omega (arith, empty))
+    last (inr ten) back = by (n - (k + 1)) refl
+      where
+        by : (m : ℕ) → m ≡ n - (k + 1) → (m ≡ 0) ⊎ (get_or (drop (k + 1) bytes) (m - 1) 0 ≡ 10)
+        by zero is = inl refl
+        by (suc m) is = inr (ap (λ i. get_or (drop (k + 1) bytes) i 0) (omega arith) ∙ get_or-drop (k + 1) bytes m 0 ∙ ap (λ i. get_or bytes i 0) (omega (arith, is, back)) ∙ ten)
+
+drop-front : (front bytes : List ℕ) (n : ℕ) → drop (length front + n + 1) (front ++ bytes) ≡ drop (n + 1) bytes
+drop-front [] bytes n = ap (λ k. drop k bytes) (omega arith)
+drop-front (x ∷ xs) bytes n =
+    let more : length (x ∷ xs) + n + 1 ≡ suc (length xs + n + 1) = omega arith in
+    ap (λ k. drop k (x ∷ (xs ++ bytes))) more ∙ drop-front xs bytes n
+
+-- the last newline among bytes after some that have none
+pub whole-last : (front bytes : List ℕ) (found : Option ℕ) → has_break front ≡ false → IsLastByte (is_byte 10) bytes found
+    → AreWhole (front ++ bytes) (option_map_or (λ n. length front + n + 1) found 0)
+whole-last front bytes None none last = (
+  omega arith,
+  no_break-append front bytes none (no_break-each bytes (λ k inside ten. last k (omega arith) inside (eq-eqb _ 10 ten))),
+  inl refl,
+)
+whole-last front bytes (Some n) none last =
+    let inside : n < length bytes = last.0.high in
+    let behind : drop (length front + n + 1) (front ++ bytes) ≡ drop (n + 1) bytes = drop-front front bytes n in (
+      omega (arith, length-append front bytes, inside),
+      ap has_break behind ∙ no_break-each (drop (n + 1) bytes) (λ k fits ten. last.0.after (n + 1 + k) (omega arith)
+          (omega (arith, length-drop (n + 1) bytes, fits)) (eq-eqb _ 10 (sym (get_or-drop (n + 1) bytes k 0) ∙ ten))),
+      inr (ap (λ i. get_or (front ++ bytes) i 0) (omega arith) ∙ get_or-append-add front bytes n 0 ∙ eqb-true _ 10 last.1),
+    )
+
+-- the same in a part of the bytes
+pub whole-within : (bytes : List ℕ) (from within stop : ℕ) (found : Option ℕ) → stop ≡ min within (length bytes) → from ≤ within
+    → from ≤ length bytes → has_break (take from bytes) ≡ false → IsLastByte (is_byte 10)
+    (take (stop - from) (drop from bytes)) found → AreWhole (take within bytes) (option_map_or (λ n. from + n + 1) found 0)
+whole-within bytes from within stop found is inside fits none last =
+    let size : length (take from bytes) ≡ from = grind (arith, common_steps) in
+    let whole : take from bytes ++ take (stop - from) (drop from bytes) ≡ take within bytes =
+    sym (take-add from (stop - from) bytes) ∙ grind (arith, common_steps) in
+    subst (λ n. AreWhole (take within bytes) (option_map_or (λ k. n + k + 1) found 0)) size
+    (subst (λ xs. AreWhole xs (option_map_or (λ k. length (take from bytes) + k + 1) found 0)) whole
+    (whole-last (take from bytes) (take (stop - from) (drop from bytes)) found none last))
+
+-- if 64 bytes are whole lines, so many are held and within the limit
+pub whole-wide : (held : List ℕ) (within n : ℕ) → AreWhole (take within held) n → 64 ≤ n → (64 ≤ length held) × (64 ≤ within)
+whole-wide held within n are wide =
+    (omega (arith, are.0, length-take within held), omega (arith, are.0, length-take within held))

@@ -1,11 +1,11 @@
 -- Laws of known bytes.
 use Rattle.std.proofs.Common.{◌≡◌, ℕ, ◌+◌, ◌≤◌, List, ◌++◌, length, take, drop, refl, ap, sym, ◌∙◌, arith, append_assoc, inl, inr}
-use Rattle.std.specs.Prelude.{Result, Ok, Err, OnErr, Option, None, Some, Bool, true, false, is_some, ◌⊎◌, if◌then◌else◌}
+use Rattle.std.specs.Prelude.{Result, Ok, Err, OnErr, Option, None, Some, Bool, true, false, if◌then◌else◌}
 use Rattle.std.proofs.lemmas.Grind.{common_steps}
 use Rattle.sgt_input.specs.Lines.{has_break}
 use Rattle.sgt_input.specs.Intake.{Intake, bytes_left, AtRest, IsReady, has_whole_line}
 use Rattle.std.proofs.lemmas.Bool.{true≢false}
-use Rattle.sgt_input.proofs.Breaks.{found-none, found-is}
+use Rattle.sgt_input.proofs.Breaks.{whole-zero}
 use Rattle.std.proofs.lemmas.List.{take-append-drop}
 use Rattle.std.specs.Io.KnownBytes.{Keeps, Consumes, prepend_known}
 
@@ -29,14 +29,14 @@ pub keeps-read : (i : Intake) (ended' : Bool) (held' : List ℕ) (rest rest' : O
 keeps-read i ended' held' rest rest' going going' kept came = rw (going, going') (keeps-more i.held held' rest rest' kept came)
 
 -- if the source has ended, the bytes held are the last line
-pub at-end : (number within : ℕ) (ended : Bool) (held held' : List ℕ) (found : Option ℕ) → AtRest number within ended held found
+pub at-end : (number within : ℕ) (ended : Bool) (held held' : List ℕ) (whole : ℕ) → AtRest number within ended held whole
     → has_break (take within held) ≡ false → length held ≤ 65536 → length held ≤ within → held' ≡ held
-    → AtRest number within true held' found
-at-end number within ended held held' found rest none short inside same = rw (same) (record {
+    → AtRest number within true held' whole
+at-end number within ended held held' whole rest none short inside same = rw (same) (record {
   counts = rest.counts;
   few = rest.few;
-  at = rest.at;
-  last = λ _. (found-none (take within held) found rest.at none, inside, short);
+  are = rest.are;
+  last = λ _. (whole-zero (take within held) whole rest.are none, inside, short);
 })
 
 -- the same bytes
@@ -55,13 +55,6 @@ keeps-trans (Some xs) (Some ys) (Some zs) first second = second ∙ first
 pub not-ready : (i : Intake) → has_whole_line i ≡ false → i.ended ≡ false → ¬ IsReady i
 not-ready i none going (inl whole) = true≢false (sym whole ∙ none)
 not-ready i none going (inr ended) = true≢false (sym ended ∙ going)
-
--- if no whole line is held and the next line has been read, it is short
-pub ready-short : (number within : ℕ) (ended : Bool) (held : List ℕ) (found : Option ℕ) → AtRest number within ended held found
-    → found ≡ None → (has_break (take within held) ≡ true) ⊎ (ended ≡ true) → length held ≤ 65536
-ready-short number within ended held found rest none (inl whole) =
-    absurd (true≢false (sym whole ∙ sym (found-is (take within held) found rest.at) ∙ ap is_some none))
-ready-short number within ended held found rest none (inr last) = (rest.last last).2
 
 -- a fact also holds at an error
 pub on_err : {T E P : Type 0} → P → (r : Result T E) → OnErr r P

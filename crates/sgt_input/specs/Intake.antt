@@ -4,7 +4,7 @@ use Rattle.std.specs.Option.{option_map}
 use Rattle.std.specs.Io.KnownBytes.{Keeps, prepend_known}
 use Rattle.sgt_input.specs.declared.fault.Fault.{Fault}
 use Rattle.sgt_input.specs.declared.fault.Fault.TheVariants.{LongLine, TooLong, Reading}
-use Rattle.sgt_input.specs.Lines.{Cut, cut_within, has_break, whole_lines, IsBreak, Ending, AtLongLine, AtLimit}
+use Rattle.sgt_input.specs.Lines.{AreWhole, Cut, cut_within, has_break, whole_lines, Ending, AtLongLine, AtLimit}
 
 -- the last line returned; the number of lines returned; the bytes read of lines not returned yet; how many more bytes
 -- of lines the input's limit allows; and whether the source has ended
@@ -53,13 +53,13 @@ taken i = if i.ended then i.line else i.line ++ 10 ∷ []
 abbrev pub work : Intake → ℕ
 work i = (i.within + 1 - length i.held) + (if i.ended then 0 else 1)
 
--- the invariant between two calls: lines and bytes are counted; at most one byte past the limit was read; the position
--- of the first newline is known; and after the end of the source there is at most one last line
-pub record AtRest (number within : ℕ) (ended : Bool) (held : List ℕ) (found : Option ℕ) : Type 0 where
+-- the invariant between two calls: lines and bytes are counted; at most one byte past the limit was read; it is known how many
+-- bytes held are whole lines; and after the end of the source there is at most one last line
+pub record AtRest (number within : ℕ) (ended : Bool) (held : List ℕ) (whole : ℕ) : Type 0 where
   pub counts : number + within ≤ 16777216
   pub few : length held ≤ within + 1
-  pub at : IsBreak (take within held) found
-  pub last : IsTrue ended → (found ≡ None) × (length held ≤ within) × (length held ≤ 65536)
+  pub are : AreWhole (take within held) whole
+  pub last : IsTrue ended → (whole ≡ 0) × (length held ≤ within) × (length held ≤ 65536)
 
 -- the next line has been read: it is whole, or the source has ended and it is the last one
 abbrev pub IsReady : Intake → Type 0

@@ -1,5 +1,5 @@
 -- A text as lines. A newline ends each line; the last line may lack it.
-use Rattle.std.specs.Prelude.{◌≡◌, ℕ, Bool, false, ◌||◌, if◌then◌else◌, nat_eq, nat_le, List, [], ◌∷◌, ◌++◌, length, take, ◌<◌, slice_index, Option, None, Some}
+use Rattle.std.specs.Prelude.{◌≡◌, ℕ, Bool, false, ◌||◌, ◌⊎◌, if◌then◌else◌, nat_eq, nat_le, List, [], ◌∷◌, ◌++◌, ◌-◌, length, take, drop, ◌<◌, ◌≤◌, slice_index, Option, None, Some}
 
 -- whether these bytes contain a newline
 abbrev pub has_break : List ℕ → Bool
@@ -10,6 +10,10 @@ has_break (x ∷ xs) = nat_eq x 10 || has_break xs
 abbrev pub IsBreak : List ℕ → Option ℕ → Type 0
 IsBreak bytes None = has_break bytes ≡ false
 IsBreak bytes (Some n) = (n < length bytes) × (slice_index bytes n ≡ 10) × (has_break (take n bytes) ≡ false)
+
+-- the first n bytes are whole lines with their newlines, and no newline comes after them
+abbrev pub AreWhole : List ℕ → ℕ → Type 0
+AreWhole bytes n = (n ≤ length bytes) × (has_break (drop n bytes) ≡ false) × ((n ≡ 0) ⊎ (slice_index bytes (n - 1) ≡ 10))
 
 -- with this byte at the front of the first line, if there is a line
 abbrev pub in_front : ℕ → List (List ℕ) → List (List ℕ)

@@ -2,13 +2,13 @@
 ghost use Rattle.std.specs.Prelude.{◌≡◌, ◌≢◌, ℕ, if◌then◌else◌, IsTrue, IsFalse, true, false, IfOk, IfErr, OnOk, OnErr, OnSome, None, Some, min, [], ◌++◌, ◌+◌, ◌-◌, ◌^◌, ◌<◌, ◌≤◌, ◌↔◌, ◌⊎◌, IfSome, IsNone, length, take, drop};
 ghost use Rattle.std.specs.Io.KnownBytes.{Consumes, Keeps};
 ghost use Rattle.memchr.specs.Find.{IsFirst, Passes, is_byte};
-ghost use Rattle.sgt_input.specs.Lines.{has_break, whole_lines, IsBreak, AtEnd};
+ghost use Rattle.sgt_input.specs.Lines.{has_break, whole_lines, AreWhole, IsBreak, AtEnd};
 ghost use Rattle.sgt_input.specs.Intake.{Intake, before_input, has_whole_line, bytes_left, work, IsReady, IsGiven, IsLong, cut_left, Gives, EndsAs, Explains, taken, come};
 
 use crate::buffer::Buffer;
 use crate::fault::Fault;
 use crate::source::{Failed, Source};
-use memchr::memchr;
+use memchr::{memchr, memrchr};
 use sgt_model::NoMemory;
 use std::alloc::Global;
 use std::marker::Model;
@@ -19,6 +19,9 @@ const LONGEST_LINE: usize = 65_536;
 
 /// The most bytes that an input may have.
 const LONGEST_INPUT: usize = 16_777_216;
+
+/// How many bytes [`Lines::window`] returns.
+const WINDOW: usize = 64;
 
 /// The position of the first newline among the first `within` bytes, if none is among the first `from`.
 #[inline(always)]
@@ -55,12 +58,26 @@ fn near_break(bytes: &[u8], from: usize) -> Option<usize>
     Some(from + marks.trailing_zeros() as usize)
 }
 
+/// How many bytes the whole lines among the first `within` bytes have, if no newline is among the first `from`.
+fn whole_length(bytes: &[u8], from: usize, within: usize) -> usize
+    requires known { has_break (take from bytes.now) ≡ false }
+    requires within { from ≤ within }
+    requires bounds { from ≤ length bytes.now }
+    ensures { AreWhole (take within bytes.now) result }
+{
+    let stop = within.min(bytes.len());
+    match memrchr(b'\n', &bytes[from..stop]) {
+        Some(n) => from + n + 1,
+        None => 0,
+    }
+}
+
 /// Splits the bytes of a source into lines, within the limits. Its buffer has a fixed size, however long the input is.
 #[derive(Drop)]
 pub struct Lines {
     buffer: Buffer,
-    /// The position of the first newline among the bytes held that are within the limit.
-    found: Option<usize>,
+    /// How many of the bytes held are whole lines within the limit, with their newlines.
+    whole: usize,
     /// How many of the bytes not returned are within the limit.
     within: usize,
     /// How many lines were returned.
@@ -70,8 +87,6 @@ pub struct Lines {
 }
 
 impl Model for Lines {
-    ghost use Rattle.std.specs.Prelude.{◌≡◌, ◌≤◌, ◌+◌, take, length, IsTrue, None};
-    ghost use Rattle.sgt_input.specs.Lines.{IsBreak};
     ghost use Rattle.sgt_input.specs.Intake.{Intake, AtRest};
 
     ghost Value = { Intake };
@@ -84,7 +99,7 @@ impl Model for Lines {
       ended = l.ended;
     } };
 
-    ghost invariant = { λ l. AtRest l.number l.within l.ended l.buffer.held l.found };
+    ghost invariant = { λ l. AtRest l.number l.within l.ended l.buffer.held l.whole };
 }
 
 impl Lines {
@@ -98,7 +113,7 @@ impl Lines {
     {
         Ok(Lines {
             buffer: Buffer::new(alloc)?,
-            found: None,
+            whole: 0,
             within: LONGEST_INPUT,
             number: 0,
             ended: false,
@@ -123,7 +138,7 @@ impl Lines {
     pub fn has_line(&self) -> bool
         ensures { result ≡ has_whole_line self.now }
     {
-        self.found.is_some()
+        self.whole > 0
     }
 
     /// Moves to the next line, which `line` then returns. Returns whether there is one. It reads only if that line has
@@ -195,7 +210,7 @@ impl Lines {
         if n == 0 {
             self.ended = true;
         } else {
-            self.found = find_break(self.buffer.held(), held, self.within);
+            self.whole = whole_length(self.buffer.held(), held, self.within);
         }
         Ok(())
     }
@@ -226,7 +241,7 @@ impl Lines {
         ensures failed { result ≡ Err Fault.Reading →
             S.failures source.new ≡ S.failures source.old + 1 }
     {
-        while self.found.is_none() && !self.ended {
+        while !self.has_line() && !self.ended {
             let held = self.buffer.held().len();
             if held.min(self.within) > LONGEST_LINE {
                 return Err(Fault::LongLine(self.number + 1));
@@ -251,7 +266,7 @@ impl Lines {
             ⊎ ((self.now.held ≡ []) × (self.now.ended ≡ true)) }
     {
         let held = self.buffer.held();
-        match self.found {
+        match self.first_break() {
             Some(len) => {
                 if len > LONGEST_LINE {
                     return None;
@@ -282,20 +297,78 @@ impl Lines {
         ensures limit { self.old.within ≤ 16777216 }
         ensures few { length self.new.held ≤ self.new.within + 1 }
     {
-        let (len, dropped) = match self.found {
-            Some(len) => (len, 1),
-            None => (self.buffer.held().len(), 0),
-        };
-        if len > LONGEST_LINE {
-            return Err(Fault::LongLine(self.number + 1));
+        match self.first_break() {
+            Some(len) => {
+                if len > LONGEST_LINE {
+                    return Err(Fault::LongLine(self.number + 1));
+                }
+                self.pass(len);
+                Ok(true)
+            }
+            None => Ok(self.give_last()),
         }
-        if len + dropped == 0 {
-            return Ok(false);
+    }
+
+    /// The position of the first newline among the bytes held that are within the limit.
+    #[inline(always)]
+    fn first_break(&self) -> Option<usize>
+        ensures { IsBreak (take self.now.within self.now.held) result }
+    {
+        if !self.has_line() {
+            return None;
         }
-        self.buffer.take(len, dropped);
-        self.within -= len + dropped;
+        find_break(self.buffer.held(), 0, self.within)
+    }
+
+    /// Moves to the last line, which has no newline, if there is one.
+    #[inline(never)]
+    fn give_last(&mut self) -> bool
+        requires ready { IsReady self.old }
+        requires none { has_whole_line self.old ≡ false }
+        ensures given { IsTrue result → IsGiven self.old self.new }
+        ensures end { IsFalse result →
+            (self.new ≡ self.old) × (self.old.held ≡ []) × (self.old.ended ≡ true) }
+        ensures nearer { IsTrue result → self.new.within < self.old.within }
+        ensures ended { self.new.ended ≡ self.old.ended }
+        ensures limit { self.old.within ≤ 16777216 }
+        ensures few { length self.new.held ≤ self.new.within + 1 }
+    {
+        let len = self.buffer.held().len();
+        if len == 0 {
+            return false;
+        }
+        self.buffer.take(len, 0);
+        self.within -= len;
         self.number += 1;
-        self.found = find_break(self.buffer.held(), 0, self.within);
-        Ok(true)
+        true
+    }
+
+    /// The next 64 bytes of whole lines, if so many are held.
+    #[inline(always)]
+    pub fn window(&self) -> Option<&[u8]>
+        ensures size { IfSome result (λ bytes. length bytes.now ≡ 64) }
+        ensures bytes { IfSome result (λ bytes. bytes.now ≡ take 64 (take self.now.within self.now.held)) }
+    {
+        if self.whole < WINDOW {
+            return None;
+        }
+        Some(&self.buffer.held()[..WINDOW])
+    }
+
+    /// Moves to the next line, which is held and has this length without its newline. It does not read.
+    #[inline(always)]
+    pub fn pass(&mut self, len: usize)
+        requires line { IsBreak (take self.old.within self.old.held) (Some len) }
+        requires short { len ≤ 65536 }
+        ensures given { IsGiven self.old self.new }
+        ensures line { self.new.line ≡ take len self.old.held }
+        ensures nearer { self.new.within < self.old.within }
+        ensures limit { self.old.within ≤ 16777216 }
+        ensures few { length self.new.held ≤ self.new.within + 1 }
+    {
+        self.buffer.take(len, 1);
+        self.within -= len + 1;
+        self.number += 1;
+        self.whole -= len + 1;
     }
 }

@@ -1,4 +1,5 @@
 pub mod Answers
+pub mod EventsAhead
 pub mod NextLines
 pub mod Parts
 pub mod WholeLines

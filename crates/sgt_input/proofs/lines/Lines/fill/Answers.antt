@@ -1,11 +1,10 @@
-use Rattle.std.proofs.Common.{rules, ◌≡◌, ◌<◌, ◌≤◌, sym, ◌∙◌, ap, subst, false, take, length, inl, inr}
+use Rattle.std.proofs.Common.{rules, ◌≡◌, ◌<◌, ◌≤◌, sym, ◌∙◌, subst, false, length}
 use Rattle.sgt_input.specs.Lines.{AtLongLine, AtLimit}
 use Rattle.sgt_input.specs.Intake.{has_whole_line, IsReady}
-use Rattle.sgt_input.proofs.Breaks.{found-is, long-none}
+use Rattle.sgt_input.proofs.Breaks.{long-none}
 use Rattle.sgt_input.proofs.Known.{keeps-trans, not-ready}
 use Rattle.sgt_input.proofs.Given.{keeps-ends, ends-at-long, ends-at-limit}
 use Rattle.sgt_input.proofs.lines.Lines.fill.Goals as goal
-use Rattle.sgt_input.proofs.lines.Lines.fill.Goals.{then-loop-self-test+else-not-self, else-loop-self-test}
 
 pub loop-self-preserved : goal.loop-self-preserved
 loop-self-preserved g c =
@@ -40,11 +39,3 @@ returns-then-held-self-clause-fault g c =
     let few : c.loop-self.self.within ≤ 65536 = search rules in
     keeps-ends c.args.self.now.within c.loop-self.self.within _ _ AtLimit c.loop-self.invariant.bytes c.loop-self.invariant.within
     (ends-at-limit c.loop-self.self (g.S.Source.rest c.loop-self.source) none few past)
-
-pub returns-clause-ready : goal.returns-clause-ready
-returns-clause-ready g c =
-    elim c.loop-self-test.branch [
-      | then-loop-self-test+else-not-self w ↦ inr (search rules)
-      | else-loop-self-test w ↦ inl (ap has_whole_line (sym c.self.view_is)
-          ∙ sym (found-is (take c.self.inside.within c.self.inside.buffer.held) _ c.self.invariant.at) ∙ w.loop-self-test.ensures)
-    ]

@@ -19,7 +19,7 @@ pub invariant_of-self-then-n-eq0 : goal.invariant_of-self-then-n-eq0
 invariant_of-self-then-n-eq0 g c =
     let none : has_break (take c.self.inside.within c.self.inside.buffer.held) ≡ false = ap has_whole_line c.self.view_is
     ∙ c.requires.no_line in
-    at-end c.self.inside.number c.self.inside.within c.self.inside.ended c.self.inside.buffer.held c.read.new.self.held c.self.inside.found
+    at-end c.self.inside.number c.self.inside.within c.self.inside.ended c.self.inside.buffer.held c.read.new.self.held c.self.inside.whole
     c.self.invariant none
     (grind (arith, common_steps))
     (grind (arith, common_steps))
