@@ -2,6 +2,7 @@ pub mod Histories
 pub mod Numbers
 pub mod LiveCount
 pub mod Rows
+pub mod Idle
 pub mod Named
 pub mod Told
 pub mod Crossing

@@ -177,6 +177,15 @@ ends_live s past e legal = let n = live_count s past e legal in elim (started_or
   | inr none ↦ omega arith
 ]
 
+-- after an entry that starts and ends nothing as many are live
+pub same_live : (s : Setting) (past : List Entry) (e : Entry) → Legal s (e ∷ past) → is_start e.reply ≡ false → EndsNone e.reply
+    → length (live_ones (e ∷ past)) ≡ length (live_ones past)
+same_live s past e legal none ends =
+    let n = live_count s past e legal in
+    let a = starts_none e.reply none in
+    let b = ends_no_one e.reply ends in
+    omega arith
+
 kept_none : (p : ℕ → Bool) → ((t : ℕ) → p t ≡ false) → (ts : List ℕ) → length (filter p ts) ≡ 0
 kept_none p none [] = refl
 kept_none p none (t ∷ ts) = ap (λ b. length (cond b (t ∷ filter p ts) (filter p ts))) (none t) ∙ kept_none p none ts

@@ -1,10 +1,11 @@
-use Rattle.std.proofs.Common.{◌≡◌, ◌+◌, ◌≤◌, length, reverse, take, refl, ap, sym, subst, ◌∙◌, inl, inr, arith}
+use Rattle.std.proofs.Common.{◌≡◌, ℕ, ◌+◌, ◌≤◌, cond, length, reverse, take, refl, ap, sym, subst, ◌∙◌, inl, inr, arith}
 use Rattle.std.proofs.lemmas.Bool.{false≢true, cases_lt, eqb-true, eq-eqb}
 use Rattle.sgt_model.specs.declared.entry.Entry.{Entry}
 use Rattle.sgt_model.specs.Fates.{live_ones}
 use Rattle.sgt_model.specs.Questions.{is_commit, is_quit}
 use Rattle.sgt_audit.specs.Lives.{AreLives}
 use Rattle.sgt_audit.proofs.Histories.{one_more, legal_next, first_length}
+use Rattle.sgt_audit.proofs.Idle.{ends_nothing, idle_live, idle_lives}
 use Rattle.sgt_audit.proofs.LiveCount.{live_count, ends_live, at_end}
 use Rattle.sgt_audit.proofs.Nexts.{one_counted}
 use Rattle.sgt_audit.proofs.survey.make_survey.Goals.{After-live_after-live}
@@ -62,6 +63,38 @@ loop-place-preserved c =
           ∙ one_counted (λ (x : Entry). is_commit x.reply) h i e c.entry-entry.ensures.next c.loop-place.invariant.commits;
       quits = c.with-ends.ensures.quits
           ∙ one_counted (λ (x : Entry). is_quit x.reply) h i e c.entry-entry.ensures.next c.loop-place.invariant.quits;
+    }
+
+-- a step that starts and ends nothing changes nothing that is counted
+pub loop-place-preserved-then-is_progress : goal.loop-place-preserved-then-is_progress
+loop-place-preserved-then-is_progress c =
+    let i = c.loop-place.place in
+    let h = c.args.history.now.entries in
+    let e = c.entry-entry.result in
+    let past = reverse (take i h) in
+    let legal = legal_next c.requires.0 h i e c.entry-entry.ensures.next c.requires.1 in
+    let more = one_more h i e c.entry-entry.ensures.next in
+    let idle = c.is_progress.ensures c.if-is_progress.true in
+    let none = ends_nothing e.reply idle.2 in
+    let before = c.loop-place.invariant in
+    let now : c.loop-place.live ≡ length (live_ones (reverse (take (i + 1) h))) =
+    before.live ∙ sym (idle_live c.requires.0 past e legal idle.0 idle.2) ∙ sym (ap (λ l. length (live_ones l)) more) in
+    let no_commit : ◌≡◌ {A = ℕ} (cond (is_commit e.reply) 1 0) 0 = rw none.0 refl in
+    let no_quit : ◌≡◌ {A = ℕ} (cond (is_quit e.reply) 1 0) 0 = rw none.1 refl in
+    record {
+      lives = subst (λ l. AreLives l c.loop-place.lives.items) (sym more)
+          (idle_lives c.requires.0 past e legal idle.0 idle.2 c.loop-place.lives.items before.lives);
+      live = now;
+      few = before.few;
+      before = λ k within. elim (cases_lt k (i + 1)) [
+        | inl less ↦ before.before k (omega arith)
+        | inr last ↦
+            let same : i + 1 ≡ k = omega arith in
+            subst (λ m. length (live_ones (reverse (take m h))) ≤ c.args.workers) same
+            (subst (λ m. m ≤ c.args.workers) now before.few)
+      ];
+      commits = omega (arith, no_commit, one_counted (λ (x : Entry). is_commit x.reply) h i e c.entry-entry.ensures.next before.commits);
+      quits = omega (arith, no_quit, one_counted (λ (x : Entry). is_quit x.reply) h i e c.entry-entry.ensures.next before.quits);
     }
 
 pub returns-then-live-gt0-clause-few : goal.returns-then-live-gt0-clause-few
