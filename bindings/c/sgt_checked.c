@@ -43,8 +43,12 @@ static union {
     sgt_outcome outcome;
 } none;
 
-/* Whether a list may be passed: it is there, or has no items. */
-static bool is_list(const void *at, size_t count) { return at || count == 0; }
+/* Whether a list may be passed: it is there, or has no items. Most are there, so that is one test. */
+static bool is_list(const void *at, size_t count)
+{
+    if (__builtin_expect(at != NULL, 1)) return true;
+    return count == 0;
+}
 
 /*
  * A read leaves the engine as it was, so it takes a pointer to const. While it runs it marks the engine as busy, as every call does; the

@@ -20,7 +20,7 @@ use Rattle.sgt_model.specs.ShortReplies.{full_reply, reply_with, short_reply}
 use Rattle.sgt_model.specs.StartReply.{args_fit, room_reply, taken_reply}
 use Rattle.sgt_model.proofs.Facts.{unstarted-no_fate}
 use Rattle.sgt_engine.specs.EngineView.{Answers, EngineView, HasLists, newest_reply, setting_of, with_entry}
-use Rattle.sgt_c.specs.Runs.{CommitsIf, GivesUp, IsAccess, IsStep, Runs, RunsOn, RunsOnTo, RunsTo, StepsOn, StepsTo, StopsLive, any_write, is_access, is_end, is_write, with_entries}
+use Rattle.sgt_c.specs.Runs.{CommitsIf, GivesUp, IsAccess, IsStep, Runs, RunsOn, RunsOnTo, RunsTo, StepsTo, StopsLive, any_write, is_access, is_end, is_write, with_entries}
 use Rattle.sgt_c.proofs.Replies.{started_in_short, start_without}
 
 -- ---- who is live

@@ -1,22 +1,28 @@
 //! What C asks for, as numbers that may be out of range.
-ghost use Rattle.std.specs.Prelude.{◌≡◌, ◌≤◌, ◌↔◌, IsNone, IfSome};
+ghost use Rattle.std.specs.Prelude.{◌≡◌, ◌≤◌, ◌↔◌, IsNone, IsTrue, IfSome, length};
 ghost use Rattle.sgt_model.specs.Numbers.{IsValue};
 ghost use Rattle.sgt_c.specs.Asked.{IsCall};
 
 use sgt_model::{Args, Key};
 
-/// The procedure number with its arguments, unless the number is over 65535 or there are over 4 arguments.
-pub fn call(procedure: u64, args: &[i64]) -> Option<(u16, Args)>
-    ensures call { IfSome result (λ call. call ≡ (procedure, args.now)) }
-    ensures none { IsNone result ↔ (¬ IsCall procedure args.now) }
+/// Whether the procedure number is at most 65535 and there are at most 4 arguments.
+pub fn is_call(procedure: u64, args: &[i64]) -> bool
+    ensures { IsTrue result ↔ IsCall procedure args.now }
 {
-    if procedure > 65_535 {
-        return None;
+    procedure <= 65_535 && args.len() <= 4
+}
+
+/// The arguments of a call.
+#[inline(always)]
+pub fn arguments(args: &[i64]) -> Args
+    requires { length args.now ≤ 4 }
+    ensures { result ≡ args.now }
+{
+    let mut list = Args::new();
+    for arg in args {
+        list.push(*arg);
     }
-    match Args::from_slice(args) {
-        Some(args) => Some((procedure as u16, args)),
-        None => None,
-    }
+    list
 }
 
 /// The key of a table and a number, unless the table is over 7 or the number is no value.

@@ -11,7 +11,7 @@ ghost use Rattle.sgt_c.specs.Calls.{Answered, EndsSucceed, QuitsSucceed};
 ghost use Rattle.sgt_c.specs.Asked.{IsCall};
 ghost use Rattle.sgt_c.specs.Handles.{IsBusy, IsClosed};
 
-use crate::asked::call;
+use crate::asked::{arguments, is_call};
 use crate::handle::Handle;
 use crate::held::Held;
 use crate::reply_struct::{SgtReply, write_reply};
@@ -41,10 +41,12 @@ pub extern "C" fn sgt_start(
     ensures leaves { IsBusy engine.new.state → IsBusy engine.old.state }
     ensures stays { IsBusy engine.old.state → engine.new.state ≡ engine.old.state }
 {
-    match call(procedure, args) {
-        Some((procedure, args)) => ask(alloc, engine, Event::Start { procedure, args }, reply),
-        None => status::BAD_CALL,
+    if !is_call(procedure, args) {
+        return status::BAD_CALL;
     }
+    let procedure = procedure as u16;
+    let args = arguments(args);
+    ask(alloc, engine, Event::Start { procedure, args }, reply)
 }
 
 /// Runs the transaction up to and including its next access.
@@ -107,6 +109,7 @@ pub extern "C" fn sgt_quit(alloc: Global, engine: &mut Handle, t: u32, reply: &m
 }
 
 /// Runs an event on the engine in a handle, and writes the reply.
+#[inline(always)]
 fn ask(alloc: Global, engine: &mut Handle, event: Event, reply: &mut SgtReply) -> u32
     ensures ok { result ≡ 0 → Answered event engine.old.slot.held engine.new.slot.held reply.new }
     ensures unchanged { result ≢ 0 → engine.new.slot.held ≡ engine.old.slot.held }
@@ -136,6 +139,7 @@ fn ask(alloc: Global, engine: &mut Handle, event: Event, reply: &mut SgtReply) -
 }
 
 /// Runs an event on an engine, and writes the reply.
+#[inline(always)]
 fn answer(held: &mut Held, event: Event, reply: &mut SgtReply) -> Result<(), NoMemory>
     ensures ok { OnOk result (Answered event (Some held.old) (Some held.new) reply.new) }
     ensures unchanged { OnErr result ((held.new ≡ held.old) × (reply.new ≡ reply.old)) }

@@ -38,17 +38,6 @@ impl Handle {
         }
     }
 
-    // A busy handle: a call has taken the engine out.
-    fn busy(alloc: Global) -> Handle
-        ensures held { result.slot.held ≡ None }
-        ensures busy { IsBusy result.state }
-    {
-        Handle {
-            state: BUSY,
-            slot: Slot::empty(alloc),
-        }
-    }
-
     /// Whether it holds an engine.
     pub fn is_open(&self) -> bool
         ensures { result ≡ is_some self.now.slot.held }
@@ -74,8 +63,10 @@ impl Handle {
         if !self.is_open() {
             return None;
         }
-        let Handle { slot, .. } = replace(self, Handle::busy(alloc));
-        Some(slot.into_engine())
+        let Handle { state, slot } = self;
+        *state = BUSY;
+        let taken = replace(slot, Slot::empty(alloc));
+        Some(taken.into_engine())
     }
 
     /// Puts an engine into a handle that has none. The handle is not busy afterwards.
@@ -84,9 +75,8 @@ impl Handle {
         ensures held { self.new.slot.held ≡ Some engine.value }
         ensures free { ¬ IsBusy self.new.state }
     {
-        *self = Handle {
-            state: OPEN,
-            slot: Slot::holding(engine),
-        };
+        let Handle { state, slot } = self;
+        *state = OPEN;
+        *slot = Slot::holding(engine);
     }
 }

@@ -59,6 +59,7 @@ impl SgtReply {
 }
 
 /// Writes a reply for C, with its lists.
+#[inline(always)]
 pub fn write_reply(into: &mut SgtReply, reply: &ShortReply, lists: &ReplyLists)
     ensures { HoldsReply into.new (reply_with reply.now lists.now) }
 {
@@ -185,7 +186,9 @@ pub fn write_answers(to: &mut [i64; 8], answers: &[i64]) -> u32
     ensures { take result to.new ≡ answers.now }
 {
     let count = answers.len();
-    to[..count].copy_from_slice(answers);
+    for i in 0..count {
+        to[i] = answers[i];
+    }
     count as u32
 }
 

@@ -8,7 +8,7 @@ ghost use Rattle.sgt_c.specs.Asked.{IsCall};
 ghost use Rattle.sgt_c.specs.Runs.{Ran, GaveUp, RunsTo, GivesUp, RunsOnTo, StepsTo, StopsLive, is_access, is_end, is_write};
 ghost use Rattle.sgt_c.specs.Handles.{IsBusy, IsClosed};
 
-use crate::asked::call;
+use crate::asked::{arguments, is_call};
 use crate::handle::Handle;
 use crate::held::Held;
 use crate::reply_struct::{SgtReply, write_reply};
@@ -46,16 +46,16 @@ pub extern "C" fn sgt_run(
     ensures leaves { IsBusy engine.new.state → IsBusy engine.old.state }
     ensures stays { IsBusy engine.old.state → engine.new.state ≡ engine.old.state }
 {
-    let Some((procedure, args)) = call(procedure, args) else {
+    if !is_call(procedure, args) {
         return status::BAD_CALL;
-    };
+    }
     if engine.is_busy() {
         return status::BUSY;
     }
     let Some(mut held) = engine.take(alloc) else {
         return status::CLOSED;
     };
-    let ran = run_in(&mut held, procedure, args, tid, reply);
+    let ran = run_in(&mut held, procedure as u16, arguments(args), tid, reply);
     engine.put(held);
     match ran {
         Ok(()) => status::OK,

@@ -6,6 +6,7 @@ ghost use Rattle.sgt_c.specs.ManyRuns.{GaveUpAt, IsAsked, RanAll, RanMany, RanOn
 ghost use Rattle.sgt_c.specs.Runs.{GivesUp};
 ghost use Rattle.sgt_c.specs.Handles.{IsBusy, IsClosed};
 
+use crate::asked::arguments;
 use crate::call_struct::SgtCall;
 use crate::handle::Handle;
 use crate::outcome_struct::{SgtOutcome, write_outcome};
@@ -135,8 +136,5 @@ fn args(call: &SgtCall) -> Args
     requires { IsAsked call.now }
     ensures { result ≡ args_in call.now }
 {
-    match Args::from_slice(&call.arg[..call.args as usize]) {
-        Some(args) => args,
-        None => unreachable!(),
-    }
+    arguments(&call.arg[..call.args as usize])
 }

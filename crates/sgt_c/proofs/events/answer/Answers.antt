@@ -1,7 +1,6 @@
 use Rattle.std.proofs.Common.{Some, ap, subst, sym}
 use Rattle.sgt_engine.specs.EngineView.{EngineView}
 use Rattle.sgt_engine.proofs.Entries.{answered_with}
-use Rattle.sgt_c.specs.declared.held.Held.{Held}
 use Rattle.sgt_c.specs.Calls.{Headline}
 use Rattle.sgt_c.specs.ReplyStructs.{HoldsReply}
 use Rattle.sgt_c.proofs.events.answer.Goals as goal
