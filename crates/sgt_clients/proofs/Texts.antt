@@ -34,6 +34,19 @@ pub five : (a b c d e : List ℕ) → a ++ (b ++ (c ++ (d ++ (e ++ [])))) ≡ ((
 five a b c d e =
     sym (append_assoc a b (c ++ (d ++ (e ++ [])))) ∙ sym (append_assoc (a ++ b) c (d ++ (e ++ []))) ∙ three ((a ++ b) ++ c) d e
 
+-- texts one after another, grouped to the right and to the left
+abbrev pub to_right : List (List ℕ) → List ℕ
+to_right [] = []
+to_right (x ∷ xs) = x ++ to_right xs
+
+abbrev pub to_left : List ℕ → List (List ℕ) → List ℕ
+to_left start [] = start
+to_left start (x ∷ xs) = to_left (start ++ x) xs
+
+pub to_left_is : (start : List ℕ) (xs : List (List ℕ)) → start ++ to_right xs ≡ to_left start xs
+to_left_is start [] = append-nil start
+to_left_is start (x ∷ xs) = sym (append_assoc start x (to_right xs)) ∙ to_left_is (start ++ x) xs
+
 -- the words on four counts
 pub of_counts : (words : ℕ → ℕ → ℕ → ℕ → List ℕ) (h : List Transaction) (n : Counts) → n.transactions ≡ length h
     → n.committed ≡ count_by (has_status Committed) h → n.aborted ≡ count_by (has_status Aborted) h

@@ -11,12 +11,13 @@ use Rattle.sgt_clients.specs.declared.run.ClientsOutput.TheVariants as output
 use Rattle.sgt_clients.specs.Findings.{HasOrder, IsFound}
 use Rattle.sgt_clients.specs.GraphText.{graph_text}
 use Rattle.sgt_clients.specs.Inputs.{AreClients}
+use Rattle.sgt_clients.specs.JsonText.{json_text}
 use Rattle.sgt_clients.specs.ReportText.{report_text}
 
--- the text of the report and of the graph; nothing is claimed of the others
+-- the text of the report, of the object of JSON and of the graph; nothing is claimed of the picture
 abbrev pub IsOutput : ClientsOutput → Bool → Clients → Finding → List ℕ → Type 0
 IsOutput output.Report strict c f text = text ≡ report_text strict c f
-IsOutput output.Json strict c f text = ⊤
+IsOutput output.Json strict c f text = text ≡ json_text strict c f
 IsOutput output.Graph strict c f text = text ≡ graph_text c f
 IsOutput output.Timeline strict c f text = ⊤
 

@@ -6,6 +6,7 @@ pub mod Findings
 pub mod GraphText
 pub mod Histories
 pub mod Inputs
+pub mod JsonText
 pub mod Objects
 pub mod Pieces
 pub mod Reading

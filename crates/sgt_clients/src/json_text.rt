@@ -1,13 +1,16 @@
 //! The report as one object of JSON.
 
+ghost use Rattle.std.specs.Prelude.{◌≡◌, ◌++◌, flat_map, OnOk};
+ghost use Rattle.sgt_clients.specs.JsonText.{truth_text, next_item, items_text, counts_members, number_text, because_text, step_object, anomaly_member, order_member, cycle_member, reader_members, finding_members, json_text};
+
 use crate::clients::Clients;
 use crate::counts::count;
-use crate::finding::{Finding, Step, Why};
+use crate::finding::{Finding, Step, Why, is_serial};
 use crate::piece::{Piece, append_pieces, entry_of};
 use crate::report_text::append_why;
 use crate::witness_text::append_fault;
-use sgt_appends::Reason;
-use sgt_format::append_numbered;
+use sgt_appends::{Fault, Reason, Transaction};
+use sgt_format::{append_number, append_numbered};
 use sgt_model::NoMemory;
 
 /// Appends the report as a line with one object of JSON. Transactions and entries are counted from 1.
@@ -20,19 +23,23 @@ pub fn append_json(
     clients: &Clients,
     finding: &Finding,
     strict: bool,
-) -> Result<(), NoMemory> {
+) -> Result<(), NoMemory>
+    ensures { OnOk result (text.new.items ≡ text.old.items ++ json_text strict clients.now finding.now) }
+{
     text.extend_from_slice(b"{\"model\":\"list-append\",\"strict\":")?;
     append_truth(text, strict)?;
-    append_counts(text, clients)?;
+    append_counts(text, clients.transactions.as_slice())?;
     text.extend_from_slice(b",\"serializable\":")?;
-    append_truth(text, matches!(finding, Finding::Serial(_)))?;
+    append_truth(text, is_serial(finding))?;
     append_finding(text, clients, finding)?;
     text.extend_from_slice(b"}\n")?;
     Ok(())
 }
 
 /// Appends `true` or `false`.
-fn append_truth(text: &mut Vec<u8>, truth: bool) -> Result<(), NoMemory> {
+fn append_truth(text: &mut Vec<u8>, truth: bool) -> Result<(), NoMemory>
+    ensures { OnOk result (text.new.items ≡ text.old.items ++ truth_text truth) }
+{
     if truth {
         text.extend_from_slice(b"true")?;
     } else {
@@ -42,8 +49,10 @@ fn append_truth(text: &mut Vec<u8>, truth: bool) -> Result<(), NoMemory> {
 }
 
 /// Appends the counts.
-fn append_counts(text: &mut Vec<u8>, clients: &Clients) -> Result<(), NoMemory> {
-    let counts = count(clients.transactions.as_slice());
+fn append_counts(text: &mut Vec<u8>, history: &[Transaction]) -> Result<(), NoMemory>
+    ensures { OnOk result (text.new.items ≡ text.old.items ++ counts_members history.now) }
+{
+    let counts = count(history);
     append_numbered(text, b",\"transactions\":", counts.transactions)?;
     append_numbered(text, b",\"committed\":", counts.committed)?;
     append_numbered(text, b",\"aborted\":", counts.aborted)?;
@@ -52,24 +61,14 @@ fn append_counts(text: &mut Vec<u8>, clients: &Clients) -> Result<(), NoMemory> 
 }
 
 /// Appends the members of the finding.
-fn append_finding(
-    text: &mut Vec<u8>,
-    clients: &Clients,
-    finding: &Finding,
-) -> Result<(), NoMemory> {
+fn append_finding(text: &mut Vec<u8>, clients: &Clients, finding: &Finding) -> Result<(), NoMemory>
+    ensures { OnOk result (text.new.items ≡ text.old.items ++ finding_members clients.now finding.now) }
+{
     match finding {
-        Finding::Serial(order) => {
-            text.extend_from_slice(b",\"order\":[")?;
-            append_order(text, order.as_slice())?;
-            text.extend_from_slice(b"]")?;
-            Ok(())
-        }
+        Finding::Serial(order) => append_order(text, order.as_slice()),
         Finding::Cycle(steps, name) => {
             append_name(text, name)?;
-            text.extend_from_slice(b",\"cycle\":[")?;
-            append_steps(text, clients, steps.as_slice())?;
-            text.extend_from_slice(b"]")?;
-            Ok(())
+            append_cycle(text, clients, steps.as_slice())
         }
         Finding::Fault {
             reader,
@@ -78,56 +77,92 @@ fn append_finding(
             name,
         } => {
             append_name(text, name)?;
-            append_numbered(text, b",\"reader\":", reader.saturating_add(1))?;
-            append_numbered(text, b",\"entry\":", entry_of(clients, *reader))?;
-            text.extend_from_slice(b",\"why\":\"")?;
-            append_fault(text, clients, *reader, *read, fault)?;
-            text.extend_from_slice(b"\"")?;
-            Ok(())
+            append_reader(text, clients, *reader, *read, fault)
         }
     }
 }
 
 /// Appends the name of the anomaly.
-fn append_name(text: &mut Vec<u8>, name: &str) -> Result<(), NoMemory> {
+fn append_name(text: &mut Vec<u8>, name: &str) -> Result<(), NoMemory>
+    ensures { OnOk result (text.new.items ≡ text.old.items ++ anomaly_member name.now) }
+{
     text.extend_from_slice(b",\"anomaly\":\"")?;
     text.extend_from_slice(name.as_bytes())?;
     text.extend_from_slice(b"\"")?;
     Ok(())
 }
 
-/// Appends the transactions of the order, separated by commas.
-fn append_order(text: &mut Vec<u8>, order: &[usize]) -> Result<(), NoMemory> {
-    let mut comma: &[u8] = b"";
-    for transaction in order {
-        append_numbered(text, comma, transaction.saturating_add(1))?;
-        comma = b",";
+/// Appends the serial order.
+fn append_order(text: &mut Vec<u8>, order: &[usize]) -> Result<(), NoMemory>
+    ensures { OnOk result (text.new.items ≡ text.old.items ++ order_member order.now) }
+{
+    text.extend_from_slice(b",\"order\":[")?;
+    append_numbers(text, order)?;
+    text.extend_from_slice(b"]")?;
+    Ok(())
+}
+
+/// Appends the transactions, separated by commas.
+fn append_numbers(text: &mut Vec<u8>, order: &[usize]) -> Result<(), NoMemory>
+    ensures { OnOk result (text.new.items ≡ text.old.items ++ items_text number_text order.now) }
+{
+    if order.is_empty() {
+        return Ok(());
     }
+    append_number(text, order[0].saturating_add(1))?;
+    append_each_number(text, &order[1..])
+}
+
+/// Appends each transaction after a comma.
+fn append_each_number(text: &mut Vec<u8>, order: &[usize]) -> Result<(), NoMemory>
+    ensures { OnOk result (text.new.items ≡ text.old.items ++ flat_map (next_item number_text) order.now) }
+{
+    for transaction in order {
+        append_numbered(text, b",", transaction.saturating_add(1))?;
+    }
+    Ok(())
+}
+
+/// Appends the cycle.
+fn append_cycle(text: &mut Vec<u8>, clients: &Clients, steps: &[Step]) -> Result<(), NoMemory>
+    ensures { OnOk result (text.new.items ≡ text.old.items ++ cycle_member clients.now steps.now) }
+{
+    text.extend_from_slice(b",\"cycle\":[")?;
+    append_steps(text, clients, steps)?;
+    text.extend_from_slice(b"]")?;
     Ok(())
 }
 
 /// Appends the steps, separated by commas.
-fn append_steps(text: &mut Vec<u8>, clients: &Clients, steps: &[Step]) -> Result<(), NoMemory> {
-    let mut comma: &[u8] = b"";
+fn append_steps(text: &mut Vec<u8>, clients: &Clients, steps: &[Step]) -> Result<(), NoMemory>
+    ensures { OnOk result (text.new.items ≡ text.old.items ++ items_text (step_object clients.now) steps.now) }
+{
+    if steps.is_empty() {
+        return Ok(());
+    }
+    append_step(text, clients, &steps[0])?;
+    append_each_step(text, clients, &steps[1..])
+}
+
+/// Appends each step after a comma.
+fn append_each_step(text: &mut Vec<u8>, clients: &Clients, steps: &[Step]) -> Result<(), NoMemory>
+    ensures { OnOk result (text.new.items ≡ text.old.items ++ flat_map (next_item (step_object clients.now)) steps.now) }
+{
     for step in steps {
-        append_step(text, clients, comma, step)?;
-        comma = b",";
+        text.extend_from_slice(b",")?;
+        append_step(text, clients, step)?;
     }
     Ok(())
 }
 
-/// Appends a step, after the comma.
-fn append_step(
-    text: &mut Vec<u8>,
-    clients: &Clients,
-    comma: &[u8],
-    step: &Step,
-) -> Result<(), NoMemory> {
+/// Appends a step.
+fn append_step(text: &mut Vec<u8>, clients: &Clients, step: &Step) -> Result<(), NoMemory>
+    ensures { OnOk result (text.new.items ≡ text.old.items ++ step_object clients.now step.now) }
+{
     append_pieces(
         text,
         clients,
         &[
-            Piece::Words(comma),
             Piece::Words(b"{\"from\":"),
             Piece::Number(step.from.saturating_add(1)),
             Piece::Words(b",\"to\":"),
@@ -147,11 +182,31 @@ fn append_step(
 }
 
 /// The kind of the reason, in a word or two.
-fn because(why: &Why) -> &'static [u8] {
+fn because(why: &Why) -> &'static [u8]
+    ensures { result.now ≡ because_text why.now }
+{
     match why {
         Why::Observed(Reason::Seen { .. }) => b"seen",
         Why::Observed(Reason::Missed { .. }) => b"missed",
         Why::Observed(Reason::InOrder { .. }) => b"in order",
         Why::RealTime => b"real time",
     }
+}
+
+/// Appends the reader, and what is wrong with its read.
+fn append_reader(
+    text: &mut Vec<u8>,
+    clients: &Clients,
+    reader: usize,
+    read: usize,
+    fault: &Fault,
+) -> Result<(), NoMemory>
+    ensures { OnOk result (text.new.items ≡ text.old.items ++ reader_members clients.now reader read fault.now) }
+{
+    append_numbered(text, b",\"reader\":", reader.saturating_add(1))?;
+    append_numbered(text, b",\"entry\":", entry_of(clients, reader))?;
+    text.extend_from_slice(b",\"why\":\"")?;
+    append_fault(text, clients, reader, read, fault)?;
+    text.extend_from_slice(b"\"")?;
+    Ok(())
 }

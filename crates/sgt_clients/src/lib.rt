@@ -11,9 +11,9 @@
 //! - the objects of the input (`specs/Objects.antt`), the entry that each spells (`specs/Entries.antt`), and the
 //!   transactions that these make (`specs/Histories.antt`, `specs/Inputs.antt`)
 //! - the answer, strict or not (`specs/Findings.antt`)
-//! - the texts of the report and the graph (`specs/ReportText.antt`, `GraphText.antt`)
+//! - the texts of the report, the object of JSON and the graph (`specs/ReportText.antt`, `JsonText.antt`, `GraphText.antt`)
 //!
-//! Tested: the object of JSON and the picture; that only a wrong input is refused, and why; that each line of a *no*
+//! Tested: the picture; that only a wrong input is refused, and why; that each line of a *no*
 //! holds; the names of anomalies.
 //!
 //! ```

@@ -9,6 +9,7 @@ ghost use Rattle.sgt_clients.specs.Findings.{IsFound};
 ghost use Rattle.sgt_clients.specs.Faults.{IsOwn};
 ghost use Rattle.sgt_clients.specs.ReportText.{report_text};
 ghost use Rattle.sgt_clients.specs.GraphText.{graph_text};
+ghost use Rattle.sgt_clients.specs.JsonText.{json_text};
 
 use crate::clients::{Clients, read_clients};
 use crate::fault::ClientsFault;
@@ -167,7 +168,9 @@ fn json_of(
     clients: &Clients,
     finding: &Finding,
     strict: bool,
-) -> Result<Vec<u8>, NoMemory> {
+) -> Result<Vec<u8>, NoMemory>
+    ensures { IfOk result (λ text. text.items ≡ json_text strict clients.now finding.now) }
+{
     let mut text = Vec::new(alloc);
     append_json(&mut text, clients, finding, strict)?;
     Ok(text)

@@ -10,9 +10,6 @@ use sgt_model::NoMemory;
 use sgt_notation::History;
 use std::alloc::Global;
 
-/// How many values of a list a picture shows: the last ones.
-const MOST_SHOWN: usize = 4;
-
 /// The history of these operations, in order. An item is a key with the values that were read or appended.
 pub(crate) fn history_of(
     alloc: Global,
@@ -84,19 +81,10 @@ fn label_of(alloc: Global, clients: &Clients, stroke: &Stroke) -> Result<Vec<u8>
             &[
                 Piece::Key(*key),
                 Piece::Words(b": "),
-                Piece::Values(last_of(values.as_slice())),
+                Piece::Values(values.as_slice()),
             ],
         )?,
         None => (),
     }
     Ok(label)
-}
-
-/// The last values of a list.
-fn last_of(values: &[u32]) -> &[u32] {
-    if values.len() > MOST_SHOWN {
-        &values[values.len() - MOST_SHOWN..]
-    } else {
-        values
-    }
 }

@@ -20,7 +20,7 @@ anything (Err e) = tt
 pub returns-in-Json : goal.returns-in-Json
 returns-in-Json c =
     subst (λ o. IfOk c.json_of.result (λ text. IsOutput o c.args.strict c.args.clients.now c.args.finding.now text.items)) (sym c.in-Json.is)
-    (anything c.json_of.result)
+    c.json_of.ensures
 
 pub returns-in-Timeline : goal.returns-in-Timeline
 returns-in-Timeline c =
