@@ -1,5 +1,4 @@
 pub mod Answers
-pub mod EventsAhead
 pub mod NextLines
 pub mod Parts
 pub mod WholeLines

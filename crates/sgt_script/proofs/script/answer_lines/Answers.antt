@@ -82,7 +82,7 @@ returns-in-Err-answer_line-clause-some g c =
     c.loop-gathered.lines (g.S.Source.rest c.loop-gathered.source) (g.S.Source.rest c.next_script_line.new.source)
     (g.T.Sink.held c.flush_before_read.new.sink) _ c.flush_before_read.new.gathered.items c.answer_line.new.text.items
     (part_at c.loop-gathered.engine) _ _ so
-    c.in-Err-answer_line.ensures.kept c.stop.ensures.written refl
+    c.in-Err-answer_line.ensures.kept c.stop-in-Err-answer_line.ensures.written refl
 
 pub returns-in_err-flush-in-Ok-None-clause-some : goal.returns-in_err-flush-in-Ok-None-clause-some
 returns-in_err-flush-in-Ok-None-clause-some g c =

@@ -6,8 +6,6 @@ use Rattle.sgt_input.specs.Intake.{cut_left}
 use Rattle.sgt_input.specs.Ends.{IsOfInput}
 use Rattle.sgt_script.specs.Answering.{NoLine}
 use Rattle.sgt_input.proofs.FaultsRead.{spells, spells-none}
-use Rattle.sgt_input.proofs.Given.{after-give}
-use Rattle.sgt_script.proofs.EventsAhead.{event-asked, taken-given}
 use Rattle.sgt_script.proofs.NextLines.{line-asks, line-fails, no-line-ends, no-line-fits}
 use Rattle.sgt_script.proofs.script.next_script_line.Goals as goal
 
@@ -47,23 +45,3 @@ pub returns-clause-at : goal.returns-clause-at
 returns-clause-at g c =
     spells (λ kind. line_of kind c.read_script_line.new.event) c.next_line.new.self.number
     (script_line_of c.next_line.new.self.line) c.read_script_line.result c.in_ok-kind.kind (search rules) (search rules)
-
-pub returns-then-takes_event_ahead-clause-line : goal.returns-then-takes_event_ahead-clause-line
-returns-then-takes_event_ahead-clause-line g c =
-    let given = c.if-takes_event_ahead.ensures.given refl in
-    line-asks (c.args.lines.now.number + 1) c.takes_event_ahead.new.lines.number
-    (cut_left c.args.lines.now (g.S.Source.rest c.args.source.now))
-    (cut_left c.takes_event_ahead.new.lines (g.S.Source.rest c.args.source.now)) c.takes_event_ahead.new.lines.line _ given.number
-    (after-give c.args.lines.now c.takes_event_ahead.new.lines (g.S.Source.rest c.args.source.now) given)
-    (event-asked c.takes_event_ahead.new.lines.number c.takes_event_ahead.new.lines.line c.takes_event_ahead.new.event
-    (c.if-takes_event_ahead.ensures.event refl))
-
-pub returns-then-takes_event_ahead-clause-at : goal.returns-then-takes_event_ahead-clause-at
-returns-then-takes_event_ahead-clause-at g c =
-    event-asked c.takes_event_ahead.new.lines.number c.takes_event_ahead.new.lines.line c.takes_event_ahead.new.event
-    (c.if-takes_event_ahead.ensures.event refl)
-
-pub returns-then-takes_event_ahead-clause-taken : goal.returns-then-takes_event_ahead-clause-taken
-returns-then-takes_event_ahead-clause-taken g c = λ some.
-    taken-given c.args.lines.now c.takes_event_ahead.new.lines (g.S.Source.rest c.args.source.now)
-    (c.if-takes_event_ahead.ensures.given refl)
