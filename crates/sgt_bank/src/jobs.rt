@@ -15,6 +15,9 @@ use sgt_input::{Fault, Lines, Source, at_line};
 use sgt_workers::MOST_JOBS;
 use std::alloc::Global;
 
+/// For how many jobs there is capacity at first. A list of so many is long enough to grow without being copied.
+const AT_FIRST: usize = 4_096;
+
 /// The call that the next line requests, if there is a line.
 fn next_call<S: Source>(
     alloc: Global,
@@ -75,6 +78,8 @@ pub(crate) fn read_jobs<S: Source>(
 {
     let mut scratch = Scratch::new(alloc);
     let mut jobs = Vec::new(alloc);
+    // If this fails, the list grows as it needs.
+    let _ = jobs.reserve(AT_FIRST);
     while let Some(call) = next_call(alloc, &mut scratch, lines, source)? {
         if jobs.len() == MOST_JOBS {
             return Err(Fault::TooManyJobs);

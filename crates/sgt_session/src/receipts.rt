@@ -15,8 +15,9 @@ use std::marker::Model;
 /// How many receipts are prefaulted at a time: about 3 MB.
 const AT_ONCE: usize = 65_536;
 
-/// How many receipts of capacity an allocation adds beyond those that were requested, so that allocations are rare.
-const AHEAD: usize = 64;
+/// How many receipts of capacity an allocation adds beyond those that were requested, so that allocations are rare, and
+/// the lists long enough to grow without being copied.
+const AHEAD: usize = 2_048;
 
 /// The receipts of one session, in the order of its calls. A receipt takes 48 bytes, and its lists take 4 for each
 /// transaction and 8 for each value.
