@@ -1,9 +1,11 @@
 -- Laws of the next line of a script: it requests something, is faulty, or does not exist.
-use Rattle.std.proofs.Common.{◌≡◌, ℕ, ◌+◌, List, [], ◌∷◌, ap, ◌∙◌, subst}
-use Rattle.std.specs.Prelude.{Option, None, Some, Ok, Err}
+use Rattle.std.proofs.Common.{◌≡◌, ℕ, ◌+◌, ◌<◌, ◌≤◌, false, List, [], ◌∷◌, length, take, refl, sym, ap, ◌∙◌, subst, arith}
+use Rattle.std.proofs.lemmas.List.{get_or-take, length-take, take-take}
+use Rattle.std.specs.Prelude.{Option, None, Some, Ok, Err, ◌||◌, min, nat_eq, slice_index}
+use Rattle.sgt_format.specs.PlainLines.{has_newline}
 use Rattle.sgt_format.specs.declared.script_line.ScriptLine.{ScriptLine}
 use Rattle.sgt_input.specs.declared.fault.Fault.{Fault}
-use Rattle.sgt_input.specs.Lines.{Cut, Ending}
+use Rattle.sgt_input.specs.Lines.{Cut, Ending, IsBreak, has_break}
 use Rattle.sgt_input.specs.Intake.{EndsAs, Explains, Gives}
 use Rattle.sgt_input.specs.Ends.{End, IsOfInput, end_at}
 use Rattle.sgt_input.specs.Spelled.{and_later, or_later, spelled, end_of}
@@ -49,3 +51,32 @@ pub no-line-fits : (number : ℕ) (known : Option Cut) (f : Fault) → Explains 
     → NoLine (number + 1) known (Err f)
 no-line-fits number known f explained exact =
     let none = explained-end number known f explained exact in no-line-ends (number + 1) none.0 known (Err f) none.1 none.2
+
+-- the first newline of a window of a text is the text's
+same-breaks : (bytes : List ℕ) → has_newline bytes ≡ has_break bytes
+same-breaks [] = refl
+same-breaks (x ∷ xs) = ap (λ b. nat_eq x 10 || b) (same-breaks xs)
+
+-- a whole window is of a text that is as long
+wide-window : (text window : List ℕ) → window ≡ take 64 text → length window ≡ 64 → 64 ≤ length text
+wide-window text window is size =
+    let all : min 64 (length text) ≡ 64 = sym (length-take 64 text) ∙ ap length (sym is) ∙ size in
+    omega (arith, all)
+
+pub window-break : (text window : List ℕ) (n : ℕ) → window ≡ take 64 text → length window ≡ 64 → n < 64 → slice_index window n ≡ 10
+    → has_newline (take n window) ≡ false → IsBreak text (Some n)
+window-break text window n is size small at none =
+    let wide = wide-window text window is size in
+    let same : take n window ≡ take n text = ap (take n) is ∙ take-take n 64 text (omega (arith, small)) in (
+      omega (arith, wide, small),
+      sym (get_or-take 64 text n 0 small) ∙ ap (λ bytes. slice_index bytes n) (sym is) ∙ at,
+      ap has_break (sym same) ∙ sym (same-breaks (take n window)) ∙ none,
+    )
+
+-- and the line before it is the text's
+pub window-line : (held window : List ℕ) (within n : ℕ) → window ≡ take 64 (take within held) → length window ≡ 64 → n < 64
+    → take n window ≡ take n held
+window-line held window within n is size small =
+    let wide = wide-window (take within held) window is size in
+    let inside : n ≤ within = omega (arith, length-take within held, wide, small) in
+    ap (take n) is ∙ take-take n 64 (take within held) (omega (arith, small)) ∙ take-take n within held inside

@@ -1,12 +1,12 @@
 //! Runs a script from its first line to its last. Each line is answered; the output mode says what is written.
-ghost use Rattle.std.specs.Prelude.{◌≡◌, ◌≢◌, ℕ, List, Option, false, IfOk, IfErr, OnOk, OnErr, IfSome, IsSome, IsNone, Err, Ok, Some, None, ◌⊎◌, [], ◌∷◌, ◌++◌, ◌+◌, ◌^◌, ◌<◌, ◌≤◌, length};
+ghost use Rattle.std.specs.Prelude.{◌≡◌, ◌≢◌, ℕ, List, Option, false, IsTrue, IsFalse, IfOk, IfErr, OnOk, OnErr, IfSome, IsSome, IsNone, Err, Ok, Some, None, ◌⊎◌, [], ◌∷◌, ◌++◌, ◌+◌, ◌^◌, ◌<◌, ◌≤◌, length};
 ghost use Rattle.std.specs.Io.KnownBytes.{Appends, Consumes};
 ghost use Rattle.sgt_model.specs.declared.entry.Entry.{Entry};
 ghost use Rattle.sgt_model.specs.Legality.{Legal};
 ghost use Rattle.sgt_engine.specs.EngineView.{setting_of};
-ghost use Rattle.sgt_format.specs.ScriptLines.{line_of};
+ghost use Rattle.sgt_format.specs.ScriptLines.{line_of, script_line_of};
 ghost use Rattle.sgt_input.specs.Lines.{has_break};
-ghost use Rattle.sgt_input.specs.Intake.{NoLineCame, bytes_left, come, cut_left, has_whole_line, taken};
+ghost use Rattle.sgt_input.specs.Intake.{IsGiven, NoLineCame, bytes_left, come, cut_left, has_whole_line, taken};
 ghost use Rattle.sgt_input.specs.Ends.{IsOfInput, IsExact};
 ghost use Rattle.sgt_script.specs.Parts.{Answer, Replied, StillLive, WasCut, answer_text, answers_text, left_by, part_at, part_of};
 ghost use Rattle.sgt_script.specs.Scripts.{Execution, Last, RunOutput, script_line_at};
@@ -22,7 +22,7 @@ use sgt_assembly::{SgtEngine, open_engine, opened_hold_values};
 use sgt_engine::CutError;
 use sgt_format::{
     LineKind, Opening, ScriptLine, append_cut, append_database, append_records, append_short_reply,
-    append_still_live, read_script_line,
+    append_still_live, read_event_ahead, read_script_line,
 };
 use sgt_input::{Fault, Lines, Sink, Source, at_line, opening_of, read_records, write_all};
 use sgt_model::{
@@ -36,6 +36,27 @@ use std::alloc::Global;
 
 /// For how many bytes of answers memory is allocated at once: more than the lines of one read mostly get.
 const GATHERED: usize = 262_144;
+
+/// Moves to the next line if it has been read and is a step or a commit in plain form, and puts that into `event`. Returns
+/// whether it moved. Most lines are such.
+#[inline(always)]
+fn takes_event_ahead(lines: &mut Lines, event: &mut Event) -> bool
+    ensures given { IsTrue result → IsGiven lines.old lines.new }
+    ensures event { IsTrue result → script_line_of lines.new.line ≡ Ok (ScriptLine.Event event.new) }
+    ensures nearer { IsTrue result → lines.new.within < lines.old.within }
+    ensures come { IsTrue result → come lines.new ≡ come lines.old }
+    ensures few { IsTrue result → come lines.new ≤ 16777217 }
+    ensures kept { IsFalse result → lines.new ≡ lines.old }
+{
+    let Some(window) = lines.window() else {
+        return false;
+    };
+    let Some(len) = read_event_ahead(window, event) else {
+        return false;
+    };
+    lines.pass(len);
+    true
+}
 
 /// What the next line requests, if there is one. An event is put into `event`.
 #[inline(always)]
@@ -73,6 +94,9 @@ fn next_script_line<S: Source>(
     ensures failed { result ≡ Err Fault.Reading →
         S.failures source.new ≡ S.failures source.old + 1 }
 {
+    if takes_event_ahead(lines, event) {
+        return Ok(Some(LineKind::Event));
+    }
     if !lines.next_line(source)? {
         return Ok(None);
     }
