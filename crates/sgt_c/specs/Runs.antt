@@ -68,14 +68,15 @@ abbrev pub Runs : Event → Option ℕ → Bool → Reply → EngineView → Eng
 Runs start None wrote last e after = (is_start last ≡ false) × (wrote ≡ false) × (after ≡ with_entry start last e)
 Runs start (Some t) wrote last e after = RunsOn t wrote last (with_entry start (reply.Started t) e) after
 
--- the same with the last reply in short, of the steps, of these with the commit, and of the whole run
-
+-- the steps, with the last reply in short
 abbrev pub StepsTo : ℕ → Bool → ShortReply → EngineView → EngineView → Type 0
 StepsTo t wrote short e after = (last : Reply) × (short_reply last ≡ short) × StepsOn t wrote last e after
 
+-- the steps and the commit, with the last reply in short
 abbrev pub RunsOnTo : ℕ → Bool → ShortReply → EngineView → EngineView → Type 0
 RunsOnTo t wrote short e after = (last : Reply) × (short_reply last ≡ short) × RunsOn t wrote last e after
 
+-- the whole run, with the last reply in short
 abbrev pub RunsTo : Event → Option ℕ → Bool → ShortReply → EngineView → EngineView → Type 0
 RunsTo start started wrote short e after = (last : Reply) × (short_reply last ≡ short) × Runs start started wrote last e after
 

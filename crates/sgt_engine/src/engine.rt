@@ -124,8 +124,8 @@ impl<R: Records, A: Accesses, G: Graph> Engine<R, A, G> {
         })
     }
 
-    /// Allocates memory for so many more entries, but not for the items of their lists. Until these entries are used up, the
-    /// present ones need not be moved. Nothing else changes.
+    /// Allocates memory for so many more entries, and for one value in the lists of each. Until these are used up, the present
+    /// ones need not be moved. Nothing else changes.
     ///
     /// `NoMemory` if the allocation failed.
     pub fn reserve(&mut self, entries: usize) -> Result<(), NoMemory>

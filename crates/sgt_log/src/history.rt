@@ -144,8 +144,8 @@ impl History {
         Ok(())
     }
 
-    /// Allocates memory for so many more entries, but not for the items of their lists. Until these entries are used up, the
-    /// present ones need not be moved. Nothing else changes.
+    /// Allocates memory for so many more entries, and for one value in the lists of each. Until these are used up, the present
+    /// ones need not be moved. Nothing else changes.
     ///
     /// `NoMemory` if the allocation failed.
     pub fn reserve_entries(&mut self, count: usize) -> Result<(), NoMemory>
@@ -153,6 +153,7 @@ impl History {
         ensures room { self.new.room ≡ self.old.room }
     {
         self.entries.reserve(count)?;
+        self.values.reserve(count)?;
         Ok(())
     }
 

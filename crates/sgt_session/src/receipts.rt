@@ -141,14 +141,11 @@ impl Receipts {
     // Whether the receipt at an index is that of a history's entry with this number.
     #[inline(always)]
     fn is_at(&self, place: usize, history: &History, number: usize) -> bool
-        requires { number < length history.now.entries }
+        requires here { place < length self.now.receipts }
+        requires there { number < length history.now.entries }
         ensures { IsTrue result → IsReceiptAt self.now.receipts place history.now.entries number }
     {
-        if place < self.len() && self.numbers[place] == number as u64 {
-            self.calls.is_same_at(place, history, number)
-        } else {
-            false
-        }
+        self.numbers[place] == number as u64 && self.calls.is_same_at(place, history, number)
     }
 
     /// The newest receipt of a list that is not empty.
@@ -206,7 +203,7 @@ impl Receipts {
         Ok(())
     }
 
-    /// Allocates memory for this many more receipts, without the contents of their lists. Receipts and capacity stay.
+    /// Allocates memory for this many more receipts, and for one value in the lists of each. Receipts and capacity stay.
     ///
     /// `NoMemory` if an allocation failed.
     pub(crate) fn reserve(&mut self, count: usize) -> Result<(), NoMemory>
