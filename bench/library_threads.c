@@ -77,9 +77,9 @@ static void *run_alone(void *of)
 static void *run_shared(void *of)
 {
     struct thread *it = of;
+    sgt_shared_outcome outcome = SGT_SHARED_OUTCOME;
     for (long made = 0; made < each; made++) {
         int64_t args[2];
-        sgt_shared_outcome outcome = SGT_SHARED_OUTCOME;
         const uint16_t procedure = draw_call(it, args);
         must(sgt_shared_run(shared, procedure, args, takes[procedure], 0, &outcome) == SGT_OK);
     }

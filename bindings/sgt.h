@@ -411,10 +411,10 @@ uint32_t sgt_calls(const sgt_engine *engine, uint64_t from, sgt_call *calls, siz
 uint32_t sgt_reserve(sgt_engine *engine, uint64_t entries);
 
 /*
- * Forgets the history up to now and frees its memory, if no transaction is live. The engine continues from the committed
- * database, as one that was just opened on it: it has no entries, and numbers transactions from 0. Procedures and limits stay,
- * and the limits count anew. If you need the entries, read them before. The call scans all records, and allocates memory for
- * them.
+ * Forgets the history up to now, if no transaction is live. The engine continues from the committed database, as one that was
+ * just opened on it: it has no entries, and numbers transactions from 0. Procedures and limits stay, and the limits count anew.
+ * If you need the entries, read them before. The call scans all records, and allocates memory for them. The memory of the
+ * entries is kept for those to come; what was used to less than a quarter is freed.
  *
  * If the result is not SGT_OK, the engine is unchanged:
  *

@@ -109,7 +109,8 @@ fn cut(alloc: Global, held: &mut Held) -> Result<(), Uncut>
     // The headline holds of the history that this call borrows.
     let _ = held.engine.history();
     match held.engine.cut(alloc) {
-        Ok(_) => {
+        Ok(past) => {
+            held.engine.recycle(past);
             held.part = next;
             Ok(())
         }

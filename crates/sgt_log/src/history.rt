@@ -157,6 +157,30 @@ impl History {
         Ok(())
     }
 
+    /// Takes over the memory of another history, whose entries are dropped, if this one has no entry. Memory of which the other
+    /// has used less than a quarter is freed instead, so one that was long does not keep its memory for ever.
+    pub fn recycle(&mut self, other: History)
+        ensures entries { self.new.entries ≡ self.old.entries }
+        ensures room { self.old.room ≤ self.new.room }
+    {
+        let capacity = other.entries.capacity();
+        let is_used = capacity <= FIRST || other.len() >= capacity / 4;
+        if self.is_empty() && self.room <= other.room && is_used {
+            *self = other.emptied();
+        }
+    }
+
+    // The same memory without entries.
+    fn emptied(mut self) -> History
+        ensures entries { result.entries ≡ [] }
+        ensures room { result.room ≡ self.room }
+    {
+        self.entries.clear();
+        self.tids.clear();
+        self.values.clear();
+        self
+    }
+
     /// `touch`: prefaults the memory of at most so many next entries, but not of their lists. It returns the index up to which
     /// it did.
     pub fn touch(&mut self, most: usize) -> usize

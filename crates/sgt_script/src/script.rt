@@ -161,7 +161,11 @@ fn answer_cut(
     ensures kept { OnErr result (text.new.items ≡ text.old.items) }
 {
     match engine.cut(alloc) {
-        Ok(past) => append_was_cut(past.history.len(), output, text),
+        Ok(past) => {
+            let entries = past.history.len();
+            engine.recycle(past);
+            append_was_cut(entries, output, text)
+        }
         Err(CutError::StillLive) => {
             append_was_not_cut(output, text)?;
             Ok(())

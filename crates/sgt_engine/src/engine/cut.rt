@@ -80,4 +80,12 @@ impl<R: Records, A: Accesses, G: Graph> Engine<R, A, G> {
         let history = mem::replace(&mut self.history, History::new(alloc));
         Ok(Past { opening, history })
     }
+
+    /// Drops a past that was cut off. If no event came since, the memory of its entries is used for those to come, which saves
+    /// the first use of each page. Nothing else changes.
+    pub fn recycle(&mut self, past: Past)
+        ensures { self.new ≡ self.old }
+    {
+        self.history.recycle(past.history);
+    }
 }
