@@ -5,6 +5,9 @@
 #include <inttypes.h>
 #include <stdio.h>
 #include <string.h>
+#ifdef __GLIBC__
+#include <malloc.h>
+#endif
 
 #include "sgt.h"
 
@@ -843,6 +846,47 @@ static void faults_are_texts(void)
     sgt_close(&engine);
 }
 
+/* The bytes that the C library has given out. Sanitizers have memory of their own, and it tells nothing then. */
+static size_t bytes_in_use(void)
+{
+#if defined(__GLIBC__) && !defined(__SANITIZE_ADDRESS__)
+    const struct mallinfo2 told = mallinfo2();
+    return told.uordblks + told.hblkhd;
+#else
+    return 0;
+#endif
+}
+
+static void deposits(sgt_engine *engine, int count)
+{
+    sgt_reply told = {0};
+    uint32_t tid = 0;
+    for (int made = 0; made < count; made++) {
+        if (sgt_run(engine, 1, deposit, 2, &tid, &told) != 0 || told.kind != 13) CHECK(!"a deposit is committed");
+    }
+}
+
+/* A long part leaves its memory to the next one. A short part behind it frees that. */
+static void a_cut_keeps_memory_in_use(void)
+{
+    static const char unlimited[] = "{\"limits\":[8,4000000000],\"accounts\":[[1,101,500,1000]],\"procedures\":[]}";
+    sgt_engine engine = {0};
+    sgt_fault fault = {0};
+    uint64_t live = 0;
+    CHECK(opens(&engine, unlimited, &fault) == 0);
+    deposits(&engine, 100000);
+    const size_t full = bytes_in_use();
+    CHECK(sgt_cut(&engine, &live) == 0);
+    CHECK(bytes_in_use() >= full / 2);
+    deposits(&engine, 100);
+    CHECK(sgt_cut(&engine, &live) == 0);
+    CHECK(bytes_in_use() <= full / 10);
+    deposits(&engine, 100);
+    CHECK(sgt_cut(&engine, &live) == 0);
+    CHECK(bytes_in_use() <= full / 10);
+    sgt_close(&engine);
+}
+
 int main(void)
 {
     a_deposit_is_committed();
@@ -865,6 +909,7 @@ int main(void)
     an_engine_is_opened_bare();
     parts_are_numbered();
     the_history_is_cut_off();
+    a_cut_keeps_memory_in_use();
     replies_are_texts();
     faults_are_texts();
     printf("%d checks, %d failed\n", checks, failed);

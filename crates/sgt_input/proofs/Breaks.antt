@@ -75,6 +75,20 @@ break-within bytes from within stop found is inside fits none first =
     (subst (λ xs. IsBreak xs (option_map (λ k. length (take from bytes) + k) found)) whole
     (break-behind (take from bytes) (take (stop - from) (drop from bytes)) found none first))
 
+-- the first newline of the first bytes
+pub break-first : (bytes : List ℕ) (within stop : ℕ) (found : Option ℕ) → stop ≡ min within (length bytes)
+    → IsFirstByte (is_byte 10) (take stop bytes) found → IsBreak (take within bytes) found
+break-first bytes within stop found is first =
+    let all : stop ≡ stop - 0 = omega arith in
+    same found (break-within bytes 0 within stop found is (omega arith) (omega arith) refl
+    (subst (λ k. IsFirstByte (is_byte 10) (take k bytes) found) all first))
+  where
+    same : (found : Option ℕ) → IsBreak (take within bytes) (option_map (λ n. 0 + n) found) → IsBreak (take within bytes) found
+    same None at = at
+    same (Some n) at =
+        let none : 0 + n ≡ n = omega arith in
+        subst (λ m. IsBreak (take within bytes) (Some m)) none at
+
 -- where a bit is set, some lane passes
 marked : (p : ℕ → Bool) (xs : List ℕ) → 0 < mask_l (map p xs) → prefix_len (λ x. not (p x)) xs < length xs
 marked p [] some = absurd (omega (arith, some))
@@ -104,6 +118,15 @@ first-marked bytes from n fits some is =
       },
       run_in_chunk_stops p bytes from 32 n 0 fits counted few,
     )
+
+-- among the first bytes
+pub first-marked-here : (bytes : List ℕ) (n : ℕ) → 32 ≤ length bytes
+    → 0 < mask_l (map (λ x. eqb x 10) (chunk 0 32 bytes))
+    → n ≡ count_trailing_zeros 64 (mask_l (map (λ x. eqb x 10) (chunk 0 32 bytes)))
+    → NoneBefore (Passes (is_byte 10) bytes) 0 32 n × Passes (is_byte 10) bytes n
+first-marked-here bytes n fits some is =
+    let none : 0 + n ≡ n = omega arith in
+    subst (λ m. NoneBefore (Passes (is_byte 10) bytes) 0 32 m × Passes (is_byte 10) bytes m) none (first-marked bytes 0 n fits some is)
 
 -- the first newline within the limit, if it is near and none is before
 pub break-near : (bytes : List ℕ) (from within stop n : ℕ) → stop ≡ min within (length bytes) → from + 32 ≤ stop

@@ -23,39 +23,33 @@ const LONGEST_INPUT: usize = 16_777_216;
 /// How many bytes [`Lines::window`] returns.
 const WINDOW: usize = 64;
 
-/// The position of the first newline among the first `within` bytes, if none is among the first `from`.
+/// The position of the first newline among the first `within` bytes.
 #[inline(always)]
-fn find_break(bytes: &[u8], from: usize, within: usize) -> Option<usize>
-    requires known { has_break (take from bytes.now) ≡ false }
-    requires within { from ≤ within }
-    requires bounds { from ≤ length bytes.now }
+fn find_break(bytes: &[u8], within: usize) -> Option<usize>
     ensures { IsBreak (take within bytes.now) result }
 {
     let stop = within.min(bytes.len());
-    if 32 <= stop - from {
-        if let Some(near) = near_break(bytes, from) {
+    if 32 <= stop {
+        if let Some(near) = near_break(bytes) {
             return Some(near);
         }
     }
-    match memchr(b'\n', &bytes[from..stop]) {
-        Some(n) => Some(from + n),
-        None => None,
-    }
+    memchr(b'\n', &bytes[..stop])
 }
 
-/// The position of the first newline among the 32 bytes from `from` on. Most lines are shorter.
+/// The position of the first newline among the first 32 bytes. Most lines are shorter.
 #[inline(always)]
-fn near_break(bytes: &[u8], from: usize) -> Option<usize>
-    requires { from + 32 ≤ length bytes.now }
-    ensures { IsFirst (Passes (is_byte 10) bytes.now) from (from + 32) result }
+fn near_break(bytes: &[u8]) -> Option<usize>
+    requires { 32 ≤ length bytes.now }
+    ensures { IsFirst (Passes (is_byte 10) bytes.now) 0 32 result }
 {
-    let marks = u8x32::from_slice(&bytes[from..])
+    let marks = u8x32::from_slice(bytes)
         .simd_eq(u8x32::splat(b'\n'))
         .to_bitmask();
     if marks == 0 {
         return None;
     }
-    Some(from + marks.trailing_zeros() as usize)
+    Some(marks.trailing_zeros() as usize)
 }
 
 /// How many bytes the whole lines among the first `within` bytes have, if no newline is among the first `from`.
@@ -317,7 +311,7 @@ impl Lines {
         if !self.has_line() {
             return None;
         }
-        find_break(self.buffer.held(), 0, self.within)
+        find_break(self.buffer.held(), self.within)
     }
 
     /// Moves to the last line, which has no newline, if there is one.
