@@ -23,6 +23,7 @@ from helpers.library import C_FLAGS, OUT, SANITIZERS, SHARED, THREAD_SANITIZER, 
 THREADS, CALLS, FEW_CALLS, SANITIZED_CALLS = 16, 200_000, 40_000, 15_000
 STEPPED, FEW_STEPPED = 49, 1  # of 100 transactions
 MONEY = 5 * 200_000
+TURNS, IN_TURN = 400_000, 4  # runs in all, of so many threads
 FUZZED_SECONDS = 60
 LIMITS = '{"limits":[8,4000000000,1],"accounts":[%s],"procedures":[]}\n'
 ACCOUNTS = ",".join(f"[{n},{100 + n},100000,100000]" for n in range(5))
@@ -186,6 +187,16 @@ def threads_stay_within_their_memory(room):
     return sanitized(room, SANITIZERS)
 
 
+def threads_get_their_turns(room):
+    """Each of some threads that come back for the lock at once gets it now and then, and none sleeps for each run."""
+    told = run([built(room, "cc", C_FLAGS, C_SOURCES / "shared_turns.c"), IN_TURN, TURNS], seconds=120)
+    counts = {name: int(count) for name, count in (line.split() for line in told.splitlines())}
+    same("runs that were made in a minute", TURNS, counts["runs"])
+    same("whether each thread has a hundredth of its part", True, counts["fewest"] >= TURNS / IN_TURN / 100)
+    same("whether threads sleep less than once in two runs", True, counts["sleeps"] <= TURNS / 2)
+    return ", ".join(f"{name} {count}" for name, count in counts.items())
+
+
 def tells_the_status_of_each_call(room):
     told = run([built(room, "cc", C_FLAGS, C_SOURCES / "shared_calls.c")])
     same("what is told", f"{told.split()[0]} checks, 0 failed\n", told)
@@ -223,6 +234,7 @@ CASES = [
     threads_are_told_what_the_history_says,
     threads_run_without_steps,
     threads_run_beside_few_steps,
+    threads_get_their_turns,
     threads_do_not_race,
     threads_stay_within_their_memory,
     goes_on_where_each_allocation_is_refused,
