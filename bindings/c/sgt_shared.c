@@ -98,14 +98,14 @@ struct sgt_shared {
     sgt_engine engine;
     sgt_shared_config config;
     uint64_t number;             /* of this engine, in its tickets */
-    uint64_t part;               /* cuts so far, as sgt_part tells */
+    uint64_t part;               /* cuts so far: that of sgt_part */
     uint64_t sequence;           /* calls that were committed or refused so far */
     uint64_t read;               /* the place of the history up to which these were handed on */
     uint64_t ends;               /* transactions that have ended so far, runs included */
     struct live live[MOST_LIVE]; /* by rising numbers */
     uint32_t lives;
-    uint32_t most;               /* how many the limits allow, as SGT_FULL has told it */
-    uint32_t committing;         /* threads that wait for a commit and have yet to be told how it ended */
+    uint32_t most;               /* how many the limits allow, known after an SGT_FULL */
+    uint32_t committing;         /* threads whose commit waits, or has ended and not returned yet */
     uint32_t cutters;            /* threads that wait for a cut */
     uint64_t cut_at;             /* so many entries make a cut due */
     bool pauses;                 /* starts wait for a cut that is due, until `pause` */
@@ -455,7 +455,7 @@ static bool await_turn(sgt_shared *s, uint32_t tid, uint32_t first, const struct
 
 /*
  * Goes on with a commit whose reply this is: as long as it has to wait, it waits, and asks again. No cut comes before its thread has
- * been told how it ended.
+ * returned its end.
  */
 static uint32_t go_on(sgt_shared *s, uint32_t tid, const struct deadline *until, sgt_reply *reply, uint32_t *waits)
 {

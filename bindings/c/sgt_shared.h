@@ -43,7 +43,7 @@ typedef struct sgt_shared sgt_shared;
 
 /*
  * The name of a transaction. `part` counts the cuts before its start, and `tid` is its number in that part, so a ticket never names
- * another transaction. `engine` tells the shared engines of a process apart. All bytes zero: the ticket of nobody.
+ * another transaction. `engine` distinguishes the shared engines of a process. All bytes zero: the ticket of nobody.
  */
 typedef struct sgt_ticket {
     uint64_t engine;
@@ -53,9 +53,9 @@ typedef struct sgt_ticket {
 } sgt_ticket;
 
 /*
- * A call that was committed or refused, with what it was told, as sgt_calls returns it. `sequence` counts these calls from 0 in reply
- * order, over all parts. Run one after another in this order, from the opening database, they give the same answers and end in the
- * committed database.
+ * A call that was committed or refused, with its answers or its code, as sgt_calls returns it. `sequence` counts these calls from 0
+ * in reply order, over all parts. Run one after another in this order, from the opening database, they give the same answers and end
+ * in the committed database.
  */
 typedef struct sgt_ended {
     uint64_t sequence;
@@ -79,7 +79,7 @@ typedef struct sgt_live {
 typedef struct sgt_shared_config {
     size_t size;        /* sizeof(sgt_shared_config) */
 
-    /* Called for each committed or refused call, in reply order, before its own thread is told. May be null. */
+    /* Called for each committed or refused call, in reply order, before it returns to its own thread. May be null. */
     void (*ended)(void *context, const sgt_ended *ended);
 
     /*
@@ -153,10 +153,10 @@ uint32_t sgt_shared_close(sgt_shared **shared);
 /*
  * Runs a procedure from its start to its commit. `options` may be null.
  *
- * If nobody else is live it takes one hold of the lock. Otherwise it waits as often as it has to: at SGT_FULL and at SGT_WAITS for the end of another transaction. After a cycle or a cascading
- * abort it tries again. The reply is the last one: SGT_COMMITTED, SGT_REFUSED, SGT_ABORTED with SGT_BY_CODE, or that to a start that is
- * refused for good (SGT_NO_PROCEDURE, SGT_BAD_ARGS, SGT_SPENT). If the tries are used up, it is the SGT_ABORTED or SGT_OVER of the last
- * one; if another thread quit it, SGT_OVER with SGT_BY_QUIT.
+ * If nobody else is live it takes one hold of the lock. Otherwise it waits as often as it has to: at SGT_FULL and at SGT_WAITS for the
+ * end of another transaction. After a cycle or a cascading abort it tries again. The reply is the last one: SGT_COMMITTED, SGT_REFUSED,
+ * SGT_ABORTED with SGT_BY_CODE, or that to a start that is refused for good (SGT_NO_PROCEDURE, SGT_BAD_ARGS, SGT_SPENT). If the tries
+ * are used up, it is the SGT_ABORTED or SGT_OVER of the last one; if another thread quit it, SGT_OVER with SGT_BY_QUIT.
  *
  * SGT_TIMED_OUT if the deadline comes: nothing of it is left live. If a deadline other than 0 comes before its turn, nothing is started.
  * SGT_NO_MEMORY: nothing is left live either. SGT_BAD_CALL if there are over 4 arguments, if the procedure is over 65535, or if a size is
