@@ -236,7 +236,7 @@ not_again : (v n t : ℕ) (order : List ℕ)
 not_again v n t order once at same = let one = once 0 (suc n) t (ap Some same) at in omega (arith, one)
 
 -- if t is before u in the order, all operations of t come before all of u in the serial history
-order_before : (h : List Operation) (order : List ℕ) (m n t u : ℕ)
+pub order_before : (h : List Operation) (order : List ℕ) (m n t u : ℕ)
     → ((i j t : ℕ) → slice_get order i ≡ Some t → slice_get order j ≡ Some t → i ≡ j) → m < n → slice_get order m ≡ Some t
     → slice_get order n ≡ Some u → IsWhollyBefore (serial_history h order) t u
 order_before h [] m n t u once less first second = absurd (nothing_there m t first)

@@ -64,6 +64,16 @@ pub record IsSerialRun (h s : List Operation) : Type 0 where
 abbrev pub IsSerializable : List Operation → Type 0
 IsSerializable h = (s : List Operation) × IsSerialRun h s
 
+-- s is such a serial history that keeps real time: of two transactions that commit, if all operations of one come before
+-- all of the other, then so they do in s
+pub record IsRealTimeRun (h s : List Operation) : Type 0 where
+  pub run : IsSerialRun h s
+  pub real_time : (t u : ℕ) → t ≢ u → Commits h t → Commits h u → IsWhollyBefore h t u → IsWhollyBefore s t u
+
+-- Strictly serializable (Papadimitriou (1979)): serializable in real time.
+abbrev pub IsStrictlySerializable : List Operation → Type 0
+IsStrictlySerializable h = (s : List Operation) × IsRealTimeRun h s
+
 -- the operations of the listed transactions, one transaction after another
 abbrev pub serial_history : List Operation → List ℕ → List Operation
 serial_history h order = flat_map (operations_of h) order

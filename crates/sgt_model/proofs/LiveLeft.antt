@@ -59,7 +59,7 @@ module _ (p : Option ProcedureText) (args : List ℤ) (values : List (Option ℤ
 
 -- so it is in a legal history
 module _ (s : Setting) (past : List Entry) (h : Legal s past) (t : ℕ) where
-  used_so_far : Used (run_of s.rules (call_of past t)) (reads past t) (made past t)
+  pub used_so_far : Used (run_of s.rules (call_of past t)) (reads past t) (made past t)
   used_so_far = all_used (run_of s.rules (call_of past t)) (acts past t) (plays s past t h)
 
   pub next_is_left : next_left (left_of s.rules past t) ≡ next_of s past t

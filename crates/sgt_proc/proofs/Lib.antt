@@ -5,6 +5,7 @@ pub mod Caps
 pub mod AllFlaws
 pub mod Clean
 pub mod Sounds
+pub mod LongestPaths
 pub mod Fews
 pub mod Followed
 pub mod PathTexts

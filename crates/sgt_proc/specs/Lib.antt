@@ -7,3 +7,4 @@ pub mod Paths
 pub mod Places
 pub mod Cursors
 pub mod Codes
+pub mod LongestPaths

@@ -49,18 +49,18 @@ earlier number (e ∷ past) t k kind h = elim (or_cases (conflicts (access_of e)
         }
 
 -- two operations that conflict, the one of t before the one of u
-record InTurn (number : Key → ℕ) (past : List Entry) (t u : ℕ) : Type 0 where
-  first : ℕ
-  second : ℕ
-  item : ℕ
-  was : Kind
-  kind : Kind
-  order : first < second
-  does_first : Does (textbook number past) first t (action_on was item)
-  does_second : Does (textbook number past) second u (action_on kind item)
-  one : one_stores was kind ≡ true
+pub record InTurn (number : Key → ℕ) (past : List Entry) (t u : ℕ) : Type 0 where
+  pub first : ℕ
+  pub second : ℕ
+  pub item : ℕ
+  pub was : Kind
+  pub kind : Kind
+  pub order : first < second
+  pub does_first : Does (textbook number past) first t (action_on was item)
+  pub does_second : Does (textbook number past) second u (action_on kind item)
+  pub one : one_stores was kind ≡ true
 
-in_turn : (number : Key → ℕ) (past : List Entry) (t u : ℕ) → Precedes past t u → InTurn number past t u
+pub in_turn : (number : Key → ℕ) (past : List Entry) (t u : ℕ) → Precedes past t u → InTurn number past t u
 in_turn number [] t u p = absurd p
 in_turn number (e ∷ past) t u (inr before) = let o = in_turn number past t u before in record {
   first = o.first;
@@ -90,7 +90,7 @@ in_turn number (e ∷ past) t u (inl now) = let f = follows-access past (access_
     }
 
 -- by the kinds of both
-conflict : (number : Key → ℕ) (past : List Entry) (i j t u x : ℕ) (was kind : Kind) → one_stores was kind ≡ true
+pub conflict : (number : Key → ℕ) (past : List Entry) (i j t u x : ℕ) (was kind : Kind) → one_stores was kind ≡ true
     → Does (textbook number past) i t (action_on was x) → Does (textbook number past) j u (action_on kind x)
     → Conflict (textbook number past) i t j u
 conflict number past i j t u x Look Look one first second = absurd (cc)

@@ -7,3 +7,7 @@ pub mod SerialOrder
 pub mod Ends
 pub mod Numbering
 pub mod Examples
+pub mod RealTime
+pub mod Rejections
+pub mod Cascades
+pub mod MayCommit

@@ -75,7 +75,7 @@ listed_once number s (e ∷ past) h i j t first second = go (λ a b. listed_once
     go rest (inr a) (inr b) = a.0 ∙ sym b.0
 
 -- who commits before another stands before it
-listed_in_turn : CommitsAlwaysInLine → (number : Key → ℕ) (s : Setting) (past : List Entry) → Legal s past → (i j t u : ℕ)
+pub listed_in_turn : CommitsAlwaysInLine → (number : Key → ℕ) (s : Setting) (past : List Entry) → Legal s past → (i j t u : ℕ)
     → CommitsBefore past t u → slice_get (commit_order past) i ≡ Some t → slice_get (commit_order past) j ≡ Some u → i < j
 listed_in_turn in_line number s [] h i j t u b first second = absurd b
 listed_in_turn in_line number s (e ∷ past) h i j t u b first second =

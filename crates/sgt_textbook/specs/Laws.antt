@@ -12,7 +12,7 @@ use Rattle.sgt_classes.specs.declared.operation.Operation.{Operation}
 use Rattle.sgt_classes.specs.Classes.{ReadsFrom, AvoidsCascadingAborts, IsRecoverable}
 use Rattle.sgt_classes.specs.Histories.{IsWellFormed}
 use Rattle.sgt_classes.specs.Serializability.{IsEdge, IsCommitOrdered, IsSerialOrder}
-use Rattle.sgt_classes.specs.Equivalence.{IsSerializable, IsSerialRun, committed_projection, serial_history}
+use Rattle.sgt_classes.specs.Equivalence.{IsSerializable, IsSerialRun, IsRealTimeRun, IsStrictlySerializable, committed_projection, serial_history}
 use Rattle.sgt_classes.specs.ViewEquivalence.{AreViewEquivalent}
 use Rattle.sgt_textbook.specs.Textbook.{IsNumbering, textbook, commit_order}
 
@@ -62,6 +62,15 @@ abbrev pub CommitOrdersAreSerial : Type 0
 CommitOrdersAreSerial = (number : Key → ℕ) → IsNumbering number
     → InEach (λ s past. IsSerialOrder (textbook number past) (commit_order past)
     × IsSerialRun (textbook number past) (serial_history (textbook number past) (commit_order past)))
+
+-- This serial history keeps real time.
+abbrev pub CommitOrdersKeepRealTime : Type 0
+CommitOrdersKeepRealTime = (number : Key → ℕ) → IsNumbering number
+    → InEach (λ s past. IsRealTimeRun (textbook number past) (serial_history (textbook number past) (commit_order past)))
+
+-- it is strictly serializable: serializable in real time
+abbrev pub AreStrictlySerializable : Type 0
+AreStrictlySerializable = OfEachTextbook IsStrictlySerializable
 
 -- This serial history is view equivalent to its committed projection: each read reads from the same write, and the
 -- final writes are the same.

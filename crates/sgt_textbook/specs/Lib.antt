@@ -1,2 +1,3 @@
 pub mod Textbook
 pub mod Laws
+pub mod NeededAborts

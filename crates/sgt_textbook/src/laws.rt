@@ -1,6 +1,7 @@
 //! Laws of the textbook's history of every legal history. Each body only calls the laws that it rests on: the law is
 //! its contract.
-ghost use Rattle.sgt_textbook.specs.Laws.{AreCommitOrdered, AreRecoverable, AreSerializable, AreWellFormed, CommitOrdersAreSerial, CommitOrdersReadAlike, EdgesArePairs, KeysCanBeNumbered, ReadsAgree, SomeCascade};
+ghost use Rattle.sgt_textbook.specs.Laws.{AreCommitOrdered, AreRecoverable, AreSerializable, AreStrictlySerializable, AreWellFormed, CommitOrdersAreSerial, CommitOrdersKeepRealTime, CommitOrdersReadAlike, EdgesArePairs, KeysCanBeNumbered, ReadsAgree, SomeCascade};
+ghost use Rattle.sgt_textbook.specs.NeededAborts.{CascadesAreNeeded, CyclesAreLive, LiveOnesMayCommit, RejectionsAreNeeded, RejectsExactly};
 
 use sgt_classes::{
     commit_ordered_are_serializable, serial_orders_are_enough, serial_runs_read_alike,
@@ -85,4 +86,37 @@ pub fn keys_can_be_numbered()
 /// writer has not ended (Bernstein, Hadzilacos and Goodman (1987), chapter 2).
 pub fn some_histories_cascade()
     ensures { SomeCascade }
+{}
+
+/// The textbook's history of a legal one is strictly serializable: the committed transactions, one after another in
+/// commit order, are an equivalent serial history that keeps real time (Papadimitriou, 1979). If all operations of one
+/// come before all operations of another, it comes first there too.
+pub fn legal_are_strictly_serializable()
+    ensures order { CommitOrdersKeepRealTime }
+    ensures each { AreStrictlySerializable }
+{
+    commit_order_is_total();
+    commits_in_order();
+}
+
+/// Each abort is needed. Had a rejected access been made, no continuation in which all members of its cycle commit
+/// would be serializable. If one commits that was aborted in cascade, while the one that it read from aborts, the
+/// history is not recoverable (Bernstein, Hadzilacos and Goodman (1987), chapters 1 and 2).
+///
+/// This does not say that the fewest transactions are aborted: another member of the cycle might abort instead.
+pub fn aborts_are_needed()
+    ensures rejections { RejectionsAreNeeded }
+    ensures cascades { CascadesAreNeeded }
+{}
+
+/// If live transactions of a legal history committed now, in any order, its textbook's history would be serializable.
+pub fn live_ones_may_commit()
+    ensures { LiveOnesMayCommit }
+{}
+
+/// An access is rejected if and only if the history with it, all live transactions committing then, would not be
+/// serializable. The cycle that the reply names has live members alone.
+pub fn rejects_exactly()
+    ensures exact { RejectsExactly }
+    ensures live { CyclesAreLive }
 {}

@@ -14,11 +14,14 @@
 //! - one whose serialization graph has exactly the conflicts of committed transactions as edges;
 //! - one whose reads-from relation is `ReadFrom`.
 //!
-//! It need not avoid cascading aborts, and so need not be strict.
+//! It is strictly serializable too: that serial history keeps real time. Each abort in it is needed, and an access is
+//! rejected exactly if it has to be.
+//!
+//! It need not avoid cascading aborts, and so need not be strict, which is another thing.
 //!
 //! Nothing here runs or makes such a list. Each function is a law: its contract says it, and any caller may use it.
-//! The crate knows no engine and no scheduler. It adds nothing to what `sgt_model` proves of legal histories; it says
-//! the same in other words.
+//! The crate knows no engine and no scheduler. It says in the textbook's words what
+//! `sgt_model` and `sgt_progress` prove of legal histories.
 //!
 //! ```
 //! // With a legal history of any engine, call the law to know that the textbook's history of it is serializable.
@@ -29,7 +32,8 @@
 mod laws;
 
 pub use laws::{
-    commit_orders_are_serial, commit_orders_read_alike, edges_are_pairs, keys_can_be_numbered,
-    legal_are_commit_ordered, legal_are_recoverable, legal_are_serializable, legal_are_well_formed,
-    reads_agree, some_histories_cascade,
+    aborts_are_needed, commit_orders_are_serial, commit_orders_read_alike, edges_are_pairs,
+    keys_can_be_numbered, legal_are_commit_ordered, legal_are_recoverable, legal_are_serializable,
+    legal_are_strictly_serializable, legal_are_well_formed, live_ones_may_commit, reads_agree,
+    rejects_exactly, some_histories_cascade,
 };

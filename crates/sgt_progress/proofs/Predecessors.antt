@@ -1,0 +1,71 @@
+-- An edge into a transaction comes with an access of its own.
+use Rattle.std.specs.Prelude.{◌≡◌, ◌≢◌, ℕ, ◌<◌, true, ◌⊎◌, List, [], ◌∷◌, ◌++◌, length, Option, Some, None}
+use Rattle.std.proofs.Common.{refl, sym, ap₂, subst, inl, inr}
+use Rattle.sgt_model.specs.declared.entry.Entry.{Entry}
+use Rattle.sgt_model.specs.Traces.{Next, Looks, Puts, Ends, Raises, trace, next_at}
+use Rattle.sgt_model.specs.Accesses.{Access, access_of, acts}
+use Rattle.sgt_model.specs.Fates.{start_count, live}
+use Rattle.sgt_model.specs.Pairs.{FollowsIn, Precedes}
+use Rattle.sgt_model.specs.Settings.{Setting}
+use Rattle.sgt_model.specs.Progress.{Call, run_of, values_read, next_of}
+use Rattle.sgt_model.specs.Legality.{Legal, LivePredecessor}
+use Rattle.sgt_model.proofs.Effects.{Fits}
+use Rattle.sgt_model.proofs.Facts.{live-started, live-before, call-kept, access-fits, stood-before, follows-access, precedes-started, started-stays}
+use Rattle.sgt_model.proofs.Plays.{act_other, act_none}
+use Rattle.sgt_progress.specs.Predecessors.{IsEnd, NoNewPredecessors}
+
+ends_fit_none : (n : Next) (a : Access) → IsEnd n → Fits n a → ⊥
+ends_fit_none (Looks k) a e f = e
+ends_fit_none (Puts k v) a e f = e
+ends_fit_none (Ends answers) a e f = f
+ends_fit_none (Raises code) a e f = f
+
+module _ (s : Setting) (past : List Entry) (e : Entry) (legal : Legal s (e ∷ past)) (t : ℕ) (end : IsEnd (next_of s past t)) where
+  -- no access is its
+  not_own : (a : Access) → access_of e ≡ Some a → a.by ≢ t
+  not_own a is same = ends_fit_none (next_of s past t) a end
+      (subst (λ u. Fits (next_of s past u) a) same (access-fits s past e.event e.reply legal.1 a is))
+
+  same_acts : acts (e ∷ past) t ≡ acts past t
+  same_acts = go (access_of e) refl
+    where
+      go : (o : Option Access) → access_of e ≡ o → acts (e ∷ past) t ≡ acts past t
+      go None is = act_none (access_of e) t (acts past t) is
+      go (Some a) is = act_other (access_of e) a t (acts past t) is (not_own a is)
+
+  still_end : t < start_count past → IsEnd (next_of s (e ∷ past) t)
+  still_end started = subst IsEnd (sym (ap₂ (λ (c : Call) (all : List Access). next_at (trace (run_of s.rules c) (values_read all)) (length all))
+      (call-kept s past e t legal.1 started) same_acts)) end
+
+  older_pair : (u : ℕ) → LivePredecessor (e ∷ past) u t → LivePredecessor past u t
+  older_pair u p = by_case p.pair.precedes
+    where
+      by_case : FollowsIn past (access_of e) u t ⊎ Precedes past u t → LivePredecessor past u t
+      by_case (inl new) = let f = follows-access past (access_of e) u t new in absurd (not_own f.access f.is f.by)
+      by_case (inr old) = record {
+        is_live = live-before e past u p.is_live (precedes-started s past legal.0 u t old).0;
+        pair = record {
+          apart = p.pair.apart;
+          first_stands = stood-before s e past legal u p.pair.first_stands;
+          second_stands = stood-before s e past legal t p.pair.second_stands;
+          precedes = old;
+        };
+      }
+
+-- what is so of t over some entries
+record Over (s : Setting) (past after : List Entry) (t : ℕ) : Type 0 where
+  started : t < start_count after
+  end : IsEnd (next_of s after t)
+  older : (u : ℕ) → LivePredecessor after u t → LivePredecessor past u t
+
+over : (s : Setting) (past : List Entry) (t : ℕ) → live past t ≡ true → IsEnd (next_of s past t) → (later : List Entry) → Legal s (later ++ past)
+    → Over s past (later ++ past) t
+over s past t alive end [] legal = record { started = live-started past t alive; end = end; older = λ u p. p }
+over s past t alive end (e ∷ later) legal = let before = over s past t alive end later legal.0 in record {
+  started = started-stays e (later ++ past) t before.started;
+  end = still_end s (later ++ past) e legal t before.end before.started;
+  older = λ u p. before.older u (older_pair s (later ++ past) e legal t before.end u p);
+}
+
+pub no_new_predecessors : NoNewPredecessors
+no_new_predecessors s past legal t alive end later all u p = (over s past t alive end later all).older u p

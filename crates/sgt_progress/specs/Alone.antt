@@ -1,0 +1,58 @@
+-- What becomes of a transaction while it is the only live one.
+use Rattle.std.specs.Prelude.{◌≡◌, ℕ, Bool, true, false, ◌⊎◌, List, [], ◌∷◌, ◌++◌, Option, Some, None}
+use Rattle.sgt_model.specs.declared.event.Event.{Event}
+use Rattle.sgt_model.specs.declared.event.Event.TheVariants.{Step, Commit}
+use Rattle.sgt_model.specs.declared.reply.Reply.{Reply}
+use Rattle.sgt_model.specs.declared.reply.Reply.TheVariants as reply
+use Rattle.sgt_model.specs.declared.reply.Cause.TheVariants as cause
+use Rattle.sgt_model.specs.declared.reply.Fate.{Fate}
+use Rattle.sgt_model.specs.declared.reply.Fate.TheVariants as fate
+use Rattle.sgt_model.specs.declared.entry.Entry.{Entry}
+use Rattle.sgt_model.specs.Fates.{live, fate_of}
+use Rattle.sgt_model.specs.Settings.{Setting}
+use Rattle.sgt_model.specs.Questions.{started_in}
+use Rattle.sgt_model.specs.Legality.{Legal, LegalReply}
+use Rattle.sgt_model.specs.Laws.{InEach}
+
+-- t is live, and no other transaction is
+pub record IsAlone (past : List Entry) (t : ℕ) : Type 0 where
+  pub is_live : live past t ≡ true
+  pub only : (u : ℕ) → live past u ≡ true → u ≡ t
+
+-- nothing is live
+abbrev pub NoneLive : List Entry → Type 0
+NoneLive past = (u : ℕ) → live past u ≡ false
+
+-- the event is a step or a commit of t
+abbrev pub IsStepOrCommitOf : Event → ℕ → Type 0
+IsStepOrCommitOf event t = (event ≡ Step t) ⊎ (event ≡ Commit t)
+
+-- each entry is one of t's steps or commits
+abbrev pub AreStepsAndCommitsOf : ℕ → List Entry → Type 0
+AreStepsAndCommitsOf t [] = Unit {0}
+AreStepsAndCommitsOf t (e ∷ before) = IsStepOrCommitOf e.event t × AreStepsAndCommitsOf t before
+
+-- a reply that waits, or that aborts for a cycle
+abbrev pub is_hindered : Reply → Bool
+is_hindered (reply.Waits u) = true
+is_hindered (reply.Aborted (cause.Cycle walk) fell) = true
+is_hindered _ = false
+
+-- the only live transaction is never told to wait, and never aborted for a cycle
+abbrev pub AloneIsNotAborted : Type 0
+AloneIsNotAborted = InEach (λ s past. (t : ℕ) → IsAlone past t → (event : Event) → IsStepOrCommitOf event t → (r : Reply) → LegalReply s past event r → is_hindered r ≡ false)
+
+-- it is live, it committed, or it raised a code itself: no cycle, no fall, no quit
+abbrev pub IsByItself : Option Fate → Type 0
+IsByItself None = Unit {0}
+IsByItself (Some fate.Committed) = Unit {0}
+IsByItself (Some (fate.Aborted (cause.Asked code))) = Unit {0}
+IsByItself (Some _) = ⊥
+
+-- while no other is asked, the only live transaction is live, or it has committed, or raised a code itself
+abbrev pub AloneEndsByItself : Type 0
+AloneEndsByItself = InEach (λ s past. (t : ℕ) → IsAlone past t → (later : List Entry) → AreStepsAndCommitsOf t later → Legal s (later ++ past) → IsByItself (fate_of (later ++ past) t))
+
+-- a transaction that is started when nothing is live is the only live one
+abbrev pub StartedAlone : Type 0
+StartedAlone = (s : Setting) (past : List Entry) (e : Entry) → Legal s (e ∷ past) → NoneLive past → (t : ℕ) → started_in e.event e.reply ≡ Some t → IsAlone (e ∷ past) t

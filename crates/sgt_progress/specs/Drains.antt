@@ -1,0 +1,74 @@
+-- How many events are left until nothing is live: procedures have no loops, so each has a longest path.
+use Rattle.std.specs.Prelude.{◌≡◌, ℕ, zero, suc, ◌+◌, ◌-◌, ◌*◌, ◌≤◌, true, false, cond, ◌⊎◌, List, [], ◌∷◌, ◌++◌, length}
+use Rattle.sgt_model.specs.declared.reply.Reply.{Reply}
+use Rattle.sgt_model.specs.declared.entry.Entry.{Entry}
+use Rattle.sgt_model.specs.Fates.{is_start, live, live_ones}
+use Rattle.sgt_model.specs.Settings.{Setting}
+use Rattle.sgt_model.specs.Progress.{call_of, made}
+use Rattle.sgt_model.specs.Legality.{Legal, LegalReply}
+use Rattle.sgt_model.specs.Laws.{InEach}
+use Rattle.sgt_proc.specs.LongestPaths.{most_accesses}
+use Rattle.sgt_progress.specs.Moves.{next_event, has_moved}
+use Rattle.sgt_progress.specs.Alone.{NoneLive, IsAlone, IsStepOrCommitOf}
+
+-- how many accesses t can still make at most: those on its procedure's longest path, less those that it has made
+abbrev pub accesses_left : Setting → List Entry → ℕ → ℕ
+accesses_left s past t = most_accesses (s.rules.procedures (call_of past t).procedure) - made past t
+
+-- a number of each of the list, added up
+abbrev pub total : (ℕ → ℕ) → List ℕ → ℕ
+total f [] = 0
+total f (t ∷ l) = f t + total f l
+
+-- of each live transaction the accesses that it can still make, and its end
+abbrev pub events_left : Setting → List Entry → ℕ
+events_left s past = total (λ t. accesses_left s past t + 1) (live_ones past)
+
+-- how many entries made an access or ended a transaction
+abbrev pub moves : List Entry → ℕ
+moves [] = 0
+moves (e ∷ past) = cond (has_moved e.event e.reply) (moves past + 1) (moves past)
+
+-- none of the entries starts a transaction
+abbrev pub StartNone : List Entry → Type 0
+StartNone [] = Unit {0}
+StartNone (e ∷ past) = (is_start e.reply ≡ false) × StartNone past
+
+-- No livelock: where no transaction is started, whatever is asked in whatever order, there are at most so many accesses and
+-- ends
+abbrev pub MovesAreFew : Type 0
+MovesAreFew = InEach (λ s past. (later : List Entry) → Legal s (later ++ past) → StartNone later → moves later + events_left s (later ++ past) ≤ events_left s past)
+
+-- Nothing is live after at most so many events, whatever the replies: nothing is live now, or there is a live transaction whose
+-- next event, with any legal reply, leaves one event less
+abbrev pub DrainsWithin : ℕ → Setting → List Entry → Type 0
+DrainsWithin zero s past = NoneLive past
+DrainsWithin (suc n) s past = NoneLive past ⊎ ((t : ℕ) × (live past t ≡ true) × ((r : Reply) → LegalReply s past (next_event s past t) r
+    → DrainsWithin n s (record { event = next_event s past t; reply = r } ∷ past)))
+
+-- from each legal history
+abbrev pub HistoriesDrain : Type 0
+HistoriesDrain = InEach (λ s past. DrainsWithin (events_left s past) s past)
+
+-- each entry is a step or a commit of some transaction
+abbrev pub AreStepsAndCommits : List Entry → Type 0
+AreStepsAndCommits [] = Unit {0}
+AreStepsAndCommits (e ∷ past) = ((t : ℕ) × IsStepOrCommitOf e.event t) × AreStepsAndCommits past
+
+-- a legal history goes on by at most so many steps and commits, after which nothing is live
+abbrev pub SomeStepsDrain : Type 0
+SomeStepsDrain = InEach (λ s past. (later : List Entry) × Legal s (later ++ past) × AreStepsAndCommits later × (length later ≤ events_left s past) × NoneLive (later ++ past))
+
+-- t has ended after at most so many of its next events, whatever the replies
+abbrev pub EndsWithin : ℕ → Setting → List Entry → ℕ → Type 0
+EndsWithin zero s past t = live past t ≡ false
+EndsWithin (suc n) s past t = (live past t ≡ false) ⊎ ((r : Reply) → LegalReply s past (next_event s past t) r
+    → EndsWithin n s (record { event = next_event s past t; reply = r } ∷ past) t)
+
+-- the only live transaction ends by the accesses that it can still make, and one event more
+abbrev pub AloneEnds : Type 0
+AloneEnds = InEach (λ s past. (t : ℕ) → IsAlone past t → EndsWithin (accesses_left s past t + 1) s past t)
+
+-- if no procedure makes more than `most` accesses, there are at most so many events for each transaction that may be live
+abbrev pub EventsLeftAreFew : Type 0
+EventsLeftAreFew = InEach (λ s past. (most : ℕ) → ((n : ℕ) → most_accesses (s.rules.procedures n) ≤ most) → events_left s past ≤ s.rules.limits.live * (most + 1))

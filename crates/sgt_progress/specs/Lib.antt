@@ -1,0 +1,10 @@
+pub mod Moves
+pub mod Alone
+pub mod RealTime
+pub mod Drains
+pub mod Needed
+pub mod Reruns
+pub mod Rounds
+pub mod Owners
+pub mod Checked
+pub mod Predecessors

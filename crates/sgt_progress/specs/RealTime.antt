@@ -1,0 +1,42 @@
+-- Strict serializability (Papadimitriou (1979); Herlihy and Wing (1990)): a serial order that keeps real time. Of two
+-- transactions, if one was told its answers or its code before the other was started, it is before it in the order.
+use Rattle.std.specs.Prelude.{◌≡◌, ℕ, ◌⊎◌, List, [], ◌∷◌, ◌++◌, map, Some}
+use Rattle.sgt_model.specs.declared.event.Event.{Event}
+use Rattle.sgt_model.specs.declared.reply.Reply.{Reply}
+use Rattle.sgt_model.specs.declared.reply.Reply.TheVariants as reply
+use Rattle.sgt_model.specs.declared.entry.Entry.{Entry}
+use Rattle.sgt_model.specs.Walks.{Member, Distinct, StandsBefore}
+use Rattle.sgt_model.specs.Fates.{subject}
+use Rattle.sgt_model.specs.Settings.{Setting}
+use Rattle.sgt_model.specs.Progress.{call_of}
+use Rattle.sgt_model.specs.Questions.{started_in}
+use Rattle.sgt_model.specs.Replay.{told_calls, ReplayAgrees}
+use Rattle.sgt_model.specs.Laws.{InEach}
+
+-- the transaction that an entry commits or refuses, if it does
+abbrev pub told_one_in : Event → Reply → List ℕ
+told_one_in event (reply.Committed answers) = subject event ∷ []
+told_one_in event (reply.Refused code fell) = subject event ∷ []
+told_one_in event _ = []
+
+-- the committed and refused transactions, the last reply first
+abbrev pub told_ones : List Entry → List ℕ
+told_ones [] = []
+told_ones (e ∷ past) = told_one_in e.event e.reply ++ told_ones past
+
+-- t was told its answers or its code before u was started
+abbrev pub EndsBeforeStart : List Entry → ℕ → ℕ → Type 0
+EndsBeforeStart [] t u = ⊥
+EndsBeforeStart (e ∷ past) t u = ((started_in e.event e.reply ≡ Some u) × Member t (told_ones past)) ⊎ EndsBeforeStart past t u
+
+-- Strictly serializable. The replay runs the calls of these transactions, each once, in this order, the last one first; run
+-- so, they give what was told and leave the committed values; and one that ended before another was started comes before it
+pub record KeepsRealTime (s : Setting) (past : List Entry) : Type 0 where
+  pub once : Distinct (told_ones past)
+  pub calls : told_calls past ≡ map (call_of past) (told_ones past)
+  pub replay : ReplayAgrees s past
+  pub real_time : (t u : ℕ) → EndsBeforeStart past t u → Member u (told_ones past) → StandsBefore u t (told_ones past)
+
+-- each legal history is
+abbrev pub ReplayKeepsRealTime : Type 0
+ReplayKeepsRealTime = InEach KeepsRealTime

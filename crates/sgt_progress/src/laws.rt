@@ -1,0 +1,92 @@
+//! The laws. The function bodies are empty: each law is its function's contract.
+ghost use Rattle.sgt_progress.specs.Alone.{AloneEndsByItself, AloneIsNotAborted, StartedAlone};
+ghost use Rattle.sgt_progress.specs.Checked.{CheckedDrainSoon};
+ghost use Rattle.sgt_progress.specs.Drains.{AloneEnds, EventsLeftAreFew, HistoriesDrain, MovesAreFew, SomeStepsDrain};
+ghost use Rattle.sgt_progress.specs.Moves.{AskedMovesOrWaits, NoDeadlock, NoWaitCycle};
+ghost use Rattle.sgt_progress.specs.Needed.{ClosedCyclesStay, CyclesAloneAreRejected};
+ghost use Rattle.sgt_progress.specs.Owners.{OwnersGoOn, TwoEachMayNot};
+ghost use Rattle.sgt_progress.specs.Predecessors.{NoNewPredecessors};
+ghost use Rattle.sgt_progress.specs.RealTime.{ReplayKeepsRealTime};
+ghost use Rattle.sgt_progress.specs.Rounds.{RoundsDrain, RoundsMove};
+ghost use Rattle.sgt_progress.specs.Reruns.{CallsDecide, OneByOneIsForced, RerunsAgree};
+
+/// The next event of a live transaction moves it on, or waits for a live predecessor.
+pub fn asked_moves_or_waits()
+    ensures { AskedMovesOrWaits }
+{}
+
+/// No deadlock: each live transaction, or a live one that it waits for, also through others, can move on.
+pub fn no_deadlock()
+    ensures some { NoDeadlock }
+    ensures waits { NoWaitCycle }
+{}
+
+/// What is asked of the only live transaction neither waits nor is aborted for a cycle.
+pub fn alone_is_not_aborted()
+    ensures { AloneIsNotAborted }
+{}
+
+/// If nobody else is asked, the only live transaction commits, raises a code itself, or is still live.
+pub fn alone_ends_by_itself()
+    ensures { AloneEndsByItself }
+{}
+
+/// One that is started when nothing is live is the only live one.
+pub fn started_alone()
+    ensures { StartedAlone }
+{}
+
+/// Reply order is a serial order that keeps real time.
+pub fn replay_keeps_real_time()
+    ensures { ReplayKeepsRealTime }
+{}
+
+/// No livelock: where nothing is started, there are at most so many accesses and ends, whatever is asked.
+pub fn moves_are_few()
+    ensures { MovesAreFew }
+{}
+
+/// From every legal history nothing is live after a bounded number of events, whatever the replies.
+pub fn histories_drain()
+    ensures all { HistoriesDrain }
+    ensures some { SomeStepsDrain }
+    ensures few { EventsLeftAreFew }
+    ensures checked { CheckedDrainSoon }
+{}
+
+/// The only live transaction ends by its next events, whatever the replies.
+pub fn alone_ends()
+    ensures { AloneEnds }
+{}
+
+/// A rejected access has to be rejected, unless another member of its cycle is aborted; and no other access is rejected.
+pub fn closed_cycles_stay()
+    ensures needed { ClosedCyclesStay }
+    ensures exact { CyclesAloneAreRejected }
+{}
+
+/// The committed and refused calls decide what was told and what is committed; given again one after another, each is told
+/// the same.
+pub fn reruns_agree()
+    ensures decide { CallsDecide }
+    ensures again { RerunsAgree }
+    ensures forced { OneByOneIsForced }
+{}
+
+/// Going round the live transactions, in any order: each round makes an access or ends one, so after enough rounds none is
+/// live.
+pub fn rounds_drain()
+    ensures moves { RoundsMove }
+    ensures drain { RoundsDrain }
+{}
+
+/// If each owner has one live transaction at most, not all owners are held up. With two they may be.
+pub fn owners_go_on()
+    ensures one { OwnersGoOn }
+    ensures two { TwoEachMayNot }
+{}
+
+/// Once a procedure has ended, its transaction gets no more live predecessors.
+pub fn no_new_predecessors()
+    ensures { NoNewPredecessors }
+{}
