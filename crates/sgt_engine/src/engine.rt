@@ -1,5 +1,5 @@
 //! The engine: a scheduler with the history of its events and replies.
-ghost use Rattle.std.specs.Prelude.{◌≡◌, ℕ, true, [], Result, Ok, Err, IfOk, OnOk, OnErr, IsTrue, ◌↔◌, reverse};
+ghost use Rattle.std.specs.Prelude.{◌≡◌, ℕ, true, false, [], Result, Ok, Err, IfOk, OnOk, OnErr, IsTrue, ◌↔◌, reverse};
 ghost use Rattle.std.specs.Result.{IsOk};
 ghost use Rattle.sgt_model.specs.declared.event.Event.TheVariants.{Quit};
 ghost use Rattle.sgt_model.specs.declared.reply.Reply.{Reply};
@@ -12,10 +12,14 @@ ghost use Rattle.sgt_model.specs.Fates.{live};
 ghost use Rattle.sgt_model.specs.Legality.{Legal, LegalReply};
 ghost use Rattle.sgt_model.specs.Pairs.{Pair};
 ghost use Rattle.sgt_model.specs.Replay.{folded, ReplayAgrees};
+ghost use Rattle.sgt_model.specs.ShortReplies.{short_reply};
 ghost use Rattle.sgt_model.specs.StateAfter.{IsStateAfter};
 ghost use Rattle.sgt_model.specs.Values.{settled};
 ghost use Rattle.sgt_model.specs.Walks.{Acyclic};
 ghost use Rattle.sgt_model.specs.Questions.{is_ending};
+ghost use Rattle.sgt_progress.specs.Alone.{IsAlone, IsStepOrCommitOf, is_hindered};
+ghost use Rattle.sgt_progress.specs.Progress.{MakesProgress};
+ghost use Rattle.sgt_progress.specs.RealTime.{KeepsRealTime};
 ghost use Rattle.sgt_sched.specs.Scheduler.{parts, state};
 ghost use Rattle.sgt_engine.specs.EngineView.{setting_of, made_of, with_entry, newest_reply, Answers, HasLists};
 
@@ -38,6 +42,7 @@ use sgt_model::{
     verdicts_agree,
 };
 use sgt_proc::Checked;
+use sgt_progress::{histories_make_progress, replay_keeps_real_time};
 use sgt_records::Records;
 use sgt_sched::{Sched, endings_agree};
 use std::alloc::Global;
@@ -141,6 +146,9 @@ impl<R: Records, A: Accesses, G: Graph> Engine<R, A, G> {
     /// readers that of chapter 1. A commit waits for its live predecessors, so that commit order is a serial order: this is from
     /// Durner and Neumann (ICDE 2019).
     ///
+    /// No transaction waits for itself, also through others. The only live transaction neither waits nor is aborted for a
+    /// cycle. The serial order keeps real time.
+    ///
     /// `NoMemory` if an allocation failed; then nothing has changed. A quit of a live transaction allocates nothing, nor does
     /// any event whose reply ends a live transaction: the capacity for that entry was allocated at the start. The cost of an
     /// event does not grow with the history, which is never read, except when a list grows now and then.
@@ -152,6 +160,9 @@ impl<R: Records, A: Accesses, G: Graph> Engine<R, A, G> {
         ensures no_cycle { Acyclic (Pair self.new.past) }
         ensures causes { AbortsHaveCause (setting_of self.new) self.new.past }
         ensures order { CommitsInOrder self.new.past }
+        ensures real_time { KeepsRealTime (setting_of self.new) self.new.past }
+        ensures progress { MakesProgress (setting_of self.new) self.new.past }
+        ensures alone { IfOk result (λ r. (t : ℕ) → IsAlone self.old.past t → IsStepOrCommitOf event t → is_hindered r ≡ false) }
         ensures unchanged { OnErr result (self.new ≡ self.old) }
         ensures no_memory { (r : Reply) → LegalReply (setting_of self.old) self.old.past event r
             → is_ending r ≡ true
@@ -172,6 +183,10 @@ impl<R: Records, A: Accesses, G: Graph> Engine<R, A, G> {
         ensures no_cycle { Acyclic (Pair self.new.past) }
         ensures causes { AbortsHaveCause (setting_of self.new) self.new.past }
         ensures order { CommitsInOrder self.new.past }
+        ensures real_time { KeepsRealTime (setting_of self.new) self.new.past }
+        ensures progress { MakesProgress (setting_of self.new) self.new.past }
+        ensures alone { OnOk result ((t : ℕ) → IsAlone self.old.past t → IsStepOrCommitOf event.now t → (r : Reply)
+            → short_reply r ≡ reply.new → is_hindered r ≡ false) }
         ensures unchanged { OnErr result (self.new ≡ self.old) }
         ensures no_memory { (r : Reply) → LegalReply (setting_of self.old) self.old.past event.now r
             → is_ending r ≡ true
@@ -232,8 +247,12 @@ impl<R: Records, A: Accesses, G: Graph> Engine<R, A, G> {
         ensures no_cycle { Acyclic (Pair self.now.past) }
         ensures causes { AbortsHaveCause (setting_of self.now) self.now.past }
         ensures order { CommitsInOrder self.now.past }
+        ensures real_time { KeepsRealTime (setting_of self.now) self.now.past }
+        ensures progress { MakesProgress (setting_of self.now) self.now.past }
     {
         headline_holds();
+        replay_keeps_real_time();
+        histories_make_progress();
         &self.history
     }
 
@@ -294,8 +313,12 @@ impl<R: Records, A: Accesses, G: Graph> Engine<R, A, G> {
         ensures no_cycle { Acyclic (Pair self.past) }
         ensures causes { AbortsHaveCause (setting_of self) self.past }
         ensures order { CommitsInOrder self.past }
+        ensures real_time { KeepsRealTime (setting_of self) self.past }
+        ensures progress { MakesProgress (setting_of self) self.past }
     {
         headline_holds();
+        replay_keeps_real_time();
+        histories_make_progress();
         let Engine {
             opening,
             sched: _,

@@ -7,6 +7,8 @@ ghost use Rattle.sgt_model.specs.Legality.{Legal};
 ghost use Rattle.sgt_model.specs.Pairs.{Pair};
 ghost use Rattle.sgt_model.specs.Replay.{ReplayAgrees};
 ghost use Rattle.sgt_model.specs.Walks.{Acyclic};
+ghost use Rattle.sgt_progress.specs.Progress.{MakesProgress};
+ghost use Rattle.sgt_progress.specs.RealTime.{KeepsRealTime};
 ghost use Rattle.sgt_model.specs.Databases.{contents_of};
 ghost use Rattle.sgt_model.specs.Settings.{setting};
 ghost use Rattle.sgt_engine.specs.EngineView.{setting_of};
@@ -18,6 +20,7 @@ use sgt_access::Accesses;
 use sgt_graph::Graph;
 use sgt_model::{Database, Event, Limits, MakeError, headline_holds};
 use sgt_proc::Checked;
+use sgt_progress::{histories_make_progress, replay_keeps_real_time};
 use sgt_records::Records;
 use std::alloc::Global;
 
@@ -52,6 +55,8 @@ pub fn run_list<R: Records, A: Accesses, G: Graph>(
     ensures no_cycle { IfOk result (λ ran. Acyclic (Pair ran.engine.past)) }
     ensures causes { IfOk result (λ ran. AbortsHaveCause (setting_of ran.engine) ran.engine.past) }
     ensures order { IfOk result (λ ran. CommitsInOrder ran.engine.past) }
+    ensures real_time { IfOk result (λ ran. KeepsRealTime (setting_of ran.engine) ran.engine.past) }
+    ensures progress { IfOk result (λ ran. MakesProgress (setting_of ran.engine) ran.engine.past) }
     ensures bad_limits { (result ≡ Err MakeError.BadLimits) ↔ (¬ AreInRange limits) }
 {
     let mut engine = Engine::new(alloc, opening, procedures, limits)?;
@@ -63,5 +68,7 @@ pub fn run_list<R: Records, A: Accesses, G: Graph>(
         }
     }
     headline_holds();
+    replay_keeps_real_time();
+    histories_make_progress();
     Ok(Ran { engine, done })
 }

@@ -9,3 +9,4 @@ pub mod Owners
 pub mod Examples
 pub mod Checked
 pub mod Predecessors
+pub mod Progress

@@ -8,3 +8,4 @@ pub mod Rounds
 pub mod Owners
 pub mod Checked
 pub mod Predecessors
+pub mod Progress

@@ -6,6 +6,7 @@ ghost use Rattle.sgt_progress.specs.Moves.{AskedMovesOrWaits, NoDeadlock, NoWait
 ghost use Rattle.sgt_progress.specs.Needed.{ClosedCyclesStay, CyclesAloneAreRejected};
 ghost use Rattle.sgt_progress.specs.Owners.{OwnersGoOn, TwoEachMayNot};
 ghost use Rattle.sgt_progress.specs.Predecessors.{NoNewPredecessors};
+ghost use Rattle.sgt_progress.specs.Progress.{HistoriesMakeProgress};
 ghost use Rattle.sgt_progress.specs.RealTime.{ReplayKeepsRealTime};
 ghost use Rattle.sgt_progress.specs.Rounds.{RoundsDrain, RoundsMove};
 ghost use Rattle.sgt_progress.specs.Reruns.{CallsDecide, OneByOneIsForced, RerunsAgree};
@@ -89,4 +90,9 @@ pub fn owners_go_on()
 /// Once a procedure has ended, its transaction gets no more live predecessors.
 pub fn no_new_predecessors()
     ensures { NoNewPredecessors }
+{}
+
+/// What an engine's contracts say of its history: no deadlock, it drains, and the only live transaction ends by itself.
+pub fn histories_make_progress()
+    ensures { HistoriesMakeProgress }
 {}

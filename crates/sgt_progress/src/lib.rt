@@ -1,10 +1,33 @@
-//! Laws of progress of every legal history. The function bodies are empty: each law is its function's contract.
+//! Laws of every legal history beyond the headline: nobody is stuck, commit order keeps real time, the committed calls
+//! decide the rest, and no access is rejected in vain.
+//!
+//! - **Progress** (`specs/Moves.antt`, `Alone.antt`, `Drains.antt`, `Rounds.antt`, `Owners.antt`): there is no deadlock; a
+//!   history in which nothing is started drains within a known number of events; the only live transaction neither
+//!   waits nor is aborted for a cycle.
+//! - **Real time** (`RealTime.antt`): a transaction that was reported to have ended before another was started comes
+//!   before it in the serial order.
+//! - **Reruns** (`Reruns.antt`): the committed calls alone decide what was reported and what is committed. Given again,
+//!   one after another, they get the same. So a log of commands is enough to recover.
+//! - **Rejections** (`Needed.antt`): an access is rejected exactly if the graph would have a cycle with it.
+//!   `sgt_textbook` says the same by the textbook's definition of serializable histories.
+//!
+//! These are laws of transactions, not of threads. They do not say that a thread is scheduled or woken, how long
+//! anything takes, or that a retry succeeds while others go on. They do not say that the fewest transactions are
+//! aborted: in place of the one whose access is rejected, another member of the cycle might abort.
+//!
+//! Nothing here runs. Each function is a law: its contract says it, and any caller may use it.
+//!
+//! ```
+//! // The engine's history is legal. Call the law to know that no transaction waits for itself, also through others.
+//! no_deadlock();
+//! ```
 #![tactic(auto)]
 
 mod laws;
 
 pub use laws::{
     alone_ends, alone_ends_by_itself, alone_is_not_aborted, asked_moves_or_waits,
-    closed_cycles_stay, histories_drain, moves_are_few, no_deadlock, no_new_predecessors,
-    owners_go_on, replay_keeps_real_time, reruns_agree, rounds_drain, started_alone,
+    closed_cycles_stay, histories_drain, histories_make_progress, moves_are_few, no_deadlock,
+    no_new_predecessors, owners_go_on, replay_keeps_real_time, reruns_agree, rounds_drain,
+    started_alone,
 };

@@ -1,4 +1,4 @@
-use Rattle.std.proofs.Common.{sym, ap, ◌∙◌, arith, reverse}
+use Rattle.std.proofs.Common.{rules, sym, ap, ◌∙◌, arith, reverse}
 use Rattle.std.proofs.lemmas.Bool.{true≢false}
 use Rattle.std.specs.Result.{is_ok}
 use Rattle.sgt_model.specs.Databases.{contents_of}
@@ -6,6 +6,9 @@ use Rattle.sgt_model.specs.Settings.{setting}
 use Rattle.sgt_model.specs.ShortReplies.{reply_with}
 use Rattle.sgt_sched.specs.Scheduler.{state}
 use Rattle.sgt_engine.specs.EngineView.{setting_of}
+use Rattle.sgt_progress.proofs.RealTime.{replay_keeps_real_time}
+use Rattle.sgt_progress.proofs.Progress.{histories_make_progress}
+use Rattle.sgt_engine.proofs.Alone.{undisturbed, legal_before}
 use Rattle.sgt_engine.proofs.Ends.{room_left, ends_seen}
 use Rattle.sgt_engine.proofs.Entries.{added, same_setting, short_with, kept_entry, entry_added, newest_added, legal_reply}
 use Rattle.sgt_engine.proofs.engine.Engine.answer.Goals as goal
@@ -99,3 +102,32 @@ returns-clause-replay g c = (c.headline_holds.ensures _ _ (invariant_of-self-2 g
 
 pub returns-clause-causes : goal.returns-clause-causes
 returns-clause-causes g c = (c.headline_holds.ensures _ _ (invariant_of-self-2 g c).0).causes
+
+pub returns-clause-real_time : goal.returns-clause-real_time
+returns-clause-real_time g c = replay_keeps_real_time _ _ (invariant_of-self-2 g c).0
+
+pub returns-clause-progress : goal.returns-clause-progress
+returns-clause-progress g c = histories_make_progress _ _ (invariant_of-self-2 g c).0
+
+pub returns-clause-alone : goal.returns-clause-alone
+returns-clause-alone g c = λ t alone of_t r same. let done = returns-clause-adds g c in
+    undisturbed (setting_of c.args.self.now) c.args.self.now.past (legal_before c.self.view_is c.self.invariant.0) t alone c.args.event.now of_t done.reply r
+    (done.is_short ∙ sym same) done.legal
+
+pub returns-in_err-make_room-clause-legal : goal.returns-in_err-make_room-clause-legal
+returns-in_err-make_room-clause-legal g c = search rules
+
+pub returns-in_err-make_room-clause-real_time : goal.returns-in_err-make_room-clause-real_time
+returns-in_err-make_room-clause-real_time g c = replay_keeps_real_time _ _ (returns-in_err-make_room-clause-legal g c)
+
+pub returns-in_err-make_room-clause-progress : goal.returns-in_err-make_room-clause-progress
+returns-in_err-make_room-clause-progress g c = histories_make_progress _ _ (returns-in_err-make_room-clause-legal g c)
+
+pub returns-in_err-answer-clause-legal : goal.returns-in_err-answer-clause-legal
+returns-in_err-answer-clause-legal g c = search rules
+
+pub returns-in_err-answer-clause-real_time : goal.returns-in_err-answer-clause-real_time
+returns-in_err-answer-clause-real_time g c = replay_keeps_real_time _ _ (returns-in_err-answer-clause-legal g c)
+
+pub returns-in_err-answer-clause-progress : goal.returns-in_err-answer-clause-progress
+returns-in_err-answer-clause-progress g c = histories_make_progress _ _ (returns-in_err-answer-clause-legal g c)

@@ -1,0 +1,51 @@
+-- The only live transaction is not hindered, whichever lists its reply has.
+use Rattle.std.specs.Prelude.{◌≡◌, ℕ, Bool, true, false, List, reverse}
+use Rattle.std.proofs.Common.{refl, sym, ap, ◌∙◌, subst}
+use Rattle.sgt_model.specs.declared.entry.Entry.{Entry}
+use Rattle.sgt_model.specs.declared.event.Event.{Event}
+use Rattle.sgt_model.specs.declared.reply.Reply.{Reply}
+use Rattle.sgt_model.specs.declared.reply.Reply.TheVariants as reply
+use Rattle.sgt_model.specs.declared.reply.Cause.TheVariants as cause
+use Rattle.sgt_model.specs.declared.short_reply.ShortReply.{ShortReply}
+use Rattle.sgt_model.specs.declared.short_reply.ShortReply.TheVariants as short
+use Rattle.sgt_model.specs.declared.short_reply.ShortCause.TheVariants as short_cause
+use Rattle.sgt_model.specs.Legality.{Legal, LegalReply}
+use Rattle.sgt_model.specs.Settings.{Setting}
+use Rattle.sgt_model.specs.ShortReplies.{short_reply}
+use Rattle.sgt_progress.specs.Alone.{IsAlone, IsStepOrCommitOf, is_hindered}
+use Rattle.sgt_progress.proofs.Alone.{alone_is_not_aborted}
+use Rattle.sgt_engine.specs.EngineView.{EngineView, setting_of}
+
+-- a short reply says whether it hinders
+abbrev hinders : ShortReply → Bool
+hinders (short.Waits u) = true
+hinders (short.Aborted short_cause.Cycle) = true
+hinders _ = false
+
+hinders_alike : (r : Reply) → is_hindered r ≡ hinders (short_reply r)
+hinders_alike (reply.Started t) = refl
+hinders_alike reply.NoProcedure = refl
+hinders_alike reply.BadArgs = refl
+hinders_alike reply.Spent = refl
+hinders_alike reply.Full = refl
+hinders_alike reply.Unknown = refl
+hinders_alike (reply.Over f) = refl
+hinders_alike (reply.Looked k v) = refl
+hinders_alike (reply.Wrote k v) = refl
+hinders_alike reply.Ended = refl
+hinders_alike reply.NotEnded = refl
+hinders_alike (reply.Waits t) = refl
+hinders_alike (reply.Committed answers) = refl
+hinders_alike (reply.Aborted (cause.Cycle walk) fell) = refl
+hinders_alike (reply.Aborted (cause.Asked code) fell) = refl
+hinders_alike (reply.Aborted cause.Quit fell) = refl
+hinders_alike (reply.Refused code fell) = refl
+
+pub undisturbed : (s : Setting) (past : List Entry) → Legal s past → (t : ℕ) → IsAlone past t → (event : Event) → IsStepOrCommitOf event t
+    → (told r : Reply) → short_reply told ≡ short_reply r → LegalReply s past event told → is_hindered r ≡ false
+undisturbed s past legal t alone event of_t told r same h = hinders_alike r ∙ ap hinders (sym same) ∙ sym (hinders_alike told)
+    ∙ alone_is_not_aborted s past legal t alone event of_t told h
+
+-- what holds of the parts holds of the view
+pub legal_before : {e e' : EngineView} → e ≡ e' → Legal (setting_of e) e.past → Legal (setting_of e') e'.past
+legal_before same legal = subst (λ (e : EngineView). Legal (setting_of e) e.past) same legal
