@@ -29,7 +29,7 @@ EXAMPLES = TOP / "examples"
 INPUTS = TESTS / "inputs"
 
 # The pages that are checked, and the most lines of those that are kept short.
-LONGEST = {"README.md": 80, "docs/ARCHITECTURE.md": 180, "bench/FIGURES.md": 140}
+LONGEST = {"README.md": 90, "docs/ARCHITECTURE.md": 180, "bench/FIGURES.md": 140}
 PAGES = [
     "README.md",
     "CONTRIBUTING.md",
@@ -43,7 +43,7 @@ PAGES = [
 # Pages of worked programs, which are not among the lines that are counted.
 WORKED = ["examples/clients/README.md", "examples/payments/README.md"]
 PAGES += WORKED
-ALL_LINES = 2300
+ALL_LINES = 2400
 LINE = 120
 HELP_LINE = 100
 
