@@ -36,6 +36,11 @@ IsReceiptAt receipts at history number = (e : Entry) → slice_get history numbe
 abbrev pub IsNewest : Entry → List Entry → Type 0
 IsNewest entry past = (before : List Entry) × (past ≡ entry ∷ before)
 
+-- its newest entry is that of a commit that has to wait
+abbrev pub NewestWaits : List Entry → Type 0
+NewestWaits [] = ⊥
+NewestWaits (e ∷ before) = is_wait e.reply ≡ true
+
 -- a commit of t that has to wait
 abbrev pub IsWaitOf : ℕ → Receipt → Type 0
 IsWaitOf t r = (r.event ≡ Commit t) × (is_wait r.reply ≡ true)

@@ -25,14 +25,14 @@ pub fn accounts<N: Named>(history: &History, sessions: &[Session<N>]) -> bool
     true
 }
 
-/// Receipts of one session that are those of entries in turn.
+/// Receipts of one session, one after another, that are those of as many entries, one after another.
 #[derive(Clone, Copy)]
 struct Run {
     session: usize,
     count: usize,
 }
 
-/// The session whose next receipts are those of the entries from this number on, and how many of them in turn.
+/// The session whose next receipts are those of the entries from this number on, and how many of them are.
 fn next_run<N: Named>(
     sessions: &[Session<N>],
     at: &[usize; 64],

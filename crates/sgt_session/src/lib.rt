@@ -3,19 +3,20 @@
 //!
 //! [`Shared`] is an engine under its lock. A [`Session`] is one caller's access to it. Each of its calls holds the lock
 //! once and makes one event of the engine. Its [`Receipt`] is appended to the session's receipts before the lock is
-//! freed. A commit that has to wait begins to wait in that same hold of the lock, and is repeated after each end of a
-//! transaction. [`Shared::close`] takes the engine back out. It requires that all sessions are there, and that their
-//! receipts are the entries of the history, each once.
+//! freed. A commit that has to wait begins to wait in that same hold of the lock, and is repeated after each wait.
+//! [`Shared::close`] takes the engine back out. It fails unless all sessions are there, and their receipts are the
+//! entries of the history, each once.
 //!
 //! So what holds for the engine's history holds for the replies that the threads got: its events are theirs, in the
 //! order in which they held the lock. This is no scheduler of threads. It does not promise which thread comes next,
-//! whether a waiting one is ever woken, or how long anything takes. A thread should end its transactions before it
-//! ends; otherwise commits that wait for them never return.
+//! whether a waiting one is ever woken, or how long anything takes.
 //!
-//! A session's type says which engine it belongs to: a name `N`, which a call of a program picks together with the
-//! engine's configuration and the number of sessions. So a session fits only its own `Shared`. A function that works
-//! with sessions is generic over the name, and is called once with `Brand`. The caller's proof picks what the name
-//! stands for (`Named`).
+//! Each thread should have at most one live transaction, and end it before the thread ends. Otherwise commits may wait
+//! for ever ([`Session::commit`]).
+//!
+//! The type of a session names its engine, by the parameter `N`. So a session fits only its own `Shared`. A function
+//! that works with sessions is generic over the name, and is called once with `Brand`. The caller's proof picks what
+//! the name stands for: the engine's configuration and the number of sessions (`Named`).
 //!
 //! ```
 //! fn two_threads<N: Named + Send + Sync, R: Threads + Wait + Sync>(
@@ -95,12 +96,13 @@
 //! ```
 //!
 //! The search cannot show by itself that a reference to a `Shared` may cross threads. `shared_sync` of
-//! `proofs/Crossing.antt` states it. An `Answers.antt` gives it to the search, with the same statements about the
+//! `proofs/Crossing.antt` states it. Give it to the search in an `Answers.antt`, with the same statements about the
 //! layers.
 #![tactic(auto)]
 
 mod accounts;
 mod close;
+mod end_signal;
 mod lock_policy;
 mod named;
 mod new;

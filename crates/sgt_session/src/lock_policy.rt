@@ -21,8 +21,8 @@ const LONGEST_PAUSE: u32 = 8_192;
 /// lock once this is dropped.
 pub type Turn<'l> = Option<MutexGuard<'l, ()>>;
 
-/// How the calls of all sessions take the engine's lock, by their kind. Among the threads whose call starts a
-/// transaction and that found the lock taken, one tries for it; the others sleep until their turn.
+/// How the calls of all sessions take the engine's lock, by their kind. If several threads that start a transaction
+/// found the lock taken, one of them tries for it; the others sleep until their turn.
 #[derive(Drop)]
 pub struct LockPolicy {
     turn: Mutex<()>,

@@ -6,8 +6,8 @@ ghost use Rattle.sgt_session.specs.Settings.{none};
 use std::marker::Brand;
 use std::sync::ledger::Ledger;
 
-/// Which engine the sessions belong to: the name of a ledger of their calls, which stands for a configuration too. A
-/// program's type of that name is `Brand`. Each call that passes it picks what the name stands for.
+/// Which engine the sessions belong to: the name of the ledger of their calls, and the engine's configuration. A
+/// program passes `Brand` for it, and the proof of each such call picks what the name stands for.
 pub trait Named: Ledger {
     /// The engine's configuration: its initial database, its procedures and its limits.
     ghost setting: { Setting };

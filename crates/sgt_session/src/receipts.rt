@@ -19,7 +19,7 @@ const AT_ONCE: usize = 65_536;
 /// the lists long enough to grow without being copied.
 const AHEAD: usize = 2_048;
 
-/// The receipts of one session, in the order of its calls. A receipt takes 48 bytes, and its lists take 4 for each
+/// The receipts of one session, in the order of its calls. A receipt takes 48 bytes. Its lists take 4 bytes for each
 /// transaction and 8 for each value.
 ///
 /// There is capacity for some more receipts, whatever they hold: appending one uses that capacity, and allocates
@@ -120,7 +120,7 @@ impl Receipts {
         self.calls.entry(place)
     }
 
-    /// How many receipts in turn, from an index on, are those of a history's entries from this number on.
+    /// How many receipts, one after another from an index on, are those of a history's entries from this number on.
     pub(crate) fn run_at(&self, place: usize, history: &History, number: usize) -> usize
         requires { number ≤ length history.now.entries }
         ensures receipts { (k : ℕ) → k < result

@@ -87,7 +87,7 @@ impl<N: Named, R: Records, A: Accesses, G: Graph> Round<N, R, A, G> {
         self.engine.history()
     }
 
-    /// Joins the shares of all sessions for a moment: they have counted one call for each entry.
+    /// Joins the shares of all sessions for a moment, which shows that they have counted one call for each entry.
     pub fn audit(&mut self, sessions: &mut Vec<Session<N>>)
         requires { (0 < vec_len sessions.old) × (N.parts ≤ vec_len sessions.old) }
         ensures same { self.new ≡ self.old }

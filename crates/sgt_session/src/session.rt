@@ -1,5 +1,5 @@
 //! A session: one caller's way to the engine.
-ghost use Rattle.std.specs.Prelude.{◌≡◌, ◌+◌, ◌<◌, ◌≤◌, ◌&&◌, false, List, [], ◌∷◌, ◌++◌, All, length, vec_len, vec_capacity, IfOk, MatchResult};
+ghost use Rattle.std.specs.Prelude.{◌≡◌, ◌+◌, ◌<◌, ◌≤◌, ◌^◌, ◌&&◌, false, cond, List, [], ◌∷◌, ◌++◌, All, length, vec_len, vec_capacity, IfOk, MatchResult};
 ghost use Rattle.std.specs.List.{sum_by};
 ghost use Rattle.sgt_model.specs.declared.event.Event.TheVariants.{Commit};
 ghost use Rattle.sgt_session.specs.declared.receipt.Receipt.{Receipt};
@@ -7,6 +7,7 @@ ghost use Rattle.sgt_model.specs.Questions.{is_wait, started_in};
 ghost use Rattle.sgt_session.specs.Own.{with_one, open_by};
 ghost use Rattle.sgt_session.specs.Receipts.{entry_of, IsWaitOf};
 
+use crate::end_signal::WaitCount;
 use crate::named::Named;
 use crate::own::{make_receipt_room, note};
 use crate::receipt::Receipt;
@@ -142,17 +143,23 @@ impl<N: Named> Session<N> {
         if shared.sessions > 1 && matches!(event, Event::Start { .. }) {
             self.receipts.touch_room();
         }
-        self.make_one(rt, shared, event, false)?;
+        self.make_one(rt, shared, event, false, &mut WaitCount::new())?;
         Ok(())
     }
 
-    /// Commits, and waits if another transaction has to end first. It repeats the event after each wake, until the
+    /// Commits, and waits if another transaction has to end first. It repeats the event after each wait, until the
     /// reply is not `Waits`. Each of these calls has its receipt; the last one is returned. A wait begins before the
     /// lock of the call that returned `Waits` is freed, so no end of a transaction is missed in between.
     ///
-    /// `NoMemory` if an allocation failed; the receipts so far stay. This call may block for ever: the other
-    /// transaction has to end, and its thread has to be scheduled. It does block for ever if it waits for an older
-    /// transaction of its own session which no other session ends.
+    /// `NoMemory` if an allocation failed; the receipts so far stay.
+    ///
+    /// This call may block for ever: the other transaction has to end, so its thread has to be scheduled. It does block
+    /// for ever, unless a further thread ends the other transaction,
+    /// - if the other transaction is of the same thread;
+    /// - if the thread of the other one waits as well, itself or through more threads, for one of this thread.
+    ///
+    /// Neither happens if each thread has at most one live transaction. Then threads cannot all wait for each other: one
+    /// that has a live transaction can go on with it. With two each, all threads may wait.
     pub fn commit<R: Records, A: Accesses, G: Graph, W: Wait>(
         &mut self,
         rt: &W,
@@ -178,32 +185,55 @@ impl<N: Named> Session<N> {
             (λ _. (r : Receipt) × (self.new ≡ (self.old ++ waits) ++ r ∷ []) × (r.event ≡ Commit t) × (is_wait r.reply ≡ false))
             (λ _. self.new ≡ self.old ++ waits) }
     {
+        self.repeat_commit(rt, shared, t, &mut WaitCount::new())
+    }
+
+    /// Commits as `make_commit` does, and counts its waits: one for each `Waits`.
+    fn repeat_commit<R: Records, A: Accesses, G: Graph, W: Wait>(
+        &mut self,
+        rt: &W,
+        shared: &Shared<N, R, A, G>,
+        t: Tid,
+        count: &mut WaitCount,
+    ) -> Result<(), NoMemory>
+        requires none { count.old ≡ 0 }
+        ensures waits { (waits : List Receipt) × All (IsWaitOf t) waits × (count.new ≡ length waits) × MatchResult result
+            (λ _. (r : Receipt) × (self.new ≡ (self.old ++ waits) ++ r ∷ []) × (r.event ≡ Commit t) × (is_wait r.reply ≡ false))
+            (λ _. self.new ≡ self.old ++ waits) }
+    {
         for _ in rt.forever() {
-            if !self.make_one(rt, shared, &Event::Commit(t), true)? {
+            if !self.make_one(rt, shared, &Event::Commit(t), true, count)? {
                 return Ok(());
             }
         }
         unreachable!()
     }
 
-    /// Makes one event and appends its receipt. If the reply is `Waits` and the call `may_wait`, it begins to wait
-    /// before it frees the lock, and returns after a wake. Returns whether it waited.
+    /// Makes one event and appends its receipt. If the reply is `Waits` and the call `may_wait`, it waits once, and
+    /// counts it. The wait begins before the lock is freed. Returns whether it waited.
     fn make_one<R: Records, A: Accesses, G: Graph, W: Wait>(
         &mut self,
         rt: &W,
         shared: &Shared<N, R, A, G>,
         event: &Event,
         may_wait: bool,
+        count: &mut WaitCount,
     ) -> Result<bool, NoMemory>
-        ensures { MatchResult result
+        requires fits { count.old + 1 < 2 ^ 64 }
+        ensures receipt { MatchResult result
             (λ waited. (r : Receipt) × (r.event ≡ event.now) × (self.new ≡ self.old ++ r ∷ []) × (waited ≡ (may_wait && is_wait r.reply)))
             (λ _. self.new ≡ self.old) }
+        ensures counted { MatchResult result
+            (λ waited. count.new ≡ count.old + cond waited 1 0)
+            (λ _. count.new ≡ count.old) }
     {
         let room = make_receipt_room(&mut self.receipts, &mut self.own, event)?;
         let (turn, mut round) = shared.lock_policy.lock(rt, &shared.round, event, room);
         round.apply(event, &mut self.share, &mut self.receipts)?;
         let entry = self.receipts.last_entry();
-        let waited = shared.waiters.end_hold(rt, turn, round, &entry, may_wait);
+        let waited = shared
+            .waiters
+            .end_hold(rt, turn, round, &entry, may_wait, count);
         note_and_wake(&mut self.own, &shared.waiters, &entry);
         Ok(waited)
     }
@@ -232,7 +262,7 @@ fn note_and_wake(own: &mut Vec<Tid>, waiters: &Waiters, entry: &EntryRef<'_>)
     waiters.wake_after(entry);
 }
 
-/// Lends each session's part and count to `seen` until all are together, and returns them.
+/// Lends each session's part and count to `seen` until all are together, then gives them back.
 pub(crate) fn lend<N: Named>(sessions: &mut [Session<N>], calls: &mut Book<N>, seen: &mut Share<N>)
     requires { (N.parts ≤ seen.old.parts + length sessions.old) × (seen.old.parts ≤ N.parts) }
     ensures sessions { sessions.new ≡ sessions.old }

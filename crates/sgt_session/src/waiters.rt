@@ -1,9 +1,10 @@
 //! Commits that wait for the end of another transaction, and the wakes that end their waits.
-ghost use Rattle.std.specs.Prelude.{◌≡◌, ◌&&◌};
+ghost use Rattle.std.specs.Prelude.{◌≡◌, ◌+◌, ◌<◌, ◌^◌, ◌&&◌, cond};
 ghost use Rattle.std.specs.Sync.Mutex.{mutex_guard_value};
 ghost use Rattle.sgt_model.specs.Questions.{is_ending, is_wait};
 ghost use Rattle.sgt_session.specs.Receipts.{IsNewest};
 
+use crate::end_signal::{EndSignal, WaitCount};
 use crate::lock_policy::Turn;
 use crate::named::Named;
 use crate::round::Round;
@@ -11,24 +12,24 @@ use sgt_access::Accesses;
 use sgt_graph::Graph;
 use sgt_log::EntryRef;
 use sgt_records::Records;
-use std::sync::{Condvar, MutexGuard, Wait};
+use std::sync::{MutexGuard, Wait};
 
 /// The commits that wait until a live transaction ends.
 #[derive(Drop)]
 pub struct Waiters {
-    ended: Condvar,
+    ended: EndSignal,
 }
 
 impl Waiters {
     /// No commit waits.
     pub fn new() -> Self {
         Waiters {
-            ended: Condvar::new(),
+            ended: EndSignal::new(),
         }
     }
 
     /// Ends the turn of a call that got this entry: frees its lock, then its turn. If the reply is `Waits` and the call
-    /// `may_wait`, the wait begins while the lock is still held, and this returns after a wake. Returns whether it
+    /// `may_wait`, it waits once, and counts it. The wait begins while the lock is still held. Returns whether it
     /// waited.
     ///
     /// The entry is the newest under the lock. So nothing has ended since the reply, and no wake is missed.
@@ -39,13 +40,16 @@ impl Waiters {
         round: MutexGuard<'l, Round<N, R, A, G>>,
         entry: &EntryRef<'_>,
         may_wait: bool,
+        count: &mut WaitCount,
     ) -> bool
         requires newest { IsNewest entry.now (mutex_guard_value round).past }
-        ensures { result ≡ (may_wait && is_wait entry.now.reply) }
+        requires fits { count.old + 1 < 2 ^ 64 }
+        ensures waits { result ≡ (may_wait && is_wait entry.now.reply) }
+        ensures counted { count.new ≡ count.old + cond result 1 0 }
     {
         let waits = may_wait && entry.is_wait();
         if waits {
-            drop(self.ended.wait(rt, round));
+            self.ended.wait(rt, round, count);
         } else {
             drop(round);
         }
@@ -60,7 +64,7 @@ impl Waiters {
     {
         let ends = entry.is_ending();
         if ends {
-            self.ended.notify_all();
+            self.ended.wake_all();
         }
         ends
     }

@@ -34,12 +34,12 @@ end_hold-waited-requires-clause-newest g c κs within =
     let same : c.last_entry-entry.result ≡ entry_of filed.0 = c.last_entry-entry.ensures _ filed.0 filed.5 in
     filed_is_newest _ _ filed.0 _ filed.3 same
 
-pub returns : goal.returns
-returns g c =
+pub returns-clause-receipt : goal.returns-clause-receipt
+returns-clause-receipt g c =
     let filed = c.in_ok-apply.ensures.filed in
     let same : c.last_entry-entry.result ≡ entry_of filed.0 = c.last_entry-entry.ensures _ filed.0 filed.5 in (
       filed.0,
       filed.1,
       filed.5 ∙ ap (λ l. l ++ filed.0 ∷ []) (c.in_ok-room.ensures.receipts ∙ c.self.view_is),
-      c.end_hold-waited.ensures ∙ ap (λ (e : Entry). c.args.may_wait && is_wait e.reply) same,
+      c.end_hold-waited.ensures.waits ∙ ap (λ (e : Entry). c.args.may_wait && is_wait e.reply) same,
     )
