@@ -4,6 +4,8 @@ pub mod RealTime
 pub mod Drains
 pub mod Needed
 pub mod Reruns
+pub mod RunAlone
+pub mod GivenCalls
 pub mod Rounds
 pub mod Owners
 pub mod Examples

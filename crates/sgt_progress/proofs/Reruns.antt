@@ -25,7 +25,7 @@ use Rattle.sgt_model.specs.Admissions.{IsAdmitted, AreAdmitted}
 use Rattle.sgt_model.specs.Aborts.{CauseHolds}
 use Rattle.sgt_model.specs.StartReply.{args_fit, room_reply, taken_reply, start_reply}
 use Rattle.sgt_model.specs.Replay.{GaveAnswers, AskedCode, result_of, run_in_turn, told_call_in, told_calls, folded, told_in, told}
-use Rattle.sgt_model.specs.Legality.{LegalReply, Legal, CommitReply, RaisedCommit}
+use Rattle.sgt_model.specs.Legality.{LegalReply, Legal, StepReply, CommitReply, RaisedStep, RaisedCommit}
 use Rattle.sgt_model.proofs.Effects.{ends_none-no_call, ends_none-no_end, Effect, idle, begins, accesses, commits, undoes, refuses, effect}
 use Rattle.sgt_model.proofs.Facts.{live-started, live-before, call-kept}
 use Rattle.std.proofs.Common.{T}
@@ -42,7 +42,7 @@ use Rattle.sgt_model.proofs.Plays.{plays}
 use Rattle.sgt_model.proofs.Overs.{looks_agree, finds_in}
 use Rattle.sgt_model.proofs.Replays.{is_serializable}
 use Rattle.sgt_model.proofs.Admissions.{committed_admitted}
-use Rattle.sgt_progress.specs.Moves.{next_event, event_for, event_of_code}
+use Rattle.sgt_progress.specs.Moves.{next_event}
 use Rattle.sgt_progress.specs.Alone.{NoneLive, IsAlone, IsStepOrCommitOf, is_hindered}
 use Rattle.sgt_progress.specs.Drains.{accesses_left, EndsWithin}
 use Rattle.sgt_progress.specs.RealTime.{told_ones}
@@ -61,7 +61,7 @@ calls_decide s one other legal also same =
     }
 
 -- calls none of which raises a code in its turn
-abbrev NoneRaises : Setting → List Call → Type 0
+abbrev pub NoneRaises : Setting → List Call → Type 0
 NoneRaises s [] = Unit {0}
 NoneRaises s (c ∷ before) = NoneRaises s before × ((code : ℕ) → serial (run_of s.rules c) (run_in_turn s before).last ≡ Asked code → ⊥)
 
@@ -81,7 +81,7 @@ at_commit_only s past t code r at_step alive next h =
     let c = of_live past t r (CommitReply s past t (next_of s past t) r) alive h in
     subst (λ a. RaisedCommit a past t code r) at_step (subst (λ n. CommitReply s past t n r) next c)
 
-none_raises : (s : Setting) → s.rules.limits.asks ≡ AtStep → (past : List Entry) → Legal s past → NoneRaises s (told_calls past)
+pub none_raises : (s : Setting) → s.rules.limits.asks ≡ AtStep → (past : List Entry) → Legal s past → NoneRaises s (told_calls past)
 none_raises s at_step [] legal = tt
 none_raises s at_step (e ∷ past) legal = by_effect (none_raises s at_step past legal.0) (effect s past e.event e.reply legal.1)
   where
@@ -125,7 +125,7 @@ length_map : (f : ℕ → Call) (l : List ℕ) → length (map f l) ≡ length l
 length_map f [] = refl
 length_map f (t ∷ l) = ap suc (length_map f l)
 
-told_few : (s : Setting) (past : List Entry) → Legal s past → length (told_calls past) ≤ s.rules.limits.begins
+pub told_few : (s : Setting) (past : List Entry) → Legal s past → length (told_calls past) ≤ s.rules.limits.begins
 told_few s past legal =
     let a : length (told_calls past) ≡ length (told_ones past) = ap length (calls s past legal) ∙ length_map (call_of past) (told_ones past) in
     let b = distinct_fits (told_ones past) (started_ones past) (once s past legal) (λ t m. begun_has past t (told-started s past legal t m)) in
@@ -136,30 +136,40 @@ told_few s past legal =
 -- to run one call
 
 -- what is so of a history in which all calls before were told, one after another
-record Ran (s : Setting) (past : List Entry) (before : List Call) (count : ℕ) : Type 0 where
-  legal : Legal s past
-  one_by_one : IsOneByOne past
-  same_calls : told_calls past ≡ before
-  count_is : start_count past ≡ count
+pub record Ran (s : Setting) (past : List Entry) (before : List Call) (count : ℕ) : Type 0 where
+  pub legal : Legal s past
+  pub one_by_one : IsOneByOne past
+  pub same_calls : told_calls past ≡ before
+  pub count_is : start_count past ≡ count
 
 -- after one of its events it is the only live one still, and nothing more was told; or it was told its end
-abbrev AfterOne : Setting → List Entry → ℕ → Call → List Call → ℕ → Type 0
+abbrev pub AfterOne : Setting → List Entry → ℕ → Call → List Call → ℕ → Type 0
 AfterOne s past t c before count = (Ran s past before count × IsAlone past t × (call_of past t ≡ c)) ⊎ (Ran s past (c ∷ before) count × NoneLive past)
 
 -- a code is not raised in its turn, if codes are reported at the step
-abbrev Quiet : Setting → Call → List Call → Type 0
+abbrev pub Quiet : Setting → Call → List Call → Type 0
 Quiet s c before = s.rules.limits.asks ≡ AtStep → (code : ℕ) → serial (run_of s.rules c) (run_in_turn s before).last ≡ Asked code → ⊥
 
-module _ (s : Setting) (past : List Entry) (t : ℕ) (c : Call) (before : List Call) (count : ℕ) (ran : Ran s past before count) (alone : IsAlone past t)
-    (call : call_of past t ≡ c) (quiet : Quiet s c before) (r : Reply) (h : LegalReply s past (next_event s past t) r) where
-  abbrev e : Entry
-  e = record { event = next_event s past t; reply = r }
+-- an abort for a code: codes are reported at the step, and the procedure raises this one
+raised_now : (s : Setting) (past : List Entry) (t code : ℕ) (fell : List ℕ) (event : Event) (r : Reply) → live past t ≡ true → IsStepOrCommitOf event t
+    → LegalReply s past event r → r ≡ reply.Aborted (cause.Asked code) fell → CauseHolds s past event (cause.Asked code)
+    → (s.rules.limits.asks ≡ AtStep) × (next_of s past t ≡ Raises code)
+raised_now s past t code fell event r alive (inr q) h is holds = absurd (subst (λ v. CauseHolds s past v (cause.Asked code)) q holds)
+raised_now s past t code fell event r alive (inl q) h is holds =
+    let next : next_of s past t ≡ Raises code = subst (λ v. CauseHolds s past v (cause.Asked code)) q holds in
+    (when s.rules.limits.asks (subst (λ n. StepReply s past t n r) next (of_live past t r _ alive (subst (λ v. LegalReply s past v r) q h))), next)
+  where
+    when : (a : Asks) → RaisedStep a past t code r → a ≡ AtStep
+    when AtStep h = refl
+    when AtCommit h = absurd (cc (sym h ∙ is))
 
-  asks : IsStepOrCommitOf (next_event s past t) t
-  asks = next_asks s past t
+module _ (s : Setting) (past : List Entry) (t : ℕ) (c : Call) (before : List Call) (count : ℕ) (ran : Ran s past before count) (alone : IsAlone past t)
+    (call : call_of past t ≡ c) (quiet : Quiet s c before) (event : Event) (asks : IsStepOrCommitOf event t) (r : Reply) (h : LegalReply s past event r) where
+  abbrev e : Entry
+  e = record { event = event; reply = r }
 
   no_start : is_start r ≡ false
-  no_start = asked-no_start s past (next_event s past t) t asks r h
+  no_start = asked-no_start s past event t asks r h
 
   longer : (calls_then : List Call) → told_calls (e ∷ past) ≡ calls_then → Ran s (e ∷ past) calls_then count
   longer calls_then is = record {
@@ -169,14 +179,14 @@ module _ (s : Setting) (past : List Entry) (t : ℕ) (c : Call) (before : List C
     count_is = ap (λ b. cond b (start_count past + 1) (start_count past)) no_start ∙ ran.count_is;
   }
 
-  still : ending_in (next_event s past t) r t ≡ None → told_call_in past (next_event s past t) r ≡ [] → AfterOne s (e ∷ past) t c before count
+  still : ending_in event r t ≡ None → told_call_in past event r ≡ [] → AfterOne s (e ∷ past) t c before count
   still no_end no_call = inl (
     longer before (ap (λ l. l ++ told_calls past) no_call ∙ ran.same_calls),
     stays_alone past e t alone no_start no_end,
     call-kept s past e t h (live-started past t alone.is_live) ∙ call,
   )
 
-  over : (u : ℕ) → live past u ≡ true → over_in (next_event s past t) r ≡ Some u → told_call_in past (next_event s past t) r ≡ call_of past u ∷ []
+  over : (u : ℕ) → live past u ≡ true → over_in event r ≡ Some u → told_call_in past event r ≡ call_of past u ∷ []
       → AfterOne s (e ∷ past) t c before count
   over u is_live ended told_call =
       let same : u ≡ t = alone.only u is_live in inr (
@@ -188,35 +198,23 @@ module _ (s : Setting) (past : List Entry) (t : ℕ) (c : Call) (before : List C
       )
 
   -- a code that is reported at the step is raised in turn
-  raised_at_step : (code : ℕ) → CauseHolds s past (next_event s past t) (cause.Asked code) → ⊥
-  raised_at_step code holds = quiet (when s.rules.limits.asks (subst (λ v. CauseHolds s past v (cause.Asked code)) event_is holds)) code
-      (subst₂ (λ x l. serial (run_of s.rules x) (run_in_turn s l).last ≡ Asked code) call ran.same_calls
-      (raises_in_turn s past ran.legal t alone code next))
+  raised_at_step : (code : ℕ) (fell : List ℕ) → r ≡ reply.Aborted (cause.Asked code) fell → CauseHolds s past event (cause.Asked code) → ⊥
+  raised_at_step code fell is holds =
+      let raised = raised_now s past t code fell event r alone.is_live asks h is holds in
+      quiet raised.0 code (subst₂ (λ x l. serial (run_of s.rules x) (run_in_turn s l).last ≡ Asked code) call ran.same_calls
+      (raises_in_turn s past ran.legal t alone code raised.1))
+
+  pub after_one : AfterOne s (e ∷ past) t c before count
+  after_one = by_effect (effect s past event r h)
     where
-      own : (event : Event) → IsStepOrCommitOf event t → CauseHolds s past event (cause.Asked code) → next_of s past t ≡ Raises code
-      own event (inl q) k = subst (λ v. CauseHolds s past v (cause.Asked code)) q k
-      own event (inr q) k = absurd (subst (λ v. CauseHolds s past v (cause.Asked code)) q k)
-
-      next : next_of s past t ≡ Raises code
-      next = own (next_event s past t) asks holds
-
-      event_is : next_event s past t ≡ event_of_code s.rules.limits.asks t
-      event_is = ap (event_for s.rules.limits.asks t) next
-
-      when : (a : Asks) → CauseHolds s past (event_of_code a t) (cause.Asked code) → a ≡ AtStep
-      when AtStep k = refl
-      when AtCommit k = absurd k
-
-  after_one : AfterOne s (e ∷ past) t c before count
-  after_one = by_effect (effect s past (next_event s past t) r h)
-    where
-      by_effect : Effect s past (next_event s past t) r → AfterOne s (e ∷ past) t c before count
-      by_effect (idle i) = still (ends_none-no_end (next_event s past t) r i.ends_none t) (ends_none-no_call past (next_event s past t) r i.ends_none)
-      by_effect (begins b) = absurd (asks-no_start (next_event s past t) t asks b.procedure b.args b.event_is)
-      by_effect (accesses x) = still (ends_none-no_end (next_event s past t) r x.ends_none t) (ends_none-no_call past (next_event s past t) r x.ends_none)
+      by_effect : Effect s past event r → AfterOne s (e ∷ past) t c before count
+      by_effect (idle i) = still (ends_none-no_end event r i.ends_none t) (ends_none-no_call past event r i.ends_none)
+      by_effect (begins b) = absurd (asks-no_start event t asks b.procedure b.args b.event_is)
+      by_effect (accesses x) = still (ends_none-no_end event r x.ends_none t) (ends_none-no_call past event r x.ends_none)
       by_effect (commits y) = over y.t y.is_live (ap₂ over_in y.event_is y.reply_is) (ap₂ (λ v q. told_call_in past v q) y.event_is y.reply_is)
-      by_effect (undoes x) = let w = undoes_own s past ran.legal t alone (next_event s past t) asks x.undoing.why x.has_cause in
-          absurd (raised_at_step w.0 (subst (CauseHolds s past (next_event s past t)) w.1 x.has_cause))
+      by_effect (undoes x) = let w = undoes_own s past ran.legal t alone event asks x.undoing.why x.has_cause in
+          absurd (raised_at_step w.0 x.undoing.fell (x.reply_is ∙ ap (λ why. reply.Aborted why x.undoing.fell) w.1)
+          (subst (CauseHolds s past event) w.1 x.has_cause))
       by_effect (refuses x) = over x.undoing.t x.undoing.is_live (ap₂ over_in x.event_is x.reply_is) (ap₂ (λ v q. told_call_in past v q) x.event_is x.reply_is)
 
 -- a call that was started is run to its end
@@ -227,7 +225,7 @@ finish (suc n) s past t c before count ran alone call quiet (inl over) = absurd 
 finish (suc n) s past t c before count ran alone call quiet (inr more) =
     let some = some_reply_is_legal s past (next_event s past t) in
     let e : Entry = record { event = next_event s past t; reply = some.0 } in
-    elim (after_one s past t c before count ran alone call quiet some.0 some.1) [
+    elim (after_one s past t c before count ran alone call quiet (next_event s past t) (next_asks s past t) some.0 some.1) [
       | inl (then, again, same) ↦ finish n s (e ∷ past) t c before count then again same quiet (more some.0 some.1)
       | inr (then, none) ↦ (e ∷ past, then, none)
     ]
@@ -243,7 +241,7 @@ all_values [] h = refl
 all_values (v ∷ args) h = let a = All-head IsValue v args h in
     and_from _ _ (and_from _ _ (t_true _ a.0.le) (t_true _ a.1.le)) (all_values args (All-tail IsValue v args h))
 
-starts : (s : Setting) (c : Call) (started living : ℕ) → IsAdmitted s c → started < s.rules.limits.begins → living < s.rules.limits.live
+pub starts : (s : Setting) (c : Call) (started living : ℕ) → IsAdmitted s c → started < s.rules.limits.begins → living < s.rules.limits.live
     → start_reply s.rules started living c.procedure c.args ≡ reply.Started started
 starts s c started living admitted some_begin some_live =
     let fits : args_fit (length c.args) c.args ≡ true = and_from _ _ (eq-eqb (length c.args) (length c.args) refl) (all_values c.args admitted.values) in
@@ -254,7 +252,7 @@ starts s c started living admitted some_begin some_live =
     ∙ (ap (λ b. cond b reply.Spent (cond (nat_eq living s.rules.limits.live) reply.Full (reply.Started started))) not_spent
     ∙ ap (λ b. cond b reply.Full (reply.Started started)) not_full))
 
-none_listed : (past : List Entry) → NoneLive past → live_ones past ≡ []
+pub none_listed : (past : List Entry) → NoneLive past → live_ones past ≡ []
 none_listed past none = go (live_ones past) (λ t m. (member_kept (live past) t (started_ones past) m).0)
   where
     go : (l : List ℕ) → ((t : ℕ) → Member t l → live past t ≡ true) → l ≡ []

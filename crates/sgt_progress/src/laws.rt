@@ -2,6 +2,7 @@
 ghost use Rattle.sgt_progress.specs.Alone.{AloneEndsByItself, AloneIsNotAborted, StartedAlone};
 ghost use Rattle.sgt_progress.specs.Checked.{CheckedDrainSoon};
 ghost use Rattle.sgt_progress.specs.Drains.{AloneEnds, EventsLeftAreFew, HistoriesDrain, MovesAreFew, SomeStepsDrain};
+ghost use Rattle.sgt_progress.specs.GivenCalls.{GivenCallsAreTold};
 ghost use Rattle.sgt_progress.specs.Moves.{AskedMovesOrWaits, NoDeadlock, NoWaitCycle};
 ghost use Rattle.sgt_progress.specs.Needed.{ClosedCyclesStay, CyclesAloneAreRejected};
 ghost use Rattle.sgt_progress.specs.Owners.{OwnersGoOn, TwoEachMayNot};
@@ -72,6 +73,7 @@ pub fn reruns_agree()
     ensures decide { CallsDecide }
     ensures again { RerunsAgree }
     ensures forced { OneByOneIsForced }
+    ensures given { GivenCallsAreTold }
 {}
 
 /// Going round the live transactions, in any order: each round makes an access or ends one, so after enough rounds none is
