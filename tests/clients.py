@@ -209,14 +209,85 @@ def reads_each_form(program):
     same("no keys of text", by_line, check(program, lines_of(entries).replace('"r", 1', '"r", "1"')))
 
 
-def passes_what_is_no_clients(program):
-    lines = ['{"type":"info","process":"nemesis","f":"start-partition","value":"majority"}',
-             '{"type":"ok","process":7,"f":"txn","value":[["append","x",1],["r","y",null]],"index":4,"time":99}',
-             '{"type":"ok","process":7,"value":[["r","x",[1]],["r","y",[]]]}']
-    same("report", (0, "transactions 2: 2 committed, 0 aborted, 0 unknown\nserializable yes: t1 t2\n", ""), check(program, "\n".join(lines)))
-    nothing = 0, "transactions 0: 0 committed, 0 aborted, 0 unknown\nserializable yes: none\n", ""
-    same("nothing", nothing, check(program, ""))
-    same("an empty array", nothing, check(program, "[]\n"))
+def takes_null_for_the_empty_list(program):
+    """A write skew stays one if the reads saw null."""
+    entries, _ = entries_of(random.Random(1), NAMED["G2-item"])
+    wanted = check(program, lines_of(entries).replace("null", "[]"))
+    same("verdict", "serializable no: G2-item", wanted[1].splitlines()[1])
+    same("null", wanted, check(program, lines_of(entries).replace("[]", "null")))
+
+
+def takes_processes_of_any_name(program):
+    """A number stands for its text, and each text for itself."""
+    entries, _ = entries_of(random.Random(2), NAMED["G1c"])
+    wanted = check(program, lines_of(entries))
+    for name in ("{}", "c{}", "client {}", "\u00e9{}", "{}" * 100):
+        renamed = [it | {"process": name.format(*[it["process"]] * 100)} for it in entries]
+        same(f"process {name}", wanted, check(program, lines_of(renamed)))
+    began = entries[0] | {"process": 7}
+    told = "line 2, entry 2: process 7 has invoked another transaction, and has not ended it\n"
+    same("7 and its text", (2, "", told), check(program, lines_of([began, began | {"process": "7"}])))
+
+
+def skips_what_is_no_transaction(program):
+    """It is counted; alone it is nothing to judge."""
+    nemesis = '{"type":"info","process":"nemesis","f":"start-partition","value":"majority"}\n'
+    other = '{"f":5}\n'
+    entries, _ = entries_of(random.Random(1), NAMED["G2-item"])
+    status, text, errors = check(program, "".join(lines_of([it]) for it in entries))
+    for given, told in ((nemesis, "1 entry skipped: no transaction"), (nemesis + other, "2 entries skipped: no transactions")):
+        lines = text.splitlines()
+        wanted = "\n".join([lines[0], told, *lines[1:]]) + "\n"
+        same("report", (status, wanted, errors), check(program, lines_of(entries) + given))
+        told = json.loads(check(program, lines_of(entries) + given, "--json")[1])
+        same("skipped", given.count("\n"), told["skipped"])
+        same("alone", (2, "", "no operations\n"), check(program, given))
+    same("none", False, "skipped" in json.loads(check(program, lines_of(entries), "--json")[1]))
+    entries[0].pop("f")
+    same("no function", (status, text, errors), check(program, lines_of(entries)))
+
+
+def refuses_nothing(program):
+    for given in ("", "\n", "[]\n"):
+        for options in ([], ["--strict"], ["--json"], ["--graph"], ["--timeline"]):
+            same(f"fault of {given!r}", (2, "", "no operations\n"), check(program, given, *options))
+
+
+def refuses_an_end_of_other_operations(program):
+    """Of drawn histories one end has another key, value, word, or count of operations."""
+    draw, count = random.Random(60), 0
+    for _ in range(300):
+        entries, _ = entries_of(draw, drawn(draw))
+        places = [it for it, entry in enumerate(entries) if entry["type"] == "ok"]
+        if not places:
+            continue
+        place = draw.choice(places)
+        began = next(it for it in range(place, -1, -1) if entries[it]["process"] == entries[place]["process"] and it < place)
+        value = entries[place]["value"] = [list(it) for it in entries[place]["value"]]
+        spoil_operations(draw, value)
+        told = f"the operations are not those of the invocation, line {began + 1}, entry {began + 1}"
+        same("fault", (2, "", f"line {place + 1}, entry {place + 1}: {told}\n"), check(program, lines_of(entries)))
+        count += 1
+    return f"{count} histories"
+
+
+def spoil_operations(draw, value):
+    operation, way = draw.choice(value), draw.randrange(4)
+    if way == 0:
+        value.remove(operation)
+    elif way == 1:
+        value.insert(draw.randint(0, len(value)), ["r", 99, []])
+    elif way == 2:
+        operation[1] += 50
+    else:
+        operation[:] = ["r", operation[1], []] if operation[0] == "append" else ["append", operation[1], 77]
+
+
+def keeps_time_only_with_invocations(program):
+    told = "no invocations: without them it is unknown when transactions began, which --strict needs\n"
+    same("ends alone", (2, "", told), check(program, GOOD, "--strict"))
+    began = '{"type":"invoke","process":"c","f":"txn","value":[["r",1,null]]}\n'
+    same("with an invocation", 0, check(program, GOOD + began, "--strict")[0])
 
 
 GOOD = '{"type":"ok","process":0,"f":"txn","value":[["append",1,1]]}\n'
@@ -233,7 +304,8 @@ FAULTS = {
     '{"type":"ok"}': "line 1, entry 1: the process is not a whole number or a text",
     '{"type":"ok","process":-1}': "line 1, entry 1: the process is not a whole number or a text",
     '{"type":"done","process":1}': "line 1, entry 1: the type is not invoke, ok, fail or info",
-    '{"type":"ok","process":1,"f":"read"}': "line 1, entry 1: f is not txn",
+    '{"type":"ok","process":null,"f":"txn"}': "line 1, entry 1: the process is not a whole number or a text",
+    '{"type":"ok","process":"c0","f":"txn","value":5}': "line 1, entry 1: the value is not a list of operations",
     '{"type":"ok","process":1,"value":null}': "line 1, entry 1: the value is not a list of operations",
     '{"type":"invoke","process":1}': "line 1, entry 1: the value is not a list of operations",
     '{"type":"ok","process":1,"value":[[]]}': 'line 1, entry 1: operation 1 is not ["append",key,value] or ["r",key,values]',
@@ -247,6 +319,14 @@ FAULTS = {
     '{"type":"ok","process":1,"value":[["append","a b",1]]}':
         "line 1, entry 1: the key of operation 1 is not a whole number, or a text of 1 to 64 letters, digits and _ . / : -",
     '{"type":"invoke","process":1,"value":[]}' * 2: "line 1, entry 2: process 1 has invoked another transaction, and has not ended it",
+    '{"type":"invoke","process":"c 1","value":[]}' * 2:
+        "line 1, entry 2: process c 1 has invoked another transaction, and has not ended it",
+    GOOD.replace("ok", "invoke") + "\n" + GOOD.replace("]]", '],["r",2,null]]'):
+        "line 3, entry 2: the operations are not those of the invocation, line 1, entry 1",
+    GOOD.replace("ok", "invoke") + GOOD.replace("ok", "fail").replace("1,1", "1,2"):
+        "line 2, entry 2: the operations are not those of the invocation, line 1, entry 1",
+    GOOD.replace("ok", "invoke") + GOOD.replace('[["append",1,1]]', "[]").replace("ok", "info"):
+        "line 2, entry 2: the operations are not those of the invocation, line 1, entry 1",
     GOOD + GOOD: "entry 2 appends 1 to key 1 a second time",
     GOOD + '{"type":"info","process":0,"value":[["append",1,2],["append",1,2]]}': "entry 2 appends 2 to key 1 a second time",
     "[" * 100_000: None,
@@ -312,7 +392,8 @@ def recorded_ones(program):
 
 
 CASES = [on_all_small_histories, on_drawn_histories, on_drawn_histories_strictly, names_anomalies, reads_each_form,
-         passes_what_is_no_clients, tells_faults, survives_hostile_bytes, needs_its_model, draws_its_witness, recorded_ones]
+         takes_null_for_the_empty_list, takes_processes_of_any_name, skips_what_is_no_transaction, refuses_nothing,
+         refuses_an_end_of_other_operations, keeps_time_only_with_invocations, tells_faults, survives_hostile_bytes, needs_its_model, draws_its_witness, recorded_ones]
 
 if __name__ == "__main__":
     sys.exit(tell(CASES, sys.argv[1], of="clients"))

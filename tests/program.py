@@ -239,7 +239,6 @@ def draws_each_edge_once(sgt):
 }
 """
     sgt.expect("check", "--graph", given=history, out=graph)
-    sgt.expect("check", "--graph", given="", out="digraph serialization {\n}\n")
 
 
 def graph_of(words, report):
@@ -606,12 +605,11 @@ def runs_on_where_an_explanation_cannot_be_written(sgt):
             same("standard output and status", (out, status), (wrote.decode(), process.returncode))
 
 
-def checks_no_operations(sgt):
-    report = "transactions 0: 0 committed, 0 aborted, 0 active\nserializable yes: none\n"
-    for name in ("recoverable", "avoids cascading aborts", "strict", "rigorous", "commit ordered"):
-        report += f"{name} yes\n"
-    for given in ("", "\n", "# r1[x]"):
-        sgt.expect("check", given=given, out=report)
+def refuses_no_operations(sgt):
+    for options in ((), ("--graph",), ("--timeline",), ("--model", "list-append")):
+        for given in ("", "\n"):
+            sgt.expect("check", *options, given=given, status=2, err="no operations\n")
+    sgt.expect("check", given="# r1[x]", status=2, err="no operations\n")
 
 
 def names_the_fault_of_a_history(sgt):
@@ -801,7 +799,7 @@ CASES = [
     explains_by_the_lines_of_the_whole_script,
     explains_before_it_reads_on,
     runs_on_where_an_explanation_cannot_be_written,
-    checks_no_operations,
+    refuses_no_operations,
     names_the_fault_of_a_history,
     refuses_a_history_that_is_too_long,
     wants_an_opening,

@@ -58,13 +58,14 @@ FOREVER = 10**9
 
 def entries_of(draw, history):
     """The history as entries of Jepsen, in a drawn order, and from which entry to which each transaction ran, from 1. Transactions are
-    numbered in the order in which they began."""
+    numbered in the order in which they began. Processes are numbers or texts, and an empty list that was read may be null."""
+    named = draw.random() < 0.5
     running, waiting, entries, spans = [], list(range(len(history))), [], {}
     while waiting or running:
         if waiting and (not running or draw.random() < 0.6):
             one = waiting.pop(0)
             value = [[word, key, what if word == "append" else None] for word, key, what in history[one].operations]
-            entries.append({"type": "invoke", "process": one, "f": "txn", "value": value})
+            entries.append({"type": "invoke", "process": f"c{one}" if named else one, "f": "txn", "value": value})
             spans[one] = (len(entries), FOREVER)
             running.append(one)
             continue
@@ -72,11 +73,16 @@ def entries_of(draw, history):
         status = history[one].status
         if status == UNKNOWN and draw.random() < 0.5:
             continue  # it never ends
-        value = [list(it) for it in history[one].operations] if status == COMMITTED else None
-        entries.append({"type": status, "process": one, "f": "txn", "value": value})
+        value = [as_seen(draw, it) for it in history[one].operations] if status == COMMITTED else None
+        entries.append({"type": status, "process": f"c{one}" if named else one, "f": "txn", "value": value})
         if status != UNKNOWN:
             spans[one] = (spans[one][0], len(entries))
     return entries, spans
+
+
+def as_seen(draw, operation):
+    word, key, what = operation
+    return [word, key, None if what == () and draw.random() < 0.3 else what]
 
 
 def lines_of(entries):

@@ -199,8 +199,8 @@ one after another, or in one array:
 
   type        invoke: a transaction begins. ok: it committed, and its reads saw these lists.
               fail: it aborted. info, or no end: unknown
-  process     a whole number; each process runs one transaction at a time. Entries whose process is
-              a text are skipped
+  process     a whole number or a text; each process runs one transaction at a time
+  f           txn. Objects with another f are of no transaction: they are skipped, and counted
   value       append key value, read (r) key list. A key is a whole number, or a text like an item.
               A value is a whole number up to 4294967295, and appended once to its key
 

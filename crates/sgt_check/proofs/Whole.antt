@@ -5,7 +5,7 @@ use Rattle.std.specs.Io.KnownBytes.{Appends}
 use Rattle.sgt_notation.specs.declared.fault.NotationFault.{NotationFault}
 use Rattle.sgt_check.specs.Checks.{IsFaultOf}
 use Rattle.sgt_check.specs.declared.fault.CheckFault.{CheckFault}
-use Rattle.sgt_check.specs.declared.fault.CheckFault.TheVariants.{Notation, TooLong, Reading, Writing, NoMemory}
+use Rattle.sgt_check.specs.declared.fault.CheckFault.TheVariants.{Notation, NoOperations, TooLong, Reading, Writing, NoMemory}
 
 -- the lines of what was read are written
 pub is_told : (Tells : List ℕ → List ℕ → Bool → Type 0) (rest held held' : Option (List ℕ)) (text lines : List ℕ) (sound : Bool)
@@ -32,10 +32,11 @@ text_fault (Some bytes) text f same is = subst (λ t. IsFaultOf t f) (sym same) 
 
 -- an error of reading is an error of the input
 pub input_fault : (rest : Option (List ℕ)) (f : CheckFault) → (f ≡ TooLong → IfSome rest (λ bytes. 268435456 < length bytes))
-    → ((n : NotationFault) → f ≢ Notation n) → IfSome rest (λ input. IsFaultOf input f)
-input_fault None f long other = tt
-input_fault (Some bytes) (Notation n) long other = absurd (other n refl)
-input_fault (Some bytes) TooLong long other = long refl
-input_fault (Some bytes) Reading long other = tt
-input_fault (Some bytes) Writing long other = tt
-input_fault (Some bytes) NoMemory long other = tt
+    → ((n : NotationFault) → f ≢ Notation n) → f ≢ NoOperations → IfSome rest (λ input. IsFaultOf input f)
+input_fault None f long other some = tt
+input_fault (Some bytes) (Notation n) long other some = absurd (other n refl)
+input_fault (Some bytes) NoOperations long other some = absurd (some refl)
+input_fault (Some bytes) TooLong long other some = long refl
+input_fault (Some bytes) Reading long other some = tt
+input_fault (Some bytes) Writing long other some = tt
+input_fault (Some bytes) NoMemory long other some = tt

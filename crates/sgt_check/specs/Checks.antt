@@ -1,5 +1,5 @@
 -- What a check writes for each output, and how it ends.
-use Rattle.std.specs.Prelude.{◌≡◌, ◌<◌, ◌↔◌, ℕ, Bool, true, List, length, ⊤}
+use Rattle.std.specs.Prelude.{◌≡◌, ◌≢◌, ◌<◌, ◌↔◌, ℕ, Bool, true, List, [], length, ⊤}
 use Rattle.sgt_classes.specs.declared.operation.Operation.{Operation}
 use Rattle.sgt_classes.specs.Classes.{IsRecoverable}
 use Rattle.sgt_classes.specs.Equivalence.{IsSerializable}
@@ -10,7 +10,7 @@ use Rattle.sgt_check.specs.declared.checked.Output.{Output}
 use Rattle.sgt_check.specs.declared.checked.Output.TheVariants as output
 use Rattle.sgt_check.specs.declared.report.Report.{Report}
 use Rattle.sgt_check.specs.declared.fault.CheckFault.{CheckFault}
-use Rattle.sgt_check.specs.declared.fault.CheckFault.TheVariants.{Notation, TooLong}
+use Rattle.sgt_check.specs.declared.fault.CheckFault.TheVariants.{Notation, NoOperations, TooLong}
 use Rattle.sgt_check.specs.Reports.{IsReport}
 use Rattle.sgt_check.specs.ReportText.{report_text}
 use Rattle.sgt_check.specs.Graphs.{IsDrawn}
@@ -33,15 +33,17 @@ abbrev pub IsVerdict : List Operation → Bool → Type 0
 IsVerdict h sound = (sound ≡ true) ↔ (IsSerializable h × IsRecoverable h)
 
 -- What a check guarantees for each output. It writes the text of that output for the history in the input, and
--- returns the verdict on that history.
+-- returns the verdict on that history, which has an operation.
 pub record IsChecked (output : Output) (input written : List ℕ) (sound : Bool) : Type 0 where
   pub history : History
   pub read : AreRead (words_of input) (texts history) history.operations.items
+  pub some : history.operations.items ≢ []
   pub lines : IsOutput output history written
   pub verdict : IsVerdict history.operations.items sound
 
--- an error of the input: it is too long, or its text is not a history
+-- an error of the input: it is too long, or its text is not a history, or has no word
 abbrev pub IsFaultOf : List ℕ → CheckFault → Type 0
 IsFaultOf input (Notation f) = IsFirstFault (words_of input) f
+IsFaultOf input NoOperations = words_of input ≡ []
 IsFaultOf input TooLong = 268435456 < length input
 IsFaultOf input _ = ⊤

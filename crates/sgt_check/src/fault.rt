@@ -11,6 +11,9 @@ pub enum CheckFault {
     /// The text is not a history.
     #[error("{0}")]
     Notation(NotationFault),
+    /// The text has no operation: there is nothing to judge.
+    #[error("no operations")]
+    NoOperations,
     /// The input is longer than 268,435,456 bytes.
     #[error("input too long")]
     TooLong,

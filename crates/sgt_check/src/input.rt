@@ -30,6 +30,7 @@ pub fn read_input<S: Source>(alloc: Global, source: &mut S) -> Result<Vec<u8>, C
     ensures well { result ≢ Err CheckFault.Reading → S.failures source.new ≡ S.failures source.old }
     ensures failed { result ≡ Err CheckFault.Reading → S.failures source.new ≡ S.failures source.old + 1 }
     ensures no_notation { (f : NotationFault) → result ≢ Err (fault.Notation f) }
+    ensures no_operations { result ≢ Err CheckFault.NoOperations }
     ensures no_other { result ≢ Err CheckFault.Writing }
 {
     let mut text = Vec::new(alloc);

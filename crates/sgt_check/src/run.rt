@@ -17,8 +17,8 @@ use std::alloc::Global;
 ///
 /// # Errors
 ///
-/// - `TooLong` if the input has more than 268,435,456 bytes, `Notation` with the first error of its text, `Reading`
-///   if a read failed, and `NoMemory`. Nothing is written then.
+/// - `TooLong` if the input has more than 268,435,456 bytes, `Notation` with the first error of its text,
+///   `NoOperations` if it has none, `Reading` if a read failed, and `NoMemory`. Nothing is written then.
 /// - `Writing` if a write failed. A prefix of the output is written then.
 pub fn run_check<S: Source, T: Sink>(
     alloc: Global,
@@ -57,5 +57,8 @@ fn check_text(alloc: Global, text: &[u8], output: Output) -> Result<Checked, Che
     ensures no_writing { result ≢ Err CheckFault.Writing }
 {
     let history = read_history(alloc, text)?;
+    if history.operations.is_empty() {
+        return Err(CheckFault::NoOperations);
+    }
     Ok(check_for(alloc, &history, output)?)
 }

@@ -1,9 +1,8 @@
 -- The errors of a check.
 use Rattle.std.proofs.Common.{◌≡◌, ◌<◌, ◌∙◌, length, ℕ, List, refl, sym, subst}
 use Rattle.std.specs.Prelude.{Option, Some, None, Result, Err, IfErr, IfSome}
-use Rattle.sgt_notation.specs.declared.fault.NotationFault.{NotationFault}
 use Rattle.sgt_check.specs.declared.fault.CheckFault.{CheckFault}
-use Rattle.sgt_check.specs.declared.fault.CheckFault.TheVariants.{Notation, TooLong, Reading, Writing, NoMemory}
+use Rattle.sgt_check.specs.declared.fault.CheckFault.TheVariants.{Notation, NoOperations, TooLong, Reading, Writing, NoMemory}
 use Rattle.sgt_clients.specs.declared.fault.ClientsFault.{ClientsFault}
 use Rattle.sgt_clients.specs.declared.fault.ClientsFault.TheVariants as fault
 use Rattle.sgt_clients.specs.Checks.{IsFaultOf}
@@ -14,8 +13,11 @@ pub own_fault : (rest : Option (List ℕ)) (f : ClientsFault) → IsOwn f → If
 own_fault None f own = tt
 own_fault (Some bytes) (fault.Entry line entry flaw) own = tt
 own_fault (Some bytes) (fault.Twice entry value key) own = tt
+own_fault (Some bytes) fault.NoOperations own = tt
+own_fault (Some bytes) fault.NoInvocations own = tt
 own_fault (Some bytes) fault.Undecided own = tt
 own_fault (Some bytes) (fault.Check (Notation n)) own = tt
+own_fault (Some bytes) (fault.Check NoOperations) own = tt
 own_fault (Some bytes) (fault.Check TooLong) own = absurd (cc)
 own_fault (Some bytes) (fault.Check Reading) own = tt
 own_fault (Some bytes) (fault.Check Writing) own = tt
@@ -26,6 +28,7 @@ pub input_fault : (rest : Option (List ℕ)) (f : CheckFault) → (f ≡ TooLong
     → IfSome rest (λ input. IsFaultOf input (fault.Check f))
 input_fault None f long = tt
 input_fault (Some bytes) (Notation n) long = tt
+input_fault (Some bytes) NoOperations long = tt
 input_fault (Some bytes) TooLong long = long refl
 input_fault (Some bytes) Reading long = tt
 input_fault (Some bytes) Writing long = tt

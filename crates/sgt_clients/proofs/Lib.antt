@@ -1,3 +1,4 @@
+pub mod Accesses
 pub mod Cuts
 pub mod Faulty
 pub mod ReadTo

@@ -1,14 +1,12 @@
 -- What has been read of an input, object by object.
-use Rattle.std.proofs.Common.{◌≡◌, ◌≤◌, ◌<◌, ◌+◌, ◌-◌, ◌∙◌, ℕ, zero, suc, Bool, true, false, List, [], ◌∷◌, ◌++◌, length, take, drop, Option, Some, None, refl, sym, ap, subst, arith, append_assoc, append-nil}
-use Rattle.std.specs.Prelude.{◌==◌, ◌&&◌, slice_get, map}
+use Rattle.std.proofs.Common.{◌≡◌, ◌≤◌, ◌+◌, ◌-◌, ◌∙◌, ℕ, Bool, true, false, List, [], ◌∷◌, ◌++◌, length, take, drop, Option, refl, sym, ap, subst, arith, append_assoc, append-nil}
+use Rattle.std.specs.Prelude.{◌==◌, ◌&&◌, map}
 use Rattle.std.proofs.lemmas.List.{length-append}
-use Rattle.serde_json.specs.Data.{Data}
 use Rattle.sgt_notation.specs.Numbering.{KnowsItems, texts_of}
 use Rattle.sgt_notation.specs.declared.items.Items.{Items}
 use Rattle.sgt_clients.specs.declared.clients.Clients.{Clients}
 use Rattle.sgt_clients.specs.declared.clients.ClientsReader.{ClientsReader}
 use Rattle.sgt_clients.specs.declared.entry.Entry.{Entry}
-use Rattle.sgt_clients.specs.Entries.{SpellsEntryOrOther}
 use Rattle.sgt_clients.specs.Histories.{Past, nothing, with_entry, with_entries, IsInTurn, AreInTurn}
 use Rattle.sgt_clients.specs.Inputs.{Spells, SpellEach, AreApart, are_by_line, AreClients}
 use Rattle.sgt_clients.specs.Objects.{AreBetween, line_after_all, IsObject, Object, HasObjects}
@@ -16,21 +14,24 @@ use Rattle.sgt_clients.specs.Reading.{Stores, Takes}
 use Rattle.sgt_clients.proofs.Cuts.{after_gap, after_object, at_end}
 use Rattle.sgt_clients.proofs.Spelled.{entry_more}
 
-spells_more : (keys more : List (List ℕ)) (bytes : List ℕ) (e : Option Entry) → Spells keys bytes e → Spells (keys ++ more) bytes e
-spells_more keys more bytes e it = (it.0, it.1, entry_more keys more it.0 e it.2)
+spells_more : (keys more processes others : List (List ℕ)) (bytes : List ℕ) (e : Option Entry) → Spells keys processes bytes e
+    → Spells (keys ++ more) (processes ++ others) bytes e
+spells_more keys more processes others bytes e it = (it.0, it.1, entry_more keys more processes others it.0 e it.2)
 
-each_more : (keys more : List (List ℕ)) (os : List Object) (es : List (Option Entry)) → SpellEach keys os es → SpellEach (keys ++ more) os es
-each_more keys more [] [] it = tt
-each_more keys more [] (e ∷ es) it = absurd it
-each_more keys more (o ∷ os) [] it = absurd it
-each_more keys more (o ∷ os) (e ∷ es) it = (spells_more keys more o.bytes e it.0, each_more keys more os es it.1)
+each_more : (keys more processes others : List (List ℕ)) (os : List Object) (es : List (Option Entry)) → SpellEach keys processes os es
+    → SpellEach (keys ++ more) (processes ++ others) os es
+each_more keys more processes others [] [] it = tt
+each_more keys more processes others [] (e ∷ es) it = absurd it
+each_more keys more processes others (o ∷ os) [] it = absurd it
+each_more keys more processes others (o ∷ os) (e ∷ es) it =
+    (spells_more keys more processes others o.bytes e it.0, each_more keys more processes others os es it.1)
 
-each_one : (keys : List (List ℕ)) (os : List Object) (es : List (Option Entry)) (o : Object) (e : Option Entry) → SpellEach keys os es
-    → Spells keys o.bytes e → SpellEach keys (os ++ o ∷ []) (es ++ e ∷ [])
-each_one keys [] [] o e it one = (one, tt)
-each_one keys [] (f ∷ fs) o e it one = absurd it
-each_one keys (p ∷ ps) [] o e it one = absurd it
-each_one keys (p ∷ ps) (f ∷ fs) o e it one = (it.0, each_one keys ps fs o e it.1 one)
+each_one : (keys processes : List (List ℕ)) (os : List Object) (es : List (Option Entry)) (o : Object) (e : Option Entry)
+    → SpellEach keys processes os es → Spells keys processes o.bytes e → SpellEach keys processes (os ++ o ∷ []) (es ++ e ∷ [])
+each_one keys processes [] [] o e it one = (one, tt)
+each_one keys processes [] (f ∷ fs) o e it one = absurd it
+each_one keys processes (p ∷ ps) [] o e it one = absurd it
+each_one keys processes (p ∷ ps) (f ∷ fs) o e it one = (it.0, each_one keys processes ps fs o e it.1 one)
 
 entries_one : (p : Past) (es : List (Option Entry)) (e : Option Entry) → with_entries p (es ++ e ∷ []) ≡ with_entry (with_entries p es) e
 entries_one p [] e = refl
@@ -61,7 +62,7 @@ pub record ReadTo (text : List ℕ) (at line : ℕ) (r : ClientsReader) : Type 0
   pub objects : List Object
   pub entries : List (Option Entry)
   pub cut : (os : List Object) → HasObjects line (drop at text) os → HasObjects 1 text (objects ++ os)
-  pub spelled : SpellEach (texts_of r.keys) objects entries
+  pub spelled : SpellEach (texts_of r.keys) (texts_of r.processes) objects entries
   pub in_turn : AreInTurn nothing entries
   pub stored : Stores r (with_entries nothing entries)
   pub count : r.entries ≡ length objects
@@ -94,9 +95,10 @@ read_one text a b c line after next old new was from on object is takes gap then
       entries = was.entries ++ takes.entry ∷ [];
       cut = λ os has. subst (λ all. HasObjects 1 text all) (sym (append_assoc was.objects (o ∷ []) os))
           (was.cut (o ∷ os) (after_object text a b line after os from object is (after_gap text b c after next os on gap then has)));
-      spelled = each_one (texts_of new.keys) was.objects was.entries o takes.entry
-          (subst (λ keys. SpellEach keys was.objects was.entries) (sym takes.keys)
-          (each_more (texts_of old.keys) takes.more was.objects was.entries was.spelled))
+      spelled = each_one (texts_of new.keys) (texts_of new.processes) was.objects was.entries o takes.entry
+          (subst (λ keys. SpellEach keys (texts_of new.processes) was.objects was.entries) (sym takes.keys)
+          (subst (λ names. SpellEach (texts_of old.keys ++ takes.more) names was.objects was.entries) (sym takes.processes)
+          (each_more (texts_of old.keys) takes.more (texts_of old.processes) takes.others was.objects was.entries was.spelled)))
           takes.spelled;
       in_turn = in_turn_one nothing was.entries takes.entry was.in_turn (takes.in_turn (with_entries nothing was.entries) was.stored);
       stored = subst (λ p. Stores new p) (sym (entries_one nothing was.entries takes.entry))
@@ -118,17 +120,22 @@ apart items knows k l text one other =
 
 -- all has been read
 pub read_all : (text : List ℕ) (at line : ℕ) (r : ClientsReader) (c : Clients) → ReadTo text at line r → length text ≤ at
-    → KnowsItems r.keys → c.transactions.items ≡ r.transactions.items → c.spans.items ≡ r.spans.items → c.events.items ≡ r.events.items
-    → c.by_line ≡ r.by_line → map (λ text. text.items) c.keys.items ≡ texts_of r.keys → AreClients text c
-read_all text at line r c it end knows transactions spans events by_line keys = record {
+    → KnowsItems r.keys → KnowsItems r.processes → c.transactions.items ≡ r.transactions.items → c.spans.items ≡ r.spans.items
+    → c.events.items ≡ r.events.items → c.invoked ≡ r.invoked → c.skipped ≡ r.skipped → c.by_line ≡ r.by_line
+    → map (λ text. text.items) c.keys.items ≡ texts_of r.keys → AreClients text c
+read_all text at line r c it end knows knows_processes transactions spans events invoked skipped by_line keys = record {
   objects = it.objects;
   entries = it.entries;
+  processes = texts_of r.processes;
   cut = subst (λ os. HasObjects 1 text os) (append-nil it.objects) (it.cut [] (at_end text at line end));
-  spelled = subst (λ ks. SpellEach ks it.objects it.entries) (sym keys) it.spelled;
+  spelled = subst (λ ks. SpellEach ks (texts_of r.processes) it.objects it.entries) (sym keys) it.spelled;
   apart = subst AreApart (sym keys) (apart r.keys knows);
+  processes_apart = apart r.processes knows_processes;
   in_turn = it.in_turn;
   transactions = transactions ∙ it.stored.transactions;
   spans = spans ∙ it.stored.spans;
   events = events ∙ it.stored.events;
+  invoked = invoked ∙ it.stored.invoked;
+  skipped = skipped ∙ it.stored.skipped;
   by_line = by_line ∙ it.by_line;
 }

@@ -1,17 +1,15 @@
 -- What the reader stores, after each step.
-use Rattle.std.proofs.Common.{◌≡◌, ◌<◌, ◌≤◌, ◌+◌, ◌∙◌, ℕ, zero, suc, Bool, true, false, List, [], ◌∷◌, ◌++◌, length, get_or, Option, Some, None, refl, sym, ap, subst, inl, inr, arith}
-use Rattle.std.specs.Prelude.{◌⊎◌, cond, slice_set, Result, Ok, Err, OnOk}
-use Rattle.std.specs.BTreeMap.{get, is_at}
+use Rattle.std.proofs.Common.{◌≡◌, ◌<◌, ◌≤◌, ◌∙◌, ℕ, zero, suc, List, [], ◌∷◌, length, get_or, Option, Some, None, refl, sym, ap, subst, inl, inr, arith}
+use Rattle.std.specs.Prelude.{◌⊎◌, slice_set, Result, Ok, Err, OnOk}
+use Rattle.std.specs.BTreeMap.{get}
 use Rattle.std.specs.Ordering.{nat_cmp}
 use Rattle.sgt_appends.specs.declared.transaction.Status.{Status}
 use Rattle.sgt_appends.specs.declared.transaction.Status.TheVariants.{Committed, Aborted, Unknown}
 use Rattle.sgt_appends.specs.declared.transaction.Transaction.{Transaction}
 use Rattle.sgt_clients.specs.declared.clients.ClientsReader.{ClientsReader}
-use Rattle.sgt_clients.specs.declared.clients.Event.{Event}
-use Rattle.sgt_clients.specs.declared.clients.Event.TheVariants as event
-use Rattle.sgt_clients.specs.declared.clients.Span.{Span}
+use Rattle.sgt_clients.specs.declared.clients.Invocation.{Invocation}
 use Rattle.sgt_clients.specs.declared.entry.Entry.{Entry}
-use Rattle.sgt_clients.specs.Histories.{Past, counted, changed, is_same, begun, ends_at, ended, ended_here, with_active, answered, with_answer, ended_by, IsInTurn}
+use Rattle.sgt_clients.specs.Histories.{Past, counted, changed, begun, ended, without_active, answered, with_answer, ended_by, IsInTurn}
 use Rattle.sgt_clients.specs.Reading.{Stores}
 
 -- an item changed by a write
@@ -49,15 +47,16 @@ uncounted p None it = it
 uncounted p (Some e) it = it
 
 -- a process with an active transaction ended it
-pub stores_some : (old new : ClientsReader) (status : Status) (e : Entry) (t : ℕ) (p : Past) → Stores old p
-    → get nat_cmp old.active e.process ≡ Some t → Stores new (ended status t (with_answer status e t (with_active e.process None p)))
+pub stores_some : (old new : ClientsReader) (status : Status) (e : Entry) (i : Invocation) (p : Past) → Stores old p
+    → get nat_cmp old.active e.process ≡ Some i
+    → Stores new (ended status i.transaction (with_answer status e i.transaction (without_active e.process p)))
     → Stores new (ended_by (p.active e.process) status e p)
-stores_some old new status e t p was is it =
+stores_some old new status e i p was is it =
     subst (λ o. Stores new (ended_by o status e p)) (sym is ∙ was.active e.process) it
 
 -- a process without one began and ended a transaction
 pub stores_none : (old new : ClientsReader) (status : Status) (e : Entry) (p : Past) → Stores old p
-    → get nat_cmp old.active e.process ≡ None → Stores new (ended status (length p.transactions) (begun status e p))
+    → get nat_cmp old.active e.process ≡ None → Stores new (ended status (length p.transactions) (begun status e.operations p))
     → Stores new (ended_by (p.active e.process) status e p)
 stores_none old new status e p was is it =
     subst (λ o. Stores new (ended_by o status e p)) (sym is ∙ was.active e.process) it

@@ -1,6 +1,8 @@
 -- The words on operations that there are, or are not.
-use Rattle.std.proofs.Common.{◌≡◌, ◌++◌, ◌∙◌, ℕ, List, [], ◌∷◌, length, append_assoc, Option, Some, None, refl, ap, sym, append-nil}
+use Rattle.std.proofs.Common.{◌≡◌, ◌<◌, ◌++◌, ◌∙◌, ℕ, List, [], ◌∷◌, length, append_assoc, Option, Some, None, refl, ap, sym, append-nil, arith}
 use Rattle.std.specs.Prelude.{codes, count_by}
+use Rattle.std.proofs.lemmas.Bool.{ne_eqb}
+use Rattle.std.specs.Fmt.{decimal}
 use Rattle.sgt_appends.specs.declared.transaction.Operation.{Operation}
 use Rattle.sgt_appends.specs.declared.transaction.Operation.TheVariants.{Append, Read}
 use Rattle.sgt_appends.specs.declared.transaction.Status.TheVariants.{Committed, Aborted, Unknown}
@@ -9,6 +11,7 @@ use Rattle.sgt_clients.specs.declared.clients.Clients.{Clients}
 use Rattle.sgt_clients.specs.declared.counts.Counts.{Counts}
 use Rattle.sgt_clients.specs.declared.evidence.Put.{Put}
 use Rattle.sgt_clients.specs.Evidence.{put_of, seen_of}
+use Rattle.sgt_clients.specs.JsonText.{skipped_member}
 use Rattle.sgt_clients.specs.ReportText.{key_text, values_text, read_text, with_value, has_status}
 
 -- a piece after the text so far
@@ -22,6 +25,12 @@ pub grow_number : (start before after : List ℕ) (came words number : List ℕ)
 grow_number start before after came words number first second =
     second ∙ ap (λ l. (l ++ words) ++ number) first ∙ ap (λ l. l ++ number) (append_assoc start came words)
     ∙ append_assoc start (came ++ words) number
+
+-- the member on the entries that were skipped, of which there are some
+pub some_skipped : (start before after : List ℕ) (n : ℕ) → 0 < n → before ≡ start ++ codes ",\"skipped\":" → after ≡ before ++ decimal n
+    → after ≡ start ++ skipped_member n
+some_skipped start before after n some first second =
+    rw (ne_eqb n 0 (λ e. omega (arith, some, e))) (grow start before after (codes ",\"skipped\":") (decimal n) first second)
 
 -- three texts, four and five
 pub three : (a b c : List ℕ) → a ++ (b ++ (c ++ [])) ≡ (a ++ b) ++ c

@@ -1,6 +1,5 @@
 -- What a check on what clients saw writes for each output, and how it ends.
-use Rattle.std.specs.Prelude.{◌≡◌, ◌<◌, ◌↔◌, ℕ, Bool, true, List, length, ⊤}
-use Rattle.sgt_check.specs.declared.fault.CheckFault.{CheckFault}
+use Rattle.std.specs.Prelude.{◌≡◌, ◌≢◌, ◌<◌, ◌↔◌, ℕ, Bool, true, List, [], length, ⊤}
 use Rattle.sgt_check.specs.declared.fault.CheckFault.TheVariants as check_fault
 use Rattle.sgt_clients.specs.declared.clients.Clients.{Clients}
 use Rattle.sgt_clients.specs.declared.fault.ClientsFault.{ClientsFault}
@@ -26,11 +25,13 @@ abbrev pub IsVerdict : Bool → Clients → Bool → Type 0
 IsVerdict strict clients sound = (sound ≡ true) ↔ HasOrder strict clients.transactions.items clients.spans.items
 
 -- What a check guarantees for each output. It writes the text of that output for what the clients of the input saw, and
--- returns the verdict on that.
+-- returns the verdict on that: on at least one transaction. Real time is kept only if there is an invocation.
 pub record IsChecked (strict : Bool) (output : ClientsOutput) (input written : List ℕ) (sound : Bool) : Type 0 where
   pub clients : Clients
   pub finding : Finding
   pub read : AreClients input clients
+  pub timed : strict ≡ true → clients.invoked ≡ true
+  pub some : clients.transactions.items ≢ []
   pub found : IsFound strict clients.transactions.items clients.spans.items finding
   pub text : IsOutput output strict clients finding written
   pub verdict : IsVerdict strict clients sound

@@ -8,5 +8,7 @@ use Rattle.sgt_clients.specs.declared.fault.ClientsFault.TheVariants as fault
 abbrev pub IsOwn : ClientsFault → Type 0
 IsOwn (fault.Entry line entry flaw) = ⊤
 IsOwn (fault.Twice entry value key) = ⊤
+IsOwn fault.NoOperations = ⊤
+IsOwn fault.NoInvocations = ⊤
 IsOwn fault.Undecided = ⊤
 IsOwn (fault.Check f) = f ≡ NoMemory

@@ -1,5 +1,5 @@
 -- The claims of a finding, with real time or without.
-use Rattle.std.specs.Prelude.{◌≡◌, ◌≢◌, ◌<◌, ◌↔◌, ℕ, Bool, true, false, List, Some, slice_get}
+use Rattle.std.specs.Prelude.{◌≡◌, ◌≢◌, ◌<◌, ℕ, Bool, true, false, List, Some, slice_get}
 use Rattle.sgt_appends.specs.declared.transaction.Status.TheVariants.{Committed}
 use Rattle.sgt_appends.specs.declared.transaction.Transaction.{Transaction}
 use Rattle.sgt_appends.specs.Lists.{Has, StandsBefore}
@@ -8,7 +8,6 @@ use Rattle.sgt_appends.specs.Precedences.{Precedes}
 use Rattle.sgt_clients.specs.declared.clients.Span.{Span}
 use Rattle.sgt_clients.specs.declared.finding.Why.{Why}
 use Rattle.sgt_clients.specs.declared.finding.Why.TheVariants.{Observed, RealTime}
-use Rattle.sgt_clients.specs.declared.finding.Step.{Step}
 use Rattle.sgt_clients.specs.declared.finding.Finding.{Finding}
 use Rattle.sgt_clients.specs.declared.finding.Finding.TheVariants.{Serial, Cycle, Fault}
 

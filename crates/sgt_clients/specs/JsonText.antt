@@ -1,5 +1,5 @@
 -- The text of a finding as one object of JSON.
-use Rattle.std.specs.Prelude.{◌++◌, ℕ, Bool, if◌then◌else◌, List, [], ◌∷◌, length, codes, count_by}
+use Rattle.std.specs.Prelude.{◌++◌, ◌==◌, ℕ, Bool, if◌then◌else◌, List, [], ◌∷◌, length, codes, count_by}
 use Rattle.std.specs.List.{flat_map}
 use Rattle.std.specs.Fmt.{decimal}
 use Rattle.sgt_appends.specs.declared.transaction.Status.TheVariants.{Committed, Aborted, Unknown}
@@ -32,6 +32,10 @@ items_text text (x ∷ xs) = text x ++ flat_map (next_item text) xs
 abbrev pub counts_members : List Transaction → List ℕ
 counts_members h = codes ",\"transactions\":" ++ decimal (length h) ++ codes ",\"committed\":" ++ decimal (count_by (has_status Committed) h)
     ++ codes ",\"aborted\":" ++ decimal (count_by (has_status Aborted) h) ++ codes ",\"unknown\":" ++ decimal (count_by (has_status Unknown) h)
+
+-- the member on the entries that were skipped, if there are any
+abbrev pub skipped_member : ℕ → List ℕ
+skipped_member n = if n == 0 then [] else codes ",\"skipped\":" ++ decimal n
 
 -- a transaction of a serial order
 abbrev pub number_text : ℕ → List ℕ
@@ -76,4 +80,4 @@ finding_members c (finding.Fault reader read fault name) = anomaly_member name.n
 -- the object, and the end of its line
 abbrev pub json_text : Bool → Clients → Finding → List ℕ
 json_text strict c f = codes "{\"model\":\"list-append\",\"strict\":" ++ truth_text strict ++ counts_members c.transactions.items
-    ++ codes ",\"serializable\":" ++ truth_text (is_order f) ++ finding_members c f ++ codes "}\n"
+    ++ skipped_member c.skipped ++ codes ",\"serializable\":" ++ truth_text (is_order f) ++ finding_members c f ++ codes "}\n"

@@ -14,11 +14,14 @@ pub record Stores (r : ClientsReader) (p : Past) : Type 0 where
   pub spans : r.spans.items ≡ p.spans
   pub events : r.events.items ≡ p.events
   pub active : (process : ℕ) → get nat_cmp r.active process ≡ p.active process
+  pub invoked : r.invoked ≡ p.invoked
   pub entries : r.entries ≡ p.entries
+  pub skipped : r.skipped ≡ p.skipped
 
--- the keys, the number of entries and whether each is that of its line are the same
+-- the keys, the processes, the number of entries and whether each is that of its line are the same
 pub record IsSame (old new : ClientsReader) : Type 0 where
   pub keys : new.keys ≡ old.keys
+  pub processes : new.processes ≡ old.processes
   pub entries : new.entries ≡ old.entries
   pub by_line : new.by_line ≡ old.by_line
 
@@ -27,7 +30,9 @@ pub record TakesText (old new : ClientsReader) (bytes : List ℕ) : Type 0 where
   pub entry : Option Entry
   pub more : List (List ℕ)
   pub keys : texts_of new.keys ≡ texts_of old.keys ++ more
-  pub spelled : Spells (texts_of new.keys) bytes entry
+  pub others : List (List ℕ)
+  pub processes : texts_of new.processes ≡ texts_of old.processes ++ others
+  pub spelled : Spells (texts_of new.keys) (texts_of new.processes) bytes entry
   pub in_turn : (p : Past) → Stores old p → IsInTurn p entry
   pub stored : (p : Past) → Stores old p → Stores new (with_counted p entry)
   pub entries : new.entries ≡ old.entries
@@ -38,7 +43,9 @@ pub record Takes (old new : ClientsReader) (line : ℕ) (bytes : List ℕ) : Typ
   pub entry : Option Entry
   pub more : List (List ℕ)
   pub keys : texts_of new.keys ≡ texts_of old.keys ++ more
-  pub spelled : Spells (texts_of new.keys) bytes entry
+  pub others : List (List ℕ)
+  pub processes : texts_of new.processes ≡ texts_of old.processes ++ others
+  pub spelled : Spells (texts_of new.keys) (texts_of new.processes) bytes entry
   pub in_turn : (p : Past) → Stores old p → IsInTurn p entry
   pub stored : (p : Past) → Stores old p → Stores new (with_entry p entry)
   pub entries : new.entries ≡ old.entries + 1

@@ -1,5 +1,5 @@
 -- The lines of a report on what clients saw.
-use Rattle.std.specs.Prelude.{◌+◌, ◌-◌, ◌^◌, ◌++◌, ℕ, Bool, true, false, nat_lt, if◌then◌else◌, min, List, [], ◌∷◌, length, drop, Option, Some, None, option_and_then, slice_get, codes, count_by}
+use Rattle.std.specs.Prelude.{◌+◌, ◌-◌, ◌^◌, ◌++◌, ◌==◌, ℕ, Bool, true, false, nat_lt, if◌then◌else◌, min, List, [], ◌∷◌, length, drop, Option, Some, None, option_and_then, slice_get, codes, count_by}
 use Rattle.std.specs.Option.{option_map_or}
 use Rattle.std.specs.List.{flat_map}
 use Rattle.std.specs.Fmt.{decimal}
@@ -146,6 +146,13 @@ counts_text h = codes "transactions " ++ decimal (length h) ++ codes ": " ++ dec
     ++ codes " committed, " ++ decimal (count_by (has_status Aborted) h) ++ codes " aborted, "
     ++ decimal (count_by (has_status Unknown) h) ++ codes " unknown\n"
 
+-- the line on the entries that were skipped, if there are any
+abbrev pub skipped_text : ℕ → List ℕ
+skipped_text n =
+    if n == 0 then []
+    else if n == 1 then codes "1 entry skipped: no transaction\n"
+    else decimal n ++ codes " entries skipped: no transactions\n"
+
 -- a transaction of an order, after a space
 abbrev pub next_text : ℕ → List ℕ
 next_text t = codes " " ++ transaction_text t
@@ -167,4 +174,4 @@ finding_text c (finding.Fault reader read fault name) = no_text name.now ++ code
 
 -- the lines of a report
 abbrev pub report_text : Bool → Clients → Finding → List ℕ
-report_text strict c f = counts_text c.transactions.items ++ (if strict then codes "strictly " else []) ++ finding_text c f
+report_text strict c f = counts_text c.transactions.items ++ skipped_text c.skipped ++ (if strict then codes "strictly " else []) ++ finding_text c f

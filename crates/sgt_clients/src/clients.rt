@@ -1,19 +1,21 @@
 //! What clients saw: their transactions, in the order in which they began.
-ghost use Rattle.std.specs.Prelude.{◌≡◌, ◌<◌, ◌+◌, ◌^◌, ◌&&◌, ◌==◌, true, [], length, Some, None, IfOk, IfErr, OnOk};
+ghost use Rattle.std.specs.Prelude.{◌≡◌, ◌<◌, ◌+◌, ◌^◌, ◌&&◌, ◌==◌, true, [], length, Some, None, IfOk, IfErr, IsTrue, OnOk};
 ghost use Rattle.std.specs.BTreeMap.{get};
 ghost use Rattle.std.specs.Ordering.{nat_cmp};
 ghost use Rattle.serde_json.specs.View.{view};
 ghost use Rattle.sgt_format.specs.Trees.{tree_of};
 ghost use Rattle.sgt_notation.specs.Numbering.{KnowsItems, texts_of};
-ghost use Rattle.sgt_clients.specs.Histories.{Past, nothing, counted, changed, ends_at, begun, ended, ended_here, with_active, answered, with_answer, invoked, ended_by, with_kind};
+ghost use Rattle.sgt_clients.specs.Histories.{Past, nothing, counted, with_skipped, changed, ends_at, begun, ended, ended_here, with_active, without_active, answered, with_answer, invoked, ended_by, with_kind, Answers, IsInTurnAs};
 ghost use Rattle.sgt_clients.specs.declared.entry.Kind.TheVariants as kind;
 ghost use Rattle.sgt_clients.specs.Inputs.{AreClients};
 ghost use Rattle.sgt_clients.specs.Reading.{Stores, Takes, TakesText, IsSame};
 ghost use Rattle.sgt_clients.specs.Faults.{IsOwn};
 
+use crate::access::{Access, are_same};
 use crate::entry::{Entry, Kind, read_entry};
 use crate::fault::{ClientsFault, Flaw, ReadError};
 use crate::pieces::{Place, next_object, object_end};
+use crate::twice::shown_name;
 use serde_json::Value;
 use sgt_appends::{Operation, Status, Transaction};
 use sgt_model::NoMemory;
@@ -48,6 +50,10 @@ pub struct Clients {
     pub spans: Vec<Span>,
     /// The beginnings and known ends, in their order.
     pub events: Vec<Event>,
+    /// Whether an entry is an invocation.
+    pub invoked: bool,
+    /// How many entries were skipped, since they are of no transaction.
+    pub skipped: usize,
     /// The texts of the keys, by number.
     pub keys: Vec<Vec<u8>>,
     /// Whether the number of each entry is that of its line.
@@ -74,9 +80,20 @@ pub fn read_clients(alloc: Global, text: &[u8]) -> Result<Clients, ClientsFault>
         transactions: reader.transactions,
         spans: reader.spans,
         events: reader.events,
+        invoked: reader.invoked,
+        skipped: reader.skipped,
         by_line: reader.by_line,
         keys: reader.keys.texts,
     })
+}
+
+/// What a process has invoked and not ended.
+#[derive(Drop)]
+struct Invocation {
+    /// The transaction.
+    transaction: usize,
+    /// The accesses of its invocation.
+    accesses: Vec<Access>,
 }
 
 /// What has been read.
@@ -86,10 +103,19 @@ struct ClientsReader {
     spans: Vec<Span>,
     events: Vec<Event>,
     keys: Items,
-    /// The transaction that each process has invoked and not ended.
-    active: BTreeMap<u64, usize>,
+    processes: Items,
+    /// What each process has invoked and not ended.
+    active: BTreeMap<u32, Invocation>,
+    /// Whether there was an invocation.
+    invoked: bool,
+    /// The line on which each transaction began.
+    lines: Vec<u64>,
+    /// The line on which the last entry started.
+    line: u64,
     /// How many entries there were.
     entries: usize,
+    /// How many of them were skipped.
+    skipped: usize,
     by_line: bool,
 }
 
@@ -97,6 +123,7 @@ impl ClientsReader {
     /// Nothing has been read.
     fn new(alloc: Global) -> Self
         ensures known { KnowsItems result.keys }
+        ensures known_processes { KnowsItems result.processes }
         ensures none { texts_of result.keys ≡ [] }
         ensures nothing { Stores result nothing }
         ensures by_line { result.by_line ≡ true }
@@ -106,8 +133,13 @@ impl ClientsReader {
             spans: Vec::new(alloc),
             events: Vec::new(alloc),
             keys: Items::new(alloc),
+            processes: Items::new(alloc),
             active: BTreeMap::new(alloc),
+            invoked: false,
+            lines: Vec::new(alloc),
+            line: 1,
             entries: 0,
+            skipped: 0,
             by_line: true,
         }
     }
@@ -115,8 +147,10 @@ impl ClientsReader {
     /// Reads the next entry, which starts on the line.
     fn take(&mut self, alloc: Global, line: u64, text: &[u8]) -> Result<(), ClientsFault>
         requires known { KnowsItems self.old.keys }
+        requires known_processes { KnowsItems self.old.processes }
         requires few { self.old.entries + 1 < 2 ^ 64 }
         ensures known { OnOk result (KnowsItems self.new.keys) }
+        ensures known_processes { OnOk result (KnowsItems self.new.processes) }
         ensures taken { OnOk result (Takes self.old self.new line text.now) }
         ensures own { IfErr result IsOwn }
     {
@@ -124,7 +158,29 @@ impl ClientsReader {
         match self.take_text(alloc, text) {
             Ok(()) => Ok(()),
             Err(ReadError::Flaw(flaw)) => Err(ClientsFault::Entry(line, self.entries, flaw)),
+            Err(ReadError::Invoked(process)) => Err(self.invoked_fault(alloc, line, process)),
+            Err(ReadError::OtherOperations(number)) => {
+                Err(ClientsFault::Entry(line, self.entries, self.other_flaw(number)))
+            }
             Err(ReadError::NoMemory) => Err(ClientsFault::from(NoMemory)),
+        }
+    }
+
+    /// The flaw of an end whose operations are not those of the invocation of this transaction.
+    fn other_flaw(&self, number: usize) -> Flaw {
+        match (self.lines.get(number), self.spans.get(number)) {
+            (Some(line), Some(span)) => Flaw::OtherOperations(*line, span.began),
+            _ => Flaw::Value,
+        }
+    }
+
+    /// The error of the entry, which starts on the line: its process has another transaction.
+    fn invoked_fault(&self, alloc: Global, line: u64, process: u32) -> ClientsFault
+        ensures { IsOwn result }
+    {
+        match shown_name(alloc, self.processes.texts.as_slice(), process) {
+            Ok(name) => ClientsFault::Entry(line, self.entries, Flaw::Invoked(name)),
+            Err(error) => ClientsFault::from(error),
         }
     }
 
@@ -132,36 +188,51 @@ impl ClientsReader {
     fn count(&mut self, line: u64)
         requires { self.old.entries + 1 < 2 ^ 64 }
         ensures keys { self.new.keys ≡ self.old.keys }
+        ensures processes { self.new.processes ≡ self.old.processes }
         ensures entries { self.new.entries ≡ self.old.entries + 1 }
         ensures by_line { self.new.by_line ≡ (self.old.by_line && line == self.old.entries + 1) }
         ensures stored { (p : Past) → Stores self.old p → Stores self.new (counted p) }
     {
         self.entries += 1;
+        self.line = line;
         self.by_line = self.by_line && line == self.entries as u64;
     }
 
     /// Reads the text of an entry.
     fn take_text(&mut self, alloc: Global, text: &[u8]) -> Result<(), ReadError>
-        requires { KnowsItems self.old.keys }
+        requires known { KnowsItems self.old.keys }
+        requires known_processes { KnowsItems self.old.processes }
         ensures known { OnOk result (KnowsItems self.new.keys) }
+        ensures known_processes { OnOk result (KnowsItems self.new.processes) }
         ensures taken { OnOk result (TakesText self.old self.new text.now) }
     {
         let tree = read_tree(alloc, text)?;
-        match read_entry(alloc, &mut self.keys, &tree)? {
+        match read_entry(alloc, &mut self.keys, &mut self.processes, &tree)? {
             Some(entry) => self.take_entry(entry),
-            None => Ok(()),
+            None => {
+                self.skip();
+                Ok(())
+            }
         }
+    }
+
+    /// Skips an entry, which is of no transaction.
+    fn skip(&mut self)
+        ensures same { IsSame self.old self.new }
+        ensures stored { (p : Past) → Stores self.old p → Stores self.new (with_skipped p) }
+    {
+        self.skipped = self.skipped.saturating_add(1);
     }
 
     /// Takes an entry.
     fn take_entry(&mut self, entry: Entry) -> Result<(), ReadError>
         ensures same { IsSame self.old self.new }
-        ensures in_turn { OnOk result (entry.kind ≡ kind.Invoked → get nat_cmp self.old.active entry.process ≡ None) }
+        ensures in_turn { OnOk result (IsInTurnAs entry.kind (get nat_cmp self.old.active entry.process) entry) }
         ensures stored { OnOk result ((p : Past) → Stores self.old p → Stores self.new (with_kind entry.kind entry p)) }
     {
         match entry.kind {
             Kind::Invoked => self.begin(entry),
-            Kind::Ended(status) => Ok(self.end(entry, status)?),
+            Kind::Ended(status) => self.end(entry, status),
         }
     }
 
@@ -172,42 +243,55 @@ impl ClientsReader {
         ensures stored { OnOk result ((p : Past) → Stores self.old p → Stores self.new (invoked entry p)) }
     {
         let process = entry.process;
-        let number = self.transactions.len();
+        let transaction = self.transactions.len();
         if self.active.contains_key(&process) {
-            return Err(ReadError::Flaw(Flaw::Invoked(process)));
+            return Err(ReadError::Invoked(process));
         }
-        self.add(Status::Unknown, entry)?;
-        self.note_active(process, number)?;
+        self.add(Status::Unknown, entry.operations)?;
+        self.note_active(
+            process,
+            Invocation {
+                transaction,
+                accesses: entry.accesses,
+            },
+        )?;
         Ok(())
     }
 
-    /// Notes that the process has invoked the transaction.
-    fn note_active(&mut self, process: u64, number: usize) -> Result<(), NoMemory>
+    /// Notes that the process has invoked a transaction.
+    fn note_active(&mut self, process: u32, invocation: Invocation) -> Result<(), NoMemory>
         ensures same { IsSame self.old self.new }
-        ensures stored { OnOk result ((p : Past) → Stores self.old p → Stores self.new (with_active process (Some number) p)) }
+        ensures stored { OnOk result ((p : Past) → Stores self.old p → Stores self.new (with_active process invocation p)) }
     {
-        self.active.insert(process, number)?;
+        self.active.insert(process, invocation)?;
+        self.invoked = true;
         Ok(())
     }
 
-    /// Removes and returns the transaction that the process has invoked and not ended.
-    fn remove_active(&mut self, process: u64) -> Option<usize>
+    /// Removes and returns what the process has invoked and not ended.
+    fn remove_active(&mut self, process: u32) -> Option<Invocation>
         ensures same { IsSame self.old self.new }
         ensures was { result ≡ get nat_cmp self.old.active process }
         ensures none { result ≡ None → (p : Past) → Stores self.old p → Stores self.new p }
-        ensures stored { (p : Past) → Stores self.old p → Stores self.new (with_active process None p) }
+        ensures stored { (p : Past) → Stores self.old p → Stores self.new (without_active process p) }
     {
         self.active.remove(&process)
     }
 
     /// The process ends its transaction. Without an invocation the transaction begins and ends here.
-    fn end(&mut self, entry: Entry, status: Status) -> Result<(), NoMemory>
+    fn end(&mut self, entry: Entry, status: Status) -> Result<(), ReadError>
         ensures same { IsSame self.old self.new }
+        ensures in_turn { OnOk result (IsInTurnAs (kind.Ended status) (get nat_cmp self.old.active entry.process) entry) }
         ensures stored { OnOk result ((p : Past) → Stores self.old p → Stores self.new (ended_by (p.active entry.process) status entry p)) }
     {
         match self.remove_active(entry.process) {
-            Some(number) => self.end_active(number, status, entry),
-            None => self.add_ended(status, entry),
+            Some(invocation) => {
+                if !answers(&entry, &invocation) {
+                    return Err(ReadError::OtherOperations(invocation.transaction));
+                }
+                Ok(self.end_active(invocation.transaction, status, entry)?)
+            }
+            None => Ok(self.add_ended(status, entry)?),
         }
     }
 
@@ -223,10 +307,10 @@ impl ClientsReader {
     /// Adds a transaction that begins and ends here.
     fn add_ended(&mut self, status: Status, entry: Entry) -> Result<(), NoMemory>
         ensures same { IsSame self.old self.new }
-        ensures stored { OnOk result ((p : Past) → Stores self.old p → Stores self.new (ended status (length p.transactions) (begun status entry p))) }
+        ensures stored { OnOk result ((p : Past) → Stores self.old p → Stores self.new (ended status (length p.transactions) (begun status entry.operations p))) }
     {
         let number = self.transactions.len();
-        self.add(status, entry)?;
+        self.add(status, entry.operations)?;
         self.note_end(number, status)
     }
 
@@ -251,22 +335,27 @@ impl ClientsReader {
         Ok(())
     }
 
-    /// Adds a transaction that begins here.
-    fn add(&mut self, status: Status, entry: Entry) -> Result<(), NoMemory>
+    /// Adds a transaction that begins here, with these operations.
+    fn add(&mut self, status: Status, operations: Vec<Operation>) -> Result<(), NoMemory>
         ensures same { IsSame self.old self.new }
-        ensures stored { OnOk result ((p : Past) → Stores self.old p → Stores self.new (begun status entry p)) }
+        ensures stored { OnOk result ((p : Past) → Stores self.old p → Stores self.new (begun status operations p)) }
     {
+        self.lines.push(self.line)?;
         self.events.push(Event::Began(self.transactions.len()))?;
-        self.transactions.push(Transaction {
-            status,
-            operations: entry.operations,
-        })?;
+        self.transactions.push(Transaction { status, operations })?;
         self.spans.push(Span {
             began: self.entries,
             ended: None,
         })?;
         Ok(())
     }
+}
+
+/// Whether the end of a transaction, if it lists accesses, lists those of its invocation.
+fn answers(entry: &Entry, invocation: &Invocation) -> bool
+    ensures { IsTrue result → Answers entry.now invocation.now }
+{
+    !entry.listed || are_same(entry.accesses.as_slice(), invocation.accesses.as_slice())
 }
 
 /// Notes in the span of the transaction that it ended at the entry.

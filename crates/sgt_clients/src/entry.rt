@@ -1,12 +1,14 @@
 //! An entry of a client history: what a process did or was answered.
-ghost use Rattle.std.specs.Prelude.{◌≡◌, ◌++◌, ℕ, List, Some, None, codes, IfOk, IfSome, OnOk, [], true};
+ghost use Rattle.std.specs.Prelude.{◌≡◌, ◌⊎◌, ◌++◌, ℕ, List, codes, IfOk, IsTrue, OnOk, [], true, false};
 ghost use Rattle.serde_json.specs.Data.{string};
 ghost use Rattle.serde_json.specs.View.{view};
 ghost use Rattle.sgt_notation.specs.Numbering.{KnowsItems, texts_of};
-ghost use Rattle.sgt_clients.specs.Entries.{value_tree, kind_word, commits, may_be_silent, HasMember, IsOther, HasNoList, HasOperations, IsOfTransactions, SpellsEntryOrOther};
+ghost use Rattle.sgt_clients.specs.Entries.{kind_word, commits, may_be_silent, HasMember, IsOther, HasNoList, ListsAccesses, ListsNone, IsOfTransactions, SpellsEntryOrOther};
 
+use crate::access::Access;
 use crate::fault::{Flaw, ReadError};
 use crate::operations::read_operations;
+use crate::process::read_process;
 use serde_json::Value;
 use sgt_appends::{Operation, Status};
 use sgt_format::items;
@@ -25,47 +27,48 @@ pub(crate) enum Kind {
 /// An entry of a process.
 #[derive(Drop)]
 pub(crate) struct Entry {
-    pub process: u64,
+    pub process: u32,
     pub kind: Kind,
+    /// Whether it lists accesses.
+    pub listed: bool,
+    /// The accesses that it lists.
+    pub accesses: Vec<Access>,
+    /// Those of its operations that count: reads only if the transaction committed.
     pub operations: Vec<Operation>,
 }
 
-/// Reads an entry. An entry of a process whose name is a text is none: it is no client's.
+/// Reads an entry. An entry of another function than transactions is none: it is to be skipped.
 pub(crate) fn read_entry(
     alloc: Global,
     keys: &mut Items,
+    processes: &mut Items,
     tree: &Value,
 ) -> Result<Option<Entry>, ReadError>
-    requires { KnowsItems keys.old }
+    requires keys { KnowsItems keys.old }
+    requires processes { KnowsItems processes.old }
     ensures known { OnOk result (KnowsItems keys.new) }
+    ensures known_processes { OnOk result (KnowsItems processes.new) }
     ensures more { OnOk result ((more : List (List ℕ)) × (texts_of keys.new ≡ texts_of keys.old ++ more)) }
-    ensures spelled { IfOk result (SpellsEntryOrOther (texts_of keys.new) (view tree.now)) }
+    ensures others { OnOk result ((others : List (List ℕ)) × (texts_of processes.new ≡ texts_of processes.old ++ others)) }
+    ensures spelled { IfOk result (SpellsEntryOrOther (texts_of keys.new) (texts_of processes.new) (view tree.now)) }
 {
-    let Some(process) = read_process(tree)? else {
+    if !is_of_transactions(tree) {
         return Ok(None);
-    };
+    }
+    let process = read_process(alloc, processes, tree)?;
     let kind = read_kind(tree)?;
-    check_function(tree)?;
-    let operations = read_value(alloc, keys, tree, kind)?;
-    Ok(Some(Entry {
-        process,
-        kind,
-        operations,
-    }))
+    let entry = read_value(alloc, keys, tree, process, kind)?;
+    Ok(Some(entry))
 }
 
-/// The number of the entry's process, or none if the process has a text.
-fn read_process(tree: &Value) -> Result<Option<u64>, ReadError>
-    ensures some { IfOk result (λ p. IfSome p (λ n. HasMember (view tree.now) (codes "process") (value_tree n))) }
-    ensures none { IfOk result (λ p. p ≡ None → IsOther (view tree.now)) }
+/// Whether the entry is a transaction's: it names no function, or that of transactions.
+fn is_of_transactions(tree: &Value) -> bool
+    ensures yes { IsTrue result → IsOfTransactions (view tree.now) }
+    ensures no { result ≡ false → IsOther (view tree.now) }
 {
-    match tree.get("process") {
-        Some(Value::String(_)) => Ok(None),
-        Some(process) => match process.as_u64() {
-            Some(number) => Ok(Some(number)),
-            None => Err(ReadError::Flaw(Flaw::Process)),
-        },
-        None => Err(ReadError::Flaw(Flaw::Process)),
+    match tree.get("f") {
+        Some(function) => matches!(function.as_str(), Some("txn")),
+        None => true,
     }
 }
 
@@ -85,47 +88,56 @@ fn read_kind(tree: &Value) -> Result<Kind, ReadError>
     }
 }
 
-/// Checks that the entry is a transaction's.
-fn check_function(tree: &Value) -> Result<(), ReadError>
-    ensures { OnOk result (IsOfTransactions (view tree.now)) }
-{
-    let Some(function) = tree.get("f") else {
-        return Ok(());
-    };
-    match function.as_str() {
-        Some("txn") => Ok(()),
-        _ => Err(ReadError::Flaw(Flaw::Function)),
-    }
-}
-
-/// The operations of the entry. A failure and an unknown end may have none.
+/// The entry of the process and kind, with its operations. A failure and an unknown end may have none.
 fn read_value(
     alloc: Global,
     keys: &mut Items,
     tree: &Value,
+    process: u32,
     kind: Kind,
-) -> Result<Vec<Operation>, ReadError>
+) -> Result<Entry, ReadError>
     requires { KnowsItems keys.old }
     ensures known { OnOk result (KnowsItems keys.new) }
     ensures more { OnOk result ((more : List (List ℕ)) × (texts_of keys.new ≡ texts_of keys.old ++ more)) }
-    ensures spelled { IfOk result (λ os. HasOperations kind (texts_of keys.new) (view tree.now) os.items) }
+    ensures process { IfOk result (λ e. e.process ≡ process) }
+    ensures kind { IfOk result (λ e. e.kind ≡ kind) }
+    ensures lists { IfOk result (λ e. ListsAccesses (texts_of keys.new) (view tree.now) e ⊎ ListsNone (view tree.now) e) }
 {
     let Some(value) = tree.get("value") else {
-        return silent(alloc, kind);
+        return silent(alloc, process, kind);
     };
     match items(value) {
-        Some(items) => read_operations(alloc, keys, items, commits(kind)),
-        None => silent(alloc, kind),
+        Some(items) => {
+            let operations = read_operations(alloc, keys, items, commits(kind))?;
+            Ok(Entry {
+                process,
+                kind,
+                listed: true,
+                accesses: operations.accesses,
+                operations: operations.counted,
+            })
+        }
+        None => silent(alloc, process, kind),
     }
 }
 
-/// No operations, if an entry of the kind may have none.
-fn silent(alloc: Global, kind: Kind) -> Result<Vec<Operation>, ReadError>
-    ensures none { IfOk result (λ os. os.items ≡ []) }
+/// An entry without a list of operations, if one of the kind may have none.
+fn silent(alloc: Global, process: u32, kind: Kind) -> Result<Entry, ReadError>
+    ensures process { IfOk result (λ e. e.process ≡ process) }
+    ensures kind { IfOk result (λ e. e.kind ≡ kind) }
+    ensures unlisted { IfOk result (λ e. e.listed ≡ false) }
+    ensures no_accesses { IfOk result (λ e. e.accesses.items ≡ []) }
+    ensures none { IfOk result (λ e. e.operations.items ≡ []) }
     ensures may { OnOk result (may_be_silent kind ≡ true) }
 {
     match kind {
-        Kind::Ended(Status::Aborted | Status::Unknown) => Ok(Vec::new(alloc)),
+        Kind::Ended(Status::Aborted | Status::Unknown) => Ok(Entry {
+            process,
+            kind,
+            listed: false,
+            accesses: Vec::new(alloc),
+            operations: Vec::new(alloc),
+        }),
         _ => Err(ReadError::Flaw(Flaw::Value)),
     }
 }

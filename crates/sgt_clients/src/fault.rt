@@ -9,7 +9,7 @@ use sgt_notation::Shown;
 use thiserror::Error;
 
 /// What is wrong with an entry. Operations are counted from 1.
-#[derive(Clone, Copy, Debug, PartialEq, Eq, Error)]
+#[derive(Debug, Drop, PartialEq, Eq, Error)]
 pub enum Flaw {
     /// The text is not JSON from this column on.
     #[error("no JSON from column {0} on")]
@@ -21,8 +21,6 @@ pub enum Flaw {
     Type,
     #[error("the process is not a whole number or a text")]
     Process,
-    #[error("f is not txn")]
-    Function,
     #[error("the value is not a list of operations")]
     Value,
     #[error("operation {0} is not [\"append\",key,value] or [\"r\",key,values]")]
@@ -32,16 +30,25 @@ pub enum Flaw {
     #[error("operation {0} has a value that is not a whole number from 0 to 4294967295")]
     Number(usize),
     #[error("process {0} has invoked another transaction, and has not ended it")]
-    Invoked(u64),
+    Invoked(Shown),
+    /// The invocation is on this line, and has this number among the entries.
+    #[error("the operations are not those of the invocation, line {0}, entry {1}")]
+    OtherOperations(u64, usize),
     #[error("more than 16777216 keys")]
     TooManyKeys,
+    #[error("more than 16777216 processes")]
+    TooManyProcesses,
 }
 
 /// Why an entry was not read.
-#[derive(Clone, Copy, Debug, PartialEq, Eq)]
+#[derive(Debug, Drop, PartialEq, Eq)]
 pub(crate) enum ReadError {
     /// The entry is wrong.
     Flaw(Flaw),
+    /// The process with this number has invoked another transaction, and has not ended it.
+    Invoked(u32),
+    /// The operations are not those of the transaction's invocation.
+    OtherOperations(usize),
     /// An allocation failed.
     NoMemory,
 }
@@ -63,6 +70,12 @@ pub enum ClientsFault {
     /// The transaction that ended or began at this entry appends the value to the key, which has it already.
     #[error("entry {0} appends {1} to key {2} a second time")]
     Twice(usize, u32, Shown),
+    /// There is no transaction to judge.
+    #[error("no operations")]
+    NoOperations,
+    /// Real time is to be kept, and no entry is an invocation.
+    #[error("no invocations: without them it is unknown when transactions began, which --strict needs")]
+    NoInvocations,
     /// Neither an order nor a violation was found.
     #[error("undecided")]
     Undecided,

@@ -1,7 +1,7 @@
 //! The report as one object of JSON.
 
 ghost use Rattle.std.specs.Prelude.{◌≡◌, ◌++◌, flat_map, OnOk};
-ghost use Rattle.sgt_clients.specs.JsonText.{truth_text, next_item, items_text, counts_members, number_text, because_text, step_object, anomaly_member, order_member, cycle_member, reader_members, finding_members, json_text};
+ghost use Rattle.sgt_clients.specs.JsonText.{truth_text, next_item, items_text, counts_members, skipped_member, number_text, because_text, step_object, anomaly_member, order_member, cycle_member, reader_members, finding_members, json_text};
 
 use crate::clients::Clients;
 use crate::counts::count;
@@ -29,6 +29,7 @@ pub fn append_json(
     text.extend_from_slice(b"{\"model\":\"list-append\",\"strict\":")?;
     append_truth(text, strict)?;
     append_counts(text, clients.transactions.as_slice())?;
+    append_skipped(text, clients.skipped)?;
     text.extend_from_slice(b",\"serializable\":")?;
     append_truth(text, is_serial(finding))?;
     append_finding(text, clients, finding)?;
@@ -57,6 +58,17 @@ fn append_counts(text: &mut Vec<u8>, history: &[Transaction]) -> Result<(), NoMe
     append_numbered(text, b",\"committed\":", counts.committed)?;
     append_numbered(text, b",\"aborted\":", counts.aborted)?;
     append_numbered(text, b",\"unknown\":", counts.unknown)?;
+    Ok(())
+}
+
+/// Appends the member on the entries that were skipped, if there are any.
+fn append_skipped(text: &mut Vec<u8>, skipped: usize) -> Result<(), NoMemory>
+    ensures { OnOk result (text.new.items ≡ text.old.items ++ skipped_member skipped) }
+{
+    if skipped > 0 {
+        text.extend_from_slice(b",\"skipped\":")?;
+        append_number(text, skipped)?;
+    }
     Ok(())
 }
 

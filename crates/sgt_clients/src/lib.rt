@@ -22,6 +22,7 @@
 //! ```
 #![tactic(auto)]
 
+mod access;
 mod barriers;
 mod clients;
 mod counts;
@@ -36,6 +37,7 @@ mod operations;
 mod picture;
 mod piece;
 mod pieces;
+mod process;
 mod report_text;
 mod run;
 mod scene;

@@ -1,11 +1,11 @@
 //! The operations of an entry.
-ghost use Rattle.std.specs.Prelude.{◌≡◌, ◌<◌, ◌+◌, ◌^◌, ◌++◌, ℕ, List, Some, map, length, option_map, slice_get, IfOk, IfSome, IsSome, None, OnOk, [], ◌∷◌, codes};
+ghost use Rattle.std.specs.Prelude.{◌≡◌, ◌<◌, ◌+◌, ◌^◌, ◌++◌, ℕ, List, Some, map, length, option_map, slice_get, IfOk, IfSome, OnOk, [], ◌∷◌, codes};
 ghost use Rattle.std.specs.Fmt.{decimal};
-ghost use Rattle.serde_json.specs.Data.{null};
 ghost use Rattle.serde_json.specs.View.{view};
 ghost use Rattle.sgt_notation.specs.Numbering.{KnowsItems, texts_of};
-ghost use Rattle.sgt_clients.specs.Entries.{Names, value_tree, SpellsOrNone, counted, SpellAll, SpellsAs, IsUnknownRead};
+ghost use Rattle.sgt_clients.specs.Entries.{Names, value_tree, SpellsValues, SpellsOperation, counted, SpellAll, SpellsAs};
 
+use crate::access::{Access, access_of};
 use crate::fault::{Flaw, ReadError};
 use serde_json::Value;
 use sgt_appends::Operation;
@@ -20,57 +20,73 @@ const MOST_KEYS: usize = 16_777_216;
 /// How many bytes the text of a key may have.
 const LONGEST_KEY: usize = 64;
 
-/// Reads the operations of an entry. Only a transaction that committed has reads.
+/// The operations of an entry.
+#[derive(Drop)]
+pub(crate) struct Operations {
+    /// Their accesses.
+    pub accesses: Vec<Access>,
+    /// Those that count: reads only if the transaction committed.
+    pub counted: Vec<Operation>,
+}
+
+/// Reads the operations of an entry. Only those of a transaction that committed count all.
 pub(crate) fn read_operations(
     alloc: Global,
     keys: &mut Items,
     items: &[Value],
     committed: bool,
-) -> Result<Vec<Operation>, ReadError>
+) -> Result<Operations, ReadError>
     requires { KnowsItems keys.old }
     ensures known { OnOk result (KnowsItems keys.new) }
     ensures more { OnOk result ((more : List (List ℕ)) × (texts_of keys.new ≡ texts_of keys.old ++ more)) }
-    ensures spelled { IfOk result (λ os. SpellAll committed (texts_of keys.new) (map view items.now) os.items) }
+    ensures spelled { IfOk result (λ os. SpellAll committed (texts_of keys.new) (map view items.now) os.accesses.items os.counted.items) }
 {
-    let mut operations = Vec::new(alloc);
+    let mut accesses = Vec::new(alloc);
+    let mut counted = Vec::new(alloc);
     for (place, item) in items.iter().enumerate() {
         let operation = read_operation(alloc, keys, place, item)?;
-        add_operation(&mut operations, operation, committed)?;
+        add_access(&mut accesses, access_of(&operation))?;
+        add_operation(&mut counted, operation, committed)?;
     }
-    Ok(operations)
+    Ok(Operations { accesses, counted })
 }
 
-/// Adds the operation, if there is one. A read counts only if its transaction committed.
+/// Adds the access.
+fn add_access(accesses: &mut Vec<Access>, access: Access) -> Result<(), NoMemory>
+    ensures { OnOk result (accesses.new.items ≡ accesses.old.items ++ access ∷ []) }
+{
+    Ok(accesses.push(access)?)
+}
+
+/// Adds the operation. A read counts only if its transaction committed.
 fn add_operation(
     operations: &mut Vec<Operation>,
-    operation: Option<Operation>,
+    operation: Operation,
     committed: bool,
 ) -> Result<(), NoMemory>
     ensures { OnOk result (operations.new.items ≡ operations.old.items ++ counted committed operation) }
 {
     match operation {
-        Some(Operation::Append { key, value }) => {
-            operations.push(Operation::Append { key, value })?;
-        }
-        Some(Operation::Read { key, values }) if committed => {
+        Operation::Append { key, value } => operations.push(Operation::Append { key, value })?,
+        Operation::Read { key, values } if committed => {
             operations.push(Operation::Read { key, values })?;
         }
-        _ => (),
+        Operation::Read { .. } => (),
     }
     Ok(())
 }
 
-/// Reads an operation, at the place from 0. A read of unknown values is none.
+/// Reads an operation, at the place from 0.
 fn read_operation(
     alloc: Global,
     keys: &mut Items,
     place: usize,
     item: &Value,
-) -> Result<Option<Operation>, ReadError>
+) -> Result<Operation, ReadError>
     requires { KnowsItems keys.old }
     ensures known { OnOk result (KnowsItems keys.new) }
     ensures more { OnOk result ((more : List (List ℕ)) × (texts_of keys.new ≡ texts_of keys.old ++ more)) }
-    ensures spelled { IfOk result (SpellsOrNone (texts_of keys.new) (view item.now)) }
+    ensures spelled { IfOk result (SpellsOperation (texts_of keys.new) (view item.now)) }
 {
     let Some(parts) = items(item) else {
         return Err(ReadError::Flaw(Flaw::Operation(place.saturating_add(1))));
@@ -92,16 +108,15 @@ fn read_append(
     place: usize,
     key: &Value,
     argument: &Value,
-) -> Result<Option<Operation>, ReadError>
+) -> Result<Operation, ReadError>
     requires { KnowsItems keys.old }
     ensures known { OnOk result (KnowsItems keys.new) }
     ensures more { OnOk result ((more : List (List ℕ)) × (texts_of keys.new ≡ texts_of keys.old ++ more)) }
-    ensures spelled { IfOk result (λ o. IfSome o (SpellsAs (texts_of keys.new) (codes "append") (view key.now) (view argument.now))) }
-    ensures some { IfOk result (λ o. IsSome o) }
+    ensures spelled { IfOk result (SpellsAs (texts_of keys.new) (codes "append") (view key.now) (view argument.now)) }
 {
     let key = read_key(alloc, keys, place, key)?;
     match number_of(argument) {
-        Some(value) => Ok(Some(Operation::Append { key, value })),
+        Some(value) => Ok(Operation::Append { key, value }),
         None => Err(ReadError::Flaw(Flaw::Number(place.saturating_add(1)))),
     }
 }
@@ -113,27 +128,31 @@ fn read_read(
     place: usize,
     key: &Value,
     argument: &Value,
-) -> Result<Option<Operation>, ReadError>
+) -> Result<Operation, ReadError>
     requires { KnowsItems keys.old }
     ensures known { OnOk result (KnowsItems keys.new) }
     ensures more { OnOk result ((more : List (List ℕ)) × (texts_of keys.new ≡ texts_of keys.old ++ more)) }
-    ensures spelled { IfOk result (λ o. IfSome o (SpellsAs (texts_of keys.new) (codes "r") (view key.now) (view argument.now))) }
-    ensures none { IfOk result (λ o. o ≡ None → view argument.now ≡ null) }
+    ensures spelled { IfOk result (SpellsAs (texts_of keys.new) (codes "r") (view key.now) (view argument.now)) }
 {
     let key = read_key(alloc, keys, place, key)?;
+    let values = read_seen(alloc, place, argument)?;
+    Ok(Operation::Read { key, values })
+}
+
+/// Reads what a read saw: a list of values, or `null` for the empty list.
+fn read_seen(alloc: Global, place: usize, argument: &Value) -> Result<Vec<u32>, ReadError>
+    ensures { IfOk result (λ values. SpellsValues (view argument.now) values.items) }
+{
     if let Value::Null = argument {
-        return Ok(None);
+        return Ok(Vec::new(alloc));
     }
     match items(argument) {
-        Some(items) => {
-            let values = read_values(alloc, place, items)?;
-            Ok(Some(Operation::Read { key, values }))
-        }
+        Some(items) => read_values(alloc, place, items),
         None => Err(ReadError::Flaw(Flaw::Operation(place.saturating_add(1)))),
     }
 }
 
-/// Reads the values that a read saw.
+/// Reads the values of a list.
 fn read_values(alloc: Global, place: usize, items: &[Value]) -> Result<Vec<u32>, ReadError>
     ensures { IfOk result (λ values. map view items.now ≡ map value_tree values.items) }
 {
@@ -187,23 +206,23 @@ fn read_key(alloc: Global, keys: &mut Items, place: usize, tree: &Value) -> Resu
             Ok(keys.number(alloc, text)?)
         }
         _ => match tree.as_u64() {
-            Some(number) => Ok(number_key(alloc, keys, number)?),
+            Some(number) => Ok(number_name(alloc, keys, number)?),
             None => Err(ReadError::Flaw(Flaw::Key(place.saturating_add(1)))),
         },
     }
 }
 
-/// The number of the key with this number as its text.
-fn number_key(alloc: Global, keys: &mut Items, number: u64) -> Result<u32, NoMemory>
-    requires known { KnowsItems keys.old }
-    requires few { length (texts_of keys.old) + 1 < 2 ^ 32 }
-    ensures known { OnOk result (KnowsItems keys.new) }
-    ensures more { OnOk result ((more : List (List ℕ)) × (texts_of keys.new ≡ texts_of keys.old ++ more)) }
-    ensures number { IfOk result (λ k. slice_get (texts_of keys.new) k ≡ Some (decimal number)) }
+/// The number of the key or process whose text is this number.
+pub(crate) fn number_name(alloc: Global, names: &mut Items, number: u64) -> Result<u32, NoMemory>
+    requires known { KnowsItems names.old }
+    requires few { length (texts_of names.old) + 1 < 2 ^ 32 }
+    ensures known { OnOk result (KnowsItems names.new) }
+    ensures more { OnOk result ((more : List (List ℕ)) × (texts_of names.new ≡ texts_of names.old ++ more)) }
+    ensures number { IfOk result (λ k. slice_get (texts_of names.new) k ≡ Some (decimal number)) }
 {
     let mut text = Vec::new(alloc);
     append_number(&mut text, number)?;
-    keys.number(alloc, text.as_slice())
+    names.number(alloc, text.as_slice())
 }
 
 /// Whether the text may be that of a key.

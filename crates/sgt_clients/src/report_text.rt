@@ -1,7 +1,7 @@
 //! The lines of a report.
 
 ghost use Rattle.std.specs.Prelude.{◌≡◌, ◌++◌, Bool, List, [], codes, flat_map, if◌then◌else◌, OnOk};
-ghost use Rattle.sgt_clients.specs.ReportText.{report_text, finding_text, counts_text, order_text, next_text, no_text, step_text, why_text};
+ghost use Rattle.sgt_clients.specs.ReportText.{report_text, finding_text, counts_text, skipped_text, order_text, next_text, no_text, step_text, why_text};
 ghost use Rattle.sgt_clients.specs.declared.finding.Why.TheVariants.{RealTime};
 
 use crate::clients::Clients;
@@ -10,7 +10,7 @@ use crate::finding::{Finding, Step, Why};
 use crate::piece::{Piece, append_pieces};
 use crate::witness_text::{append_fault, append_reason};
 use sgt_appends::Transaction;
-use sgt_format::append_numbered;
+use sgt_format::{append_number, append_numbered};
 use sgt_model::NoMemory;
 
 /// Appends the lines of a report.
@@ -27,6 +27,7 @@ pub fn append_report(
     ensures { OnOk result (text.new.items ≡ text.old.items ++ report_text strict clients.now finding.now) }
 {
     append_counts(text, clients.transactions.as_slice())?;
+    append_skipped(text, clients.skipped)?;
     append_strictly(text, strict)?;
     append_finding(text, clients, finding)
 }
@@ -76,6 +77,21 @@ fn append_counts(text: &mut Vec<u8>, history: &[Transaction]) -> Result<(), NoMe
     append_numbered(text, b" committed, ", counts.aborted)?;
     append_numbered(text, b" aborted, ", counts.unknown)?;
     text.extend_from_slice(b" unknown\n")?;
+    Ok(())
+}
+
+/// Appends the line on the entries that were skipped, if there are any.
+fn append_skipped(text: &mut Vec<u8>, skipped: usize) -> Result<(), NoMemory>
+    ensures { OnOk result (text.new.items ≡ text.old.items ++ skipped_text skipped) }
+{
+    match skipped {
+        0 => (),
+        1 => text.extend_from_slice(b"1 entry skipped: no transaction\n")?,
+        _ => {
+            append_number(text, skipped)?;
+            text.extend_from_slice(b" entries skipped: no transactions\n")?;
+        }
+    }
     Ok(())
 }
 

@@ -42,8 +42,9 @@ pub enum ClientsOutput {
 ///
 /// # Errors
 ///
-/// - `Entry` with the first entry that is wrong, `Twice` if a value is appended twice to a key, `Check` if the input
-///   has more than 268,435,456 bytes, a read failed or an allocation. Nothing is written then.
+/// - `Entry` with the first entry that is wrong, `NoOperations` if there is no transaction, `NoInvocations` if
+///   real time is to be kept and no entry is an invocation, `Twice` if a value is appended twice to a key, `Check` if the input has more than 268,435,456 bytes, a read failed or an allocation.
+///   Nothing is written then.
 /// - `Check` if a write failed. A prefix of the output is written then.
 pub fn run_clients<S: Source, T: Sink>(
     alloc: Global,
@@ -93,6 +94,12 @@ fn check_text(
     ensures own { IfErr result IsOwn }
 {
     let clients = read_clients(alloc, text)?;
+    if clients.transactions.is_empty() {
+        return Err(ClientsFault::NoOperations);
+    }
+    if strict && !clients.invoked {
+        return Err(ClientsFault::NoInvocations);
+    }
     let finding = find(alloc, &clients, strict)?;
     Ok(Checked {
         text: text_of(alloc, &clients, &finding, output, strict)?,
@@ -125,6 +132,8 @@ fn own(error: ClientsFault) -> ClientsFault
     match error {
         ClientsFault::Entry(line, entry, flaw) => ClientsFault::Entry(line, entry, flaw),
         ClientsFault::Twice(entry, value, key) => ClientsFault::Twice(entry, value, key),
+        ClientsFault::NoOperations => ClientsFault::NoOperations,
+        ClientsFault::NoInvocations => ClientsFault::NoInvocations,
         ClientsFault::Undecided => ClientsFault::Undecided,
         ClientsFault::Check(_) => ClientsFault::Check(CheckFault::NoMemory),
     }

@@ -15,7 +15,11 @@ pub(crate) fn twice_fault(alloc: Global, clients: &Clients) -> Result<ClientsFau
     for (number, transaction) in clients.transactions.iter().enumerate() {
         if let Some((key, value)) = first_met(&mut met, transaction.operations.as_slice())? {
             let entry = entry_of(clients, number);
-            return Ok(ClientsFault::Twice(entry, value, shown_key(alloc, clients, key)?));
+            return Ok(ClientsFault::Twice(
+                entry,
+                value,
+                shown_name(alloc, clients.keys.as_slice(), key)?,
+            ));
         }
     }
     Ok(ClientsFault::Undecided)
@@ -36,9 +40,9 @@ fn first_met(
     Ok(None)
 }
 
-/// The text of the key.
-fn shown_key(alloc: Global, clients: &Clients, key: u32) -> Result<Shown, NoMemory> {
-    match clients.keys.get(key as usize) {
+/// The text of the key or process with this number, among these.
+pub(crate) fn shown_name(alloc: Global, names: &[Vec<u8>], number: u32) -> Result<Shown, NoMemory> {
+    match names.get(number as usize) {
         Some(name) => Shown::of(alloc, name.as_slice()),
         None => Shown::of(alloc, b""),
     }

@@ -10,7 +10,8 @@ returns-in_err-text-clause-fault g c =
     subst (λ r. IfErr r (λ f. IfSome (g.S.Source.rest c.args.source.now) (λ input. IsFaultOf input f))) (sym is)
     (input_fault (g.S.Source.rest c.args.source.now) c.in_err-text.field-0.0
     (λ long. c.read_input.ensures.long (c.in_err-text.was ∙ ap Err long))
-    (λ n same. c.read_input.ensures.no_notation n (c.in_err-text.was ∙ ap Err same)))
+    (λ n same. c.read_input.ensures.no_notation n (c.in_err-text.was ∙ ap Err same))
+    (λ same. c.read_input.ensures.no_operations (c.in_err-text.was ∙ ap Err same)))
 
 pub returns-clause-checked : goal.returns-clause-checked
 returns-clause-checked g c =

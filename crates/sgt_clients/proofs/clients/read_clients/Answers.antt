@@ -7,6 +7,7 @@ loop-place-init c =
     let first = c.next_object-place.ensures in record {
       bounds = first.bounds;
       known = c.new-reader.ensures.known;
+      known_processes = c.new-reader.ensures.known_processes;
       few = omega (arith, c.new-reader.ensures.nothing.entries);
       starts = first.starts;
       read = read_none c.args.text.now c.next_object-place.result.at c.next_object-place.result.line c.new-reader.result first.gap first.line
@@ -20,6 +21,7 @@ loop-place-preserved c =
     let then = c.next_object-place-in-loop-place.ensures in record {
       bounds = then.bounds;
       known = c.in_ok-take.ensures.known;
+      known_processes = c.in_ok-take.ensures.known_processes;
       few = omega (arith, c.in_ok-take.ensures.taken.entries, was.few, object.onwards, then.onwards);
       starts = then.starts;
       read = read_one c.args.text.now c.loop-place.place.at c.object_end-end.result.at c.next_object-place-in-loop-place.result.at
@@ -31,4 +33,4 @@ loop-place-preserved c =
 pub returns-clause-read : goal.returns-clause-read
 returns-clause-read c =
     read_all c.args.text.now c.loop-place.place.at c.loop-place.place.line c.loop-place.reader _ c.loop-place.invariant.read (search rules)
-    c.loop-place.invariant.known refl refl refl refl refl
+    c.loop-place.invariant.known c.loop-place.invariant.known_processes refl refl refl refl refl refl refl

@@ -8,6 +8,7 @@ abbrev pub invariant-loop-place : goal.invariant-loop-place
 invariant-loop-place l = record {
   bounds : l.place.at ≤ length l.text;
   known : KnowsItems l.reader.keys;
+  known_processes : KnowsItems l.reader.processes;
   few : l.reader.entries ≤ l.place.at;
   starts : l.place.at < length l.text → is_between (slice_index l.text l.place.at) ≡ false;
   read : ReadTo l.text l.place.at l.place.line l.reader;

@@ -1,4 +1,4 @@
-use Rattle.std.proofs.Common.{rules, subst}
+use Rattle.std.proofs.Common.{rules}
 use Rattle.sgt_appends.specs.declared.check.Verdict.TheVariants.{Violated}
 use Rattle.sgt_appends.specs.Verdicts.{IsRight}
 use Rattle.sgt_clients.proofs.finding.check_clients.Goals as goal

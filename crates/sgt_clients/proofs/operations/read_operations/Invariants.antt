@@ -9,5 +9,5 @@ abbrev pub invariant-loop-place : goal.invariant-loop-place
 invariant-loop-place l = record {
   known : KnowsItems l.keys;
   more : (more : List (List ℕ)) × (texts_of l.keys ≡ texts_of l.fn.keys ++ more);
-  spelled : SpellAll l.committed (texts_of l.keys) (map view (take l.place l.items)) l.operations.items;
+  spelled : SpellAll l.committed (texts_of l.keys) (map view (take l.place l.items)) l.accesses.items l.counted.items;
 }

@@ -1,4 +1,4 @@
-use Rattle.std.proofs.Common.{rules, ◌≡◌, ◌≤◌, ◌<◌, ◌+◌, ◌-◌, ◌∙◌, ℕ, sym, ap, subst, inl, inr, arith, true, false, drop, take, get_or}
+use Rattle.std.proofs.Common.{rules, ◌≡◌, ◌≤◌, ◌+◌, ◌-◌, ◌∙◌, ℕ, sym, ap, subst, inl, inr, arith, drop, take, get_or}
 use Rattle.sgt_clients.specs.Objects.{outside, after_all, is_closed}
 use Rattle.sgt_clients.proofs.Scans.{StaysOpen, line_more, open_more, stays_more, object_of, depth_more}
 use Rattle.sgt_clients.proofs.pieces.object_end.Goals.{then-place-text-via-then-place-text, then-place-text-via-else-place-text+then-is_closed}
