@@ -572,7 +572,7 @@ def calls_until(sgt, seconds, draw, drained, hook):
         while time.monotonic() < end:
             try:
                 with interrupts(draw.uniform(0.0001, 0.002)):
-                    while True:
+                    while time.monotonic() < end:
                         bank.run(1, 1, 1)
                         with bank.transaction(0, 1) as reader:
                             reader.step()
@@ -684,6 +684,7 @@ def raises_what_a_hook_raises(_):
         same("what was drained", [0, 1, 2, 3], [ended.sequence for ended in bank.drain()])
         threading.Timer(0.1, lambda: bank.run(1, 1, 1)).start()
         same("what was waited for", [4], [ended.sequence for ended in bank.drain(timeout=5)])
+    same("a drain of a closed engine", "closed", what(sgt.Closed, bank.drain, "closed"))
     with sgt.SharedEngine(limits=(8, 1000)) as bank:
         same("a drain of an engine that stores none", "refused", refusal(lambda: bank.drain(timeout=0)))
 

@@ -100,6 +100,7 @@ struct sgt_shared {
     struct event changed;        /* a transaction has ended, or a cut is over */
     struct event queued;         /* a call can be drained */
     sgt_shared *next;            /* of those that are closed */
+    sgt_shared *called;          /* the engine that a hook of this one calls, or null. `calling` is its lock */
     sgt_engine engine;           /* this and all that follows is zero at first */
     sgt_shared_config config;
     uint64_t number;             /* of this engine, in its tickets */
@@ -115,11 +116,11 @@ struct sgt_shared {
     uint32_t asked;              /* threads that are asked whether they are interrupted */
     bool abandons;               /* whether a live transaction is abandoned */
     bool tells;                  /* whether the hook has to be called for `ended` */
-    sgt_ended ended;
     uint64_t cut_at;             /* so many entries make a cut due */
     bool pauses;                 /* starts wait for a cut that is due, until `pause` */
     struct timespec pause;
     struct queue queue;
+    sgt_ended ended;
 };
 
 /* The engines in whose hooks this thread is, the innermost first. */
@@ -146,6 +147,7 @@ struct closed {
     unsigned count;
 };
 
+static pthread_mutex_t calling = PTHREAD_MUTEX_INITIALIZER;
 static _Thread_local struct hook *hooks;
 static _Thread_local struct watch watch;
 static struct closed closed = {.lock = PTHREAD_MUTEX_INITIALIZER};
@@ -361,15 +363,27 @@ static void hold_closed(void) { pthread_mutex_lock(&closed.lock); }
 
 static void release_closed(void) { pthread_mutex_unlock(&closed.lock); }
 
+static void hold_all(void)
+{
+    hold_closed();
+    pthread_mutex_lock(&calling);
+}
+
+static void release_all(void)
+{
+    pthread_mutex_unlock(&calling);
+    release_closed();
+}
+
 /* In a child. A thread that it does not have may hold the lock of a closed engine, so none of them serves again. */
 static void count_fork(void)
 {
     atomic_fetch_add(&forks, 1);
     closed.first = closed.last = 0, closed.count = 0;
-    release_closed();
+    release_all();
 }
 
-static void watch_forks(void) { pthread_atfork(hold_closed, release_closed, count_fork); }
+static void watch_forks(void) { pthread_atfork(hold_all, release_all, count_fork); }
 
 /* Whether this process was forked after the engine was opened. */
 static bool is_in_child(const sgt_shared *s)
@@ -385,13 +399,37 @@ static bool is_in_hook(const sgt_shared *s)
     return hook != 0;
 }
 
+/*
+ * Begins a call from inside a hook. False if the engine waits for this thread: it is that of the hook, or a hook of it calls, maybe through
+ * hooks of others, an engine in whose hook this thread is.
+ */
+static bool begin_call(sgt_shared *s)
+{
+    pthread_mutex_lock(&calling);
+    const sgt_shared *at = s;
+    while (at && !is_in_hook(at)) at = at->called;
+    if (!at) hooks->shared->called = s;
+    pthread_mutex_unlock(&calling);
+    return !at;
+}
+
+/* Ends a call, if it was made from inside a hook. */
+static void end_call(void)
+{
+    if (!hooks) return;
+    pthread_mutex_lock(&calling);
+    hooks->shared->called = 0;
+    pthread_mutex_unlock(&calling);
+}
+
 static uint32_t enter(sgt_shared *s)
 {
     if (!s) return SGT_CLOSED;
-    if (is_in_hook(s) || is_in_child(s)) return SGT_MISUSE;
+    if (is_in_child(s) || (hooks && !begin_call(s))) return SGT_MISUSE;
     lock(s);
     if (s->is_open) return SGT_OK;
     unlock(s);
+    end_call();
     return SGT_CLOSED;
 }
 
@@ -404,6 +442,7 @@ static uint32_t leave(sgt_shared *s, uint32_t status)
     if (s->tells) tell(s);
     if (s->config.cut_after) cut_if_due(s);
     unlock(s);
+    end_call();
     return status;
 }
 
@@ -440,6 +479,7 @@ static void break_off(void *hook)
 {
     end_hook(hook);
     unlock(((struct hook *)hook)->shared);
+    end_call();
 }
 
 /* Calls the hook for the call that has just ended. All else is done, so that it may throw. */

@@ -79,7 +79,8 @@ typedef struct sgt_live {
  * The configuration of a shared engine. Begin with SGT_SHARED_CONFIG, which asks for nothing, and set the fields that you need.
  *
  * The hooks are called under the lock, so nothing else happens meanwhile. A call from a hook to the same engine is SGT_MISUSE, but for
- * sgt_shared_abandon. A hook may call other engines, in one direction only: two engines whose hooks call each other lock up.
+ * sgt_shared_abandon. A hook may call another engine. If hooks of that one call back, so that each waits for the other, one of the calls
+ * is SGT_MISUSE.
  *
  * A hook of another language may throw an exception, or end its thread: the lock is released, and the exception reaches whoever made the
  * call, which has been carried out. If the exception is that of `cutting`, there is no cut.

@@ -240,6 +240,57 @@ static void a_thread_that_ends_in_a_hook_holds_nothing(void)
     closes(shared);
 }
 
+/* Engines whose hooks call the next one */
+
+enum { RING = 3, CALLS = 2000 };
+
+struct ring {
+    sgt_shared *engines[RING];
+    int of; /* the engine of a hook or of a thread */
+    uint64_t misuses;
+};
+
+static void calls_the_next(void *context, const sgt_ended *ended)
+{
+    struct ring *it = context;
+    uint64_t count = 0;
+    (void)ended;
+    const uint32_t status = sgt_shared_entries(it->engines[(it->of + 1) % RING], &count, 0);
+    CHECK(status == SGT_OK || status == SGT_MISUSE);
+    it->misuses += status == SGT_MISUSE;
+}
+
+static void *runs_often(void *of)
+{
+    struct ring *it = of;
+    for (int made = 0; made < CALLS; made++) {
+        sgt_shared_outcome outcome = SGT_SHARED_OUTCOME;
+        CHECK(sgt_shared_run(it->engines[it->of], WRITE, 0, 0, 0, &outcome) == SGT_OK && outcome.reply.kind == SGT_COMMITTED);
+    }
+    return 0;
+}
+
+static void hooks_that_call_each_other_do_not_lock_up(void)
+{
+    struct ring rings[RING] = {0};
+    pthread_t threads[RING];
+    uint64_t count = 0, misuses = 0;
+    for (int i = 0; i < RING; i++) {
+        sgt_shared_config config = SGT_SHARED_CONFIG;
+        config.ended = calls_the_next;
+        config.context = &rings[i];
+        rings[i].of = i;
+        sgt_shared *shared = opened(&config);
+        for (int other = 0; other < RING; other++) rings[other].engines[i] = shared;
+    }
+    for (int i = 0; i < RING; i++) CHECK(pthread_create(&threads[i], 0, runs_often, &rings[i]) == 0);
+    for (int i = 0; i < RING; i++) pthread_join(threads[i], 0);
+    for (int i = 0; i < RING; i++) misuses += rings[i].misuses;
+    CHECK(misuses < RING * CALLS); /* most calls are made */
+    for (int i = 0; i < RING; i++) CHECK(sgt_shared_entries(rings[0].engines[i], &count, 0) == SGT_OK && count == 4 * CALLS);
+    for (int i = 0; i < RING; i++) closes(rings[0].engines[i]);
+}
+
 /* Transactions that are abandoned */
 
 struct abandoned {
@@ -391,6 +442,7 @@ int main(void)
     a_cancelled_thread_holds_nothing();
     a_thread_that_is_cancelled_in_a_hook_holds_nothing();
     a_thread_that_ends_in_a_hook_holds_nothing();
+    hooks_that_call_each_other_do_not_lock_up();
     a_transaction_is_abandoned_in_a_hook();
     waiting_calls_are_interrupted();
     a_start_is_interrupted_before_a_cut();

@@ -15,7 +15,6 @@ from ._library import (
     CLOSED,
     FIRST_FAULT,
     FREE,
-    HELD,
     LEAST,
     MOST,
     NONE,
@@ -210,6 +209,7 @@ class SharedEngine(Uncopied):
         try:
             taken = self._stored.take(most)
             if not taken and self._teller:
+                self.entries()  # raises Closed
                 self._stored.wait(timeout)
                 taken = self._stored.take(most)
             elif not taken:
