@@ -227,7 +227,8 @@ public:
     }
 
     // Runs these calls one after another, each as `run` does. It uses `procedure`, `args` and `arg` of each. If an allocation fails, it
-    // returns fewer outcomes than calls; the calls after them have not run.
+    // returns fewer outcomes than calls; the calls after them have not run. Each call is a start: when no start is left by the limits, the
+    // rest are SGT_SPENT, so cut now and then if a journal is longer.
     [[nodiscard]] std::vector<sgt_outcome> run_many(const std::vector<sgt_call> &calls)
     {
         static const sgt_call none{};
