@@ -466,7 +466,7 @@ def waits_with_deadlines_in_python(_):
             while reader.step().kind is not sgt.Kind.ENDED:
                 pass
             same("a third start", "timed out", what(sgt.TimedOut, lambda: bank.transaction(0, 1, timeout=0.01), "timed out"))
-            same("for whom a commit waits", writer.ticket.tid, waited_for(sgt, reader))
+            same("a commit", "timed out", what(sgt.TimedOut, lambda: reader.commit(0.01), "timed out"))
             began = time.monotonic()
             threading.Timer(0.05, writer.commit).start()
             same("its answers", (1600,), reader.commit(5).answers)
@@ -491,14 +491,6 @@ def waits_with_deadlines_in_python(_):
         writer.commit()
         waiting.join()
     same("a closed engine", "refused", refusal(lambda: bank.get(2, 101)))
-
-
-def waited_for(sgt, reader):
-    """The transaction for which a commit waits, by the error of one that times out."""
-    try:
-        return reader.commit(0.01)
-    except sgt.TimedOut as why:
-        return why.waits_for
 
 
 class Interrupted(BaseException):

@@ -135,15 +135,10 @@ struct Entry {
     sgt_reply reply;
 };
 
-// Thrown by `SharedEngine` if the deadline comes first. If it is that of a commit, holds the transaction that the commit waits for.
+// Thrown by `SharedEngine` if the deadline comes first.
 class TimedOut : public std::runtime_error {
 public:
-    explicit TimedOut(std::optional<std::uint32_t> waits_for = std::nullopt)
-        : std::runtime_error("sgt: the deadline came"), waits_for(waits_for)
-    {
-    }
-
-    const std::optional<std::uint32_t> waits_for;
+    TimedOut() : std::runtime_error("sgt: the deadline came") {}
 };
 
 // Thrown by `SharedEngine` if the transaction of a ticket belongs to a part of the history that was cut off.
@@ -621,7 +616,6 @@ inline sgt_reply Transaction::commit(Wait wait)
 
 inline sgt_reply Transaction::told(std::uint32_t status, const sgt_reply &reply)
 {
-    if (status == SGT_TIMED_OUT) throw TimedOut(reply.tid);
     SharedEngine::check(status);
     if (reply.kind == SGT_COMMITTED || reply.kind == SGT_ABORTED || reply.kind == SGT_REFUSED || reply.kind == SGT_OVER) is_live = false;
     return reply;

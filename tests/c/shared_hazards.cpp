@@ -128,17 +128,6 @@ static void a_transaction_is_used_after_its_end()
     CHECK(thrown([&] { (void)bank.drain(1); }).find("keeps_ended") != std::string::npos);
 }
 
-// The transaction for which a commit waits, by the exception of one that times out.
-static std::optional<std::uint32_t> waited_for(sgt::Transaction &reader)
-{
-    try {
-        (void)reader.commit(std::chrono::nanoseconds(0));
-    } catch (const sgt::TimedOut &why) {
-        return why.waits_for;
-    }
-    return std::nullopt;
-}
-
 // An engine that is destroyed while a thread is in a call stays open, and its hook is there. What is left of it still points to both, so
 // that a sanitizer finds nothing that is lost.
 static void an_engine_is_destroyed_beside_a_call()
@@ -154,7 +143,6 @@ static void an_engine_is_destroyed_beside_a_call()
     while (reader.first->step().kind != SGT_ENDED) continue;
     std::thread waiter([&] { CHECK(reader.first->commit().kind == SGT_COMMITTED); });
     while (!bank->live()[1].waits) std::this_thread::yield();
-    CHECK(waited_for(*reader.first) == writer.first->ticket().tid);
     bank->~SharedEngine();
     CHECK(writer.first->commit().kind == SGT_COMMITTED);
     waiter.join();

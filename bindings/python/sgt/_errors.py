@@ -105,11 +105,10 @@ class Busy(Error, RuntimeError):
 
 
 class TimedOut(Error, TimeoutError):
-    """The deadline came first. If it is that of a commit, `waits_for` is the number of the transaction that the commit waits for."""
+    """The deadline came first."""
 
-    def __init__(self, waits_for: Optional[int] = None) -> None:
+    def __init__(self) -> None:
         super().__init__("sgt: the deadline came")
-        self.waits_for = waits_for
 
 
 class Stale(Error, RuntimeError):

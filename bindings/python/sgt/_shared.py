@@ -7,7 +7,7 @@ import functools
 import weakref
 from typing import Callable, NamedTuple, Optional, Sequence
 
-from ._errors import BadCall, Busy, Misuse, NotStarted, TimedOut
+from ._errors import BadCall, Busy, Misuse, NotStarted
 from ._ended import Ended, Stored, Teller, Ticket, ended_of, ticket_of
 from ._interrupts import interruptible
 from ._library import (
@@ -18,7 +18,6 @@ from ._library import (
     LEAST,
     MOST,
     NONE,
-    TIMED_OUT,
     AnyRow,
     CEnded,
     CFault,
@@ -265,10 +264,7 @@ class Transaction:
     def commit(self, timeout: Optional[float] = None) -> Reply:
         """Commits it, and waits for its predecessors. Raises TimedOut if the deadline comes first; it is still live then."""
         told = CReply()
-        status = self._engine._wait(FREE.sgt_shared_commit, self._ticket, _ns(timeout), told)
-        if status == TIMED_OUT:
-            raise TimedOut(told.tid)
-        check(status)
+        check(self._engine._wait(FREE.sgt_shared_commit, self._ticket, _ns(timeout), told))
         reply = self._replied(told)
         self._engine._tell(self._ticket)
         return reply
