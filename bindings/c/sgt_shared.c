@@ -96,12 +96,11 @@ struct sgt_shared {
     alignas(APART) struct line line;
     alignas(APART) pthread_mutex_t lock; /* of all that follows */
     bool is_open;
+    bool tells;                  /* whether the hook has to be called for `ended` */
     unsigned passed;             /* how often others came first while a thread slept for the lock */
     struct event changed;        /* a transaction has ended, or a cut is over */
     struct event queued;         /* a call can be drained */
-    sgt_shared *next;            /* of those that are closed */
-    sgt_shared *called;          /* the engine that a hook of this one calls, or null. `calling` is its lock */
-    sgt_engine engine;           /* this and all that follows is zero at first */
+    sgt_engine engine;           /* this and what follows is zero at first, up to `next` */
     sgt_shared_config config;
     uint64_t number;             /* of this engine, in its tickets */
     uint64_t part;               /* cuts so far: that of sgt_part */
@@ -115,12 +114,13 @@ struct sgt_shared {
     uint32_t cutters;            /* threads that wait for a cut */
     uint32_t asked;              /* threads that are asked whether they are interrupted */
     bool abandons;               /* whether a live transaction is abandoned */
-    bool tells;                  /* whether the hook has to be called for `ended` */
     uint64_t cut_at;             /* so many entries make a cut due */
     bool pauses;                 /* starts wait for a cut that is due, until `pause` */
     struct timespec pause;
     struct queue queue;
     sgt_ended ended;
+    sgt_shared *next;            /* of those that are closed */
+    sgt_shared *called;          /* the engine that a hook of this one calls, or null. `calling` is its lock */
 };
 
 /* The engines in whose hooks this thread is, the innermost first. */
@@ -777,7 +777,7 @@ static sgt_shared *made(const sgt_shared_config *config, const sgt_engine *engin
     if (!s) s = allocated();
     if (!s) return 0;
     pthread_mutex_lock(&s->lock);
-    memset(&s->engine, 0, sizeof *s - offsetof(sgt_shared, engine));
+    memset(&s->engine, 0, offsetof(sgt_shared, next) - offsetof(sgt_shared, engine));
     s->engine = *engine;
     sgt_part(&s->engine, &s->part);
     s->config = *config;
