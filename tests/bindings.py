@@ -9,16 +9,19 @@ It makes the library by `bindings/build`, which proves `crates/sgt_c` first unle
 its output is compared. Each case is reported, also what was left out since a program is missing. The last line counts the cases.
 """
 
+import contextlib
 import copy
 import os
 import pathlib
 import pickle
+import random
 import shutil
 import signal
 import sys
 import tempfile
 import threading
 import time
+from collections import Counter
 
 sys.dont_write_bytecode = True
 from helpers.cases import C_SOURCES, TESTS, Differs, same, tell  # noqa: E402
@@ -111,6 +114,9 @@ def has_one_version(_):
     for manifest in ("rust/Cargo.toml", "rust/sgt-sys/Cargo.toml"):
         lines = (BINDINGS / manifest).read_text().splitlines()
         same(f"the version of {manifest}", f'version = "{declared_version()}"', next(line for line in lines if line.startswith("version")))
+    for source, line in (("rust/sgt-sys/src/lib.rs", 'pub const VERSION: &str = "{}";'), ("python/sgt/_library.py", 'VERSION = "{}"')):
+        lines = (BINDINGS / source).read_text().splitlines()
+        same(f"the version of {source}", True, line.format(declared_version()) in lines)
 
 
 def tells_the_story_in_c(room):
@@ -170,6 +176,9 @@ def tells_the_story_in_rust(room):
         program = room / f"{example}_rust"
         run([*words, *find, "--extern", "sgt", "-o", program, rust / "examples" / f"{example}.rs"])
         same(f"what {example} tells", wanted, run([program]))
+    program = room / "hazards_rust"
+    run([*words, *find, "--extern", "sgt", "-o", program, C_SOURCES / "shared_hazards.rs"])
+    same("what becomes of a hook that panics", "all held\n", run([program]))
     return None
 
 
@@ -468,15 +477,236 @@ def waits_with_deadlines_in_python(_):
         same("an old ticket", "stale", what(sgt.Stale, writer.step, "stale"))
         with sgt.SharedEngine(limits=(2, 100)) as other:
             same("a strange ticket", "misuse", what(sgt.Misuse, lambda: other.quit(writer.ticket), "misuse"))
-        waiting = bank.transaction(1, 1, 1)
-        cutter = threading.Thread(target=lambda: what(sgt.TimedOut, lambda: bank.cut(0.3), ""))
-        cutter.start()
-        while not bank._inside and cutter.is_alive():
+        writer = bank.transaction(1, 1, 1)
+        while writer.step().kind is not sgt.Kind.ENDED:
+            pass
+        reader = bank.transaction(0, 1)
+        while reader.step().kind is not sgt.Kind.ENDED:
+            pass
+        waiting = threading.Thread(target=reader.commit)
+        waiting.start()
+        while not any(live.waits for live in bank.live()):
             time.sleep(0.001)
         same("a close while a call is under way", "busy", what(sgt.Busy, bank.close, "busy"))
-        cutter.join()
-        waiting.quit()
+        writer.commit()
+        waiting.join()
     same("a closed engine", "refused", refusal(lambda: bank.get(2, 101)))
+
+
+class Interrupted(BaseException):
+    """What the handler of a signal raises here."""
+
+
+@contextlib.contextmanager
+def interrupts(seconds):
+    """A signal raises Interrupted after so many seconds."""
+
+    def handle(*_):
+        raise Interrupted
+
+    before = signal.signal(signal.SIGALRM, handle)
+    signal.setitimer(signal.ITIMER_REAL, seconds)
+    try:
+        yield
+    finally:
+        signal.setitimer(signal.ITIMER_REAL, 0)
+        signal.signal(signal.SIGALRM, before)
+
+
+def interrupted(call, seconds=0.2):
+    """Makes a call that waits, and that a signal has to end."""
+    began = time.monotonic()
+    try:
+        with interrupts(seconds):
+            call()
+    except Interrupted:
+        same("that the call ends soon", True, time.monotonic() - began < seconds + 2)
+        return
+    raise Differs("a call went on when a signal came")
+
+
+def ends_a_wait_at_a_signal(_):
+    """A signal ends each call that waits, and leaves nothing live that nobody has."""
+    sgt = module()
+    with sgt.SharedEngine(limits=(2, 1000, 1), accounts=[(1, 101, 500, 1000)], keeps_ended=True) as bank:
+        writer = bank.transaction(1, 1, 100)
+        while writer.step().kind is not sgt.Kind.ENDED:
+            pass
+        interrupted(lambda: bank.run(0, 1))
+        same("who is live after the run", [writer.ticket], [live.ticket for live in bank.live()])
+        interrupted(bank.cut)
+        interrupted(bank.drain)
+        reader = bank.transaction(0, 1)
+        while reader.step().kind is not sgt.Kind.ENDED:
+            pass
+        interrupted(reader.commit)
+        same("who is live after the commit", [writer.ticket, reader.ticket], [live.ticket for live in bank.live()])
+        threading.Timer(0.25, reader.quit).start()  # so the start succeeds in the wait in which the signal comes
+        interrupted(lambda: bank.transaction(0, 1))
+        interrupted(lambda: [bank.transaction(0, 1), bank.transaction(0, 1)])
+        writer.commit()
+        same("who is live after the starts", [], bank.live())
+        same("what was drained", [0], [ended.sequence for ended in bank.drain()])
+        later = threading.Timer(0.25, lambda: bank.run(1, 1, 5))  # and so does the drain
+        later.start()
+        interrupted(bank.drain)
+        later.join()
+        bank.run(1, 1, 5)
+        rest = [ended.sequence for ended in bank.drain(1, timeout=5) + bank.drain(1, timeout=5)]
+        same("what was drained then", [1, 2], rest)
+
+
+def calls_until(sgt, seconds, draw, drained, hook):
+    """Makes calls of each kind for so long, and is interrupted again and again. Adds what it drains, if there is no hook, and returns how
+    many calls ended, and how many signals came."""
+    signals, end = 0, time.monotonic() + seconds
+    with sgt.SharedEngine(limits=(8, 1_000_000, 1), accounts=[(1, 101, 0, 0)], keeps_ended=not hook, ended=hook) as bank:
+        while time.monotonic() < end:
+            try:
+                with interrupts(draw.uniform(0.0001, 0.002)):
+                    while time.monotonic() < end:
+                        bank.run(1, 1, 1)
+                        with bank.transaction(0, 1) as reader:
+                            reader.step()
+                        if not hook:
+                            drained += bank.drain(timeout=0)
+            except Interrupted:
+                signals += 1
+        same("who is live", [], bank.live())
+        bank.run(1, 1, 1)
+        while not hook and (more := bank.drain(timeout=0)):
+            drained += more
+        return bank.get(2, 101), signals
+
+
+def loses_nothing_at_signals(_):
+    """Whenever a signal comes, each call is drained once, and the hook is called for each in order; nothing is left live."""
+    if sys.version_info < (3, 11):
+        return "left out: before Python 3.11 a signal may come where a lock is released, or a result returned"
+    sgt = module()
+    drained, heard, draw = [], [], random.Random(1)
+    ended, signals = calls_until(sgt, 2, draw, drained, None)
+    counts = Counter(call.sequence for call in drained)
+    same("what was drained twice", [], [number for number, count in counts.items() if count > 1])
+    same("what was not drained", [], sorted(set(range(ended)) - set(counts)))
+    ended, more = calls_until(sgt, 2, draw, [], lambda call: heard.append(call.sequence))
+    same("what the hook was not called for", [], sorted(set(range(ended)) - set(heard)))
+    same("the order of its calls", sorted(heard), heard)
+    return f"{signals + more} signals"
+
+
+def keeps_the_place_of_a_wait(_):
+    """A thread that waits for a cut or a commit keeps its place, whatever other threads do: no start comes past a cut, and a commit
+    that another thread quits says so, though the history is cut."""
+    sgt = module()
+    over = threading.Event()
+    switch = sys.getswitchinterval()
+    sys.setswitchinterval(0.05)
+    busy = threading.Thread(target=lambda: all(sum(range(1000)) for _ in iter(over.is_set, True)), daemon=True)
+    busy.start()
+
+    def keeps_one_live(bank, delay):
+        time.sleep(delay)
+        while not over.is_set():
+            with bank.transaction(5):
+                time.sleep(0.5)
+
+    try:
+        with sgt.SharedEngine(limits=(8, 100_000, 1), procedures=[[0, [["put", 7, 1, 5]]]]) as bank:
+            keepers = [threading.Thread(target=keeps_one_live, args=(bank, 0.17 * number)) for number in range(3)]
+            for keeper in keepers:
+                keeper.start()
+            time.sleep(0.5)
+            bank.cut(timeout=6)
+            over.set()
+            for keeper in keepers:
+                keeper.join()
+            busy.join()
+            over.clear()
+        busy = threading.Thread(target=lambda: all(sum(range(1000)) for _ in iter(over.is_set, True)), daemon=True)
+        busy.start()
+        for number in range(8):
+            same("the reply to a commit that is quit", sgt.Kind.OVER, reply_to_quit_commit(sgt, 0.3 + 0.05 * number))
+    finally:
+        over.set()
+        sys.setswitchinterval(switch)
+
+
+def reply_to_quit_commit(sgt, seconds):
+    """Another thread quits a transaction that waits for its commit, and the history is cut at once: the reply to the commit."""
+    with sgt.SharedEngine(limits=(8, 100, 1), accounts=[(1, 101, 0, 0)], cut_after=1) as bank:
+        writer = bank.transaction(1, 1, 100)
+        while writer.step().kind is not sgt.Kind.ENDED:
+            pass
+        reader = bank.transaction(0, 1)
+        while reader.step().kind is not sgt.Kind.ENDED:
+            pass
+        told = []
+        waiting = threading.Thread(target=lambda: told.append(what(sgt.Stale, reader.commit, "stale")))
+        waiting.start()
+        time.sleep(seconds)
+        bank.quit(reader.ticket)
+        writer.quit()
+        waiting.join()
+        return told[0] if told[0] == "stale" else told[0].kind
+
+
+def raises_what_a_hook_raises(_):
+    """What the hook raises is raised by the call that ended, and the engine goes on; an interrupt is not lost."""
+    sgt = module()
+    heard, raises = [], [OSError("full disk"), None, Interrupted(), None]
+
+    def hook(ended):
+        heard.append(ended.sequence)
+        same("a call from the hook", "misuse", what(sgt.Misuse, bank.live, "misuse"))
+        why = raises.pop(0) if raises else None
+        if why:
+            raise why
+
+    with sgt.SharedEngine(limits=(8, 1000, 1), accounts=[(1, 101, 0, 0)], ended=hook, keeps_ended=True) as bank:
+        same("a run", "full disk", what(OSError, lambda: bank.run(1, 1, 1), "full disk"))
+        same("that it was carried out", 1, bank.get(2, 101))
+        bank.run(1, 1, 1)
+        writer = bank.transaction(1, 1, 1)
+        while writer.step().kind is not sgt.Kind.ENDED:
+            pass
+        same("a commit", "interrupted", what(Interrupted, writer.commit, "interrupted"))
+        bank.run(1, 1, 1)
+        same("what the hook heard", [0, 1, 2, 2, 3], heard)
+        same("what was drained", [0, 1, 2, 3], [ended.sequence for ended in bank.drain()])
+        threading.Timer(0.1, lambda: bank.run(1, 1, 1)).start()
+        same("what was waited for", [4], [ended.sequence for ended in bank.drain(timeout=5)])
+    same("a drain of a closed engine", "closed", what(sgt.Closed, bank.drain, "closed"))
+    with sgt.SharedEngine(limits=(8, 1000)) as bank:
+        same("a drain of an engine that stores none", "refused", refusal(lambda: bank.drain(timeout=0)))
+
+
+def refuses_another_version(room):
+    """Each binding compares the version of the library with its own."""
+    source = room / "version.c"
+    source.write_text('const char *sgt_version(void) { return "0.99.0"; }\n')
+    run(["cc", "-shared", "-fPIC", "-o", room / "version.so", source])
+    env = dict(os.environ, PYTHONPATH=str(BINDINGS / "python"), PYTHONDONTWRITEBYTECODE="1", SGT_LIBRARY=str(room / "version.so"))
+    told = run([sys.executable, "-c", "try:\n import sgt\nexcept ImportError as why:\n print(why)"], env=env)
+    same("what Python tells", True, "0.99.0" in told and declared_version() in told)
+    if not shutil.which("c++"):
+        return "but in C++: no c++ here"
+    headers = room / "headers"
+    headers.mkdir()
+    for header in ("sgt.h", "c/sgt_shared.h", "cpp/sgt.hpp"):
+        shutil.copy(BINDINGS / header, headers)
+    major, minor, patch = declared_version().split(".")
+    text = (BINDINGS / "sgt.h").read_text()
+    (headers / "sgt.h").write_text(text.replace(f"#define SGT_VERSION_PATCH {patch}", f"#define SGT_VERSION_PATCH {int(patch) + 1}"))
+    source = room / "version.cpp"
+    source.write_text(
+        '#include <iostream>\n#include "sgt.hpp"\nint main()\n{\n    try {\n        sgt::SharedEngine bank("");\n'
+        "    } catch (const std::runtime_error &why) {\n        std::cout << why.what();\n    }\n}\n"
+    )
+    flags = [flag for flag in CPP_FLAGS if not flag.startswith("-I")]
+    told = run([built(room, "c++", [*flags, f"-I{headers}"], source)])
+    same("what C++ tells", True, f"the library of {declared_version()}" in told)
+    return None
 
 
 def refuses_a_forked_child(_):
@@ -531,6 +761,11 @@ CASES = [
     puts_a_million_rows_soon,
     mixes_no_threads_replies,
     waits_with_deadlines_in_python,
+    ends_a_wait_at_a_signal,
+    loses_nothing_at_signals,
+    keeps_the_place_of_a_wait,
+    raises_what_a_hook_raises,
+    refuses_another_version,
     refuses_a_forked_child,
 ]
 

@@ -18,7 +18,20 @@ from collections import Counter, defaultdict
 sys.dont_write_bytecode = True
 from helpers.cases import C_SOURCES, Differs, same, tell  # noqa: E402
 from helpers.legal import Checker, Illegal, database_text  # noqa: E402
-from helpers.library import C_FLAGS, OUT, SANITIZERS, SHARED, THREAD_SANITIZER, WRAPS, built, can, run  # noqa: E402
+from helpers.library import (  # noqa: E402
+    C_FLAGS,
+    CPP_FLAGS,
+    OUT,
+    SANITIZERS,
+    SHARED,
+    THREAD_SANITIZER,
+    WRAPS,
+    WRAPS_LOCK,
+    built,
+    can,
+    compiled,
+    run,
+)
 
 THREADS, CALLS, FEW_CALLS, SANITIZED_CALLS = 16, 200_000, 40_000, 15_000
 STEPPED, FEW_STEPPED = 49, 1  # of 100 transactions
@@ -171,6 +184,10 @@ def sanitized(room, flags):
     if not compiler:
         return f"left out: no compiler here has {flags[1]}"
     run([built(room, compiler, C_FLAGS, C_SOURCES / "shared_calls.c", flags, [SHARED])])
+    run([built(room, compiler, C_FLAGS, C_SOURCES / "shared_hazards.c", [*flags, *WRAPS_LOCK], [SHARED])])
+    if compiler == "cc" and shutil.which("c++"):
+        shared = compiled(room, "cc", C_FLAGS, SHARED, flags)
+        run([built(room, "c++", CPP_FLAGS, C_SOURCES / "shared_hazards.cpp", flags, [shared])])
     program = built(room, compiler, C_FLAGS, C_SOURCES / "shared_runs.c", flags, [SHARED])
     told = []
     for stepped in (STEPPED, FEW_STEPPED, 0):
@@ -198,9 +215,24 @@ def threads_get_their_turns(room):
 
 
 def tells_the_status_of_each_call(room):
-    told = run([built(room, "cc", C_FLAGS, C_SOURCES / "shared_calls.c")])
+    return all_held(run([built(room, "cc", C_FLAGS, C_SOURCES / "shared_calls.c")]))
+
+
+def all_held(told):
+    """How many checks a program made, all of which held."""
     same("what is told", f"{told.split()[0]} checks, 0 failed\n", told)
     return f"{told.split()[0]} checks"
+
+
+def goes_on_whatever_a_thread_does(room):
+    """Threads that are cancelled, end in a hook, or begin a call beside the close."""
+    return all_held(run([built(room, "cc", C_FLAGS, C_SOURCES / "shared_hazards.c", WRAPS_LOCK)]))
+
+
+def goes_on_whatever_a_hook_throws(room):
+    if not shutil.which("c++"):
+        return "left out: no c++ here"
+    return all_held(run([built(room, "c++", CPP_FLAGS, C_SOURCES / "shared_hazards.cpp")]))
 
 
 def goes_on_where_each_allocation_is_refused(room):
@@ -231,6 +263,8 @@ def keeps_its_word_whatever_is_called(room):
 
 CASES = [
     tells_the_status_of_each_call,
+    goes_on_whatever_a_thread_does,
+    goes_on_whatever_a_hook_throws,
     threads_are_told_what_the_history_says,
     threads_run_without_steps,
     threads_run_beside_few_steps,

@@ -27,6 +27,8 @@ enum {
     MOST_NAPS = 16,      /* so often it sleeps. Then the lock is owed to it */
     MOST_PASSED = 500,   /* so often others come first while a thread that has rested waits for the lock. Then the lock is owed to it */
     TURNS = 16,          /* threads that wait are woken one by one, if they are not more than these */
+    WATCH = 100000000,   /* nanoseconds between two questions to a thread that waits, whether it is interrupted */
+    SET_ASIDE = 64,      /* so many engines have to be closed after one before its memory serves another */
     APART = 128          /* bytes from what one thread writes to what another does: processors fetch two cache lines at once */
 };
 
@@ -42,6 +44,7 @@ struct call {
 
 struct deadline {
     bool never, at_once;
+    bool is_over;            /* whether the call ends now, since its thread was interrupted */
     struct timespec at;
 };
 
@@ -65,6 +68,7 @@ struct live {
     uint32_t tid;
     uint32_t procedure;
     bool waits;
+    bool is_abandoned;       /* it is aborted as soon as the hook that abandoned it has returned */
     int64_t since;
 };
 
@@ -87,15 +91,16 @@ struct sgt_shared {
     atomic_bool is_owed;         /* whether the lock is owed to a thread that has rested */
     atomic_bool is_claimed;      /* whether it is owed to the first that waits in line */
     atomic_uint asleep;          /* threads that have rested, and sleep for the lock */
-    atomic_uint resting;         /* threads that rest */
     atomic_uint waiting;         /* threads that wait for the lock and have not rested */
-    unsigned forks;              /* how many forks this process comes from, as of the opening */
+    atomic_uint forks;           /* how many forks this process comes from, as of the opening */
     alignas(APART) struct line line;
-    alignas(APART) pthread_mutex_t lock; /* of all that follows, but for `config` and `number`, which never change */
+    alignas(APART) pthread_mutex_t lock; /* of all that follows */
+    bool is_open;
+    bool tells;                  /* whether the hook has to be called for `ended` */
     unsigned passed;             /* how often others came first while a thread slept for the lock */
     struct event changed;        /* a transaction has ended, or a cut is over */
     struct event queued;         /* a call can be drained */
-    sgt_engine engine;
+    sgt_engine engine;           /* this and what follows is zero at first, up to `next` */
     sgt_shared_config config;
     uint64_t number;             /* of this engine, in its tickets */
     uint64_t part;               /* cuts so far: that of sgt_part */
@@ -107,19 +112,45 @@ struct sgt_shared {
     uint32_t most;               /* how many the limits allow, known after an SGT_FULL */
     uint32_t committing;         /* threads whose commit waits, or has ended and not returned yet */
     uint32_t cutters;            /* threads that wait for a cut */
+    uint32_t asked;              /* threads that are asked whether they are interrupted */
+    bool abandons;               /* whether a live transaction is abandoned */
     uint64_t cut_at;             /* so many entries make a cut due */
     bool pauses;                 /* starts wait for a cut that is due, until `pause` */
     struct timespec pause;
     struct queue queue;
+    sgt_ended ended;
+    sgt_shared *next;            /* of those that are closed */
+    sgt_shared *called;          /* the engine that a hook of this one calls, or null. `calling` is its lock */
 };
 
 /* The engines in whose hooks this thread is, the innermost first. */
 struct hook {
-    const sgt_shared *shared;
-    const struct hook *outer;
+    sgt_shared *shared;
+    struct hook *outer;
+    int cancels;             /* whether the thread could be cancelled before */
 };
 
-static _Thread_local const struct hook *hooks;
+/* What asks this thread while it waits, whether it is interrupted. */
+struct watch {
+    uint32_t (*interrupted)(void *context);
+    void *context;
+    bool is_asking;
+};
+
+/*
+ * The closed engines, the oldest first. Their memory is never freed: a call that began beside the close still looks at it, and finds the
+ * engine closed.
+ */
+struct closed {
+    pthread_mutex_t lock;
+    sgt_shared *first, *last;
+    unsigned count;
+};
+
+static pthread_mutex_t calling = PTHREAD_MUTEX_INITIALIZER;
+static _Thread_local struct hook *hooks;
+static _Thread_local struct watch watch;
+static struct closed closed = {.lock = PTHREAD_MUTEX_INITIALIZER};
 static atomic_uint forks;
 static atomic_uint_fast64_t opened;
 
@@ -211,6 +242,19 @@ static bool look_out(sgt_shared *s, int64_t ns, bool claims)
     return false;
 }
 
+/*
+ * Waits for the condition, or until then, unless that is null. A thread that is cancelled meanwhile goes on, as nobody else would release
+ * what it holds.
+ */
+static int wait_for(pthread_cond_t *condition, pthread_mutex_t *lock, const struct timespec *until)
+{
+    int cancels = 0;
+    pthread_setcancelstate(PTHREAD_CANCEL_DISABLE, &cancels);
+    const int failed = until ? pthread_cond_timedwait(condition, lock, until) : pthread_cond_wait(condition, lock);
+    pthread_setcancelstate(cancels, &cancels);
+    return failed;
+}
+
 /* Waits in line for the lock. */
 static void line_up(sgt_shared *s)
 {
@@ -218,11 +262,11 @@ static void line_up(sgt_shared *s)
     pthread_mutex_lock(&line->lock);
     const uint64_t ticket = line->tickets++;
     pthread_cond_t *turn = &line->turns[ticket % TURNS];
-    while (ticket != line->first) pthread_cond_wait(turn, &line->lock);
+    while (ticket != line->first) wait_for(turn, &line->lock, 0);
     for (unsigned naps = 0; !look_out(s, naps > MOST_NAPS ? MOST_SPIN : LOOK, naps > MOST_NAPS); naps++) {
         if (naps >= MOST_NAPS) atomic_store_explicit(&s->is_claimed, true, memory_order_relaxed);
         const struct timespec end = in_ns(NAP);
-        if (naps != MOST_NAPS) pthread_cond_timedwait(turn, &line->lock, &end);
+        if (naps != MOST_NAPS) wait_for(turn, &line->lock, &end);
     }
     atomic_store_explicit(&s->is_claimed, false, memory_order_relaxed);
     line->first++;
@@ -262,21 +306,45 @@ static void unlock(sgt_shared *s)
     pthread_mutex_unlock(&s->lock);
 }
 
-/* Releases the lock until the event is announced. Whether the deadline has not come. */
-static bool rest(sgt_shared *s, struct event *event, const struct deadline *until)
+/* Releases the lock until the event is announced, or until then, unless that is null. Whether the time has not come. */
+static bool doze(sgt_shared *s, struct event *event, const struct timespec *until)
 {
     const uint64_t count = event->count;
     event->resting++;
-    atomic_fetch_add_explicit(&s->resting, 1, memory_order_relaxed);
     beckon(s);
     atomic_store_explicit(&s->is_held, false, memory_order_relaxed);
-    const int failed = until->never ? pthread_cond_wait(&event->announced, &s->lock)
-                                    : pthread_cond_timedwait(&event->announced, &s->lock, &until->at);
+    const int failed = wait_for(&event->announced, &s->lock, until);
     atomic_store_explicit(&s->is_held, true, memory_order_relaxed);
-    atomic_fetch_sub_explicit(&s->resting, 1, memory_order_relaxed);
     event->resting--;
     if (event->count != count) event->waking--, wake(s);
     return !failed;
+}
+
+/* Asks this thread without the lock, whether it is interrupted. */
+static bool is_interrupted(sgt_shared *s)
+{
+    s->asked++;
+    unlock(s);
+    watch.is_asking = true;
+    const bool is_over = watch.interrupted(watch.context) != 0;
+    watch.is_asking = false;
+    lock(s);
+    s->asked--;
+    return is_over;
+}
+
+/* Releases the lock until the event is announced. Whether the deadline has not come, and the thread is not interrupted. */
+static bool rest(sgt_shared *s, struct event *event, struct deadline *until)
+{
+    const uint64_t count = event->count;
+    while (!until->is_over && watch.interrupted && !watch.is_asking) {
+        const struct timespec look = in_ns(WATCH);
+        if (!until->never && is_before(&until->at, &look)) break;
+        if (doze(s, event, &look)) return true;
+        until->is_over = is_interrupted(s);
+        if (event->count != count) return true;
+    }
+    return !until->is_over && doze(s, event, until->never ? 0 : &until->at);
 }
 
 /* Wakes all who rest for the event. From now on they sleep for the lock. */
@@ -291,45 +359,140 @@ static void announce(sgt_shared *s, struct event *event)
 
 /* Entering and leaving */
 
-static void count_fork(void) { atomic_fetch_add(&forks, 1); }
+static void hold_closed(void) { pthread_mutex_lock(&closed.lock); }
 
-static void watch_forks(void) { pthread_atfork(0, 0, count_fork); }
+static void release_closed(void) { pthread_mutex_unlock(&closed.lock); }
 
-/* Whether this thread may not call this engine. */
-static bool is_misuse(const sgt_shared *s)
+static void hold_all(void)
 {
-    for (const struct hook *hook = hooks; hook; hook = hook->outer) {
-        if (hook->shared == s) return true;
-    }
-    return s->forks != atomic_load_explicit(&forks, memory_order_relaxed);
+    hold_closed();
+    pthread_mutex_lock(&calling);
+}
+
+static void release_all(void)
+{
+    pthread_mutex_unlock(&calling);
+    release_closed();
+}
+
+/* In a child. A thread that it does not have may hold the lock of a closed engine, so none of them serves again. */
+static void count_fork(void)
+{
+    atomic_fetch_add(&forks, 1);
+    closed.first = closed.last = 0, closed.count = 0;
+    release_all();
+}
+
+static void watch_forks(void) { pthread_atfork(hold_all, release_all, count_fork); }
+
+/* Whether this process was forked after the engine was opened. */
+static bool is_in_child(const sgt_shared *s)
+{
+    return atomic_load_explicit(&s->forks, memory_order_relaxed) != atomic_load_explicit(&forks, memory_order_relaxed);
+}
+
+/* Whether this thread is in a hook of the engine. */
+static bool is_in_hook(const sgt_shared *s)
+{
+    const struct hook *hook = hooks;
+    while (hook && hook->shared != s) hook = hook->outer;
+    return hook != 0;
+}
+
+/*
+ * Begins a call from inside a hook. False if the engine waits for this thread: it is that of the hook, or a hook of it calls, maybe through
+ * hooks of others, an engine in whose hook this thread is.
+ */
+static bool begin_call(sgt_shared *s)
+{
+    pthread_mutex_lock(&calling);
+    const sgt_shared *at = s;
+    while (at && !is_in_hook(at)) at = at->called;
+    if (!at) hooks->shared->called = s;
+    pthread_mutex_unlock(&calling);
+    return !at;
+}
+
+/* Ends a call, if it was made from inside a hook. */
+static void end_call(void)
+{
+    if (!hooks) return;
+    pthread_mutex_lock(&calling);
+    hooks->shared->called = 0;
+    pthread_mutex_unlock(&calling);
 }
 
 static uint32_t enter(sgt_shared *s)
 {
     if (!s) return SGT_CLOSED;
-    if (is_misuse(s)) return SGT_MISUSE;
+    if (is_in_child(s) || (hooks && !begin_call(s))) return SGT_MISUSE;
     lock(s);
-    return SGT_OK;
+    if (s->is_open) return SGT_OK;
+    unlock(s);
+    end_call();
+    return SGT_CLOSED;
 }
 
+static void quit_abandoned(sgt_shared *s);
+static void tell(sgt_shared *s);
 static void cut_if_due(sgt_shared *s);
 
 static uint32_t leave(sgt_shared *s, uint32_t status)
 {
+    if (s->tells) tell(s);
     if (s->config.cut_after) cut_if_due(s);
     unlock(s);
+    end_call();
     return status;
 }
 
 /* Enters for a call that names a transaction. */
 static uint32_t enter_for(sgt_shared *s, const sgt_ticket *ticket)
 {
-    if (!s) return SGT_CLOSED;
-    if (!ticket) return SGT_BAD_CALL;
-    if (ticket->engine != s->number) return SGT_MISUSE;
+    if (s && !ticket) return SGT_BAD_CALL;
     uint32_t status = enter(s);
-    if (status == SGT_OK && ticket->part != s->part) return leave(s, SGT_STALE);
-    return status;
+    if (status != SGT_OK) return status;
+    if (ticket->engine != s->number) return leave(s, SGT_MISUSE);
+    return ticket->part == s->part ? (uint32_t)SGT_OK : leave(s, SGT_STALE);
+}
+
+/* Hooks */
+
+/* Begins the hook: a thread that is cancelled in it goes on. */
+static void begin_hook(struct hook *hook, sgt_shared *s)
+{
+    *hook = (struct hook){.shared = s, .outer = hooks};
+    pthread_setcancelstate(PTHREAD_CANCEL_DISABLE, &hook->cancels);
+    hooks = hook;
+}
+
+/* Ends it, and aborts what it has abandoned. */
+static void end_hook(struct hook *hook)
+{
+    hooks = hook->outer;
+    pthread_setcancelstate(hook->cancels, &hook->cancels);
+    if (hook->shared->abandons) quit_abandoned(hook->shared);
+}
+
+/* Ends a hook that threw an exception, or ended its thread, and with it the call: the lock is released. */
+static void break_off(void *hook)
+{
+    end_hook(hook);
+    unlock(((struct hook *)hook)->shared);
+    end_call();
+}
+
+/* Calls the hook for the call that has just ended. All else is done, so that it may throw. */
+static void tell(sgt_shared *s)
+{
+    const sgt_ended ended = s->ended;
+    struct hook hook;
+    s->tells = false;
+    begin_hook(&hook, s);
+    pthread_cleanup_push(break_off, &hook);
+    s->config.ended(s->config.context, &ended);
+    pthread_cleanup_pop(0);
+    end_hook(&hook);
 }
 
 /* Who is live */
@@ -377,17 +540,9 @@ static bool reserve(struct queue *queue, size_t more)
     return true;
 }
 
-static void call_hook(sgt_shared *s, const sgt_ended *ended)
-{
-    struct hook hook = {s, hooks};
-    hooks = &hook;
-    s->config.ended(s->config.context, ended);
-    hooks = hook.outer;
-}
-
 /*
  * Hands on the call that has just been committed or refused. It is the next one of the list of sgt_calls, which is proved to be what
- * gives the same answers one after another.
+ * gives the same answers one after another. The hook is called when the thread leaves, which it does in the same hold of the lock.
  */
 static void deliver(sgt_shared *s, uint32_t tid)
 {
@@ -400,7 +555,7 @@ static void deliver(sgt_shared *s, uint32_t tid)
         s->queue.at[s->queue.first + s->queue.count++] = ended;
         announce(s, &s->queued);
     }
-    if (s->config.ended) call_hook(s, &ended);
+    if (s->config.ended) s->ended = ended, s->tells = true;
 }
 
 /* What the reply to an event of this transaction changes. */
@@ -422,10 +577,24 @@ static uint32_t ask(sgt_shared *s, uint32_t (*event)(sgt_engine *, uint32_t, sgt
     return status;
 }
 
+/* Aborts the live transactions that a hook has abandoned. This needs no memory. */
+static void quit_abandoned(sgt_shared *s)
+{
+    uint32_t i = 0;
+    s->abandons = false;
+    while (i < s->lives) {
+        sgt_reply reply = {0};
+        const bool is_abandoned = s->live[i].is_abandoned;
+        s->live[i].is_abandoned = false;
+        if (is_abandoned) ask(s, sgt_quit, s->live[i].tid, &reply);
+        i = is_abandoned ? 0 : i + 1;
+    }
+}
+
 /* Waiting */
 
 /* Waits until some transaction has ended, or nobody is live. Whether that came before the deadline. */
-static bool await_end(sgt_shared *s, const struct deadline *until)
+static bool await_end(sgt_shared *s, struct deadline *until)
 {
     const uint64_t ends = s->ends;
     bool in_time = true;
@@ -434,7 +603,7 @@ static bool await_end(sgt_shared *s, const struct deadline *until)
 }
 
 /* Waits until fewer are live than the limits allow. Whether that came before the deadline. */
-static bool await_room(sgt_shared *s, const struct deadline *until)
+static bool await_room(sgt_shared *s, struct deadline *until)
 {
     bool in_time = true;
     while (s->lives >= s->most && in_time) in_time = rest(s, &s->changed, until);
@@ -442,7 +611,7 @@ static bool await_room(sgt_shared *s, const struct deadline *until)
 }
 
 /* Waits until a transaction, or the one that its commit waits for, has ended. Whether that came before the deadline. */
-static bool await_turn(sgt_shared *s, uint32_t tid, uint32_t first, const struct deadline *until)
+static bool await_turn(sgt_shared *s, uint32_t tid, uint32_t first, struct deadline *until)
 {
     bool in_time = true;
     struct live *it = find(s, tid);
@@ -457,7 +626,7 @@ static bool await_turn(sgt_shared *s, uint32_t tid, uint32_t first, const struct
  * Goes on with a commit whose reply this is: as long as it has to wait, it waits, and asks again. No cut comes before its thread has
  * returned its end.
  */
-static uint32_t go_on(sgt_shared *s, uint32_t tid, const struct deadline *until, sgt_reply *reply, uint32_t *waits)
+static uint32_t go_on(sgt_shared *s, uint32_t tid, struct deadline *until, sgt_reply *reply, uint32_t *waits)
 {
     uint32_t status = SGT_OK;
     s->committing++;
@@ -480,29 +649,42 @@ static uint64_t entries(sgt_shared *s)
     return count;
 }
 
-/* Cuts the history off. Nobody is live. */
-static uint32_t cut(sgt_shared *s)
-{
-    uint64_t live = 0;
-    if (s->config.cutting) {
-        struct hook hook = {s, hooks};
-        hooks = &hook;
-        s->config.cutting(s->config.context, &s->engine, s->part);
-        hooks = hook.outer;
-    }
-    uint32_t status = sgt_cut(&s->engine, &live);
-    if (status != SGT_OK) return status;
-    sgt_part(&s->engine, &s->part);
-    s->read = 0, s->cut_at = s->config.cut_after, s->pauses = false;
-    return SGT_OK;
-}
-
 /* Puts a cut that is due off. */
 static void put_off(sgt_shared *s)
 {
     s->cut_at = entries(s) + s->config.cut_after;
     s->pauses = false;
     announce(s, &s->changed);
+}
+
+/* The same for a cut whose hook threw an exception, or ended its thread. */
+static void break_cut_off(void *hook)
+{
+    put_off(((struct hook *)hook)->shared);
+    break_off(hook);
+}
+
+/* Calls the hook before a cut. */
+static void tell_of_cut(sgt_shared *s)
+{
+    struct hook hook;
+    begin_hook(&hook, s);
+    pthread_cleanup_push(break_cut_off, &hook);
+    s->config.cutting(s->config.context, &s->engine, s->part);
+    pthread_cleanup_pop(0);
+    end_hook(&hook);
+}
+
+/* Cuts the history off. Nobody is live. */
+static uint32_t cut(sgt_shared *s)
+{
+    uint64_t live = 0;
+    if (s->config.cutting) tell_of_cut(s);
+    uint32_t status = sgt_cut(&s->engine, &live);
+    if (status != SGT_OK) return status;
+    sgt_part(&s->engine, &s->part);
+    s->read = 0, s->cut_at = s->config.cut_after, s->pauses = false;
+    return SGT_OK;
 }
 
 /* Makes the cut that the configuration asks for, or has starts wait for it. */
@@ -519,7 +701,7 @@ static void cut_if_due(sgt_shared *s)
 }
 
 /* Waits while a cut is awaited. Whether it is over before the deadline. */
-static bool await_cut(sgt_shared *s, const struct deadline *until)
+static bool await_cut(sgt_shared *s, struct deadline *until)
 {
     while (s->cutters > 0 || s->pauses) {
         if (s->pauses && !is_busy(s)) {
@@ -527,9 +709,10 @@ static bool await_cut(sgt_shared *s, const struct deadline *until)
             continue;
         }
         const bool is_own = s->cutters > 0 || (!until->never && is_before(&until->at, &s->pause));
-        const struct deadline pause = {.at = s->pause};
+        struct deadline pause = {.at = s->pause};
         if (rest(s, &s->changed, is_own ? until : &pause)) continue;
-        if (is_own) return s->cutters == 0 && !s->pauses;
+        until->is_over |= pause.is_over;
+        if (is_own || until->is_over) return s->cutters == 0 && !s->pauses;
         if (s->pauses && !is_before(&pause.at, &s->pause)) put_off(s);
     }
     return true;
@@ -546,18 +729,13 @@ static bool configured(sgt_shared_config *to, const sgt_shared_config *from)
     return true;
 }
 
-static sgt_shared *made(const sgt_shared_config *config)
+/* A closed engine with its locks, in new memory. */
+static sgt_shared *allocated(void)
 {
-    static pthread_once_t once = PTHREAD_ONCE_INIT;
     sgt_shared *s = aligned_alloc(alignof(sgt_shared), sizeof *s);
     pthread_condattr_t attributes;
     if (!s) return 0;
     memset(s, 0, sizeof *s);
-    pthread_once(&once, watch_forks);
-    s->config = *config;
-    s->cut_at = config->cut_after;
-    s->forks = atomic_load(&forks);
-    s->number = atomic_fetch_add(&opened, 1) + 1;
     pthread_condattr_init(&attributes);
     pthread_condattr_setclock(&attributes, CLOCK_MONOTONIC);
     pthread_mutex_init(&s->lock, 0);
@@ -569,16 +747,46 @@ static sgt_shared *made(const sgt_shared_config *config)
     return s;
 }
 
-static void unmade(sgt_shared *s)
+/* The memory of an engine that was closed long ago, or null. */
+static sgt_shared *reused(void)
 {
-    sgt_close(&s->engine);
-    pthread_cond_destroy(&s->queued.announced);
-    pthread_cond_destroy(&s->changed.announced);
-    for (unsigned i = 0; i < TURNS; i++) pthread_cond_destroy(&s->line.turns[i]);
-    pthread_mutex_destroy(&s->line.lock);
-    pthread_mutex_destroy(&s->lock);
-    free(s->queue.at);
-    free(s);
+    sgt_shared *s = 0;
+    hold_closed();
+    if (closed.count > SET_ASIDE) s = closed.first, closed.first = s->next, closed.count--;
+    release_closed();
+    return s;
+}
+
+/* Sets the memory of a closed engine aside. */
+static void set_aside(sgt_shared *s)
+{
+    hold_closed();
+    s->next = 0;
+    if (closed.count++ > 0) closed.last->next = s;
+    else closed.first = s;
+    closed.last = s;
+    release_closed();
+}
+
+/* Opens a shared engine on this one, which has no history. */
+static sgt_shared *made(const sgt_shared_config *config, const sgt_engine *engine)
+{
+    static pthread_once_t once = PTHREAD_ONCE_INIT;
+    pthread_once(&once, watch_forks);
+    sgt_shared *s = reused();
+    if (!s) s = allocated();
+    if (!s) return 0;
+    pthread_mutex_lock(&s->lock);
+    memset(&s->engine, 0, offsetof(sgt_shared, next) - offsetof(sgt_shared, engine));
+    s->engine = *engine;
+    sgt_part(&s->engine, &s->part);
+    s->config = *config;
+    s->cut_at = config->cut_after;
+    s->number = atomic_fetch_add(&opened, 1) + 1;
+    atomic_store(&s->forks, atomic_load(&forks));
+    s->is_open = true;
+    pthread_mutex_unlock(&s->lock);
+    return s;
 }
 
 uint32_t sgt_shared_open(sgt_shared **shared, const uint8_t *opening, size_t length, const sgt_row *rows, size_t count,
@@ -586,12 +794,13 @@ uint32_t sgt_shared_open(sgt_shared **shared, const uint8_t *opening, size_t len
 {
     sgt_shared_config with = SGT_SHARED_CONFIG;
     if (!shared || !opening || !fault || (count > 0 && !rows) || !configured(&with, config)) return SGT_BAD_CALL;
-    sgt_shared *s = made(&with);
-    if (!s) return SGT_NO_MEMORY;
-    uint32_t status = sgt_open_with(&s->engine, opening, length, rows, count, fault);
-    if (status == SGT_OK) *shared = s;
-    else unmade(s);
-    return status;
+    sgt_engine engine = {0};
+    uint32_t status = sgt_open_with(&engine, opening, length, rows, count, fault);
+    if (status != SGT_OK) return status;
+    sgt_shared *s = made(&with, &engine);
+    if (!s) return sgt_close(&engine), SGT_NO_MEMORY;
+    *shared = s;
+    return SGT_OK;
 }
 
 uint32_t sgt_shared_take(sgt_shared **shared, sgt_engine *engine, const sgt_shared_config *config)
@@ -602,33 +811,40 @@ uint32_t sgt_shared_take(sgt_shared **shared, sgt_engine *engine, const sgt_shar
     uint32_t status = sgt_entries(engine, &count);
     if (status != SGT_OK) return status;
     if (count > 0) return SGT_BEGUN;
-    sgt_shared *s = made(&with);
+    sgt_shared *s = made(&with, engine);
     if (!s) return SGT_NO_MEMORY;
-    s->engine = *engine;
-    sgt_part(&s->engine, &s->part);
     memset(engine, 0, sizeof *engine);
     *shared = s;
     return SGT_OK;
 }
 
-/* Whether another thread is in a call. */
-static bool is_used(sgt_shared *s)
+/* Whether another thread is in a call. This one has the lock. */
+static bool is_used(const sgt_shared *s)
 {
-    if (!try_lock(s)) return true;
-    const bool rests = atomic_load_explicit(&s->resting, memory_order_relaxed) > 0;
-    const bool waits = atomic_load_explicit(&s->waiting, memory_order_relaxed) > 0;
-    unlock(s);
-    return rests || waits;
+    return s->changed.resting > 0 || s->queued.resting > 0 || s->asked > 0 || atomic_load_explicit(&s->waiting, memory_order_relaxed) > 0;
+}
+
+/* Closes it, unless it is closed already, or used. */
+static uint32_t shut(sgt_shared *s)
+{
+    if (!s->is_open) return SGT_CLOSED;
+    if (is_used(s)) return SGT_BUSY;
+    s->is_open = false;
+    sgt_close(&s->engine);
+    free(s->queue.at);
+    return SGT_OK;
 }
 
 uint32_t sgt_shared_close(sgt_shared **shared)
 {
-    if (!shared || !*shared) return SGT_CLOSED;
-    if (is_misuse(*shared)) return SGT_MISUSE;
-    if (is_used(*shared)) return SGT_BUSY;
-    unmade(*shared);
-    *shared = 0;
-    return SGT_OK;
+    sgt_shared *s = shared ? *shared : 0;
+    if (!s) return SGT_CLOSED;
+    if (is_in_hook(s) || is_in_child(s)) return SGT_MISUSE;
+    if (!try_lock(s)) return SGT_BUSY;
+    const uint32_t status = shut(s);
+    unlock(s);
+    if (status == SGT_OK) set_aside(s), *shared = 0;
+    return status;
 }
 
 /* Runs */
@@ -642,14 +858,14 @@ static bool is_call(struct call *call, uint64_t procedure, const int64_t *args, 
 }
 
 /* Waits until a transaction may be started. */
-static uint32_t may_start(sgt_shared *s, const struct deadline *until)
+static uint32_t may_start(sgt_shared *s, struct deadline *until)
 {
     if (!await_cut(s, until)) return SGT_TIMED_OUT;
     return !s->config.keeps_ended || reserve(&s->queue, s->lives + 1) ? SGT_OK : SGT_NO_MEMORY;
 }
 
 /* One try of a run. Where the deadline comes, or memory is refused, its transaction is quit. */
-static uint32_t try_once(sgt_shared *s, const struct call *call, const struct deadline *until, sgt_shared_outcome *out)
+static uint32_t try_once(sgt_shared *s, const struct call *call, struct deadline *until, sgt_shared_outcome *out)
 {
     uint32_t tid = NO_TID;
     uint32_t status = sgt_run(&s->engine, call->procedure, call->args, call->count, &tid, &out->reply);
@@ -676,7 +892,7 @@ static bool is_conflict(const sgt_reply *reply)
 }
 
 /* Runs it. */
-static uint32_t run(sgt_shared *s, const struct run *it, sgt_shared_outcome *out)
+static uint32_t run(sgt_shared *s, struct run *it, sgt_shared_outcome *out)
 {
     if (is_late(&it->until)) return SGT_TIMED_OUT;
     for (;;) {
@@ -692,7 +908,7 @@ static uint32_t run(sgt_shared *s, const struct run *it, sgt_shared_outcome *out
 }
 
 /* Runs it beside others, so that it may fail after a reply. Then only `tries` and `waits` are written. */
-static uint32_t run_beside(sgt_shared *s, const struct run *it, sgt_shared_outcome *outcome)
+static uint32_t run_beside(sgt_shared *s, struct run *it, sgt_shared_outcome *outcome)
 {
     sgt_shared_outcome out = *outcome;
     const uint32_t status = run(s, it, &out);
@@ -721,7 +937,7 @@ uint32_t sgt_shared_run(sgt_shared *shared, uint64_t procedure, const int64_t *a
 
 /* Steps */
 
-static uint32_t start(sgt_shared *s, const struct call *call, const struct deadline *until, sgt_ticket *ticket, sgt_reply *reply)
+static uint32_t start(sgt_shared *s, const struct call *call, struct deadline *until, sgt_ticket *ticket, sgt_reply *reply)
 {
     for (;;) {
         uint32_t status = may_start(s, until);
@@ -741,12 +957,12 @@ uint32_t sgt_shared_start(sgt_shared *shared, uint64_t procedure, const int64_t 
     struct call call;
     sgt_reply told = {0};
     if (!ticket || !reply || !is_call(&call, procedure, args, count)) return SGT_BAD_CALL;
-    const struct deadline until = deadline_in(wait_ns);
+    struct deadline until = deadline_in(wait_ns);
     uint32_t status = enter(shared);
     if (status != SGT_OK) return status;
-    status = leave(shared, start(shared, &call, &until, ticket, &told));
+    status = start(shared, &call, &until, ticket, &told);
     if (status == SGT_OK) *reply = told;
-    return status;
+    return leave(shared, status);
 }
 
 uint32_t sgt_shared_step(sgt_shared *shared, const sgt_ticket *ticket, sgt_reply *reply)
@@ -761,17 +977,28 @@ uint32_t sgt_shared_quit(sgt_shared *shared, const sgt_ticket *ticket, sgt_reply
     return status == SGT_OK ? leave(shared, ask(shared, sgt_quit, ticket->tid, reply)) : status;
 }
 
+uint32_t sgt_shared_abandon(sgt_shared *shared, const sgt_ticket *ticket)
+{
+    sgt_reply reply = {0};
+    if (!shared || !ticket || is_in_child(shared) || !is_in_hook(shared)) return sgt_shared_quit(shared, ticket, &reply);
+    if (ticket->engine != shared->number) return SGT_MISUSE;
+    if (ticket->part != shared->part) return SGT_STALE;
+    struct live *it = find(shared, ticket->tid);
+    if (it) it->is_abandoned = shared->abandons = true;
+    return SGT_OK;
+}
+
 uint32_t sgt_shared_commit(sgt_shared *shared, const sgt_ticket *ticket, int64_t wait_ns, sgt_reply *reply)
 {
-    const struct deadline until = deadline_in(wait_ns);
+    struct deadline until = deadline_in(wait_ns);
     uint32_t waits = 0;
     sgt_reply told = {0};
     uint32_t status = reply ? enter_for(shared, ticket) : (uint32_t)SGT_BAD_CALL;
     if (status != SGT_OK) return status;
     status = ask(shared, sgt_commit, ticket->tid, &told);
     if (status == SGT_OK) status = go_on(shared, ticket->tid, &until, &told, &waits);
-    if (leave(shared, status) == SGT_OK) *reply = told;
-    return status;
+    if (status == SGT_OK) *reply = told;
+    return leave(shared, status);
 }
 
 uint32_t sgt_shared_live(sgt_shared *shared, sgt_live *rows, size_t room, uint64_t *count)
@@ -791,16 +1018,16 @@ uint32_t sgt_shared_live(sgt_shared *shared, sgt_live *rows, size_t room, uint64
 
 uint32_t sgt_shared_cut(sgt_shared *shared, int64_t wait_ns)
 {
-    const struct deadline until = deadline_in(wait_ns);
+    struct deadline until = deadline_in(wait_ns);
     bool in_time = true;
     uint32_t status = enter(shared);
     if (status != SGT_OK) return status;
     const uint64_t part = shared->part;
     shared->cutters++;
     while (shared->part == part && is_busy(shared) && in_time) in_time = rest(shared, &shared->changed, &until);
-    if (shared->part == part) status = is_busy(shared) ? (uint32_t)SGT_TIMED_OUT : cut(shared);
     shared->cutters--;
     announce(shared, &shared->changed);
+    if (shared->part == part) status = is_busy(shared) ? (uint32_t)SGT_TIMED_OUT : cut(shared);
     return leave(shared, status);
 }
 
@@ -828,7 +1055,7 @@ uint32_t sgt_shared_entries(sgt_shared *shared, uint64_t *count, uint64_t *part)
 
 uint32_t sgt_shared_drain(sgt_shared *shared, int64_t wait_ns, sgt_ended *ended, size_t room, uint64_t *count)
 {
-    const struct deadline until = deadline_in(wait_ns);
+    struct deadline until = deadline_in(wait_ns);
     bool in_time = true;
     uint32_t status = count && ended && room > 0 ? enter(shared) : (uint32_t)SGT_BAD_CALL;
     if (status != SGT_OK) return status;
@@ -841,4 +1068,10 @@ uint32_t sgt_shared_drain(sgt_shared *shared, int64_t wait_ns, sgt_ended *ended,
     queue->first = queue->count > 0 ? queue->first + taken : 0;
     *count = taken;
     return leave(shared, SGT_OK);
+}
+
+void sgt_shared_watch(uint32_t (*interrupted)(void *context), void *context)
+{
+    watch.interrupted = interrupted;
+    watch.context = context;
 }

@@ -25,7 +25,11 @@
  *
  * DEADLINES are nanoseconds from the begin of a call, by a clock that never jumps. 0 never waits for another transaction, and SGT_FOREVER
  * waits as long as it takes. The lock itself is waited for without a deadline, as nobody holds it for long unless a hook does.
- * A thread that has a live transaction and waits for ever in another call may wait for itself: give such a call a deadline.
+ * A thread that has a live transaction and waits for ever in another call may wait for itself: give such a call a deadline. So may a
+ * commit that waits for a transaction of its own thread.
+ *
+ * CANCELLATION. No call is a cancellation point: a thread that is cancelled in a call goes on until it has returned. No call may be made
+ * from a thread whose cancellation is asynchronous, from a signal handler, or by a hook that longjmp leaves.
  */
 #ifndef SGT_SHARED_H
 #define SGT_SHARED_H
@@ -74,7 +78,12 @@ typedef struct sgt_live {
 /*
  * The configuration of a shared engine. Begin with SGT_SHARED_CONFIG, which asks for nothing, and set the fields that you need.
  *
- * The hooks are called under the lock, so nothing else happens meanwhile. A call from a hook to the same engine is SGT_MISUSE.
+ * The hooks are called under the lock, so nothing else happens meanwhile. A call from a hook to the same engine is SGT_MISUSE, but for
+ * sgt_shared_abandon. A hook may call another engine. If hooks of that one call back, so that each waits for the other, one of the calls
+ * is SGT_MISUSE.
+ *
+ * A hook of another language may throw an exception, or end its thread: the lock is released, and the exception reaches whoever made the
+ * call, which has been carried out. If the exception is that of `cutting`, there is no cut.
  */
 typedef struct sgt_shared_config {
     size_t size;        /* sizeof(sgt_shared_config) */
@@ -144,9 +153,10 @@ uint32_t sgt_shared_take(sgt_shared **shared, sgt_engine *engine, const sgt_shar
 
 /*
  * Closes the engine, and makes the pointer null. Its live transactions are gone, and so is what sgt_shared_drain has not taken. No
- * thread may begin a call to it afterwards.
+ * thread may begin a call to it afterwards. A call that has just begun makes the close SGT_BUSY, or is SGT_CLOSED itself. The memory of
+ * the engine's struct, less than 4 kilobytes, is kept for engines that are opened later.
  *
- * SGT_BUSY if a thread is in a call; SGT_CLOSED if the pointer is null.
+ * SGT_BUSY if a thread is in a call; SGT_CLOSED if the pointer is null, or another thread has just closed the engine.
  */
 uint32_t sgt_shared_close(sgt_shared **shared);
 
@@ -180,6 +190,12 @@ uint32_t sgt_shared_step(sgt_shared *shared, const sgt_ticket *ticket, sgt_reply
 uint32_t sgt_shared_quit(sgt_shared *shared, const sgt_ticket *ticket, sgt_reply *reply);
 
 /*
+ * Aborts a transaction that nobody needs any more, for destructors: as sgt_shared_quit does, or, from inside a hook of the same engine,
+ * as soon as the hook has returned. SGT_STALE; SGT_NO_MEMORY.
+ */
+uint32_t sgt_shared_abandon(sgt_shared *shared, const sgt_ticket *ticket);
+
+/*
  * Commits a transaction. Where it has to wait for another one, it waits until that has ended.
  *
  * SGT_TIMED_OUT if the deadline comes first: the transaction is still live, so commit it again later, or quit it. SGT_STALE;
@@ -210,9 +226,17 @@ uint32_t sgt_shared_entries(sgt_shared *shared, uint64_t *count, uint64_t *part)
  * Takes committed and refused calls that were stored because `keeps_ended` is 1: the oldest into `ended`, which has room for so many,
  * and how many these are into `count`. If there is none it waits for one; `count` is 0 if none has come by the deadline.
  *
- * Each call is handed out once. Threads that drain at the same time get different calls, so order them by `sequence`.
+ * Each call is handed out once. Threads that drain at the same time get different calls, so order them by `sequence`. SGT_BAD_CALL also
+ * if `keeps_ended` is not 1.
  */
 uint32_t sgt_shared_drain(sgt_shared *shared, int64_t wait_ns, sgt_ended *ended, size_t room, uint64_t *count);
+
+/*
+ * Lets calls of this thread be interrupted while they wait for a transaction, a cut or a call to drain. `interrupted` is called ten times a
+ * second then, on this thread and without the lock. If it returns 1, the call ends as if its deadline had come. It must return, and the
+ * calls that it makes are not interrupted. Null: no more.
+ */
+void sgt_shared_watch(uint32_t (*interrupted)(void *context), void *context);
 
 #ifdef __cplusplus
 }

@@ -6,6 +6,7 @@
 #include <chrono>
 #include <cstddef>
 #include <cstdint>
+#include <cstdlib>
 #include <functional>
 #include <initializer_list>
 #include <iterator>
@@ -52,6 +53,16 @@ inline std::string text(const sgt_reply &reply)
 inline std::string text(const sgt_fault &fault)
 {
     return written([&](char *to, std::size_t room, std::uint64_t *length) { return sgt_fault_text(&fault, to, room, length); });
+}
+
+// Throws std::runtime_error unless the library serves these headers: same major and minor number, and not older.
+inline void check_version()
+{
+    char *rest = nullptr;
+    const char *version = sgt_version();
+    auto major = std::strtoul(version, &rest, 10), minor = std::strtoul(rest + 1, &rest, 10), patch = std::strtoul(rest + 1, &rest, 10);
+    if (major == SGT_VERSION_MAJOR && minor == SGT_VERSION_MINOR && patch + 1 > SGT_VERSION_PATCH) return;
+    throw std::runtime_error(std::string("sgt: the headers are of version " SGT_VERSION ", and the library of ") + version);
 }
 
 // Returns the bytes of a text, which may be empty.
@@ -152,6 +163,7 @@ public:
     // Also puts these rows into the initial database. Throws std::invalid_argument if one is out of range.
     Engine(std::string_view opening, const std::vector<sgt_row> &rows)
     {
+        check_version();
         sgt_fault fault{};
         auto status = sgt_open_with(&engine, bytes_of(opening), opening.size(), rows.data(), rows.size(), &fault);
         if (status >= SGT_NOT_JSON) throw Refused::opening(fault, opening);
@@ -210,7 +222,8 @@ public:
     }
 
     // Runs these calls one after another, each as `run` does. It uses `procedure`, `args` and `arg` of each. If an allocation fails, it
-    // returns fewer outcomes than calls; the calls after them have not run.
+    // returns fewer outcomes than calls; the calls after them have not run. Each call is a start: when no start is left by the limits, the
+    // rest are SGT_SPENT, so cut now and then if a journal is longer.
     [[nodiscard]] std::vector<sgt_outcome> run_many(const std::vector<sgt_call> &calls)
     {
         static const sgt_call none{};
@@ -323,6 +336,7 @@ private:
 
     Engine(std::uint64_t live, std::uint64_t begins, bool asks)
     {
+        check_version();
         auto status = sgt_open_bare(&engine, live, begins, asks);
         if (status == SGT_BAD_LIMITS) throw std::invalid_argument("sgt: bad limits");
         check(status);
@@ -349,7 +363,8 @@ private:
 // How long a call may wait. std::nullopt: without a limit.
 using Wait = std::optional<std::chrono::nanoseconds>;
 
-// The configuration of a shared engine: see sgt_shared_config. A hook that throws ends the program.
+// The configuration of a shared engine: see sgt_shared_config. What a hook throws is thrown by the call in which it was called; that call
+// has been carried out. If `cutting` throws there is no cut.
 struct Configuration {
     std::function<void(const sgt_ended &)> ended;
     std::function<void(sgt_engine *, std::uint64_t part)> cutting;
@@ -366,18 +381,17 @@ struct Limits {
 
 class SharedEngine;
 
-// A live transaction of a shared engine. Its destructor aborts it, unless it has ended before. It must not outlive the engine.
+// A transaction of a shared engine. Its destructor aborts it, unless it has ended before. It must not outlive the engine. After its end the
+// reply to each call is SGT_OVER, or the call throws Stale.
 class [[nodiscard]] Transaction {
 public:
-    Transaction(Transaction &&other) noexcept
-        : shared(std::exchange(other.shared, nullptr)), of(other.of)
-    {
-    }
+    Transaction(Transaction &&other) noexcept : shared(other.shared), of(other.of), is_live(std::exchange(other.is_live, false)) {}
 
     Transaction &operator=(Transaction &&other) noexcept
     {
         std::swap(shared, other.shared);
         std::swap(of, other.of);
+        std::swap(is_live, other.is_live);
         return *this;
     }
 
@@ -386,8 +400,7 @@ public:
 
     ~Transaction()
     {
-        sgt_reply reply{};
-        if (shared) sgt_shared_quit(shared, &of, &reply);
+        if (is_live) sgt_shared_abandon(shared, &of); // also inside a hook of the engine
     }
 
     [[nodiscard]] const sgt_ticket &ticket() const { return of; }
@@ -416,8 +429,9 @@ private:
 
     sgt_reply told(std::uint32_t status, const sgt_reply &reply);
 
-    sgt_shared *shared; // null once it has ended
+    sgt_shared *shared;
     sgt_ticket of;
+    bool is_live = true; // false once it has ended, or has been moved from
 };
 
 // An engine for many threads: any thread may call it at any time. Move it and close it while no other thread uses it.
@@ -426,6 +440,7 @@ public:
     explicit SharedEngine(std::string_view opening, const std::vector<sgt_row> &rows = {}, Configuration with = {})
         : hooks(std::make_unique<Configuration>(std::move(with)))
     {
+        check_version();
         sgt_fault fault{};
         sgt_shared_config config{};
         config.size = sizeof config;
@@ -440,7 +455,12 @@ public:
         check(status);
     }
 
-    ~SharedEngine() { sgt_shared_close(&shared); }
+    // If a thread is in a call, or this is one of the engine's hooks or a forked child, the engine and its hooks stay as they are.
+    ~SharedEngine()
+    {
+        auto status = sgt_shared_close(&shared);
+        if (status == SGT_BUSY || status == SGT_MISUSE) static_cast<void>(hooks.release());
+    }
 
     SharedEngine(SharedEngine &&other) noexcept : hooks(std::move(other.hooks)), shared(std::exchange(other.shared, nullptr)) {}
 
@@ -530,9 +550,11 @@ public:
         return count;
     }
 
-    // Takes at most so many of the stored calls. Returns an empty list if none comes in time.
+    // Takes at most so many of the stored calls. Returns an empty list if none comes in time. Throws std::logic_error if the engine stores
+    // none.
     [[nodiscard]] std::vector<sgt_ended> drain(std::size_t most, Wait wait = std::nullopt)
     {
+        if (hooks && !hooks->keeps_ended) throw std::logic_error("sgt: the engine stores no calls: set keeps_ended in its configuration");
         std::vector<sgt_ended> calls(most);
         std::uint64_t count = 0;
         check(sgt_shared_drain(shared, nanoseconds(wait), calls.data(), calls.size(), &count));
@@ -556,9 +578,9 @@ private:
     std::unique_ptr<Configuration> hooks; // at a stable address, since the library keeps a pointer to it
     sgt_shared *shared = nullptr;
 
-    static void tell_ended(void *context, const sgt_ended *call) noexcept { static_cast<Configuration *>(context)->ended(*call); }
+    static void tell_ended(void *context, const sgt_ended *call) { static_cast<Configuration *>(context)->ended(*call); }
 
-    static void tell_cutting(void *context, sgt_engine *engine, std::uint64_t part) noexcept
+    static void tell_cutting(void *context, sgt_engine *engine, std::uint64_t part)
     {
         static_cast<Configuration *>(context)->cutting(engine, part);
     }
@@ -595,8 +617,7 @@ inline sgt_reply Transaction::commit(Wait wait)
 inline sgt_reply Transaction::told(std::uint32_t status, const sgt_reply &reply)
 {
     SharedEngine::check(status);
-    bool ends = reply.kind == SGT_COMMITTED || reply.kind == SGT_ABORTED || reply.kind == SGT_REFUSED || reply.kind == SGT_OVER;
-    if (ends) shared = nullptr;
+    if (reply.kind == SGT_COMMITTED || reply.kind == SGT_ABORTED || reply.kind == SGT_REFUSED || reply.kind == SGT_OVER) is_live = false;
     return reply;
 }
 

@@ -9,11 +9,12 @@ OUT = BINDINGS / "out"
 SECONDS = 300
 
 INCLUDES = [f"-I{BINDINGS}", f"-I{BINDINGS / 'c'}"]
-C_FLAGS = ["-std=c11", "-D_GNU_SOURCE", "-Wall", "-Wextra", "-Werror", "-O2", *INCLUDES]
+C_FLAGS = ["-std=c11", "-D_GNU_SOURCE", "-Wall", "-Wextra", "-Werror", "-O2", "-fexceptions", *INCLUDES]
 CPP_FLAGS = ["-std=c++17", "-Wall", "-Wextra", "-Werror", "-O2", *INCLUDES, f"-I{BINDINGS / 'cpp'}"]
 SANITIZERS = ["-g", "-fsanitize=address,undefined", "-fno-sanitize-recover=all"]
 THREAD_SANITIZER = ["-g", "-fsanitize=thread"]
 WRAPS = ["-Wl,--wrap=malloc,--wrap=realloc,--wrap=calloc,--wrap=aligned_alloc"]
+WRAPS_LOCK = ["-Wl,--wrap=pthread_mutex_trylock"]
 
 # What of the library is C. Built into a program, it goes before that of the library, and so it is sanitized with the program.
 SHARED = BINDINGS / "c" / "sgt_shared.c"
@@ -36,6 +37,13 @@ def built(room, compiler, flags, source, extra=(), beside=()):
     program = room / f"{source.stem}{abs(hash(tuple(map(str, extra)))) % 10**6}"
     run([compiler, *flags, *extra, "-o", program, source, *beside, OUT / "libsgt.a", "-lpthread"])
     return program
+
+
+def compiled(room, compiler, flags, source, extra=()):
+    """The object file that the source makes."""
+    made = room / f"{source.stem}{abs(hash(tuple(map(str, extra)))) % 10**6}.o"
+    run([compiler, *flags, *extra, "-c", "-o", made, source])
+    return made
 
 
 def can(room, compiler, flags, text="int main(void) { return 0; }", words=()):

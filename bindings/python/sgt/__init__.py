@@ -12,6 +12,7 @@ The library is searched at the path in SGT_LIBRARY, then in this package, then i
 """
 
 from ._engine import Engine
+from ._ended import Ended, Ticket
 from ._errors import (
     BadCall,
     Begun,
@@ -33,7 +34,7 @@ from ._errors import (
 )
 from ._library import LEAST, MOST, Row, pack_calls, unpack_calls, version
 from ._replies import Asked, BatchOutcome, Call, Cause, Event, Kind, Reply, unpack_outcomes, wrote
-from ._shared import Ended, Live, Outcome, SharedEngine, Ticket, Transaction
+from ._shared import Live, Outcome, SharedEngine, Transaction
 
 __version__ = version()
 

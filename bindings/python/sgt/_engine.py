@@ -168,6 +168,8 @@ class Engine(Uncopied):
     def run_many(self, calls: Sequence[Sequence[int]]) -> list[BatchOutcome]:
         """Runs these calls, each a procedure with its arguments, one after another, as `run` does. Returns an outcome for each, also if it
         is refused, aborted or has to wait. Raises NoMemory with the outcomes of the calls before it.
+
+        Each call is a start. When no start is left by the limits, the rest are Kind.SPENT: cut now and then if a journal is longer.
         """
         return unpack_outcomes(self.run_bytes(pack_calls(calls)))
 

@@ -16,6 +16,9 @@ from typing import Callable, NamedTuple, Optional, Sequence, Tuple, Union
 
 from ._errors import BadCall, Begun, Busy, Closed, Error, Misuse, NoMemory, OpeningRefused, ProcedureRefused, Stale, TimedOut, TooMany
 
+# The version of the headers that this package is for.
+VERSION = "0.1.0"
+
 # The least and the greatest value, argument and record number.
 LEAST, MOST = -999_999_999_999_999, 999_999_999_999_999
 
@@ -103,13 +106,13 @@ class CLive(ctypes.Structure):
     _fields_ = [("ticket", CTicket), ("for_ns", ctypes.c_int64), ("procedure", ctypes.c_uint32), ("waits", ctypes.c_uint32)]
 
 
-ENDED_HOOK = ctypes.CFUNCTYPE(None, ctypes.c_void_p, ctypes.POINTER(CEnded))
+INTERRUPTED_HOOK = ctypes.CFUNCTYPE(ctypes.c_uint32, ctypes.c_void_p)
 
 
 class CSharedConfig(ctypes.Structure):
     _fields_ = [
         ("size", ctypes.c_size_t),
-        ("ended", ENDED_HOOK),
+        ("ended", ctypes.c_void_p),
         ("cutting", ctypes.c_void_p),
         ("context", ctypes.c_void_p),
         ("keeps_ended", ctypes.c_uint32),
@@ -176,6 +179,7 @@ _SHARED_CALLS = {
     "sgt_shared_start": [_shared, _u64, ctypes.POINTER(_i64), _size, _i64, _ticket, _reply],
     "sgt_shared_step": [_shared, _ticket, _reply],
     "sgt_shared_quit": [_shared, _ticket, _reply],
+    "sgt_shared_abandon": [_shared, _ticket],
     "sgt_shared_commit": [_shared, _ticket, _i64, _reply],
     "sgt_shared_live": [_shared, ctypes.POINTER(CLive), _size, _count],
     "sgt_shared_cut": [_shared, _i64],
@@ -183,6 +187,7 @@ _SHARED_CALLS = {
     "sgt_shared_rows": [_shared, _u64, _i64, _row, _size, _count],
     "sgt_shared_entries": [_shared, _count, _count],
     "sgt_shared_drain": [_shared, _i64, ctypes.POINTER(CEnded), _size, _count],
+    "sgt_shared_watch": [INTERRUPTED_HOOK, ctypes.c_void_p],
 }
 
 
@@ -190,15 +195,13 @@ def _typed(library: ctypes.CDLL, calls: dict[str, list[type]]) -> None:
     for name, types in calls.items():
         function = getattr(library, name)
         function.argtypes = types
-        function.restype = None if name == "sgt_close" else ctypes.c_uint32
+        function.restype = None if name in ("sgt_close", "sgt_shared_watch") else ctypes.c_uint32
 
 
 # Calls to an Engine keep the interpreter's lock, so they never overlap; most are shorter than releasing it. Calls to a SharedEngine
 # release it, since they may wait.
 HELD = ctypes.PyDLL(_path())
 FREE = ctypes.CDLL(_path())
-_typed(HELD, _ENGINE_CALLS)
-_typed(FREE, _SHARED_CALLS)
 _version = HELD["sgt_version"]
 _version.restype = ctypes.c_char_p
 
@@ -206,6 +209,21 @@ _version.restype = ctypes.c_char_p
 def version() -> str:
     """The version of the library."""
     return bytes(_version()).decode()
+
+
+def serves(library: str, package: str) -> bool:
+    """Whether a library of this version serves the package: it has the same major and minor number, and is not older."""
+    given, wanted = ([int(number) for number in text.split(".")] for text in (library, package))
+    return given[:2] == wanted[:2] and given >= wanted
+
+
+if not serves(version(), VERSION):
+    raise ImportError(f"sgt: the package is of version {VERSION}, and the library {_path()} of {version()}")
+_typed(HELD, _ENGINE_CALLS)
+_typed(FREE, _SHARED_CALLS)
+
+# sgt_shared_abandon as a function that a weak reference calls. That passes itself too, which the library ignores.
+ABANDON = ctypes.CFUNCTYPE(ctypes.c_uint32, _shared, _ticket, ctypes.py_object)(("sgt_shared_abandon", FREE))
 
 
 def written(write: Callable[..., int], *asked: Union[ctypes.Structure, int, bytes]) -> str:

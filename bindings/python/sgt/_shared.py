@@ -3,18 +3,19 @@
 from __future__ import annotations
 
 import ctypes
-import time
+import functools
+import weakref
 from typing import Callable, NamedTuple, Optional, Sequence
 
-from ._errors import Busy, Misuse, NotStarted, Stale, TimedOut
+from ._errors import BadCall, Busy, Misuse, NotStarted
+from ._ended import Ended, Stored, Teller, Ticket, ended_of, ticket_of
+from ._interrupts import interruptible
 from ._library import (
-    BUSY,
-    ENDED_HOOK,
+    ABANDON,
+    CLOSED,
     FIRST_FAULT,
     FREE,
-    HELD,
     LEAST,
-    MISUSE,
     MOST,
     NONE,
     AnyRow,
@@ -37,28 +38,10 @@ from ._library import (
     rows_of,
     whole,
 )
-from ._replies import Call, Kind, Reply, call_of, reply_of
+from ._replies import Kind, Reply, reply_of
 
 FOREVER = 2**63 - 1
 MOST_LIVE = 32
-# How long the main thread waits before the interpreter handles signals, in seconds.
-SLICE = 0.2
-
-
-class Ticket(NamedTuple):
-    """Identifies a transaction. `part` is the number of cuts before its start, `tid` its number in that part."""
-
-    engine: int
-    part: int
-    tid: int
-
-
-class Ended(NamedTuple):
-    """A call that was committed or refused. `sequence` counts these calls from 0 in reply order, over all parts."""
-
-    sequence: int
-    ticket: Ticket
-    call: Call
 
 
 class Live(NamedTuple):
@@ -84,14 +67,6 @@ def _ns(seconds: Optional[float]) -> int:
     return FOREVER if seconds is None else max(0, min(FOREVER - 1, int(seconds * 1e9)))
 
 
-def _ticket(ticket: CTicket) -> Ticket:
-    return Ticket(ticket.engine, ticket.part, ticket.tid)
-
-
-def _ended(told: CEnded) -> Ended:
-    return Ended(told.sequence, _ticket(told.ticket), call_of(told.call))
-
-
 class SharedEngine(Uncopied):
     """An engine for many threads: any thread may call it at any time. Each call releases the interpreter's lock.
 
@@ -112,18 +87,20 @@ class SharedEngine(Uncopied):
     ) -> None:
         """Opens an engine as `Engine` does.
 
-        `ended` is called for each committed or refused call, in reply order, under the engine's lock, on any thread that is in a call;
-        if it raises, the exception is printed and has no other effect. With `keeps_ended` such calls are stored until `drain` takes
-        them. Once the history has `cut_after` entries and no transaction is live, it is cut off (0: never); new transactions wait at
-        most `cut_wait` seconds for that.
+        `ended` is called for each committed or refused call, in reply order, one at a time, on any thread, before the call returns. It may
+        not call the engine. If it raises an Exception, that is raised by the call that ended, which has been carried out. If it raises
+        a KeyboardInterrupt or the like, that is raised at once, and the next call calls it again for the same `sequence`.
+
+        With `keeps_ended` such calls are stored until `drain` takes them. Once the history has `cut_after` entries and no transaction
+        is live, it is cut off (0: never); new transactions wait at most `cut_wait` seconds for that.
         """
         self._shared = ctypes.c_void_p()
-        self._inside: list[None] = []
-        self._hook = ENDED_HOOK((lambda _, call: ended(_ended(call.contents))) if ended else 0)
+        self._keeps = bool(keeps_ended)
+        self._stored = Stored()
+        self._teller = Teller(self._shared, ended, self._stored if keeps_ended else None) if ended else None
         config = CSharedConfig(
             size=ctypes.sizeof(CSharedConfig),
-            ended=self._hook,
-            keeps_ended=keeps_ended,
+            keeps_ended=self._keeps or self._teller is not None,
             cut_after=whole(cut_after, 0, 2**64 - 1),
             cut_wait_ns=_ns(cut_wait),
         )
@@ -134,50 +111,54 @@ class SharedEngine(Uncopied):
         check(status)
 
     def _ask(self, function: Callable[..., int], *words: object) -> int:
-        """Makes a call and returns its status. `_inside` counts calls under way, for `close`."""
-        self._inside.append(None)
-        try:
-            return function(self._shared, *words)
-        finally:
-            self._inside.pop()
+        """Makes a call and returns its status."""
+        if self._teller and self._teller.is_here():
+            raise Misuse()
+        return function(self._shared, *words)
 
-    def _waited(self, timeout: Optional[float], ask: Callable[[int], int]) -> None:
-        """Makes a call that can be repeated after its deadline, with short deadlines, so that signals are handled meanwhile."""
-        end = None if timeout is None else time.monotonic() + timeout
-        while True:
-            left = SLICE if end is None else min(SLICE, end - time.monotonic())
-            try:
-                check(ask(_ns(left)))
-                return
-            except TimedOut:
-                if end is not None and time.monotonic() >= end:
-                    raise
+    def _wait(self, function: Callable[..., int], *words: object) -> int:
+        """The same for a call that may wait."""
+        if self._teller and self._teller.is_here():
+            raise Misuse()
+        return interruptible(function, self._shared, *words)
+
+    def _tell(self, ticket: CTicket) -> None:
+        """Calls the hook, if there is one, after a call for this transaction."""
+        if self._teller:
+            self._teller.tell(ticket_of(ticket))
 
     def run(self, procedure: int, *args: int, timeout: Optional[float] = None, tries: int = 0) -> Outcome:
         """Runs a procedure from its start to its commit. It waits and tries again as often as needed, or up to `tries` times.
 
-        Raises TimedOut if the deadline comes first; then no transaction of it is left live. Signals are handled when the call returns.
+        Raises TimedOut if the deadline comes first; then no transaction of it is left live. An interrupt ends it too, and may come when
+        it has been carried out.
         """
         given, outcome = (ctypes.c_int64 * 4)(), CSharedOutcome(size=ctypes.sizeof(CSharedOutcome))
         pack_args(given, args)
         options = CRunOptions(ctypes.sizeof(CRunOptions), _ns(timeout), whole(tries, 0, 2**32 - 1))
-        check(self._ask(FREE.sgt_shared_run, whole(procedure, 0, 65535), given, len(args), options, outcome))
-        ticket = _ticket(outcome.ticket) if outcome.tries else None
+        check(self._wait(FREE.sgt_shared_run, whole(procedure, 0, 65535), given, len(args), options, outcome))
+        self._tell(outcome.ticket)
+        ticket = ticket_of(outcome.ticket) if outcome.tries else None
         return Outcome(reply_of(outcome.reply, outcome.reply), ticket, outcome.tries, outcome.waits)
 
     def transaction(self, procedure: int, *args: int, timeout: Optional[float] = None) -> Transaction:
-        """Starts a transaction, whose accesses are made one at a time. The end of a `with` block aborts it, unless it has ended.
+        """Starts a transaction, whose accesses are made one at a time. The end of a `with` block aborts it, unless it has ended; so does
+        the loss of the last reference to it.
 
         Raises NotStarted if the start is refused, TimedOut or NoMemory.
         """
-        given, ticket, told = (ctypes.c_int64 * 4)(), CTicket(), CReply()
+        given, told, transaction = (ctypes.c_int64 * 4)(), CReply(), Transaction(self, CTicket())
         pack_args(given, args)
         number = whole(procedure, 0, 65535)
-        self._waited(timeout, lambda ns: self._ask(FREE.sgt_shared_start, number, given, len(args), ns, ticket, told))
-        reply = reply_of(told, told)
-        if reply.kind is not Kind.STARTED:
-            raise NotStarted(reply)
-        return Transaction(self, ticket)
+        try:
+            check(self._wait(FREE.sgt_shared_start, number, given, len(args), _ns(timeout), transaction._ticket, told))
+            reply = reply_of(told, told)
+            if reply.kind is not Kind.STARTED:
+                raise NotStarted(reply)
+            return transaction
+        except BaseException:
+            transaction._abandon()
+            raise
 
     def quit(self, ticket: Ticket) -> Reply:
         """Aborts the transaction of a ticket, which `live` returns."""
@@ -189,11 +170,11 @@ class SharedEngine(Uncopied):
         """Returns the live transactions."""
         rows, count = (CLive * MOST_LIVE)(), ctypes.c_uint64()
         check(self._ask(FREE.sgt_shared_live, rows, MOST_LIVE, count))
-        return [Live(_ticket(row.ticket), row.procedure, row.for_ns / 1e9, bool(row.waits)) for row in rows[: count.value]]
+        return [Live(ticket_of(row.ticket), row.procedure, row.for_ns / 1e9, bool(row.waits)) for row in rows[: count.value]]
 
     def cut(self, timeout: Optional[float] = None) -> None:
         """Cuts the history off once no transaction is live; new ones wait meanwhile. Raises TimedOut or NoMemory."""
-        self._waited(timeout, lambda ns: self._ask(FREE.sgt_shared_cut, ns))
+        check(self._wait(FREE.sgt_shared_cut, _ns(timeout)))
 
     def get(self, table: int, number: int) -> Optional[int]:
         """Returns the committed value of a record, or None if there is no such record."""
@@ -216,27 +197,34 @@ class SharedEngine(Uncopied):
         return count.value
 
     def drain(self, most: int = 1024, timeout: Optional[float] = None) -> list[Ended]:
-        """Takes at most so many of the stored calls, oldest first. Returns an empty list if none comes in time."""
+        """Takes at most so many of the stored calls, oldest first. Returns an empty list if none comes in time.
+
+        Raises BadCall if the engine stores none. What an interrupt keeps it from returning is returned by the next call.
+        """
+        if not self._keeps:
+            raise BadCall("the engine stores no calls: open it with keeps_ended")
         calls, count = (CEnded * whole(most, 1, 2**24))(), ctypes.c_uint64()
-
-        def ask(ns: int) -> int:
-            check(self._ask(FREE.sgt_shared_drain, ns, calls, most, count))
-            if count.value == 0:
-                raise TimedOut()
-            return 0
-
+        taken: list[CEnded] = []
         try:
-            self._waited(timeout, ask)
-        except TimedOut:
-            return []
-        return [_ended(told) for told in calls[: count.value]]
+            taken = self._stored.take(most)
+            if not taken and self._teller:
+                self.entries()  # raises Closed
+                self._stored.wait(timeout)
+                taken = self._stored.take(most)
+            elif not taken:
+                check(self._wait(FREE.sgt_shared_drain, _ns(timeout), calls, most, count))
+                taken = calls[: count.value]
+            return list(map(ended_of, taken))
+        except BaseException:
+            self._stored.put_back(taken or calls[: count.value])
+            raise
 
     def close(self) -> None:
         """Closes the engine. Later calls raise Closed. Raises Busy if a call is under way."""
-        shared, self._shared = self._shared, ctypes.c_void_p()
-        status = BUSY if self._inside else FREE.sgt_shared_close(shared)
-        if status in (BUSY, MISUSE):
-            self._shared = shared
+        if self._teller and not self._teller.is_here():
+            self._teller.tell()
+        status = self._ask(FREE.sgt_shared_close)
+        if status != CLOSED:
             check(status)
 
     def __enter__(self) -> SharedEngine:
@@ -254,46 +242,53 @@ class SharedEngine(Uncopied):
 
 
 class Transaction:
-    """A transaction of a shared engine. The end of a `with` block aborts it, unless it has ended before."""
+    """A transaction of a shared engine. The end of a `with` block aborts it, unless it has ended before; so does the loss of the last
+    reference to it, wherever an interrupt comes."""
+
+    _guard: Optional[weakref.ref[Transaction]] = None  # aborts it; no Python code runs then, in which an interrupt could come
 
     def __init__(self, engine: SharedEngine, ticket: CTicket) -> None:
-        self._engine, self._ticket, self._is_live = engine, ticket, True
+        self._engine, self._ticket = engine, ticket
+        self._guard = weakref.ref(self, functools.partial(ABANDON, engine._shared, ticket))
 
     @property
     def ticket(self) -> Ticket:
-        return _ticket(self._ticket)
+        return ticket_of(self._ticket)
 
     def step(self) -> Reply:
         """Makes the next access of the procedure."""
         told = CReply()
         check(self._engine._ask(FREE.sgt_shared_step, self._ticket, told))
-        return self._told(told)
+        return self._replied(told)
 
     def commit(self, timeout: Optional[float] = None) -> Reply:
         """Commits it, and waits for its predecessors. Raises TimedOut if the deadline comes first; it is still live then."""
         told = CReply()
-        self._engine._waited(timeout, lambda ns: self._engine._ask(FREE.sgt_shared_commit, self._ticket, ns, told))
-        return self._told(told)
+        check(self._engine._wait(FREE.sgt_shared_commit, self._ticket, _ns(timeout), told))
+        reply = self._replied(told)
+        self._engine._tell(self._ticket)
+        return reply
 
     def quit(self) -> Reply:
         """Aborts it."""
         told = CReply()
         check(self._engine._ask(FREE.sgt_shared_quit, self._ticket, told))
-        return self._told(told)
+        return self._replied(told)
 
-    def _told(self, told: CReply) -> Reply:
+    def _replied(self, told: CReply) -> Reply:
         reply = reply_of(told, told)
         if reply.kind in (Kind.COMMITTED, Kind.ABORTED, Kind.REFUSED, Kind.OVER):
-            self._is_live = False
+            self._guard = None
         return reply
+
+    def _abandon(self) -> None:
+        """Aborts it, unless it has ended. It may also have been aborted in cascade and cut off, or the engine closed."""
+        if self._guard:
+            FREE.sgt_shared_abandon(self._engine._shared, self._ticket)
+            self._guard = None
 
     def __enter__(self) -> Transaction:
         return self
 
     def __exit__(self, *_: object) -> None:
-        if self._is_live:
-            self._is_live = False
-            try:
-                self._engine.quit(self.ticket)
-            except Stale:
-                pass  # it was aborted in cascade before a cut
+        self._abandon()

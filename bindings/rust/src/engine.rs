@@ -2,7 +2,7 @@
 use crate::convert::{
     call_for, call_of, done, event_of, no_fault, opening_refused, outcome_of, procedure_refused, reply_of, row_for, row_of, told,
 };
-use crate::{Call, Error, Event, Fault, Reply, Row};
+use crate::{check_version, Call, Error, Event, Fault, Reply, Row};
 use sgt_sys as c;
 use std::cell::UnsafeCell;
 
@@ -35,6 +35,7 @@ unsafe impl Send for Engine {}
 impl Engine {
     /// Opens an engine by an opening's JSON text.
     pub fn open(opening: &str) -> Result<Engine, Error> {
+        check_version()?;
         let (mut engine, mut fault) = blank();
         // The pointers are of distinct values that live during the call. The same holds for each call below.
         let status = unsafe { c::sgt_open(engine.inner.get_mut(), opening.as_ptr(), opening.len(), &mut fault) };
@@ -43,6 +44,7 @@ impl Engine {
 
     /// The same, with these rows added to the database of the opening's accounts.
     pub fn open_with(opening: &str, rows: &[Row]) -> Result<Engine, Error> {
+        check_version()?;
         let (mut engine, mut fault) = blank();
         let rows: Vec<c::Row> = rows.iter().map(row_for).collect();
         let (bytes, length) = (opening.as_ptr(), opening.len());
@@ -53,6 +55,7 @@ impl Engine {
     /// Opens an engine without records and procedures, not even SmallBank's: at most `live` transactions at a time, at most `begins`
     /// in all; with `asks`, codes are reported at the commit.
     pub fn open_bare(live: u32, begins: u32, asks: bool) -> Result<Engine, Error> {
+        check_version()?;
         let (mut engine, _) = blank();
         match unsafe { c::sgt_open_bare(engine.inner.get_mut(), live.into(), begins.into(), asks.into()) } {
             c::BAD_LIMITS => Err(Error::Opening { fault: Fault::BadLimits, explanation: None }),

@@ -148,6 +148,8 @@ pub enum Error {
     Stale,
     /// A call from a hook of the same engine, or a ticket of another engine.
     Misuse,
+    /// The library that is linked is of this version, which does not serve the crate.
+    Version(&'static str),
     /// A status that this version of the crate does not know.
     Unrecognised(u32),
 }
@@ -167,6 +169,9 @@ impl fmt::Display for Error {
             Error::TimedOut => write!(f, "the deadline came"),
             Error::Stale => write!(f, "the transaction is of a part of the history that was cut off"),
             Error::Misuse => write!(f, "the call may not be made from here, or the ticket is of another engine"),
+            Error::Version(library) => {
+                write!(f, "the crate is of version {}, and the library of {library}", c::VERSION)
+            }
             Error::Unrecognised(status) => write!(f, "status {status}"),
         }
     }
@@ -209,3 +214,11 @@ pub fn version() -> &'static str {
     unsafe { std::ffi::CStr::from_ptr(c::sgt_version()) }.to_str().unwrap_or_default()
 }
 
+/// Whether the library that is linked serves this crate: it has the same major and minor number.
+fn check_version() -> Result<(), Error> {
+    let minor = |text: &'static str| text.rsplit_once('.').map(|(numbers, _)| numbers);
+    if minor(version()) == minor(c::VERSION) {
+        return Ok(());
+    }
+    Err(Error::Version(version()))
+}

@@ -1,6 +1,6 @@
 //! One engine for many threads.
 use crate::convert::{call_of, done, no_fault, opening_refused, reply_of, row_for, row_of};
-use crate::{Call, Error, Reply, Row};
+use crate::{check_version, Call, Error, Reply, Row};
 use sgt_sys::{self as c, Ticket};
 use std::mem::size_of;
 use std::os::raw::c_void;
@@ -32,8 +32,8 @@ pub struct Live {
 /// The configuration of a shared engine.
 #[derive(Default)]
 pub struct Configuration {
-    /// Called for each committed or refused call, in reply order, under the engine's lock, on any thread that calls the engine. A hook
-    /// that panics ends the program.
+    /// Called for each committed or refused call, in reply order, under the engine's lock, by the call that it is. If it panics, so does
+    /// that call, which has been carried out; the engine goes on.
     pub ended: Option<Box<dyn FnMut(Ended) + Send>>,
     /// Whether these calls are stored until [`SharedEngine::drain`] takes them.
     pub keeps_ended: bool,
@@ -81,7 +81,7 @@ unsafe impl Sync for Inner {}
 
 impl Drop for Inner {
     fn drop(&mut self) {
-        // This is the last clone. A close from inside the engine's own hook is a misuse: then both are leaked.
+        // This is the last clone, so no thread is in a call. A close from inside the engine's own hook is a misuse: then both are leaked.
         let status = unsafe { c::sgt_shared_close(&mut self.shared) };
         if !self.hook.is_null() && (status == c::OK || status == c::CLOSED) {
             // It was made by `Box::into_raw`, and the library does not call it any more.
@@ -108,6 +108,7 @@ impl SharedEngine {
 
     /// The same, with these rows added to the database of the opening's accounts.
     pub fn open_with(opening: &str, rows: &[Row], with: Configuration) -> Result<SharedEngine, Error> {
+        check_version()?;
         let rows: Vec<c::Row> = rows.iter().map(row_for).collect();
         let hook = with.ended.map_or(std::ptr::null_mut(), |hook| Box::into_raw(Box::new(hook)));
         let config = c::SharedConfig {
@@ -282,14 +283,14 @@ impl Transaction {
 impl Drop for Transaction {
     fn drop(&mut self) {
         if self.is_live {
-            // The abort of a live transaction never fails. One that has ended meanwhile, or was cut off, needs none.
-            let _ = self.engine.quit(self.ticket);
+            // The abort of a live transaction never fails, also inside the engine's hook. One that has ended or was cut off needs none.
+            let _ = unsafe { c::sgt_shared_abandon(self.engine.at(), &self.ticket) };
         }
     }
 }
 
 /// The hook for C.
-unsafe extern "C" fn tell(context: *mut c_void, call: *const c::Ended) {
+unsafe extern "C-unwind" fn tell(context: *mut c_void, call: *const c::Ended) {
     // The context is the hook in the engine's `Inner`, which lives as long as the engine. The call is a value of the library.
     let (hook, call) = unsafe { (&mut *context.cast::<Hook>(), &*call) };
     hook(ended_of(call));

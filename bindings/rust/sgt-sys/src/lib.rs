@@ -4,6 +4,9 @@
 
 use std::os::raw::{c_char, c_void};
 
+/// `SGT_VERSION`: the version of the headers.
+pub const VERSION: &str = "0.1.0";
+
 pub const OK: u32 = 0;
 pub const NO_MEMORY: u32 = 1;
 pub const CLOSED: u32 = 2;
@@ -148,8 +151,9 @@ pub struct Live {
     pub waits: u32,
 }
 
-pub type EndedHook = unsafe extern "C" fn(context: *mut c_void, call: *const Ended);
-pub type CuttingHook = unsafe extern "C" fn(context: *mut c_void, engine: *mut Engine, part: u64);
+pub type EndedHook = unsafe extern "C-unwind" fn(context: *mut c_void, call: *const Ended);
+pub type InterruptedHook = unsafe extern "C" fn(context: *mut c_void) -> u32;
+pub type CuttingHook = unsafe extern "C-unwind" fn(context: *mut c_void, engine: *mut Engine, part: u64);
 
 /// `sgt_shared_config`: the configuration of a shared engine.
 #[repr(C)]
@@ -258,7 +262,10 @@ extern "C" {
     ) -> u32;
     pub fn sgt_version() -> *const c_char;
     pub fn sgt_status_text(status: u32) -> *const c_char;
+}
 
+// A hook that panics unwinds through these calls.
+extern "C-unwind" {
     pub fn sgt_shared_open(
         shared: *mut *mut Shared,
         opening: *const u8,
@@ -289,6 +296,7 @@ extern "C" {
     ) -> u32;
     pub fn sgt_shared_step(shared: *mut Shared, ticket: *const Ticket, reply: *mut Reply) -> u32;
     pub fn sgt_shared_quit(shared: *mut Shared, ticket: *const Ticket, reply: *mut Reply) -> u32;
+    pub fn sgt_shared_abandon(shared: *mut Shared, ticket: *const Ticket) -> u32;
     pub fn sgt_shared_commit(shared: *mut Shared, ticket: *const Ticket, wait_ns: i64, reply: *mut Reply) -> u32;
     pub fn sgt_shared_live(shared: *mut Shared, rows: *mut Live, room: usize, count: *mut u64) -> u32;
     pub fn sgt_shared_cut(shared: *mut Shared, wait_ns: i64) -> u32;
@@ -309,4 +317,5 @@ extern "C" {
         room: usize,
         count: *mut u64,
     ) -> u32;
+    pub fn sgt_shared_watch(interrupted: Option<InterruptedHook>, context: *mut c_void);
 }

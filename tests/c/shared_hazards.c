@@ -1,0 +1,452 @@
+/*
+ * What may go wrong around a shared engine: a close beside calls that begin, threads that are cancelled or end in a hook, transactions
+ * that are abandoned in a hook, and calls that are interrupted while they wait. Each check that fails is told; the last line counts them.
+ *
+ * It is linked with --wrap=pthread_mutex_trylock, so that a call can be held up just before it takes the lock.
+ */
+#include <pthread.h>
+#include <sched.h>
+#include <stdatomic.h>
+#include <stdio.h>
+#include <string.h>
+#include <time.h>
+
+#include "sgt_shared.h"
+
+static atomic_int checks, failed;
+
+#define CHECK(holds) check((holds) != 0, #holds, __LINE__)
+
+static void check(int holds, const char *text, int line)
+{
+    checks++;
+    if (holds) return;
+    failed++;
+    printf("line %d: %s\n", line, text);
+}
+
+enum { CLOSES = 300, SECOND = 1000000000, SLICE = SECOND / 5 };
+
+/* Procedure 5 writes a record, 7 reads it, and 6 writes another one. Two may be live. */
+static const char opening[] = "{\"limits\":[2,100000,1],\"accounts\":[],\"procedures\":"
+                              "[[0,[[\"put\",7,1,5]]],[0,[[\"put\",7,2,6]]],[0,[[\"look\",0,7,1,6]]]]}";
+enum { WRITE = 5, WRITE_OTHER = 6, READ = 7 };
+
+static sgt_shared *opened(const sgt_shared_config *config)
+{
+    sgt_shared *shared = 0;
+    sgt_fault fault = {0};
+    CHECK(sgt_shared_open(&shared, (const uint8_t *)opening, strlen(opening), 0, 0, config, &fault) == SGT_OK);
+    return shared;
+}
+
+static void closes(sgt_shared *shared) { CHECK(sgt_shared_close(&shared) == SGT_OK && !shared); }
+
+/* Starts a transaction, and lets it make this many accesses. */
+static sgt_ticket begins(sgt_shared *shared, uint64_t procedure, int steps)
+{
+    sgt_ticket ticket = {0};
+    sgt_reply reply = {0};
+    CHECK(sgt_shared_start(shared, procedure, 0, 0, 0, &ticket, &reply) == SGT_OK && reply.kind == SGT_STARTED);
+    while (steps-- > 0) CHECK(sgt_shared_step(shared, &ticket, &reply) == SGT_OK);
+    return ticket;
+}
+
+static void quits(sgt_shared *shared, const sgt_ticket *ticket)
+{
+    sgt_reply reply = {0};
+    CHECK(sgt_shared_quit(shared, ticket, &reply) == SGT_OK && reply.kind == SGT_ABORTED);
+}
+
+static uint64_t lives(sgt_shared *shared)
+{
+    uint64_t count = 77;
+    CHECK(sgt_shared_live(shared, 0, 0, &count) == SGT_OK);
+    return count;
+}
+
+static void sleep_for(long ns) { nanosleep(&(struct timespec){0, ns}, 0); }
+
+static int64_t now(void)
+{
+    struct timespec at;
+    clock_gettime(CLOCK_MONOTONIC, &at);
+    return (int64_t)at.tv_sec * SECOND + at.tv_nsec;
+}
+
+/* Whether a transaction waits for its commit. */
+static int waits(sgt_shared *shared)
+{
+    sgt_live rows[2] = {0};
+    uint64_t count = 0;
+    CHECK(sgt_shared_live(shared, rows, 2, &count) == SGT_OK);
+    return rows[0].waits || rows[1].waits;
+}
+
+/* A call that is held up just before it takes the lock. */
+
+static _Thread_local int is_slow;
+static atomic_int is_held_up, may_go_on;
+
+int __real_pthread_mutex_trylock(pthread_mutex_t *lock);
+int __wrap_pthread_mutex_trylock(pthread_mutex_t *lock);
+
+int __wrap_pthread_mutex_trylock(pthread_mutex_t *lock)
+{
+    if (is_slow) {
+        is_slow = 0;
+        is_held_up = 1;
+        while (!may_go_on) sched_yield();
+    }
+    return __real_pthread_mutex_trylock(lock);
+}
+
+static void *runs_slowly(void *of)
+{
+    sgt_shared_outcome outcome = SGT_SHARED_OUTCOME;
+    is_slow = 1;
+    CHECK(sgt_shared_run(of, WRITE, 0, 0, 0, &outcome) == SGT_CLOSED && outcome.tries == 0);
+    return 0;
+}
+
+static void a_call_that_has_begun_finds_the_engine_closed(void)
+{
+    sgt_shared *shared = opened(0);
+    pthread_t thread;
+    is_held_up = may_go_on = 0;
+    CHECK(pthread_create(&thread, 0, runs_slowly, shared) == 0);
+    while (!is_held_up) sched_yield();
+    closes(shared);
+    closes(opened(0)); /* it has other memory */
+    may_go_on = 1;
+    pthread_join(thread, 0);
+}
+
+/* Counts entries until the engine is closed. */
+static void *counts(void *of)
+{
+    uint64_t count = 0;
+    uint32_t status = SGT_OK;
+    while (status == SGT_OK) status = sgt_shared_entries(of, &count, 0);
+    CHECK(status == SGT_CLOSED);
+    return 0;
+}
+
+static void a_close_beside_calls_is_busy_or_closes(void)
+{
+    for (int made = 0; made < CLOSES; made++) {
+        sgt_shared *shared = opened(0), *same = shared;
+        pthread_t threads[2];
+        uint32_t status = SGT_BUSY;
+        for (int i = 0; i < 2; i++) CHECK(pthread_create(&threads[i], 0, counts, shared) == 0);
+        while (status == SGT_BUSY) status = sgt_shared_close(&same);
+        CHECK(status == SGT_OK && !same);
+        for (int i = 0; i < 2; i++) pthread_join(threads[i], 0);
+        CHECK(sgt_shared_close(&shared) == SGT_CLOSED);
+    }
+}
+
+/* Threads that are cancelled or end */
+
+struct commit {
+    sgt_shared *shared;
+    sgt_ticket ticket;
+    int64_t wait_ns;
+    uint32_t status;
+    sgt_reply reply;
+};
+
+static void *commits(void *of)
+{
+    struct commit *it = of;
+    it->status = sgt_shared_commit(it->shared, &it->ticket, it->wait_ns, &it->reply);
+    pthread_testcancel();
+    it->status = 77;
+    return 0;
+}
+
+static void a_cancelled_thread_holds_nothing(void)
+{
+    sgt_shared *shared = opened(0);
+    const sgt_ticket writer = begins(shared, WRITE, 1);
+    struct commit it = {.shared = shared, .ticket = begins(shared, READ, 2), .wait_ns = SLICE};
+    pthread_t thread;
+    void *ended = 0;
+    CHECK(pthread_create(&thread, 0, commits, &it) == 0);
+    while (!waits(shared)) sched_yield();
+    pthread_cancel(thread);
+    pthread_join(thread, &ended);
+    CHECK(ended == PTHREAD_CANCELED && it.status == SGT_TIMED_OUT && lives(shared) == 2);
+    quits(shared, &writer);
+    CHECK(lives(shared) == 0);
+    closes(shared);
+}
+
+static atomic_int is_told, is_cancelled;
+
+/* A hook that is a cancellation point. */
+static void dawdles(void *context, const sgt_ended *ended)
+{
+    (void)context, (void)ended;
+    is_told = 1;
+    while (!is_cancelled) sched_yield();
+    sleep_for(1000);
+}
+
+/* A hook that ends its thread. */
+static void exits(void *context, const sgt_ended *ended)
+{
+    (void)ended;
+    pthread_exit(context);
+}
+
+static void *runs(void *of)
+{
+    sgt_shared_outcome outcome = SGT_SHARED_OUTCOME;
+    CHECK(sgt_shared_run(of, WRITE, 0, 0, 0, &outcome) == SGT_OK);
+    pthread_testcancel();
+    return 0;
+}
+
+static void a_thread_that_is_cancelled_in_a_hook_holds_nothing(void)
+{
+    sgt_shared_config config = SGT_SHARED_CONFIG;
+    pthread_t thread;
+    void *ended = 0;
+    config.ended = dawdles;
+    sgt_shared *shared = opened(&config);
+    CHECK(pthread_create(&thread, 0, runs, shared) == 0);
+    while (!is_told) sched_yield();
+    pthread_cancel(thread);
+    is_cancelled = 1;
+    pthread_join(thread, &ended);
+    CHECK(ended == PTHREAD_CANCELED && lives(shared) == 0);
+    closes(shared);
+}
+
+static void a_thread_that_ends_in_a_hook_holds_nothing(void)
+{
+    sgt_shared_config config = SGT_SHARED_CONFIG;
+    pthread_t thread;
+    void *ended = 0;
+    int64_t value = 0;
+    config.ended = exits;
+    config.context = &config;
+    sgt_shared *shared = opened(&config);
+    CHECK(pthread_create(&thread, 0, runs, shared) == 0);
+    pthread_join(thread, &ended);
+    CHECK(ended == &config && lives(shared) == 0);
+    CHECK(sgt_shared_get(shared, 7, 1, &value) == SGT_OK && value == 5);
+    closes(shared);
+}
+
+/* Engines whose hooks call the next one */
+
+enum { RING = 3, CALLS = 2000 };
+
+struct ring {
+    sgt_shared *engines[RING];
+    int of; /* the engine of a hook or of a thread */
+    uint64_t misuses;
+};
+
+static void calls_the_next(void *context, const sgt_ended *ended)
+{
+    struct ring *it = context;
+    uint64_t count = 0;
+    (void)ended;
+    const uint32_t status = sgt_shared_entries(it->engines[(it->of + 1) % RING], &count, 0);
+    CHECK(status == SGT_OK || status == SGT_MISUSE);
+    it->misuses += status == SGT_MISUSE;
+}
+
+static void *runs_often(void *of)
+{
+    struct ring *it = of;
+    for (int made = 0; made < CALLS; made++) {
+        sgt_shared_outcome outcome = SGT_SHARED_OUTCOME;
+        CHECK(sgt_shared_run(it->engines[it->of], WRITE, 0, 0, 0, &outcome) == SGT_OK && outcome.reply.kind == SGT_COMMITTED);
+    }
+    return 0;
+}
+
+static void hooks_that_call_each_other_do_not_lock_up(void)
+{
+    struct ring rings[RING] = {0};
+    pthread_t threads[RING];
+    uint64_t count = 0, misuses = 0;
+    for (int i = 0; i < RING; i++) {
+        sgt_shared_config config = SGT_SHARED_CONFIG;
+        config.ended = calls_the_next;
+        config.context = &rings[i];
+        rings[i].of = i;
+        sgt_shared *shared = opened(&config);
+        for (int other = 0; other < RING; other++) rings[other].engines[i] = shared;
+    }
+    for (int i = 0; i < RING; i++) CHECK(pthread_create(&threads[i], 0, runs_often, &rings[i]) == 0);
+    for (int i = 0; i < RING; i++) pthread_join(threads[i], 0);
+    for (int i = 0; i < RING; i++) misuses += rings[i].misuses;
+    CHECK(misuses < RING * CALLS); /* most calls are made */
+    for (int i = 0; i < RING; i++) CHECK(sgt_shared_entries(rings[0].engines[i], &count, 0) == SGT_OK && count == 4 * CALLS);
+    for (int i = 0; i < RING; i++) closes(rings[0].engines[i]);
+}
+
+/* Transactions that are abandoned */
+
+struct abandoned {
+    sgt_shared *shared;
+    sgt_ticket tickets[2];
+    uint32_t told[3], quit, count;
+};
+
+static void abandons(void *context, const sgt_ended *ended)
+{
+    struct abandoned *it = context;
+    sgt_reply reply = {0};
+    sgt_ticket strange = it->tickets[0];
+    (void)ended;
+    strange.engine++;
+    it->quit = sgt_shared_quit(it->shared, &it->tickets[0], &reply);
+    for (uint32_t i = 0; i < it->count; i++) it->told[i] = sgt_shared_abandon(it->shared, &it->tickets[i]);
+    it->told[2] = sgt_shared_abandon(it->shared, &strange);
+}
+
+static void a_transaction_is_abandoned_in_a_hook(void)
+{
+    sgt_shared_config config = SGT_SHARED_CONFIG;
+    struct abandoned it = {.count = 1};
+    sgt_shared_outcome outcome = SGT_SHARED_OUTCOME;
+    sgt_reply reply = {0};
+    config.ended = abandons;
+    config.context = &it;
+    it.shared = opened(&config);
+    it.tickets[0] = begins(it.shared, WRITE, 1);
+    CHECK(sgt_shared_run(it.shared, WRITE_OTHER, 0, 0, 0, &outcome) == SGT_OK);
+    CHECK(it.quit == SGT_MISUSE && it.told[0] == SGT_OK && it.told[2] == SGT_MISUSE && lives(it.shared) == 0);
+    CHECK(sgt_shared_step(it.shared, &it.tickets[0], &reply) == SGT_OK && reply.kind == SGT_OVER && reply.cause == SGT_BY_QUIT);
+    it.tickets[0] = begins(it.shared, READ, 1);
+    CHECK(sgt_shared_abandon(it.shared, &it.tickets[0]) == SGT_OK && lives(it.shared) == 0); /* outside a hook */
+    CHECK(sgt_shared_abandon(it.shared, 0) == SGT_BAD_CALL && sgt_shared_abandon(0, &it.tickets[0]) == SGT_CLOSED);
+    CHECK(sgt_shared_cut(it.shared, 0) == SGT_OK && sgt_shared_abandon(it.shared, &it.tickets[0]) == SGT_STALE);
+    closes(it.shared);
+}
+
+/* Calls that are interrupted */
+
+struct watch {
+    sgt_shared *shared;
+    int asked, after; /* it is interrupted when it has been asked so often */
+    uint32_t close;
+};
+
+static uint32_t is_interrupted(void *context)
+{
+    struct watch *it = context;
+    sgt_shared *same = it->shared;
+    it->close = sgt_shared_close(&same);
+    CHECK(lives(it->shared) <= 2); /* the lock is free */
+    return ++it->asked == it->after;
+}
+
+static void waiting_calls_are_interrupted(void)
+{
+    sgt_shared_config config = SGT_SHARED_CONFIG;
+    sgt_shared_outcome outcome = SGT_SHARED_OUTCOME;
+    sgt_ended ended = {0};
+    sgt_reply reply = {0};
+    sgt_ticket third = {0};
+    uint64_t count = 77;
+    config.keeps_ended = 1;
+    struct watch it = {.shared = opened(&config), .after = 2};
+    const sgt_ticket writer = begins(it.shared, WRITE, 1), reader = begins(it.shared, READ, 2);
+    sgt_shared_watch(is_interrupted, &it);
+    CHECK(sgt_shared_commit(it.shared, &reader, SGT_FOREVER, &reply) == SGT_TIMED_OUT && it.asked == 2 && it.close == SGT_BUSY);
+    it.asked = 0;
+    CHECK(sgt_shared_start(it.shared, READ, 0, 0, SGT_FOREVER, &third, &reply) == SGT_TIMED_OUT && it.asked == 2);
+    it.asked = 0;
+    CHECK(sgt_shared_cut(it.shared, SGT_FOREVER) == SGT_TIMED_OUT && it.asked == 2);
+    it.asked = 0;
+    CHECK(sgt_shared_drain(it.shared, SGT_FOREVER, &ended, 1, &count) == SGT_OK && it.asked == 2 && count == 0);
+    quits(it.shared, &reader);
+    it.asked = 0;
+    CHECK(sgt_shared_run(it.shared, READ, 0, 0, 0, &outcome) == SGT_TIMED_OUT && it.asked == 2 && lives(it.shared) == 1);
+    it.asked = 0;
+    CHECK(sgt_shared_cut(it.shared, SLICE * 2) == SGT_TIMED_OUT && it.asked == 2);
+    sgt_shared_watch(0, 0);
+    it.asked = 0;
+    CHECK(sgt_shared_cut(it.shared, SLICE) == SGT_TIMED_OUT && it.asked == 0);
+    quits(it.shared, &writer);
+    closes(it.shared);
+}
+
+/* While a cut is due, a start waits for it, and is interrupted there too. */
+static void a_start_is_interrupted_before_a_cut(void)
+{
+    sgt_shared_config config = SGT_SHARED_CONFIG;
+    sgt_reply reply = {0};
+    sgt_ticket second = {0};
+    config.cut_after = 1;
+    config.cut_wait_ns = SGT_FOREVER - 1;
+    struct watch it = {.shared = opened(&config), .after = 1};
+    const sgt_ticket first = begins(it.shared, WRITE, 1);
+    sgt_shared_watch(is_interrupted, &it);
+    CHECK(sgt_shared_start(it.shared, WRITE, 0, 0, SGT_FOREVER, &second, &reply) == SGT_TIMED_OUT && it.asked == 1);
+    sgt_shared_watch(0, 0);
+    quits(it.shared, &first);
+    closes(it.shared);
+}
+
+/* Keeps a transaction live, and starts the next one as soon as it has ended. */
+struct keeper {
+    sgt_shared *shared;
+    long delay;
+    atomic_int *is_over;
+};
+
+static void *keeps_one_live(void *of)
+{
+    struct keeper *it = of;
+    sleep_for(it->delay);
+    while (!*it->is_over) {
+        sgt_ticket ticket = {0};
+        sgt_reply reply = {0};
+        CHECK(sgt_shared_start(it->shared, READ, 0, 0, SGT_FOREVER, &ticket, &reply) == SGT_OK);
+        sleep_for(2 * SLICE);
+        quits(it->shared, &ticket);
+    }
+    return 0;
+}
+
+/* A thread that is asked keeps its place: no start comes past the cut that it waits for. */
+static void a_watched_cut_holds_starts_up(void)
+{
+    atomic_int is_over = 0;
+    struct watch it = {.shared = opened(0)};
+    struct keeper keepers[] = {{it.shared, 0, &is_over}, {it.shared, SLICE, &is_over}};
+    pthread_t threads[2];
+    for (int i = 0; i < 2; i++) CHECK(pthread_create(&threads[i], 0, keeps_one_live, &keepers[i]) == 0);
+    sleep_for(SLICE + SLICE / 2);
+    const int64_t begin = now();
+    sgt_shared_watch(is_interrupted, &it);
+    CHECK(sgt_shared_cut(it.shared, INT64_C(5) * SECOND) == SGT_OK && now() - begin < 2 * (int64_t)SECOND && it.asked > 0);
+    sgt_shared_watch(0, 0);
+    is_over = 1;
+    for (int i = 0; i < 2; i++) pthread_join(threads[i], 0);
+    closes(it.shared);
+}
+
+int main(void)
+{
+    a_call_that_has_begun_finds_the_engine_closed();
+    a_close_beside_calls_is_busy_or_closes();
+    a_cancelled_thread_holds_nothing();
+    a_thread_that_is_cancelled_in_a_hook_holds_nothing();
+    a_thread_that_ends_in_a_hook_holds_nothing();
+    hooks_that_call_each_other_do_not_lock_up();
+    a_transaction_is_abandoned_in_a_hook();
+    waiting_calls_are_interrupted();
+    a_start_is_interrupted_before_a_cut();
+    a_watched_cut_holds_starts_up();
+    printf("%d checks, %d failed\n", checks, failed);
+    return failed != 0;
+}
