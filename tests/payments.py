@@ -5,7 +5,7 @@
 
 It runs the server as a user does, with the library of `bindings/out`, which has to be made: the replies; a crash under load, ROUNDS
 times (30), or one of its front processes, with what no fsync had kept taken away or garbled; a journal cut at each byte and with a flipped
-bit in each; a full disk; an fsync that fails; another program's procedures; a forged journal; and a failover over Redis, if the machine has
+bit in each; a full disk; an fsync that fails; another program's procedures; a forged journal; clients that vanish; and a failover over Redis, if the machine has
 it. Each case is reported, and the last line counts them.
 """
 
@@ -102,6 +102,13 @@ def run(*words):
     return ran.returncode, ran.stdout, ran.stderr
 
 
+def preloaded(folder, name):
+    """The environment that has a program load this C file before the C library."""
+    library = folder / f"{name}.so"
+    subprocess.run(["cc", "-O1", "-shared", "-fPIC", "-o", library, C_SOURCES / f"{name}.c", "-ldl"], check=True)
+    return {"LD_PRELOAD": str(library)}
+
+
 def pay(number, payer, payee, amount):
     return {"id": number, "from": payer, "to": payee, "amount": amount}
 
@@ -174,7 +181,7 @@ class Load:
     def __init__(self, draw):
         self.draw, self.ids = draw, 0
         self.acknowledged, self.asked, self.refused, self.unanswered = {}, {}, set(), []
-        self.again = 0
+        self.again = self.gone = 0
 
     def request(self):
         """A payment: a new one, or one that had no answer before a crash."""
@@ -216,6 +223,7 @@ class Load:
                         continue
                 except ConnectionError:
                     pass
+                self.gone += 1
                 self.close(clients, number)
         for number in list(clients):
             self.close(clients, number)
@@ -423,11 +431,10 @@ def failing_fsync():
     """An fsync that fails ends the server before it acknowledges, and it is not tried again."""
     load = Load(random.Random(8))
     with room() as folder:
-        library = folder / "failing_fsync.so"
-        subprocess.run(["cc", "-O1", "-shared", "-fPIC", "-o", library, C_SOURCES / "failing_fsync.c", "-ldl"], check=True)
+        preload = preloaded(folder, "failing_fsync")
         words = ("serve", folder / "j", "--accounts", ACCOUNTS, "--cents", CENTS)
         for fails_after in (5, 40):
-            with Server(*words, env={"LD_PRELOAD": str(library), "FSYNC_FAILS_AFTER": str(fails_after)}) as server:
+            with Server(*words, env={**preload, "FSYNC_FAILS_AFTER": str(fails_after)}) as server:
                 error = ends_at_once(server, load)
             if "Input/output error" not in error:
                 raise Differs(f"it says {error}")
@@ -533,6 +540,21 @@ def killed_fronts():
     return f"{len(load.acknowledged)} acknowledged"
 
 
+def vanished_clients():
+    """Clients whose machines vanish, so that an accept, a receive or a send times out, end nothing."""
+    load = Load(random.Random(12))
+    with room() as folder:
+        words = ("serve", folder / "j", "--accounts", ACCOUNTS, "--cents", CENTS)
+        with Server(*words, env={**preloaded(folder, "vanishing"), "VANISH_ONE_IN": "50"}) as server:
+            for _ in range(8):
+                load.run(server, 0.2)
+            same("the end", (0, ""), server.end())
+        load.judge(*recovered(folder / "j")[:2])
+    if load.gone < CLIENTS:
+        raise Differs(f"only {load.gone} clients vanished")
+    return f"{load.gone} of them, {len(load.acknowledged)} acknowledged"
+
+
 def rows_of_stream(name, port):
     """The number of the last call, and the records by table, as a follower recovers them."""
     bank = RedisJournal(name, port, True).start(Bank(0, PROCEDURES, b""))
@@ -597,7 +619,7 @@ def main():
         return crashes(rounds, seed)
 
     crash_test.__name__ = "crashes"
-    return tell([replies, torn_tails, damage, full_disk, failing_fsync, other_procedures, bad_procedures, forged_journal, killed_fronts, failovers, crash_test], of="payments")
+    return tell([replies, torn_tails, damage, full_disk, failing_fsync, other_procedures, bad_procedures, forged_journal, killed_fronts, vanished_clients, failovers, crash_test], of="payments")
 
 
 if __name__ == "__main__":

@@ -80,7 +80,7 @@ class Front:
         for number, line in lines.items():
             try:
                 self.clients[number][0].sendall(line.encode())
-            except (BlockingIOError, ConnectionError):  # it is gone, or takes no replies; it can ask again with its id
+            except OSError:  # it is gone, or takes no replies; it can ask again with its id
                 self.clients.pop(number)[0].close()
 
     def request(self, line: bytes) -> Request:
@@ -100,8 +100,8 @@ class Front:
     def accept(self) -> None:
         try:
             client, _ = self.listener.accept()
-        except (BlockingIOError, ConnectionError):
-            return  # another front has it
+        except OSError:
+            return  # another front has it, or it is gone
         client.setblocking(False)
         self.poll.register(client, select.EPOLLIN)
         self.clients[client.fileno()] = client, b""
@@ -111,7 +111,7 @@ class Front:
         client, heard = self.clients[number]
         try:
             data = client.recv(16_384)
-        except ConnectionError:
+        except OSError:
             data = b""
         *lines, heard = (heard + data).split(b"\n")
         if not data or max(map(len, (*lines, heard))) > LONGEST:
