@@ -31,6 +31,7 @@ from helpers.cases import C_SOURCES, TESTS, Differs, same, tell  # noqa: E402
 
 PAYMENTS = TESTS.parent / "examples" / "payments"
 sys.path.insert(0, str(PAYMENTS))
+from administration import ask  # noqa: E402
 from bank import ROW, Bank, Unusable, load_procedures  # noqa: E402
 from front import FRONTS  # noqa: E402
 from journal import FileJournal, seal_batch, unseal  # noqa: E402
@@ -130,7 +131,7 @@ def tables(rows):
 def recovered(folder):
     """The number of the last call, and the records by table, as a start recovers them from a copy of the journal. And what was cut off."""
     with room() as aside:
-        shutil.copytree(folder, aside / "copy")
+        shutil.copytree(folder, aside / "copy", ignore=shutil.ignore_patterns("admin"))
         bank, torn = FileJournal(aside / "copy").start(Bank(0, PROCEDURES, b""))
         return bank.seq, tables(bank.rows()), torn
 
@@ -161,18 +162,41 @@ def replies():
             ({"balance": 9}, {"balance": 9, "has": 70}),
         ]
         asked(server, wanted)
-        no_request = [b"", b"7", b"[1]", b'{"id":1}', b'{"balance":"x"}', b'{"balance":1.0}', b'{"balance":true}', b'{"day":1}', b"\xff", b'{"rows":true} x', b'{"balance":1}{"balance":1}', b'{"balance":1000000000000000}']
+        no_request = [b"", b"7", b"[1]", b'{"id":1}', b'{"balance":"x"}', b'{"balance":1.0}', b'{"balance":true}', b'{"day":1}', b"\xff", b'{"balance":1} x', b'{"balance":1}{"balance":1}', b'{"balance":1000000000000000}']
         if any("error" not in reply for reply in server.ask(*no_request)):
             raise Differs("a line that is no request was taken")
-        *_, rows, paid = server.ask(pay(20, 2, 1, 1), {"rows": True}, pay(21, 2, 1, 1))
-        same("rows between payments that come at once", (7, 21), (rows["seq"], paid["id"]))
+        same("the payments", [20, 21], [reply["id"] for reply in server.ask(pay(20, 2, 1, 1), pay(21, 2, 1, 1))])
         same("a line that is too long", [None], server.ask(b"x" * 2000 + b"y" * 2000))
-        same("verify", (0, "calls 1 to 7 give the rows of the server\n", ""), run("verify", folder / "j", "--port", server.port))
+        same("verify", (0, "calls 1 to 7 give the rows of the server\n", ""), run("verify", folder / "j"))
         same("a second server", (1, f"payments: {folder / 'j'}: another server has this journal\n"), (lambda r: (r[0], r[2]))(run("serve", folder / "j")))
         same("the end", (0, ""), server.end())
+        same("verify without a server", (0, "calls 1 to 7 give the rows of each snapshot\n", ""), run("verify", folder / "j"))
         shown = run("show", folder / "j")[1].splitlines()
         same("show", ["# snapshot after call 0", "2 pay id=17 from=1 to=2 amount=250", "4 open open=9 amount=70"], [shown[0], shown[2], shown[4]])
     return f"{len(wanted)} replies"
+
+
+def administration():
+    """What only administrators may ask: at a socket that nobody else may open, and not at the port."""
+    with room() as folder:
+        admin, words = folder / "j" / "admin", ("serve", folder / "j", "--accounts", 3)
+        with Server(*words) as server:
+            at_port = server.ask(*[{word: True} for word in ("rows", "health", "figures", "promote")])
+            same("words at the port", [{"error"}] * 4, [set(reply) for reply in at_port])
+            same("who may open the socket", 0o600, admin.stat().st_mode & 0o777)
+            asked(server, [(pay(1, 1, 2, 5), {"id": 1, "paid": True, "from_has": 99_995, "to_has": 100_005})])
+            same("rows", (2, 64), (ask(admin, "rows")["seq"], len(ask(admin, "rows")["sha256"])))
+            same("verify", (0, "calls 1 to 2 give the rows of the server\n", ""), run("verify", folder / "j"))
+            same("health", {"health": "ok", "seq": 2}, ask(admin, "health"))
+            figures = ask(admin, "figures")
+            same("the figures", {"seq": 2, "calls": 2, "records": 3 + 1 + 1 + 5}, {key: figures[key] for key in ("seq", "calls", "records")})
+            same("an unknown word", [{"error"}] * 2, [set(ask(admin, word)) for word in ("nothing", "promote")])
+            same("a second server", 1, run(*words)[0])
+            same("health beside a second server", "ok", ask(admin, "health")["health"])
+        with Server(*words) as server:  # the first one was killed, and left its socket
+            same("health", {"health": "ok", "seq": 2}, ask(admin, "health"))
+            same("the end", (0, ""), server.end())
+            same("whether the socket is there", False, admin.exists())
 
 
 class Load:
@@ -325,7 +349,7 @@ def crashes(rounds, seed):
             seq, found, _ = recovered(journal)
             same("the last call", seq, server.seq)
             load.judge(seq, found)
-            same("verify", 0, run("verify", journal, "--port", server.port)[0])
+            same("verify", 0, run("verify", journal)[0])
     if len(load.acknowledged) < 10 * rounds:
         raise Differs(f"only {len(load.acknowledged)} payments were acknowledged in {rounds} rounds")
     return f"{rounds} kills, {early} of them in recovery; {len(load.acknowledged)} payments acknowledged, each there once; {torn} torn tails"
@@ -460,7 +484,7 @@ def other_procedures():
             server.process.kill()
         with Server(*own) as server:
             asked(server, [({"balance": 2}, {"balance": 2, "has": 101_005})])
-            same("verify", 0, run("verify", folder / "j", "--port", server.port)[0])
+            same("verify", 0, run("verify", folder / "j")[0])
 
 
 def bad_procedures():
@@ -499,9 +523,9 @@ def forged_journal():
     with room() as folder:
         calls, data = a_journal(folder / "j")
         with Server("serve", folder / "j") as server:
-            same("verify", 0, run("verify", folder / "j", "--port", server.port)[0])
+            same("verify", 0, run("verify", folder / "j")[0])
             calls.write_bytes(forged(data, lambda amount: amount + 1))
-            status, _, error = run("verify", folder / "j", "--port", server.port)
+            status, _, error = run("verify", folder / "j")
             if status != 1 or "do not give what is served" not in error:
                 raise Differs(f"verify of a forged journal: {status} {error}")
         calls.write_bytes(forged(data, lambda _: 10**12))
@@ -523,9 +547,9 @@ def killed_fronts():
         words = ("serve", folder / "j", "--accounts", ACCOUNTS, "--cents", CENTS)
         for number in range(6):
             with Server(*words, port=port) as server:
-                port, fronts = server.port, server.fronts()
-                same("how many front processes there are", FRONTS, len(fronts))
-                threading.Timer(0.1 + draw.random() * 0.3, os.kill, (fronts[number % FRONTS], signal.SIGKILL)).start()
+                port, fronts = server.port, server.fronts()  # the last one is of the administrators
+                same("how many front processes there are", FRONTS + 1, len(fronts))
+                threading.Timer(0.1 + draw.random() * 0.3, os.kill, (fronts[number % len(fronts)], signal.SIGKILL)).start()
                 error = ends_at_once(server, load)
             same("what a server without one of its front processes says", "payments: a front process has ended\n", error)
             load.judge(*recovered(folder / "j")[:2])
@@ -575,15 +599,16 @@ def failovers():
         process = subprocess.Popen(words, stdout=subprocess.DEVNULL)
         try:
             wait_for(port)
-            own = ("queue", "--redis-port", port, "--accounts", ACCOUNTS, "--cents", CENTS)
+            own = ("queue", "--redis-port", port, "--accounts", ACCOUNTS, "--cents", CENTS, "--admin")
             for is_killed in (True, False):
-                with Server(*own, program="replicated.py") as primary, Server(*own, "--follow", program="replicated.py") as follower:
+                with Server(*own, folder / "1", program="replicated.py") as primary, Server(*own, folder / "2", "--follow", program="replicated.py") as follower:
                     asked(follower, [(pay(10**9, 1, 2, 1), {"id": 10**9, "error": "this server does not run it"})])
                     stop = primary.process.kill if is_killed else lambda: primary.process.send_signal(signal.SIGSTOP)
                     threading.Timer(0.4, stop).start()
                     load.run(primary, 0.8)
-                    (promoted,) = follower.ask({"promote": True})
-                    same("what a promotion tells", {"promoted"}, set(promoted))
+                    same("whether it follows", True, ask(folder / "2", "health")["follows"])
+                    same("what a promotion tells", {"promoted"}, set(ask(folder / "2", "promote")))
+                    same("whether it follows", False, ask(folder / "2", "health")["follows"])
                     load.run(follower, 0.4)
                     if not is_killed:
                         primary.process.send_signal(signal.SIGCONT)
@@ -619,7 +644,7 @@ def main():
         return crashes(rounds, seed)
 
     crash_test.__name__ = "crashes"
-    return tell([replies, torn_tails, damage, full_disk, failing_fsync, other_procedures, bad_procedures, forged_journal, killed_fronts, vanished_clients, failovers, crash_test], of="payments")
+    return tell([replies, administration, torn_tails, damage, full_disk, failing_fsync, other_procedures, bad_procedures, forged_journal, killed_fronts, vanished_clients, failovers, crash_test], of="payments")
 
 
 if __name__ == "__main__":

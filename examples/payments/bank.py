@@ -90,6 +90,10 @@ class Bank:
         self._records = len(rows) // ROW.size
         return rows
 
+    def sizes(self) -> dict[str, int]:
+        """How many records the database has, and how many entries the history."""
+        return {"records": self._engine.records(), "entries": len(self._engine)}
+
     def cut_if_long(self) -> bool:
         """Frees the history when it is time: it costs memory, and a cut costs a pass over the records. The database stays."""
         if len(self._engine) < max(ENTRIES, self._records):

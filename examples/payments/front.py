@@ -8,30 +8,44 @@ import select
 import signal
 import socket
 from multiprocessing.connection import Connection, Pipe
-from typing import Union
+from multiprocessing.reduction import recv_handle
+from typing import NamedTuple, Optional, Union
 
 from bank import Procedure
 from sgt import LEAST, MOST, pack_calls, unpack_outcomes
 
 LONGEST = 1000  # bytes of a line
+NO_REQUEST = '{"error": "no JSON object with the keys of a procedure and whole numbers of at most fifteen digits"}\n'
 read_json = json.JSONDecoder().raw_decode  # a value, and where it ends: three times as fast as `json.loads`
 FRONTS = 3  # processes: each waits while the server runs what it has asked, so they are more than are busy at a time
-Request = Union[tuple[Procedure, list[int]], str]  # a line asks for a call, or it says a word: {"rows": true} says rows
+
+
+class Word(NamedTuple):
+    """What an administrator asks of the server itself: {"rows": true}, or {"day": 20784}."""
+
+    name: str
+    value: int
+
+
+Request = Union[tuple[Procedure, list[int]], Word, str]  # what a line asks for: a call, or a word; or what is wrong with it, as a reply
 
 
 def start_fronts(port: int, procedures: dict[str, Procedure]) -> tuple[int, list[Connection]]:
-    """Starts the front processes, before anything is opened that they must not share. Their port, and a connection to each."""
+    """Starts the front processes, before anything is opened that they must not share. Their port, and a connection to each.
+
+    The last one is for administrators alone: the server sends it a socket to listen at.
+    """
     listener = socket.create_server(("127.0.0.1", port), backlog=1024)
     listener.setblocking(False)
     listener.setsockopt(socket.IPPROTO_TCP, socket.TCP_NODELAY, 1)
     fronts: list[Connection] = []
-    for _ in range(FRONTS):
+    for listens_at in (*[listener] * FRONTS, None):
         front, server = Pipe()
         fronts.append(front)
         if os.fork() == 0:
             for it in fronts:
                 it.close()  # else a front would not see the end of the server
-            Front(listener, server, procedures).run()
+            Front(listens_at, server, procedures).run()
         server.close()
     with listener:
         return listener.getsockname()[1], fronts
@@ -40,13 +54,14 @@ def start_fronts(port: int, procedures: dict[str, Procedure]) -> tuple[int, list
 class Front:
     """It waits for the replies to what it has asked. What comes in meanwhile is asked next, at once."""
 
-    def __init__(self, listener: socket.socket, server: Connection, procedures: dict[str, Procedure]) -> None:
-        self.listener, self.server = listener, server
+    def __init__(self, listener: Optional[socket.socket], server: Connection, procedures: dict[str, Procedure]) -> None:
+        self.server, self.takes_words = server, listener is None
         self.requests = {frozenset(it.request): it for it in procedures.values() if it.request}
         self.clients: dict[int, tuple[socket.socket, bytes]] = {}  # with the beginning of a line
         self.poll = select.epoll()
-        self.poll.register(listener, select.EPOLLIN)
         self.poll.register(server, select.EPOLLIN)  # it says nothing unasked, but ends
+        if listener:
+            self.listener = listener
 
     def run(self) -> None:
         """Runs until the server has ended. Signals are for the server."""
@@ -54,6 +69,9 @@ class Front:
             signal.signal(number, signal.SIG_IGN)
         with contextlib.suppress(EOFError, ConnectionError):
             self.numbers: dict[str, int] = marshal.loads(self.server.recv_bytes())  # of the procedures, once the server has recovered
+            if self.takes_words:
+                self.listener = socket.socket(fileno=recv_handle(self.server))
+            self.poll.register(self.listener, select.EPOLLIN)
             while True:
                 self.turn()
         os._exit(0)
@@ -69,13 +87,16 @@ class Front:
                     raise EOFError
                 else:
                     asked += [(number, self.request(line)) for line in self.receive(number)]
-        calls = pack_calls([(self.numbers[it[0].name], *it[1]) for _, it in asked if not isinstance(it, str)])
-        self.server.send_bytes(marshal.dumps((calls, [it for _, it in asked if isinstance(it, str)])))
+        calls = pack_calls([(self.numbers[it[0].name], *it[1]) for _, it in asked if not isinstance(it, (str, Word))])
+        self.server.send_bytes(marshal.dumps((calls, [tuple(it) for _, it in asked if isinstance(it, Word)])))
         outcomes, of_words = marshal.loads(self.server.recv_bytes())
         replies, of_words = iter(unpack_outcomes(outcomes)), iter(of_words)
         lines: dict[int, str] = {}
         for number, it in asked:
-            line = next(of_words) if isinstance(it, str) else it[0].line(it[1][0], next(replies).reply)
+            if not isinstance(it, (str, Word)):
+                line = it[0].line(it[1][0], next(replies).reply)
+            else:
+                line = it if isinstance(it, str) else next(of_words)
             lines[number] = lines.get(number, "") + line
         for number, line in lines.items():
             try:
@@ -90,12 +111,14 @@ class Front:
             asked, end = read_json(text)
             procedure = self.requests.get(frozenset(asked.keys()))
         except (ValueError, RecursionError, AttributeError):
-            return ""
+            return NO_REQUEST
         if end < len(text):
-            return ""
+            return NO_REQUEST
         if procedure and all(type(value) is int and LEAST <= value <= MOST for value in asked.values()):
             return procedure, [asked[key] for key in procedure.request]
-        return "".join(key for key, value in asked.items() if value is True)
+        if self.takes_words and len(asked) == 1 and all(isinstance(value, int) and LEAST <= value <= MOST for value in asked.values()):
+            return Word(*asked.popitem())
+        return NO_REQUEST
 
     def accept(self) -> None:
         try:

@@ -3,6 +3,7 @@
 
 import argparse
 import hashlib
+import json
 import marshal
 import pathlib
 import select
@@ -10,14 +11,17 @@ import signal
 import sys
 import time
 from multiprocessing.connection import Connection
-from typing import Sequence
+from multiprocessing.reduction import send_handle
+from typing import Any, Callable, Sequence
 
+from administration import listen_at
 from audit import show, verify
 from bank import Bank, Call, Unusable, first_rows, load_procedures
 from front import start_fronts
 from journal import FileJournal
 from sgt import pack_calls
 
+CALL_BYTES = len(pack_calls([(0,)]))
 IDLE = 0.1  # seconds without a request, after which the journal notes what is safe
 
 
@@ -28,6 +32,8 @@ class Server:
         self.bank, self.journal, self.fronts = bank, journal, fronts
         self.batch: list[Call] = []  # calls that ran, and are not safe yet
         self.is_marked, self.day = True, -1
+        self.began, self.calls, self.batches, self.appending = time.monotonic(), 0, 0, 0.0
+        self.words: dict[str, Callable[[int], dict[str, Any]]] = {"rows": self.rows, "health": self.health, "figures": self.figures}
         for front in fronts:
             front.send_bytes(marshal.dumps(bank.numbers))
 
@@ -50,23 +56,37 @@ class Server:
         Once nobody asks, an empty batch notes that all is safe. Until then damage to the last batch looks like a torn tail.
         """
         if self.batch or not self.is_marked:
+            begin = time.monotonic()
             self.journal.append(self.bank.seq, self.batch)
+            self.appending += time.monotonic() - begin
+            self.batches += 1
             self.batch, self.is_marked = [], not self.batch
 
-    def run(self, calls: bytes, words: Sequence[str] = ()) -> tuple[bytes, list[str]]:
+    def run(self, calls: bytes, words: Sequence[tuple[str, int]] = ()) -> tuple[bytes, list[str]]:
         """Runs packed calls, and adds those that wrote to the batch. Their packed outcomes, and then the replies to words."""
         if calls:
             self.begin_day()
         outcomes, wrote = self.bank.run(calls)
         self.batch += wrote
         self.bank.seq += len(wrote)
-        return outcomes, [self.word(it) for it in words]
+        self.calls += len(calls) // CALL_BYTES
+        return outcomes, [json.dumps(self.words.get(word, self.unknown)(value)) + "\n" for word, value in words]
 
-    def word(self, word: str) -> str:
-        """The line that replies to a word."""
-        if word != "rows":
-            return '{"error": "no JSON object with the keys of a procedure and whole numbers of at most fifteen digits"}\n'
-        return f'{{"seq": {self.bank.seq}, "sha256": "{hashlib.sha256(self.bank.rows()).hexdigest()}"}}\n'
+    def rows(self, _: int) -> dict[str, Any]:
+        """A digest of all rows. Nobody is served while it is made: a second for some ten million rows."""
+        return {"seq": self.bank.seq, "sha256": hashlib.sha256(self.bank.rows()).hexdigest()}
+
+    def health(self, _: int) -> dict[str, Any]:
+        """That there is a reply says that batches become safe, as each reply waits for that."""
+        return {"health": "ok", "seq": self.bank.seq}
+
+    def figures(self, _: int) -> dict[str, Any]:
+        """Since the start: seconds, calls, batches, and seconds in which batches were made safe. And how large the bank is now."""
+        seconds = {"seconds": round(time.monotonic() - self.began, 3), "append_seconds": round(self.appending, 3)}
+        return {"seq": self.bank.seq, "calls": self.calls, "batches": self.batches, **seconds, **self.bank.sizes()}
+
+    def unknown(self, _: int) -> dict[str, Any]:
+        return {"error": "no word of this server"}
 
     def begin_day(self) -> None:
         """Tells the bank the day, as a call: a procedure has no clock, so the day stands in the journal."""
@@ -88,29 +108,38 @@ def serve(words: argparse.Namespace) -> None:
     if bank.texts != texts:
         bank = Bank(bank.seq, texts, bank.rows())  # the journal was written with other procedures; those of this program begin here
         journal.cut(bank)
-    run(Server(bank, journal, fronts), port, begin)
+    run(Server(bank, journal, fronts), port, words.admin or words.folder / "admin", begin)
 
 
-def run(server: Server, port: int, begin: float) -> None:
+def run(server: Server, port: int, admin: pathlib.Path, begin: float) -> None:
     """Runs a server until SIGTERM or SIGINT."""
     ends: list[int] = []
     for number in (signal.SIGTERM, signal.SIGINT):
         signal.signal(number, lambda *_: ends.append(1))
+    with listen_at(admin) as listener:
+        send_handle(server.fronts[-1], listener.fileno(), None)
     print(f"serving on port {port} after call {server.bank.seq}, started in {time.perf_counter() - begin:.2f} s", flush=True)
     while not ends:
         server.turn()
     server.before_replies()
+    admin.unlink()
+
+
+def add_options(parser: argparse.ArgumentParser) -> None:
+    """Adds the options of each program that serves."""
+    parser.add_argument("--port", type=int, default=0, help="to serve on")
+    parser.add_argument("--procedures", type=pathlib.Path, default=pathlib.Path(__file__).resolve().parent / "procedures")
+    parser.add_argument("--accounts", type=int, default=1000, help="of a new journal")
+    parser.add_argument("--cents", type=int, default=100_000, help="that each of them has")
 
 
 def main() -> None:
     parser = argparse.ArgumentParser(description=__doc__)
     parser.add_argument("command", choices=("serve", "show", "verify"))
     parser.add_argument("folder", type=pathlib.Path)
-    parser.add_argument("--port", type=int, default=0, help="to serve on; or of the server whose rows are verified")
-    parser.add_argument("--procedures", type=pathlib.Path, default=pathlib.Path(__file__).resolve().parent / "procedures")
-    parser.add_argument("--accounts", type=int, default=1000, help="of a new journal")
-    parser.add_argument("--cents", type=int, default=100_000, help="that each of them has")
+    parser.add_argument("--admin", type=pathlib.Path, help="the socket of administration, if it is not to be FOLDER/admin")
     parser.add_argument("--keep", action="store_true", help="keep the files before the newest snapshot")
+    add_options(parser)
     words = parser.parse_args()
     try:
         {"serve": serve, "show": show, "verify": verify}[words.command](words)

@@ -14,12 +14,12 @@ import pathlib
 import socket
 import sys
 import time
-from typing import Sequence, Union
+from typing import Any, Sequence, Union
 
 from bank import Bank, Call, Unusable, Procedure, first_rows, load_procedures
 from front import Connection, start_fronts
 from journal import seal_batch, seal_snapshot, unseal_batches, unseal_snapshot
-from payments import Server, run
+from payments import Server, add_options, run
 from sgt import pack_calls, unpack_calls
 
 NOT_HERE = 65_535  # the number of no procedure
@@ -102,20 +102,24 @@ class Replica(Server):
     def __init__(self, bank: Bank, journal: RedisJournal, fronts: list[Connection], procedures: dict[str, Procedure]) -> None:
         super().__init__(bank, journal, fronts)
         self.journal: RedisJournal = journal
+        self.words["promote"] = self.promote
         self.writers = {bank.numbers[name] for name, it in procedures.items() if '"put"' in json.dumps(it.text)}
 
-    def run(self, calls: bytes, words: Sequence[str] = ()) -> tuple[bytes, list[str]]:
+    def run(self, calls: bytes, words: Sequence[tuple[str, int]] = ()) -> tuple[bytes, list[str]]:
         """A follower runs calls that can't write. For others it has no procedure."""
         if self.journal.follows:
             calls = pack_calls([(NOT_HERE, *args) if number in self.writers else (number, *args) for number, *args in unpack_calls(calls)])
         return super().run(calls, words)
 
-    def word(self, word: str) -> str:
-        if word == "promote" and self.journal.follows:
+    def promote(self, _: int) -> dict[str, Any]:
+        """Makes a follower the primary."""
+        if self.journal.follows:
             self.journal.catch_up(self.bank)
             self.journal.follows = False
-            return json.dumps({"promoted": self.bank.seq}) + "\n"
-        return super().word(word)
+        return {"promoted": self.bank.seq}
+
+    def health(self, _: int) -> dict[str, Any]:
+        return {**super().health(_), "follows": self.journal.follows}
 
     def begin_day(self) -> None:
         if not self.journal.follows:
@@ -135,11 +139,9 @@ def main() -> None:
     parser = argparse.ArgumentParser(description=__doc__)
     parser.add_argument("name", help="of the stream")
     parser.add_argument("--redis-port", type=int, default=6379)
-    parser.add_argument("--port", type=int, default=0)
+    parser.add_argument("--admin", type=pathlib.Path, required=True, help="where the socket of administration is to be")
     parser.add_argument("--follow", action="store_true", help="follow the primary until promoted")
-    parser.add_argument("--procedures", type=pathlib.Path, default=pathlib.Path(__file__).resolve().parent / "procedures")
-    parser.add_argument("--accounts", type=int, default=1000, help="of a new journal")
-    parser.add_argument("--cents", type=int, default=100_000, help="that each of them has")
+    add_options(parser)
     words = parser.parse_args()
     try:
         begin, procedures = time.perf_counter(), load_procedures(words.procedures)
@@ -149,7 +151,7 @@ def main() -> None:
         bank = journal.start(Bank(0, texts, first_rows(words.accounts, words.cents)))
         if bank.texts != texts:
             raise Unusable("Redis: the stream was written with other procedures")
-        run(Replica(bank, journal, fronts, procedures), port, begin)
+        run(Replica(bank, journal, fronts, procedures), port, words.admin, begin)
     except (Unusable, OSError) as why:
         sys.exit(f"replicated: {why}")
 
