@@ -166,7 +166,9 @@ def replies():
         if any("error" not in reply for reply in server.ask(*no_request)):
             raise Differs("a line that is no request was taken")
         same("the payments", [20, 21], [reply["id"] for reply in server.ask(pay(20, 2, 1, 1), pay(21, 2, 1, 1))])
-        same("a line that is too long", [None], server.ask(b"x" * 2000 + b"y" * 2000))
+        long, reply = b'{"balance":9' + b" " * 988, {"error": "a line has at most 1000 bytes"}
+        wanted_of_long = [{"balance": 9, "has": 70}, reply, {"balance": 9, "has": 70}, reply, {"balance": 9, "has": 70}]
+        same("lines that are too long, between others", wanted_of_long, server.ask(long[:-1] + b"}", long + b"}", {"balance": 9}, b"x" * 10**6, {"balance": 9}))
         same("verify", (0, "calls 1 to 7 give the rows of the server\n", ""), run("verify", folder / "j"))
         same("a second server", (1, f"payments: {folder / 'j'}: another server has this journal\n"), (lambda r: (r[0], r[2]))(run("serve", folder / "j")))
         same("the end", (0, ""), server.end())

@@ -15,6 +15,7 @@ from bank import Procedure
 from sgt import LEAST, MOST, pack_calls, unpack_outcomes
 
 LONGEST = 1000  # bytes of a line
+TOO_LONG = f'{{"error": "a line has at most {LONGEST} bytes"}}\n'
 NO_REQUEST = '{"error": "no JSON object with the keys of a procedure and whole numbers of at most fifteen digits"}\n'
 read_json = json.JSONDecoder().raw_decode  # a value, and where it ends: three times as fast as `json.loads`
 FRONTS = 3  # processes: each waits while the server runs what it has asked, so they are more than are busy at a time
@@ -106,6 +107,8 @@ class Front:
 
     def request(self, line: bytes) -> Request:
         """What a line asks for."""
+        if len(line) > LONGEST:
+            return TOO_LONG
         try:
             text = line.strip().decode()
             asked, end = read_json(text)
@@ -130,15 +133,15 @@ class Front:
         self.clients[client.fileno()] = client, b""
 
     def receive(self, number: int) -> list[bytes]:
-        """The lines that have come from a client. One that is gone, or sends a line that is too long, is dropped."""
+        """The lines that have come from a client. One that is gone is dropped. Of a line that is too long only the beginning is kept."""
         client, heard = self.clients[number]
         try:
             data = client.recv(16_384)
         except OSError:
             data = b""
-        *lines, heard = (heard + data).split(b"\n")
-        if not data or max(map(len, (*lines, heard))) > LONGEST:
+        if not data:
             self.clients.pop(number)[0].close()
             return []
-        self.clients[number] = client, heard
+        *lines, heard = (heard + data).split(b"\n")
+        self.clients[number] = client, heard[: LONGEST + 1]
         return lines
