@@ -33,7 +33,7 @@ PAYMENTS = TESTS.parent / "examples" / "payments"
 sys.path.insert(0, str(PAYMENTS))
 from administration import ask  # noqa: E402
 from bank import ROW, Bank, Unusable, load_procedures  # noqa: E402
-from front import FRONTS  # noqa: E402
+from front import FRONTS, OTHER_FILES  # noqa: E402
 from journal import FileJournal, seal_batch, unseal  # noqa: E402
 from replicated import RedisJournal  # noqa: E402
 
@@ -581,6 +581,41 @@ def vanished_clients():
     return f"{load.gone} of them, {len(load.acknowledged)} acknowledged"
 
 
+def is_dropped(client):
+    """Whether the server has dropped a client that has asked nothing. A part of a line does not keep it."""
+    client.setblocking(False)
+    try:
+        client.send(b" ")
+        return client.recv(1) == b""
+    except BlockingIOError:
+        return False
+    except ConnectionError:
+        return True
+
+
+def idle_clients():
+    """More clients than the server may have files open: those beyond a cap wait, and get their turn when idle ones are dropped."""
+    files, request = 100, json.dumps({"balance": 1}).encode() + b"\n"
+    most = FRONTS * (files - OTHER_FILES)
+
+    def few_files():
+        resource.setrlimit(resource.RLIMIT_NOFILE, (files, files))
+
+    with room() as folder, contextlib.ExitStack() as clients, Server("serve", folder / "j", "--accounts", 3, "--idle", 1, before=few_files) as server:
+        idle = [clients.enter_context(server.connect()) for _ in range(most + 100)]
+        last = idle.pop()
+        last.sendall(request)
+        end = time.monotonic() + 20
+        while idle and time.monotonic() < end:
+            idle = [client for client in idle if not is_dropped(client)]
+            time.sleep(0.1)
+        same("clients that are idle, and not dropped", 0, len(idle))
+        same("the reply to the one who waited", {"balance": 1, "has": 100_000}, json.loads(last.makefile().readline()))
+        same("a new client", [{"balance": 2, "has": 100_000}], server.ask({"balance": 2}))
+        same("the end", (0, ""), server.end())
+    return f"{most + 100} of them, at most {most} at a time"
+
+
 def rows_of_stream(name, port):
     """The number of the last call, and the records by table, as a follower recovers them."""
     bank = RedisJournal(name, port, True).start(Bank(0, PROCEDURES, b""))
@@ -646,7 +681,7 @@ def main():
         return crashes(rounds, seed)
 
     crash_test.__name__ = "crashes"
-    return tell([replies, administration, torn_tails, damage, full_disk, failing_fsync, other_procedures, bad_procedures, forged_journal, killed_fronts, vanished_clients, failovers, crash_test], of="payments")
+    return tell([replies, administration, torn_tails, damage, full_disk, failing_fsync, other_procedures, bad_procedures, forged_journal, killed_fronts, vanished_clients, idle_clients, failovers, crash_test], of="payments")
 
 
 if __name__ == "__main__":

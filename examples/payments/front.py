@@ -4,9 +4,11 @@ import contextlib
 import json
 import marshal
 import os
+import resource
 import select
 import signal
 import socket
+import time
 from multiprocessing.connection import Connection, Pipe
 from multiprocessing.reduction import recv_handle
 from typing import Any, NamedTuple, Optional, Union
@@ -17,6 +19,8 @@ from sgt import LEAST, MOST, pack_calls, unpack_outcomes
 LONGEST = 1000  # bytes of a line
 TOO_LONG = f'{{"error": "a line has at most {LONGEST} bytes"}}\n'
 NO_REQUEST = '{"error": "no JSON object with the keys of a procedure and whole numbers of at most fifteen digits"}\n'
+CLIENTS = 1000  # of a front, or fewer if it may open fewer files. Others wait until one of them has gone
+OTHER_FILES = 32  # that a front has open, at most
 FRONTS = 3  # processes: each waits while the server runs what it has asked, so they are more than are busy at a time
 
 
@@ -41,10 +45,11 @@ class Word(NamedTuple):
 Request = Union[tuple[Procedure, list[int]], Word, str]  # what a line asks for: a call, or a word; or what is wrong with it, as a reply
 
 
-def start_fronts(port: int, procedures: dict[str, Procedure]) -> tuple[int, list[Connection]]:
+def start_fronts(port: int, procedures: dict[str, Procedure], idle: float = 60) -> tuple[int, list[Connection]]:
     """Starts the front processes, before anything is opened that they must not share. Their port, and a connection to each.
 
-    The last one is for administrators alone: the server sends it a socket to listen at.
+    They drop a client that asks nothing for `idle` seconds. The last one is for administrators alone: the server sends it a socket to
+    listen at.
     """
     listener = socket.create_server(("127.0.0.1", port), backlog=1024)
     listener.setblocking(False)
@@ -56,7 +61,7 @@ def start_fronts(port: int, procedures: dict[str, Procedure]) -> tuple[int, list
         if os.fork() == 0:
             for it in fronts:
                 it.close()  # else a front would not see the end of the server
-            Front(listens_at, server, procedures).run()
+            Front(listens_at, server, procedures, idle).run()
         server.close()
     with listener:
         return listener.getsockname()[1], fronts
@@ -65,10 +70,12 @@ def start_fronts(port: int, procedures: dict[str, Procedure]) -> tuple[int, list
 class Front:
     """It waits for the replies to what it has asked. What comes in meanwhile is asked next, at once."""
 
-    def __init__(self, listener: Optional[socket.socket], server: Connection, procedures: dict[str, Procedure]) -> None:
-        self.server, self.takes_words = server, listener is None
+    def __init__(self, listener: Optional[socket.socket], server: Connection, procedures: dict[str, Procedure], idle: float) -> None:
+        self.server, self.takes_words, self.idle, self.now = server, listener is None, idle, time.monotonic()
+        self.swept = self.now
         self.requests = {frozenset(it.request): it for it in procedures.values() if it.request}
-        self.clients: dict[int, tuple[socket.socket, bytes]] = {}  # with the beginning of a line
+        self.clients: dict[int, tuple[socket.socket, bytes, float]] = {}  # with the beginning of a line, and when the last whole one came
+        self.most = max(1, min(CLIENTS, resource.getrlimit(resource.RLIMIT_NOFILE)[0] - OTHER_FILES))
         self.poll = select.epoll()
         self.poll.register(server, select.EPOLLIN)  # it says nothing unasked, but ends
         if listener:
@@ -89,15 +96,7 @@ class Front:
 
     def turn(self) -> None:
         """Waits for lines, has the server run what they ask, and replies."""
-        asked: list[tuple[int, Request]] = []
-        while not asked:
-            for number, _ in self.poll.poll():
-                if number == self.listener.fileno():
-                    self.accept()
-                elif number == self.server.fileno():
-                    raise EOFError
-                else:
-                    asked += [(number, self.request(line)) for line in self.receive(number)]
+        asked = self.wait()
         calls = pack_calls([(self.numbers[it[0].name], *it[1]) for _, it in asked if not isinstance(it, (str, Word))])
         self.server.send_bytes(marshal.dumps((calls, [tuple(it) for _, it in asked if isinstance(it, Word)])))
         outcomes, of_words = marshal.loads(self.server.recv_bytes())
@@ -113,7 +112,23 @@ class Front:
             try:
                 self.clients[number][0].sendall(line.encode())
             except OSError:  # it is gone, or takes no replies; it can ask again with its id
-                self.clients.pop(number)[0].close()
+                self.drop(number)
+
+    def wait(self) -> list[tuple[int, Request]]:
+        """The next lines, with the numbers of their clients. Meanwhile clients come and go."""
+        asked: list[tuple[int, Request]] = []
+        while not asked:
+            ready, self.now = self.poll.poll(self.idle / 4), time.monotonic()
+            for number, _ in ready:
+                if number == self.listener.fileno():
+                    self.accept()
+                elif number == self.server.fileno():
+                    raise EOFError
+                else:
+                    asked += [(number, self.request(line)) for line in self.receive(number)]
+            if self.now >= self.swept + self.idle / 4:
+                self.drop_idle()
+        return asked
 
     def request(self, line: bytes) -> Request:
         """What a line asks for."""
@@ -140,18 +155,31 @@ class Front:
             return  # another front has it, or it is gone
         client.setblocking(False)
         self.poll.register(client, select.EPOLLIN)
-        self.clients[client.fileno()] = client, b""
+        self.clients[client.fileno()] = client, b"", self.now
+        if len(self.clients) == self.most:
+            self.poll.unregister(self.listener)  # others wait for this front until one has gone, or go to the other fronts
+
+    def drop(self, number: int) -> None:
+        if len(self.clients) == self.most:
+            self.poll.register(self.listener, select.EPOLLIN)
+        self.clients.pop(number)[0].close()
+
+    def drop_idle(self) -> None:
+        """Drops the clients that have asked nothing for so long. Parts of a line do not count."""
+        self.swept = self.now
+        for number in [number for number, (_, _, since) in self.clients.items() if since < self.now - self.idle]:
+            self.drop(number)
 
     def receive(self, number: int) -> list[bytes]:
         """The lines that have come from a client. One that is gone is dropped. Of a line that is too long only the beginning is kept."""
-        client, heard = self.clients[number]
+        client, heard, since = self.clients[number]
         try:
             data = client.recv(16_384)
         except OSError:
             data = b""
         if not data:
-            self.clients.pop(number)[0].close()
+            self.drop(number)
             return []
         *lines, heard = (heard + data).split(b"\n")
-        self.clients[number] = client, heard[: LONGEST + 1]
+        self.clients[number] = client, heard[: LONGEST + 1], self.now if lines else since
         return lines

@@ -99,7 +99,7 @@ class Server:
 def serve(words: argparse.Namespace) -> None:
     """Recovers what the journal has, and serves."""
     begin, procedures = time.perf_counter(), load_procedures(words.procedures)
-    port, fronts = start_fronts(words.port, procedures)
+    port, fronts = start_fronts(words.port, procedures, words.idle)
     texts = {name: it.text for name, it in procedures.items()}
     journal = FileJournal(words.folder, words.keep)
     bank, torn = journal.start(Bank(0, texts, first_rows(words.accounts, words.cents)))
@@ -128,6 +128,7 @@ def run(server: Server, port: int, admin: pathlib.Path, begin: float) -> None:
 def add_options(parser: argparse.ArgumentParser) -> None:
     """Adds the options of each program that serves."""
     parser.add_argument("--port", type=int, default=0, help="to serve on")
+    parser.add_argument("--idle", type=float, default=60, help="seconds after which a client that asks nothing is dropped")
     parser.add_argument("--procedures", type=pathlib.Path, default=pathlib.Path(__file__).resolve().parent / "procedures")
     parser.add_argument("--accounts", type=int, default=1000, help="of a new journal")
     parser.add_argument("--cents", type=int, default=100_000, help="that each of them has")

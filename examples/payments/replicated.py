@@ -145,7 +145,7 @@ def main() -> None:
     words = parser.parse_args()
     try:
         begin, procedures = time.perf_counter(), load_procedures(words.procedures)
-        port, fronts = start_fronts(words.port, procedures)
+        port, fronts = start_fronts(words.port, procedures, words.idle)
         texts = {name: it.text for name, it in procedures.items()}
         journal = RedisJournal(words.name, words.redis_port, words.follow)
         bank = journal.start(Bank(0, texts, first_rows(words.accounts, words.cents)))
