@@ -5,7 +5,7 @@
 
 It runs the server as a user does, with the library of `bindings/out`, which has to be made: the replies; a crash under load, ROUNDS
 times (30), or one of its front processes, with what no fsync had kept taken away or garbled; a journal cut at each byte and with a flipped
-bit in each; a full disk; an fsync that fails; another program's procedures; a forged journal; clients that vanish; and a failover over Redis, if the machine has
+bit in each; a full disk; an fsync that fails; large snapshots; another program's procedures; a forged journal; clients that vanish; and a failover over Redis, if the machine has
 it. Each case is reported, and the last line counts them.
 """
 
@@ -468,6 +468,24 @@ def failing_fsync():
     return f"{len(load.acknowledged)} acknowledged"
 
 
+def large_snapshots():
+    """A snapshot in many chunks, each written in parts, as one of over 2 GB is."""
+    load = Load(random.Random(13))
+    with room() as folder:
+        words = ("serve", folder / "j", "--accounts", ACCOUNTS, "--cents", CENTS, "--keep")
+        small = {"wrapper": [str(TESTS / "helpers" / "noting_fsync.py")], "env": {"CUT_AFTER": "4000", "CHUNK": "5000"}}
+        small["env"] |= {**preloaded(folder, "short_write"), "SHORT_WRITE": "1000"}
+        with Server(*words, **small) as server:
+            load.run(server, 0.5)
+            server.process.kill()
+        load.judge(*recovered(folder / "j")[:2])
+        same("verify", 0, run("verify", folder / "j")[0])
+        largest = max(path.read_bytes().index(b"\n\n") for path in (folder / "j").glob("*.journal"))
+    if largest < 20_000:
+        raise Differs(f"the largest snapshot has only {largest} bytes")
+    return f"the largest has {largest} bytes"
+
+
 def other_procedures():
     """A program with other procedures recovers by the old ones, and goes on with its own."""
     with room() as folder:
@@ -681,7 +699,7 @@ def main():
         return crashes(rounds, seed)
 
     crash_test.__name__ = "crashes"
-    return tell([replies, administration, torn_tails, damage, full_disk, failing_fsync, other_procedures, bad_procedures, forged_journal, killed_fronts, vanished_clients, idle_clients, failovers, crash_test], of="payments")
+    return tell([replies, administration, torn_tails, damage, full_disk, failing_fsync, large_snapshots, other_procedures, bad_procedures, forged_journal, killed_fronts, vanished_clients, idle_clients, failovers, crash_test], of="payments")
 
 
 if __name__ == "__main__":

@@ -5,9 +5,12 @@ import json
 import os
 import pathlib
 import zlib
-from typing import Any, Sequence
+from typing import Any, Iterator, Sequence
 
 from bank import Bank, Call, Unusable
+
+CHUNK = 1 << 26  # bytes of a snapshot that are stored at a time
+
 
 
 def seal(value: Any) -> bytes:
@@ -46,10 +49,12 @@ def unseal_batches(data: bytes, at: int, seq: int, where: str) -> tuple[list[Cal
     return calls, at
 
 
-def seal_snapshot(bank: Bank) -> bytes:
-    """A bank: a line that has the procedures' texts, as a journal of calls means nothing without, and then the rows."""
+def seal_snapshot(bank: Bank) -> Iterator[bytes]:
+    """A bank in chunks: a line that has the procedures' texts, as a journal of calls means nothing without, and then the rows."""
     rows = bank.rows()
-    return seal([bank.seq, bank.texts, len(rows), zlib.crc32(rows)]) + rows
+    yield seal([bank.seq, bank.texts, len(rows), zlib.crc32(rows)])
+    for at in range(0, len(rows), CHUNK):
+        yield rows[at : at + CHUNK]
 
 
 def unseal_snapshot(data: bytes, where: str) -> tuple[Bank, int]:
@@ -102,12 +107,15 @@ class FileJournal:
     def append(self, seq: int, calls: Sequence[Call]) -> None:
         """Returns once the calls up to `seq` are on disk. An OSError must end the program: nobody knows what a failed fsync has kept."""
         self._write(seal_batch(seq, calls))
+        os.fsync(self._file)
 
     def cut(self, bank: Bank) -> None:
         """Goes on in a new file, from a snapshot of the bank."""
         older, path = self.paths(), self.folder / f"{bank.seq:015}.journal"
         self._open(path.with_suffix(".new"), os.O_TRUNC)
-        self._write(seal_snapshot(bank))
+        for chunk in seal_snapshot(bank):
+            self._write(chunk)
+        os.fsync(self._file)
         path.with_suffix(".new").rename(path)
         os.fsync(self._names)
         for it in older:
@@ -119,7 +127,8 @@ class FileJournal:
             os.close(self._file)
         self._file = os.open(path, os.O_WRONLY | os.O_CREAT | flag, 0o600)
 
-    def _write(self, line: bytes) -> None:
-        if os.write(self._file, line) != len(line):
-            raise OSError(f"{self.folder}: the disk is full")
-        os.fsync(self._file)
+    def _write(self, data: bytes) -> None:
+        """Writes all. One call may take a part of it only: when it is over 2 GB, or the disk is nearly full."""
+        rest = memoryview(data)
+        while rest:
+            rest = rest[os.write(self._file, rest) :]

@@ -10,6 +10,7 @@ What it does not promise: its replication is asynchronous. A failover of Redis i
 
 import argparse
 import json
+import os
 import pathlib
 import socket
 import sys
@@ -26,21 +27,36 @@ NOT_HERE = 65_535  # the number of no procedure
 
 
 class RedisJournal:
-    """A stream, and beside it a hash of snapshots, each named by the batch that it stands after."""
+    """A stream, and beside it a hash of snapshots, each named by the batch that it stands after. A value of Redis has at most 512 MB, so
+    a snapshot is in chunks, under names of their own, and the field N has these names."""
 
     def __init__(self, name: str, port: int, follows: bool) -> None:
-        self.name, self.batch, self.follows = name, 0, follows
+        self.name, self.batch, self.follows, self.snapshots = name, 0, follows, name + ":snapshots"
         self._socket = socket.create_connection(("127.0.0.1", port))
         self._socket.setsockopt(socket.IPPROTO_TCP, socket.TCP_NODELAY, 1)
         self._replies = self._socket.makefile("rb")
 
     def start(self, first: Bank) -> Bank:
         """Recovers. Two servers that start at once agree on the first snapshot."""
-        self.ask("HSETNX", self.name + ":rows", 0, seal_snapshot(first))
-        self.batch = max(map(int, self.ask("HKEYS", self.name + ":rows")))
-        bank, _ = unseal_snapshot(self.ask("HGET", self.name + ":rows", self.batch), f"Redis: the snapshot after batch {self.batch}")
+        if not self._whole():
+            self._store(first)
+        self.batch = max(self._whole())
+        chunks = [self.ask("HGET", self.snapshots, name) or b"" for name in self.ask("HGET", self.snapshots, self.batch).split()]
+        bank, _ = unseal_snapshot(b"".join(chunks), f"Redis: the snapshot after batch {self.batch}")
         self.catch_up(bank)
         return bank
+
+    def _whole(self) -> list[int]:
+        """The batches after which a whole snapshot stands."""
+        return [int(field) for field in self.ask("HKEYS", self.snapshots) if b"/" not in field]
+
+    def _store(self, bank: Bank) -> None:
+        """Stores a snapshot: its chunks, and then their names, unless another server was quicker."""
+        nonce, names = os.urandom(8).hex(), []
+        for chunk in seal_snapshot(bank):
+            names.append(f"{self.batch}/{nonce}/{len(names)}")
+            self.ask("HSET", self.snapshots, names[-1], chunk)
+        self.ask("HSETNX", self.snapshots, self.batch, " ".join(names))
 
     def catch_up(self, bank: Bank) -> None:
         """Runs the calls of the batches that were not read yet."""
@@ -69,11 +85,11 @@ class RedisJournal:
         """A snapshot is named by its batch, so a late one of a primary that was replaced does no harm. A follower writes none."""
         if self.follows:
             return
-        self.ask("HSET", self.name + ":rows", self.batch, seal_snapshot(bank))
+        self._store(bank)
         self.ask("XTRIM", self.name, "MINID", f"{self.batch + 1}-0")
-        older = [key for key in self.ask("HKEYS", self.name + ":rows") if int(key) < self.batch]
+        older = [field for field in self.ask("HKEYS", self.snapshots) if int(field.split(b"/")[0]) < self.batch]
         if older:
-            self.ask("HDEL", self.name + ":rows", *older)
+            self.ask("HDEL", self.snapshots, *older)
 
     def ask(self, *words: Union[bytes, str, int]):
         """Redis's reply to a command."""

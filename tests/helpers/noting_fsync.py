@@ -1,9 +1,9 @@
-"""Runs a Python program, and notes for each file how long it was when its last fsync returned.
+"""Runs a program of `examples/payments` with small numbers, and notes for each file how long it was when its last fsync returned.
 
-    NOTE_FSYNC=FILE [CUT_AFTER=ENTRIES] noting_fsync.py PROGRAM WORD..
+    [NOTE_FSYNC=FILE] [CUT_AFTER=ENTRIES] [CHUNK=BYTES] noting_fsync.py PROGRAM WORD..
 
 A kill loses nothing of the page cache. With these notes a test can take away what only stood there, as a loss of power may.
-CUT_AFTER has the bank of `examples/payments` cut its history after so many entries.
+CUT_AFTER has the bank cut its history after so many entries, CHUNK has a snapshot stored in chunks of so many bytes.
 """
 
 import os
@@ -11,7 +11,7 @@ import pathlib
 import runpy
 import sys
 
-note = os.open(os.environ["NOTE_FSYNC"], os.O_WRONLY | os.O_CREAT | os.O_APPEND, 0o600)
+note = os.open(os.environ.get("NOTE_FSYNC", os.devnull), os.O_WRONLY | os.O_CREAT | os.O_APPEND, 0o600)
 fsync = os.fsync
 
 
@@ -29,4 +29,8 @@ if "CUT_AFTER" in os.environ:
     import bank
 
     bank.ENTRIES = int(os.environ["CUT_AFTER"])
+if "CHUNK" in os.environ:
+    import journal
+
+    journal.CHUNK = int(os.environ["CHUNK"])
 runpy.run_path(sys.argv[0], run_name="__main__")
