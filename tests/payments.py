@@ -655,8 +655,10 @@ def failovers():
         try:
             wait_for(port)
             own = ("queue", "--redis-port", port, "--accounts", ACCOUNTS, "--cents", CENTS, "--admin")
+            # With snapshots now and then, in many chunks.
+            small = {"program": "replicated.py", "wrapper": [str(TESTS / "helpers" / "noting_fsync.py")], "env": {"CUT_AFTER": "40000", "CHUNK": "5000"}}
             for is_killed in (True, False):
-                with Server(*own, folder / "1", program="replicated.py") as primary, Server(*own, folder / "2", "--follow", program="replicated.py") as follower:
+                with Server(*own, folder / "1", **small) as primary, Server(*own, folder / "2", "--follow", **small) as follower:
                     asked(follower, [(pay(10**9, 1, 2, 1), {"id": 10**9, "error": "this server does not run it"})])
                     stop = primary.process.kill if is_killed else lambda: primary.process.send_signal(signal.SIGSTOP)
                     threading.Timer(0.4, stop).start()

@@ -82,11 +82,15 @@ class RedisJournal:
             raise Unusable(f"Redis: another primary has appended after batch {self.batch}")
 
     def cut(self, bank: Bank) -> None:
-        """A snapshot is named by its batch, so a late one of a primary that was replaced does no harm. A follower writes none."""
+        """A snapshot is named by its batch, so a late one of a primary that was replaced does no harm. A follower writes none.
+
+        The batches since the snapshot before it stay, for followers that have not read all yet.
+        """
         if self.follows:
             return
+        before = max((batch for batch in self._whole() if batch < self.batch), default=0)
         self._store(bank)
-        self.ask("XTRIM", self.name, "MINID", f"{self.batch + 1}-0")
+        self.ask("XTRIM", self.name, "MINID", f"{before + 1}-0")
         older = [field for field in self.ask("HKEYS", self.snapshots) if int(field.split(b"/")[0]) < self.batch]
         if older:
             self.ask("HDEL", self.snapshots, *older)
