@@ -5,7 +5,7 @@
 
 It runs the server as a user does, with the library of `bindings/out`, which has to be made: the replies; a crash under load, ROUNDS
 times (30), or one of its front processes, with what no fsync had kept taken away or garbled; a journal cut at each byte and with a flipped
-bit in each; a full disk; an fsync that fails; large snapshots; another program's procedures; a forged journal; clients that vanish; and a failover over Redis, if the machine has
+bit in each; a full disk; an fsync that fails; large snapshots, and one that fails; another program's procedures; a forged journal; clients that vanish; and a failover over Redis, if the machine has
 it. Each case is reported, and the last line counts them.
 """
 
@@ -486,6 +486,38 @@ def large_snapshots():
     return f"the largest has {largest} bytes"
 
 
+def failed_snapshot():
+    """A snapshot that the disk has no space for ends nothing, and leaves nothing. The server says so, and takes the next one."""
+    small = {"wrapper": [str(TESTS / "helpers" / "noting_fsync.py")], "env": {"CUT_AFTER": "2000"}}
+    paid, count = [], 120  # at once: as many as have the history cut
+
+    def pay_some(server):
+        begin = len(paid) + 1
+        paid.extend(server.ask(*[pay(number, number % 100 + 1, number % 100 + 2, 1) for number in range(begin, begin + count)]))
+
+    with room() as folder:
+        admin = folder / "j" / "admin"
+        with Server("serve", folder / "j", "--accounts", 1000, "--cents", CENTS, **small) as server:
+            limits = resource.prlimit(server.process.pid, resource.RLIMIT_FSIZE, (40_000, resource.RLIM_INFINITY))
+            pay_some(server)
+            health = ask(admin, "health")["health"]
+            if not re.search(r"no snapshot after call \d+: .*\.new: .*too large", health):
+                raise Differs(f"health is {health}")
+            same("the files", ["000000000000000.journal", "admin"], sorted(path.name for path in (folder / "j").iterdir()))
+            resource.prlimit(server.process.pid, resource.RLIMIT_FSIZE, limits)
+            pay_some(server)
+            same("health", "ok", ask(admin, "health")["health"])
+            same("the files", [f"{2 * count + 1:015}.journal", "admin"], sorted(path.name for path in (folder / "j").iterdir()))
+            server.process.kill()
+        same("the payments", [(it["id"], it["from_has"], it["to_has"]) for it in paid], payments_in(folder / "j"))
+
+
+def payments_in(folder):
+    """The id of each payment in a journal, and what both had after it."""
+    _, found, _ = recovered(folder)
+    return [(number, found[5][number], found[6][number]) for number in sorted(found[5])]
+
+
 def other_procedures():
     """A program with other procedures recovers by the old ones, and goes on with its own."""
     with room() as folder:
@@ -701,7 +733,7 @@ def main():
         return crashes(rounds, seed)
 
     crash_test.__name__ = "crashes"
-    return tell([replies, administration, torn_tails, damage, full_disk, failing_fsync, large_snapshots, other_procedures, bad_procedures, forged_journal, killed_fronts, vanished_clients, idle_clients, failovers, crash_test], of="payments")
+    return tell([replies, administration, torn_tails, damage, full_disk, failing_fsync, large_snapshots, failed_snapshot, other_procedures, bad_procedures, forged_journal, killed_fronts, vanished_clients, idle_clients, failovers, crash_test], of="payments")
 
 
 if __name__ == "__main__":

@@ -19,6 +19,10 @@ class Unusable(Exception):
     """A journal or a snapshot that can't be trusted, or a file that is no procedure."""
 
 
+class NoSnapshot(OSError):
+    """A snapshot that could not be stored. The journal goes on without it."""
+
+
 class Procedure:
     """A file of the folder: a procedure, and what clients send and get."""
 

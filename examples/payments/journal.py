@@ -1,5 +1,6 @@
 """The journal: the committed calls in commit order, in files. What is appended is on disk when `append` returns."""
 
+import contextlib
 import fcntl
 import json
 import os
@@ -7,7 +8,7 @@ import pathlib
 import zlib
 from typing import Any, Iterator, Sequence
 
-from bank import Bank, Call, Unusable
+from bank import Bank, Call, NoSnapshot, Unusable
 
 CHUNK = 1 << 26  # bytes of a snapshot that are stored at a time
 
@@ -67,6 +68,30 @@ def unseal_snapshot(data: bytes, where: str) -> tuple[Bank, int]:
     return Bank(seq, texts, rows), at + length
 
 
+def write_all(file: int, data: bytes) -> None:
+    """Writes all. One call may take a part of it only: when it is over 2 GB, or the disk is nearly full."""
+    rest = memoryview(data)
+    while rest:
+        rest = rest[os.write(file, rest) :]
+
+
+def store_snapshot(path: pathlib.Path, bank: Bank) -> int:
+    """Writes a snapshot to a new file, which is on disk when this returns. The open file. `NoSnapshot` if that fails: then there is no file."""
+    file = -1
+    try:
+        file = os.open(path, os.O_WRONLY | os.O_CREAT | os.O_TRUNC, 0o600)
+        for chunk in seal_snapshot(bank):
+            write_all(file, chunk)
+        os.fsync(file)
+        return file
+    except (OSError, MemoryError) as why:
+        if file >= 0:
+            os.close(file)
+        with contextlib.suppress(OSError):
+            path.unlink()
+        raise NoSnapshot(f"{path}: {why}") from None
+
+
 class FileJournal:
     """A folder. N.journal begins with a snapshot after call N, and goes on with the calls after it."""
 
@@ -97,7 +122,7 @@ class FileJournal:
         path = self.paths()[-1]
         bank, calls, torn = self.load(path)
         bank.replay(calls)
-        self._open(path, os.O_APPEND)
+        self._file = os.open(path, os.O_WRONLY | os.O_APPEND)
         os.ftruncate(self._file, path.stat().st_size - torn)
         # The last calls, and the file's name, may be in memory alone. This makes them safe before anybody is told of them.
         self.append(bank.seq, ())
@@ -106,29 +131,18 @@ class FileJournal:
 
     def append(self, seq: int, calls: Sequence[Call]) -> None:
         """Returns once the calls up to `seq` are on disk. An OSError must end the program: nobody knows what a failed fsync has kept."""
-        self._write(seal_batch(seq, calls))
+        write_all(self._file, seal_batch(seq, calls))
         os.fsync(self._file)
 
     def cut(self, bank: Bank) -> None:
-        """Goes on in a new file, from a snapshot of the bank."""
+        """Goes on in a new file, from a snapshot of the bank. `NoSnapshot` if that can't be written: then it goes on in the old one."""
         older, path = self.paths(), self.folder / f"{bank.seq:015}.journal"
-        self._open(path.with_suffix(".new"), os.O_TRUNC)
-        for chunk in seal_snapshot(bank):
-            self._write(chunk)
-        os.fsync(self._file)
+        file = store_snapshot(path.with_suffix(".new"), bank)
         path.with_suffix(".new").rename(path)
         os.fsync(self._names)
+        if self._file >= 0:
+            os.close(self._file)
+        self._file = file
         for it in older:
             if it != path and not self.keep:
                 it.unlink()
-
-    def _open(self, path: pathlib.Path, flag: int) -> None:
-        if self._file >= 0:
-            os.close(self._file)
-        self._file = os.open(path, os.O_WRONLY | os.O_CREAT | flag, 0o600)
-
-    def _write(self, data: bytes) -> None:
-        """Writes all. One call may take a part of it only: when it is over 2 GB, or the disk is nearly full."""
-        rest = memoryview(data)
-        while rest:
-            rest = rest[os.write(self._file, rest) :]

@@ -4,6 +4,7 @@
 import argparse
 import hashlib
 import json
+import logging
 import marshal
 import pathlib
 import select
@@ -16,7 +17,7 @@ from typing import Any, Callable, Sequence
 
 from administration import listen_at
 from audit import show, verify
-from bank import Bank, Call, Unusable, first_rows, load_procedures
+from bank import Bank, Call, NoSnapshot, Unusable, first_rows, load_procedures
 from front import start_fronts
 from journal import FileJournal
 from sgt import pack_calls
@@ -33,6 +34,7 @@ class Server:
         self.batch: list[Call] = []  # calls that ran, and are not safe yet
         self.is_marked, self.day = True, -1
         self.began, self.calls, self.batches, self.appending = time.monotonic(), 0, 0, 0.0
+        self.trouble: dict[str, str] = {}  # what an operator should look after, by kind
         self.words: dict[str, Callable[[int], dict[str, Any]]] = {"rows": self.rows, "health": self.health, "figures": self.figures}
         for front in fronts:
             front.send_bytes(marshal.dumps(bank.numbers))
@@ -48,7 +50,16 @@ class Server:
         except (EOFError, ConnectionError):
             raise OSError("a front process has ended") from None
         if self.bank.cut_if_long():
+            self.take_snapshot()
+
+    def take_snapshot(self) -> None:
+        """Has the journal begin anew with a snapshot. One that can't be stored ends nothing: the next cut tries again."""
+        try:
             self.journal.cut(self.bank)
+            self.trouble.pop("snapshot", None)
+        except NoSnapshot as why:
+            self.trouble["snapshot"] = f"no snapshot after call {self.bank.seq}: {why}"
+            logging.warning(self.trouble["snapshot"])
 
     def before_replies(self) -> None:
         """Makes the batch safe. Nothing is told before: a refusal or a balance may rest on a call of the same batch.
@@ -77,8 +88,8 @@ class Server:
         return {"seq": self.bank.seq, "sha256": hashlib.sha256(self.bank.rows()).hexdigest()}
 
     def health(self, _: int) -> dict[str, Any]:
-        """That there is a reply says that batches become safe, as each reply waits for that."""
-        return {"health": "ok", "seq": self.bank.seq}
+        """What an operator should look after, or ok. That there is a reply says that batches become safe, as each reply waits for that."""
+        return {"health": "; ".join(self.trouble.values()) or "ok", "seq": self.bank.seq}
 
     def figures(self, _: int) -> dict[str, Any]:
         """Since the start: seconds, calls, batches, and seconds in which batches were made safe. And how large the bank is now."""

@@ -17,13 +17,17 @@ import sys
 import time
 from typing import Any, Sequence, Union
 
-from bank import Bank, Call, Unusable, Procedure, first_rows, load_procedures
+from bank import Bank, Call, NoSnapshot, Unusable, Procedure, first_rows, load_procedures
 from front import Connection, start_fronts
 from journal import seal_batch, seal_snapshot, unseal_batches, unseal_snapshot
 from payments import Server, add_options, run
 from sgt import pack_calls, unpack_calls
 
 NOT_HERE = 65_535  # the number of no procedure
+
+
+class Refused(Unusable):
+    """What Redis does not do."""
 
 
 class RedisJournal:
@@ -89,7 +93,10 @@ class RedisJournal:
         if self.follows:
             return
         before = max((batch for batch in self._whole() if batch < self.batch), default=0)
-        self._store(bank)
+        try:
+            self._store(bank)
+        except Refused as why:
+            raise NoSnapshot(str(why)) from None
         self.ask("XTRIM", self.name, "MINID", f"{before + 1}-0")
         older = [field for field in self.ask("HKEYS", self.snapshots) if int(field.split(b"/")[0]) < self.batch]
         if older:
@@ -111,8 +118,10 @@ class RedisJournal:
             return None if rest == b"-1" else self._replies.read(int(rest) + 2)[:-2]
         if kind == b"*":
             return [self._reply() for _ in range(int(rest))]
+        if kind == b"-":
+            raise Refused(f"Redis: {rest.decode()}")
         if kind not in (b"+", b":"):
-            raise Unusable(f"Redis: {line.decode().strip() or 'gone'}")
+            raise Unusable("Redis: gone")
         return int(rest) if kind == b":" else rest
 
 
