@@ -673,46 +673,73 @@ def rows_of_stream(name, port):
 
 
 def failovers():
-    """A follower takes over from a primary that was killed, and from one that was stopped and wakes later."""
+    """A follower takes over: from a primary that was killed, from one that was stopped and wakes later, and from one that clients still pay at."""
     redis = shutil.which("redis-server")
     if redis is None:
         return "left out: there is no redis-server on this machine"
-    load = Load(random.Random(9))
-    with room() as folder, socket.socket() as free:
-        free.bind(("127.0.0.1", 0))
+    load, cases = Load(random.Random(9)), (take_over_killed, take_over_stopped, take_over_busy)
+    with room() as folder, redis_server(redis, folder, "--appendonly", "yes", "--appendfsync", "always") as port:
+        own = ("queue", "--redis-port", port, "--accounts", ACCOUNTS, "--cents", CENTS, "--admin")
+        # With snapshots now and then, in many chunks.
+        small = {"program": "replicated.py", "wrapper": [str(TESTS / "helpers" / "noting_fsync.py")], "env": {"CUT_AFTER": "40000", "CHUNK": "5000"}}
+        for case in cases:
+            with Server(*own, folder / "1", **small) as primary, Server(*own, folder / "2", "--follow", **small) as follower:
+                asked(follower, [(pay(10**9, 1, 2, 1), {"id": 10**9, "error": "this server does not run it"})])
+                same("whether it follows", True, ask(folder / "2", "health")["follows"])
+                case(load, primary, follower, folder / "2")
+                same("whether it follows", False, ask(folder / "2", "health")["follows"])
+            load.judge(*rows_of_stream("queue", port))
+    return f"{len(cases)} failovers, {len(load.acknowledged)} payments acknowledged, each there once"
+
+
+def take_over_killed(load, primary, follower, admin):
+    threading.Timer(0.4, primary.process.kill).start()
+    load.run(primary, 0.8)
+    same("what a promotion tells", {"promoted"}, set(ask(admin, "promote")))
+    load.run(follower, 0.4)
+
+
+def take_over_stopped(load, primary, follower, admin):
+    threading.Timer(0.4, primary.process.send_signal, (signal.SIGSTOP,)).start()
+    load.run(primary, 0.8)
+    same("what a promotion tells", {"promoted"}, set(ask(admin, "promote")))
+    load.run(follower, 0.4)
+    primary.process.send_signal(signal.SIGCONT)
+    before = dict(load.acknowledged)
+    load.run(primary, 0.5)
+    same("what a replaced primary acknowledges", before, load.acknowledged)
+    ends_replaced(primary)
+
+
+def take_over_busy(load, primary, follower, admin):
+    promoted = []
+    threading.Timer(0.3, lambda: promoted.append(ask(admin, "promote"))).start()
+    load.run(primary, SECONDS)  # until it is replaced, and ends
+    ends_replaced(primary)
+    same("what a promotion tells", [{"promoted"}], [set(it) for it in promoted])
+    load.run(follower, 0.4)
+
+
+def ends_replaced(primary):
+    """A primary that was replaced ends, and says why."""
+    error = primary.process.communicate(timeout=SECONDS)[1]
+    same("the status of a replaced primary", 1, primary.process.returncode)
+    if "Redis: another primary has appended" not in error:
+        raise Differs(f"a replaced primary says {error}")
+
+
+@contextlib.contextmanager
+def redis_server(program, folder, *words):
+    """A Redis with these options. Its port."""
+    with socket.create_server(("127.0.0.1", 0)) as free:
         port = free.getsockname()[1]
-        free.close()
-        words = [redis, "--port", str(port), "--dir", str(folder), "--appendonly", "yes", "--appendfsync", "always", "--save", ""]
-        process = subprocess.Popen(words, stdout=subprocess.DEVNULL)
-        try:
-            wait_for(port)
-            own = ("queue", "--redis-port", port, "--accounts", ACCOUNTS, "--cents", CENTS, "--admin")
-            # With snapshots now and then, in many chunks.
-            small = {"program": "replicated.py", "wrapper": [str(TESTS / "helpers" / "noting_fsync.py")], "env": {"CUT_AFTER": "40000", "CHUNK": "5000"}}
-            for is_killed in (True, False):
-                with Server(*own, folder / "1", **small) as primary, Server(*own, folder / "2", "--follow", **small) as follower:
-                    asked(follower, [(pay(10**9, 1, 2, 1), {"id": 10**9, "error": "this server does not run it"})])
-                    stop = primary.process.kill if is_killed else lambda: primary.process.send_signal(signal.SIGSTOP)
-                    threading.Timer(0.4, stop).start()
-                    load.run(primary, 0.8)
-                    same("whether it follows", True, ask(folder / "2", "health")["follows"])
-                    same("what a promotion tells", {"promoted"}, set(ask(folder / "2", "promote")))
-                    same("whether it follows", False, ask(folder / "2", "health")["follows"])
-                    load.run(follower, 0.4)
-                    if not is_killed:
-                        primary.process.send_signal(signal.SIGCONT)
-                        before = dict(load.acknowledged)
-                        load.run(primary, 0.5)
-                        same("what a replaced primary acknowledges", before, load.acknowledged)
-                        error = primary.process.communicate(timeout=SECONDS)[1]
-                        same("the status of a replaced primary", 1, primary.process.returncode)
-                        if "Redis" not in error:
-                            raise Differs(f"a replaced primary says {error}")
-                load.judge(*rows_of_stream("queue", port))
-        finally:
-            process.kill()
-            process.wait()
-    return f"2 failovers, {len(load.acknowledged)} payments acknowledged, each there once"
+    process = subprocess.Popen([program, "--port", str(port), "--dir", str(folder), "--save", "", *words], stdout=subprocess.DEVNULL)
+    try:
+        wait_for(port)
+        yield port
+    finally:
+        process.kill()
+        process.wait()
 
 
 def wait_for(port):

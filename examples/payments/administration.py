@@ -25,9 +25,12 @@ def listen_at(path: pathlib.Path) -> socket.socket:
 
 
 def ask(path: pathlib.Path, word: str, value: int = True) -> dict[str, Any]:
-    """What the server replies to a word. An OSError if none listens there."""
+    """What the server replies to a word. An OSError if none listens there, or it ends."""
     with socket.socket(socket.AF_UNIX) as server:
         server.connect(str(path))
         server.sendall(json.dumps({word: value}).encode() + b"\n")
-        reply: dict[str, Any] = json.loads(server.makefile().readline())
+        line = server.makefile().readline()
+        if not line:
+            raise ConnectionError(f"{path}: the server has ended")
+        reply: dict[str, Any] = json.loads(line)
         return reply

@@ -9,6 +9,7 @@ What it does not promise: its replication is asynchronous. A failover of Redis i
 """
 
 import argparse
+import contextlib
 import json
 import os
 import pathlib
@@ -28,6 +29,10 @@ NOT_HERE = 65_535  # the number of no procedure
 
 class Refused(Unusable):
     """What Redis does not do."""
+
+
+class Fenced(Unusable):
+    """Another primary has appended a batch."""
 
 
 class RedisJournal:
@@ -75,15 +80,21 @@ class RedisJournal:
                 self.batch += 1
 
     def append(self, seq: int, calls: Sequence[Call]) -> None:
-        """Returns once Redis has the batch. `Unusable` if another primary has appended one since."""
-        self.ask("XADD", self.name, f"{self.batch + 1}-0", "calls", seal_batch(seq, calls))
+        """Returns once Redis has the batch. `Fenced` if another primary has appended one since."""
+        try:
+            self.ask("XADD", self.name, f"{self.batch + 1}-0", "calls", seal_batch(seq, calls))
+        except Refused as why:
+            raise self._fenced() if "equal or smaller" in str(why) else why from None
         self.batch += 1
 
     def check(self) -> None:
         """Before replies that append nothing: a primary that was replaced would report old balances."""
         last = self.ask("XREVRANGE", self.name, "+", "-", "COUNT", 1)
         if last and int(last[0][0].split(b"-")[0]) > self.batch:
-            raise Unusable(f"Redis: another primary has appended after batch {self.batch}")
+            raise self._fenced()
+
+    def _fenced(self) -> Fenced:
+        return Fenced(f"Redis: another primary has appended after batch {self.batch}")
 
     def cut(self, bank: Bank) -> None:
         """A snapshot is named by its batch, so a late one of a primary that was replaced does no harm. A follower writes none.
@@ -141,10 +152,12 @@ class Replica(Server):
         return super().run(calls, words)
 
     def promote(self, _: int) -> dict[str, Any]:
-        """Makes a follower the primary."""
-        if self.journal.follows:
+        """Makes a follower the primary, by an empty batch, which fences the old one. That one may be quicker, some times."""
+        while self.journal.follows:
             self.journal.catch_up(self.bank)
-            self.journal.follows = False
+            with contextlib.suppress(Fenced):
+                self.journal.append(self.bank.seq, ())
+                self.journal.follows = False
         return {"promoted": self.bank.seq}
 
     def health(self, _: int) -> dict[str, Any]:
