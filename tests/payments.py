@@ -97,9 +97,9 @@ def room():
         yield pathlib.Path(folder)
 
 
-def run(*words):
+def run(*words, program="payments.py"):
     """Status, standard output and standard error of a command."""
-    ran = subprocess.run([sys.executable, str(PAYMENTS / "payments.py"), *map(str, words)], capture_output=True, text=True, timeout=SECONDS, check=False)
+    ran = subprocess.run([sys.executable, str(PAYMENTS / program), *map(str, words)], capture_output=True, text=True, timeout=SECONDS, check=False)
     return ran.returncode, ran.stdout, ran.stderr
 
 
@@ -692,6 +692,17 @@ def failovers():
     return f"{len(cases)} failovers, {len(load.acknowledged)} payments acknowledged, each there once"
 
 
+def forgetful_redis():
+    """A Redis that may forget what it has accepted is refused, whether all its configuration is wrong or a part of it."""
+    redis = shutil.which("redis-server")
+    if redis is None:
+        return "left out: there is no redis-server on this machine"
+    for options in ((), ("--appendonly", "yes"), ("--appendfsync", "always"), ("--appendonly", "yes", "--appendfsync", "no")):
+        with room() as folder, redis_server(redis, folder, *options) as port:
+            wanted = "replicated: Redis: it must run with appendonly yes and appendfsync always\n"
+            same(f"a start on Redis with {options}", (1, "", wanted), run("queue", "--redis-port", port, "--admin", folder / "admin", program="replicated.py"))
+
+
 def take_over_killed(load, primary, follower, admin):
     threading.Timer(0.4, primary.process.kill).start()
     load.run(primary, 0.8)
@@ -760,7 +771,7 @@ def main():
         return crashes(rounds, seed)
 
     crash_test.__name__ = "crashes"
-    return tell([replies, administration, torn_tails, damage, full_disk, failing_fsync, large_snapshots, failed_snapshot, other_procedures, bad_procedures, forged_journal, killed_fronts, vanished_clients, idle_clients, failovers, crash_test], of="payments")
+    return tell([replies, administration, torn_tails, damage, full_disk, failing_fsync, large_snapshots, failed_snapshot, other_procedures, bad_procedures, forged_journal, killed_fronts, vanished_clients, idle_clients, failovers, forgetful_redis, crash_test], of="payments")
 
 
 if __name__ == "__main__":

@@ -47,6 +47,7 @@ class RedisJournal:
 
     def start(self, first: Bank) -> Bank:
         """Recovers. Two servers that start at once agree on the first snapshot."""
+        self._refuse_forgetful()
         if not self._whole():
             self._store(first)
         self.batch = max(self._whole())
@@ -54,6 +55,12 @@ class RedisJournal:
         bank, _ = unseal_snapshot(b"".join(chunks), f"Redis: the snapshot after batch {self.batch}")
         self.catch_up(bank)
         return bank
+
+    def _refuse_forgetful(self) -> None:
+        """With any other configuration Redis accepts batches that it forgets when it is killed."""
+        has = self.ask("CONFIG", "GET", "append*")
+        if {(b"appendonly", b"yes"), (b"appendfsync", b"always")} - set(zip(has[::2], has[1::2])):
+            raise Unusable("Redis: it must run with appendonly yes and appendfsync always")
 
     def _whole(self) -> list[int]:
         """The batches after which a whole snapshot stands."""
