@@ -512,6 +512,18 @@ def failed_snapshot():
         same("the payments", [(it["id"], it["from_has"], it["to_has"]) for it in paid], payments_in(folder / "j"))
 
 
+def begun_snapshots():
+    """What is left of a snapshot in which the server was killed is removed by the next start, and nothing else is."""
+    with room() as folder:
+        a_journal(folder / "j")
+        for number in (3, 5):
+            (folder / "j" / f"{number:015}.new").write_bytes(b"12345678 [")
+        (folder / "j" / "notes").write_text("of a user")
+        with Server("serve", folder / "j") as server:
+            same("the files", ["000000000000000.journal", "admin", "notes"], sorted(path.name for path in (folder / "j").iterdir()))
+            same("the last call", 11, server.seq)
+
+
 def payments_in(folder):
     """The id of each payment in a journal, and what both had after it."""
     _, found, _ = recovered(folder)
@@ -771,7 +783,7 @@ def main():
         return crashes(rounds, seed)
 
     crash_test.__name__ = "crashes"
-    return tell([replies, administration, torn_tails, damage, full_disk, failing_fsync, large_snapshots, failed_snapshot, other_procedures, bad_procedures, forged_journal, killed_fronts, vanished_clients, idle_clients, failovers, forgetful_redis, crash_test], of="payments")
+    return tell([replies, administration, torn_tails, damage, full_disk, failing_fsync, large_snapshots, failed_snapshot, begun_snapshots, other_procedures, bad_procedures, forged_journal, killed_fronts, vanished_clients, idle_clients, failovers, forgetful_redis, crash_test], of="payments")
 
 
 if __name__ == "__main__":

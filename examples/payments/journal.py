@@ -117,6 +117,8 @@ class FileJournal:
             fcntl.flock(self._names, fcntl.LOCK_EX | fcntl.LOCK_NB)
         except BlockingIOError:
             raise Unusable(f"{self.folder}: another server has this journal") from None
+        for it in self.folder.glob("*.new"):
+            it.unlink()  # the beginning of a snapshot, in which a server was killed
         if not self.paths():
             self.cut(first)
         path = self.paths()[-1]
