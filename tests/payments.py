@@ -503,11 +503,11 @@ def failed_snapshot():
             health = ask(admin, "health")["health"]
             if not re.search(r"no snapshot after call \d+: .*\.new: .*too large", health):
                 raise Differs(f"health is {health}")
-            same("the files", ["000000000000000.journal", "admin"], sorted(path.name for path in (folder / "j").iterdir()))
+            same("the files", ["000000000000000.journal", "admin", "newest"], sorted(path.name for path in (folder / "j").iterdir()))
             resource.prlimit(server.process.pid, resource.RLIMIT_FSIZE, limits)
             pay_some(server)
             same("health", "ok", ask(admin, "health")["health"])
-            same("the files", [f"{2 * count + 1:015}.journal", "admin"], sorted(path.name for path in (folder / "j").iterdir()))
+            same("the files", [f"{2 * count + 1:015}.journal", "admin", "newest"], sorted(path.name for path in (folder / "j").iterdir()))
             server.process.kill()
         same("the payments", [(it["id"], it["from_has"], it["to_has"]) for it in paid], payments_in(folder / "j"))
 
@@ -520,8 +520,28 @@ def begun_snapshots():
             (folder / "j" / f"{number:015}.new").write_bytes(b"12345678 [")
         (folder / "j" / "notes").write_text("of a user")
         with Server("serve", folder / "j") as server:
-            same("the files", ["000000000000000.journal", "admin", "notes"], sorted(path.name for path in (folder / "j").iterdir()))
+            same("the files", ["000000000000000.journal", "admin", "newest", "notes"], sorted(path.name for path in (folder / "j").iterdir()))
             same("the last call", 11, server.seq)
+
+
+def newest_file_gone():
+    """A start whose newest file is gone is refused, whether an older one is there or none."""
+    small = {"wrapper": [str(TESTS / "helpers" / "noting_fsync.py")], "env": {"CUT_AFTER": "100"}}
+    with room() as folder:
+        for options in ((), ("--keep",)):
+            journal = folder / f"j{len(options)}"
+            with Server("serve", journal, "--accounts", 3, *options, **small) as server:
+                for number in range(20):
+                    server.ask(pay(number, 1, 2, 1))
+                server.end()
+            *older, newest = sorted(journal.glob("*.journal"))
+            same("older files", bool(options), bool(older))
+            newest.rename(folder / "aside")
+            wanted = f"payments: {newest}: this file is gone, and with it what was acknowledged after the snapshot in it\n"
+            same("a start without the newest file", (1, "", wanted), run("serve", journal))
+            (folder / "aside").rename(newest)
+            with Server("serve", journal) as server:
+                same("the last call", 21, server.seq)
 
 
 def payments_in(folder):
@@ -783,7 +803,7 @@ def main():
         return crashes(rounds, seed)
 
     crash_test.__name__ = "crashes"
-    return tell([replies, administration, torn_tails, damage, full_disk, failing_fsync, large_snapshots, failed_snapshot, begun_snapshots, other_procedures, bad_procedures, forged_journal, killed_fronts, vanished_clients, idle_clients, failovers, forgetful_redis, crash_test], of="payments")
+    return tell([replies, administration, torn_tails, damage, full_disk, failing_fsync, large_snapshots, failed_snapshot, begun_snapshots, newest_file_gone, other_procedures, bad_procedures, forged_journal, killed_fronts, vanished_clients, idle_clients, failovers, forgetful_redis, crash_test], of="payments")
 
 
 if __name__ == "__main__":

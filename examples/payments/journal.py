@@ -93,10 +93,10 @@ def store_snapshot(path: pathlib.Path, bank: Bank) -> int:
 
 
 class FileJournal:
-    """A folder. N.journal begins with a snapshot after call N, and goes on with the calls after it."""
+    """A folder. N.journal begins with a snapshot after call N, and goes on with the calls after it. The link `newest` leads to the newest."""
 
     def __init__(self, folder: pathlib.Path, keep: bool = False) -> None:
-        self.folder, self.keep, self._file = folder, keep, -1
+        self.folder, self.keep, self._file, self._newest = folder, keep, -1, folder / "newest"
 
     def paths(self) -> list[pathlib.Path]:
         return sorted(self.folder.glob("*.journal"))
@@ -119,6 +119,8 @@ class FileJournal:
             raise Unusable(f"{self.folder}: another server has this journal") from None
         for it in self.folder.glob("*.new"):
             it.unlink()  # the beginning of a snapshot, in which a server was killed
+        if self._newest.is_symlink() and not self._newest.exists():
+            raise Unusable(f"{self.folder / os.readlink(self._newest)}: this file is gone, and with it what was acknowledged after the snapshot in it")
         if not self.paths():
             self.cut(first)
         path = self.paths()[-1]
@@ -128,7 +130,7 @@ class FileJournal:
         os.ftruncate(self._file, path.stat().st_size - torn)
         # The last calls, and the file's name, may be in memory alone. This makes them safe before anybody is told of them.
         self.append(bank.seq, ())
-        os.fsync(self._names)
+        self._name_newest(path)
         return bank, torn
 
     def append(self, seq: int, calls: Sequence[Call]) -> None:
@@ -141,10 +143,18 @@ class FileJournal:
         older, path = self.paths(), self.folder / f"{bank.seq:015}.journal"
         file = store_snapshot(path.with_suffix(".new"), bank)
         path.with_suffix(".new").rename(path)
-        os.fsync(self._names)
+        self._name_newest(path)
         if self._file >= 0:
             os.close(self._file)
         self._file = file
         for it in older:
             if it != path and not self.keep:
                 it.unlink()
+
+    def _name_newest(self, path: pathlib.Path) -> None:
+        """Makes the file's name safe, and then the link to it. A start compares them: of a file that is gone nothing else would tell."""
+        os.fsync(self._names)
+        new = self._newest.with_suffix(".new")
+        new.symlink_to(path.name)
+        new.rename(self._newest)
+        os.fsync(self._names)
