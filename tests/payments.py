@@ -52,10 +52,12 @@ class Server:
         self.process = subprocess.Popen(
             command, stdout=subprocess.PIPE, stderr=subprocess.PIPE, text=True, preexec_fn=before, env={**os.environ, **(env or {})}
         )
+        self.said = []
         for line in self.process.stdout:
             if found := re.match(r"serving on port (\d+) after call (\d+)", line):
                 self.port, self.seq = int(found[1]), int(found[2])
                 return
+            self.said.append(line)
         raise Differs(f"the server did not start: {self.process.communicate()[1]}")
 
     def __enter__(self):
@@ -132,8 +134,8 @@ def recovered(folder):
     """The number of the last call, and the records by table, as a start recovers them from a copy of the journal. And what was cut off."""
     with room() as aside:
         shutil.copytree(folder, aside / "copy", ignore=shutil.ignore_patterns("admin"))
-        bank, torn = FileJournal(aside / "copy").start(Bank(0, PROCEDURES, b""))
-        return bank.seq, tables(bank.rows()), torn
+        bank, cut_off = FileJournal(aside / "copy").start(Bank(0, PROCEDURES, b""))
+        return bank.seq, tables(bank.rows()), int(re.match(r"cut off (\d+) bytes", cut_off)[1]) if cut_off else 0
 
 
 def replies():
@@ -391,6 +393,28 @@ def torn_tails():
         calls.write_bytes(whole + batch)
         same("a batch that is there whole", first + 2, recovered(folder / "j")[0])
     return f"{len(whole) - last + 3 * len(batch) - 1} lengths"
+
+
+def damaged_tails():
+    """A start says what a tail may have held, and keeps it: at least the batches that it did hold, but of the beginning of a line none."""
+    lost = []
+    with room() as folder:
+        calls, data = a_journal(folder / "j")
+        whole = data[: data.rindex(b"\n\n") + 1]  # the last seven batches have a call each, and the last one is call 11
+        calls.write_bytes(whole[:-20])
+        with Server("serve", folder / "j") as server:
+            same("what it says of the beginning of a line", 1, "".join(server.said).count("the beginning of a batch that was not safe"))
+        same("what is kept of it", [], list((folder / "j").glob("*.tail")))
+        for size in (1, 60, 200, 250):
+            calls.write_bytes(whole[:-size] + bytes(size))
+            with Server("serve", folder / "j") as server:
+                said = "".join(server.said)
+            lost.append(11 - server.seq)
+            found = re.fullmatch(rf"cut off (\d+) bytes after call {server.seq}: if power was lost, .*; else damage to at most (\d+) that were safe. Kept in (.*)\n", said)
+            if not found or int(found[2]) < lost[-1]:
+                raise Differs(f"of {size} bytes that held {lost[-1]} batches it says {said}")
+            same("what is kept", (whole[:-size] + bytes(size))[-int(found[1]) :], pathlib.Path(found[3]).read_bytes())
+    return f"of {lost} batches"
 
 
 def damage():
@@ -803,7 +827,7 @@ def main():
         return crashes(rounds, seed)
 
     crash_test.__name__ = "crashes"
-    return tell([replies, administration, torn_tails, damage, full_disk, failing_fsync, large_snapshots, failed_snapshot, begun_snapshots, newest_file_gone, other_procedures, bad_procedures, forged_journal, killed_fronts, vanished_clients, idle_clients, failovers, forgetful_redis, crash_test], of="payments")
+    return tell([replies, administration, torn_tails, damaged_tails, damage, full_disk, failing_fsync, large_snapshots, failed_snapshot, begun_snapshots, newest_file_gone, other_procedures, bad_procedures, forged_journal, killed_fronts, vanished_clients, idle_clients, failovers, forgetful_redis, crash_test], of="payments")
 
 
 if __name__ == "__main__":

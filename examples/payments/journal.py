@@ -5,8 +5,9 @@ import fcntl
 import json
 import os
 import pathlib
+import time
 import zlib
-from typing import Any, Iterator, Sequence
+from typing import Any, Iterable, Iterator, Sequence
 
 from bank import Bank, Call, NoSnapshot, Unusable
 
@@ -31,11 +32,14 @@ def seal_batch(seq: int, calls: Sequence[Call]) -> bytes:
     return b"\n" + seal([seq - len(calls) + 1, *calls])
 
 
+SHORTEST = len(seal_batch(1, [("a",)]))  # bytes of a batch that has a call
+
+
 def unseal_batches(data: bytes, at: int, seq: int, where: str) -> tuple[list[Call], int]:
     """The calls after call `seq`, which the data has from byte `at` on, and up to where it is good.
 
-    A line is written when the one before it is safe. So a bad line before a good one is damage, and `Unusable` names the place. A bad one
-    at the end is a batch that a crash has torn, and that nobody was told of.
+    A line is written when the one before it is safe. So a bad line before a good one is damage, and `Unusable` names the place. What is bad
+    at the end may be a batch that a crash has torn, and that nobody was told of.
     """
     calls: list[Call] = []
     lines = data[at:].split(b"\n")[:-1]
@@ -75,12 +79,12 @@ def write_all(file: int, data: bytes) -> None:
         rest = rest[os.write(file, rest) :]
 
 
-def store_snapshot(path: pathlib.Path, bank: Bank) -> int:
-    """Writes a snapshot to a new file, which is on disk when this returns. The open file. `NoSnapshot` if that fails: then there is no file."""
+def store(path: pathlib.Path, chunks: Iterable[bytes]) -> int:
+    """Writes a new file, which is on disk when this returns. The open file. `NoSnapshot` if that fails: then there is no file."""
     file = -1
     try:
         file = os.open(path, os.O_WRONLY | os.O_CREAT | os.O_TRUNC, 0o600)
-        for chunk in seal_snapshot(bank):
+        for chunk in chunks:
             write_all(file, chunk)
         os.fsync(file)
         return file
@@ -101,15 +105,15 @@ class FileJournal:
     def paths(self) -> list[pathlib.Path]:
         return sorted(self.folder.glob("*.journal"))
 
-    def load(self, path: pathlib.Path) -> tuple[Bank, list[Call], int]:
-        """The snapshot of a file, the calls after it, and how many bytes after these are a torn tail."""
+    def load(self, path: pathlib.Path) -> tuple[Bank, list[Call], bytes]:
+        """The snapshot of a file, the calls after it, and a torn tail, if there is one."""
         data = path.read_bytes()
         bank, at = unseal_snapshot(data, str(path))
         calls, end = unseal_batches(data, at, bank.seq, str(path))
-        return bank, calls, len(data) - end
+        return bank, calls, data[end:]
 
-    def start(self, first: Bank) -> tuple[Bank, int]:
-        """Recovers: the bank as clients know it, and how many bytes of a torn tail were cut off. A new journal begins with `first`."""
+    def start(self, first: Bank) -> tuple[Bank, str]:
+        """Recovers: the bank as clients know it, and what was cut off, for an operator. A new journal begins with `first`."""
         self.folder.mkdir(0o700, exist_ok=True)
         os.fsync(os.open(self.folder.parent, os.O_RDONLY))
         self._names = os.open(self.folder, os.O_RDONLY)
@@ -124,14 +128,24 @@ class FileJournal:
         if not self.paths():
             self.cut(first)
         path = self.paths()[-1]
-        bank, calls, torn = self.load(path)
+        bank, calls, tail = self.load(path)
         bank.replay(calls)
+        report = self._report(bank.seq, tail)
         self._file = os.open(path, os.O_WRONLY | os.O_APPEND)
-        os.ftruncate(self._file, path.stat().st_size - torn)
+        os.ftruncate(self._file, path.stat().st_size - len(tail))
         # The last calls, and the file's name, may be in memory alone. This makes them safe before anybody is told of them.
         self.append(bank.seq, ())
         self._name_newest(path)
-        return bank, torn
+        return bank, report
+
+    def _report(self, seq: int, tail: bytes) -> str:
+        """What a tail after call `seq` may have held. What a killed server leaves is the beginning of a line. All else is kept in a file."""
+        begin = f"cut off {len(tail)} bytes after call {seq}: "
+        if tail.decode("latin-1").isprintable():
+            return begin + "the beginning of a batch that was not safe, and that nobody was told of" if tail else ""
+        path, most = self.folder / f"{seq:015}-{time.time_ns()}.tail", (len(tail) + 1) // SHORTEST
+        os.close(store(path, [tail]))
+        return begin + f"if power was lost, a batch that nobody was told of; else damage to at most {most} that were safe. Kept in {path}"
 
     def append(self, seq: int, calls: Sequence[Call]) -> None:
         """Returns once the calls up to `seq` are on disk. An OSError must end the program: nobody knows what a failed fsync has kept."""
@@ -141,7 +155,7 @@ class FileJournal:
     def cut(self, bank: Bank) -> None:
         """Goes on in a new file, from a snapshot of the bank. `NoSnapshot` if that can't be written: then it goes on in the old one."""
         older, path = self.paths(), self.folder / f"{bank.seq:015}.journal"
-        file = store_snapshot(path.with_suffix(".new"), bank)
+        file = store(path.with_suffix(".new"), seal_snapshot(bank))
         path.with_suffix(".new").rename(path)
         self._name_newest(path)
         if self._file >= 0:

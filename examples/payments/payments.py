@@ -113,9 +113,9 @@ def serve(words: argparse.Namespace) -> None:
     port, fronts = start_fronts(words.port, procedures, words.idle)
     texts = {name: it.text for name, it in procedures.items()}
     journal = FileJournal(words.folder, words.keep)
-    bank, torn = journal.start(Bank(0, texts, first_rows(words.accounts, words.cents)))
-    if torn:
-        print(f"cut off {torn} bytes after call {bank.seq}: a batch that was not safe, and that nobody was told of", flush=True)
+    bank, cut_off = journal.start(Bank(0, texts, first_rows(words.accounts, words.cents)))
+    if cut_off:
+        print(cut_off, flush=True)
     if bank.texts != texts:
         bank = Bank(bank.seq, texts, bank.rows())  # the journal was written with other procedures; those of this program begin here
         journal.cut(bank)
