@@ -568,6 +568,54 @@ def newest_file_gone():
                 same("the last call", 21, server.seq)
 
 
+def jumping_clock():
+    """The day goes on by one at a time; a clock that jumps changes nothing until an operator says the day, forwards or back."""
+    with room() as folder:
+        ahead, admin = folder / "ahead", folder / "j" / "admin"
+        skewed = {"wrapper": [str(TESTS / "helpers" / "noting_fsync.py")], "env": {"DAYS_AHEAD": str(ahead)}}
+        words = ("serve", folder / "j", "--accounts", 3, "--cents", 9_000_000)
+
+        def set_clock(days):
+            (folder / "next").write_text(str(days))
+            (folder / "next").rename(ahead)
+
+        set_clock(0)
+        with Server(*words, **skewed) as server:
+
+            def pays(number, days, is_within):
+                set_clock(days)
+                (reply,) = server.ask(pay(number, 1, 2, LIMIT))
+                same(f"payment {number}", "paid" if is_within else "refused", list(reply)[1])
+
+            pays(1, 0, True)
+            first = ask(admin, "day")["day"]
+            pays(2, 0, False)
+            pays(3, 1, True)
+            pays(4, 400, False)
+            same("health", f"the clock says day {first + 400}, and the bank has day {first + 1}", ask(admin, "health")["health"])
+            same("the day", {"day": first + 1}, ask(admin, "day"))
+            same("the day that an operator says", {"day": first + 400}, ask(admin, "day", first + 400))
+            pays(5, 400, True)
+            pays(6, 401, True)
+            same("health", "ok", ask(admin, "health")["health"])
+            pays(7, 1, False)
+            same("health", f"the clock says day {first + 1}, and the bank has day {first + 401}", ask(admin, "health")["health"])
+            same("days that are none", [{"day": first + 401}] * 2, [ask(admin, "day", day) for day in (-1, 100_000)])
+            same("the day that an operator says", {"day": first + 1}, ask(admin, "day", first + 1))
+            pays(8, 1, False)  # that day was there, and its limit is reached
+            pays(9, 2, True)
+            for days in (3, 4):  # nobody asks for two days
+                set_clock(days)
+                time.sleep(0.5)
+            pays(10, 4, True)
+            same("verify", 0, run("verify", folder / "j")[0])
+            server.process.kill()
+        set_clock(6)
+        with Server(*words, **skewed) as server:
+            pays(11, 6, False)
+            same("the day after a start two days later", {"day": first + 4}, ask(admin, "day"))
+
+
 def payments_in(folder):
     """The id of each payment in a journal, and what both had after it."""
     _, found, _ = recovered(folder)
@@ -827,7 +875,7 @@ def main():
         return crashes(rounds, seed)
 
     crash_test.__name__ = "crashes"
-    return tell([replies, administration, torn_tails, damaged_tails, damage, full_disk, failing_fsync, large_snapshots, failed_snapshot, begun_snapshots, newest_file_gone, other_procedures, bad_procedures, forged_journal, killed_fronts, vanished_clients, idle_clients, failovers, forgetful_redis, crash_test], of="payments")
+    return tell([replies, administration, torn_tails, damaged_tails, damage, full_disk, failing_fsync, large_snapshots, failed_snapshot, begun_snapshots, newest_file_gone, jumping_clock, other_procedures, bad_procedures, forged_journal, killed_fronts, vanished_clients, idle_clients, failovers, forgetful_redis, crash_test], of="payments")
 
 
 if __name__ == "__main__":

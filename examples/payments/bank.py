@@ -5,7 +5,7 @@ import pathlib
 import struct
 import sys
 from itertools import compress
-from typing import Any, Sequence
+from typing import Any, Optional, Sequence
 
 sys.path.insert(0, str(pathlib.Path(__file__).resolve().parents[2] / "bindings" / "python"))
 from sgt import Engine, Kind, Reply, pack_calls, unpack_calls, wrote  # noqa: E402
@@ -93,6 +93,10 @@ class Bank:
         rows = self._engine.rows_bytes()
         self._records = len(rows) // ROW.size
         return rows
+
+    def day(self) -> Optional[int]:
+        """The day, counted from 1970, or None before the first."""
+        return self._engine.get(0, 0)
 
     def sizes(self) -> dict[str, int]:
         """How many records the database has, and how many entries the history."""

@@ -34,14 +34,20 @@ class Server:
         self.batch: list[Call] = []  # calls that ran, and are not safe yet
         self.is_marked, self.day = True, -1
         self.began, self.calls, self.batches, self.appending = time.monotonic(), 0, 0, 0.0
-        self.trouble: dict[str, str] = {}  # what an operator should look after, by kind
-        self.words: dict[str, Callable[[int], dict[str, Any]]] = {"rows": self.rows, "health": self.health, "figures": self.figures}
+        self.trouble = ""  # of the last snapshot
+        self.words: dict[str, Callable[[int], dict[str, Any]]] = {
+            "rows": self.rows,
+            "health": self.health,
+            "figures": self.figures,
+            "day": self.set_day,
+        }
         for front in fronts:
             front.send_bytes(marshal.dumps(bank.numbers))
 
     def turn(self) -> None:
         """Waits for requests, and replies to all that have come in. The next ones gather meanwhile."""
         ready = select.select(self.fronts, (), (), IDLE)[0]
+        self.begin_day()
         try:
             replies = [self.run(*marshal.loads(front.recv_bytes())) for front in ready]
             self.before_replies()
@@ -56,10 +62,10 @@ class Server:
         """Has the journal begin anew with a snapshot. One that can't be stored ends nothing: the next cut tries again."""
         try:
             self.journal.cut(self.bank)
-            self.trouble.pop("snapshot", None)
+            self.trouble = ""
         except NoSnapshot as why:
-            self.trouble["snapshot"] = f"no snapshot after call {self.bank.seq}: {why}"
-            logging.warning(self.trouble["snapshot"])
+            self.trouble = f"no snapshot after call {self.bank.seq}: {why}"
+            logging.warning(self.trouble)
 
     def before_replies(self) -> None:
         """Makes the batch safe. Nothing is told before: a refusal or a balance may rest on a call of the same batch.
@@ -75,8 +81,6 @@ class Server:
 
     def run(self, calls: bytes, words: Sequence[tuple[str, int]] = ()) -> tuple[bytes, list[str]]:
         """Runs packed calls, and adds those that wrote to the batch. Their packed outcomes, and then the replies to words."""
-        if calls:
-            self.begin_day()
         outcomes, wrote = self.bank.run(calls)
         self.batch += wrote
         self.bank.seq += len(wrote)
@@ -89,7 +93,7 @@ class Server:
 
     def health(self, _: int) -> dict[str, Any]:
         """What an operator should look after, or ok. That there is a reply says that batches become safe, as each reply waits for that."""
-        return {"health": "; ".join(self.trouble.values()) or "ok", "seq": self.bank.seq}
+        return {"health": "; ".join(filter(None, (self.trouble, self.trouble_of_clock()))) or "ok", "seq": self.bank.seq}
 
     def figures(self, _: int) -> dict[str, Any]:
         """Since the start: seconds, calls, batches, and seconds in which batches were made safe. And how large the bank is now."""
@@ -100,11 +104,32 @@ class Server:
         return {"error": "no word of this server"}
 
     def begin_day(self) -> None:
-        """Tells the bank the day, as a call: a procedure has no clock, so the day stands in the journal."""
-        day = int(time.time() // 86_400)
+        """Tells the bank the day, as a call: a procedure has no clock, so the day stands in the journal.
+
+        The procedure takes the day after its own day alone. When the clock jumps, the bank keeps its day until an operator says another.
+        """
+        day = today()
         if day != self.day and "day" in self.bank.numbers:
             self.day = day
             self.run(pack_calls([(self.bank.numbers["day"], day)]))
+            if self.bank.day() != day:
+                logging.warning(self.trouble_of_clock())
+
+    def trouble_of_clock(self) -> str:
+        """Whether the bank has another day than the clock. A follower may get the next day a moment late."""
+        clock, day = today(), self.bank.day()
+        return "" if day is None or clock - day in (0, 1) else f"the clock says day {clock}, and the bank has day {day}"
+
+    def set_day(self, day: int) -> dict[str, Any]:
+        """The day as an operator says it, whatever the clock says; with true in place of a number the day as it is."""
+        if not isinstance(day, bool) and "set_day" in self.bank.numbers:
+            self.run(pack_calls([(self.bank.numbers["set_day"], day)]))
+        return {"day": self.bank.day()}
+
+
+def today() -> int:
+    """The day by the clock, in UTC, counted from 1970."""
+    return int(time.time() // 86_400)
 
 
 def serve(words: argparse.Namespace) -> None:
