@@ -483,7 +483,7 @@ def failing_fsync():
     with room() as folder:
         preload = preloaded(folder, "failing_fsync")
         words = ("serve", folder / "j", "--accounts", ACCOUNTS, "--cents", CENTS)
-        for fails_after in (5, 40):
+        for fails_after in (10, 40):
             with Server(*words, env={**preload, "FSYNC_FAILS_AFTER": str(fails_after)}) as server:
                 error = ends_at_once(server, load)
             if "Input/output error" not in error:
