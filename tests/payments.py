@@ -35,7 +35,7 @@ from administration import ask  # noqa: E402
 from bank import ROW, Bank, Unusable, load_procedures  # noqa: E402
 from front import FRONTS, OTHER_FILES  # noqa: E402
 from journal import FileJournal, seal_batch, unseal  # noqa: E402
-from replicated import RedisJournal  # noqa: E402
+from redis_journal import RedisJournal  # noqa: E402
 
 SECONDS = 60
 PROCEDURES = {name: it.text for name, it in load_procedures(PAYMENTS / "procedures").items()}

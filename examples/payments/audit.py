@@ -4,9 +4,10 @@ import argparse
 import contextlib
 import hashlib
 import sys
+from typing import Optional
 
 from administration import ask
-from bank import Unusable, load_procedures
+from bank import Bank, Unusable, load_procedures
 from journal import FileJournal
 
 
@@ -22,7 +23,8 @@ def show(words: argparse.Namespace) -> None:
 
 def verify(words: argparse.Namespace) -> None:
     """Replays the journal in a second engine, and compares every row with each snapshot, and with those of its server, if one runs."""
-    last, wanted, replayed = sys.maxsize, "", None
+    last, wanted, first = sys.maxsize, "", 0
+    replayed: Optional[Bank] = None
     with contextlib.suppress(FileNotFoundError, ConnectionRefusedError):
         last, wanted = ask(words.admin or words.folder / "admin", "rows").values()
     journal = FileJournal(words.folder)

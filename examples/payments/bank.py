@@ -26,7 +26,7 @@ class NoSnapshot(OSError):
 class Procedure:
     """A file of the folder: a procedure, and what clients send and get."""
 
-    def __init__(self, name: str, file: dict) -> None:
+    def __init__(self, name: str, file: dict[str, Any]) -> None:
         self.name, self.text = name, file["procedure"]  # the text is as docs/FORMATS.md has it
         self.request: list[str] = file.get("request", [])  # clients can't ask for a procedure without any keys
         # The parts of a reply, in which %d stands for a number. To put JSON together by `dumps` takes four times as long.
@@ -43,7 +43,7 @@ class Procedure:
         if reply.kind is Kind.COMMITTED:
             told = self._done + "".join([", " + key % value for key, value in zip(self._answers, reply.answers)])
         elif reply.kind is Kind.REFUSED:
-            told = ', "refused": ' + json.dumps(self._reasons.get(reply.code, f"code {reply.code}"))
+            told = ', "refused": ' + json.dumps(self._reasons.get(reply.code or 0, f"code {reply.code}"))
         else:
             told = ', "error": "this server does not run it"'  # as it follows another one
         return "{" + self._begin % first + told + "}\n"
@@ -67,7 +67,7 @@ def load_procedures(folder: pathlib.Path) -> dict[str, Procedure]:
 class Bank:
     """An engine from a snapshot on. `seq` counts the journaled calls from the first opening on."""
 
-    def __init__(self, seq: int, texts: dict[str, list], rows: bytes) -> None:
+    def __init__(self, seq: int, texts: dict[str, list[Any]], rows: bytes) -> None:
         """`texts` are the procedures by name, and `rows` the database as `rows()` returns it."""
         self.seq, self.texts = seq, texts
         self._engine = Engine.bare(1, 4_000_000_000)

@@ -7,7 +7,7 @@ import os
 import pathlib
 import time
 import zlib
-from typing import Any, Iterable, Iterator, Sequence
+from typing import Any, Iterable, Iterator, Protocol, Sequence
 
 from bank import Bank, Call, NoSnapshot, Unusable
 
@@ -65,11 +65,21 @@ def seal_snapshot(bank: Bank) -> Iterator[bytes]:
 def unseal_snapshot(data: bytes, where: str) -> tuple[Bank, int]:
     """The bank that the data begins with, and where it ends. `Unusable` if it is damaged."""
     at = data.find(b"\n") + 1
-    seq, texts, length, checksum = unseal(data[: at - 1]) or (0, {}, 0, -1)
+    seq, texts, length, checksum = unseal(data[: at - 1]) or [0, {}, 0, -1]
     rows = data[at : at + length]
     if zlib.crc32(rows) != checksum:
         raise Unusable(f"{where}: the snapshot is damaged")
     return Bank(seq, texts, rows), at + length
+
+
+class Journal(Protocol):
+    """What the server needs of a journal."""
+
+    def append(self, seq: int, calls: Sequence[Call]) -> None:
+        """Returns once the calls up to `seq` are safe."""
+
+    def cut(self, bank: Bank) -> None:
+        """Stores a snapshot, so that the calls before it are not needed any more. `NoSnapshot` if that fails: then nothing has changed."""
 
 
 def write_all(file: int, data: bytes) -> None:

@@ -19,7 +19,7 @@ from administration import listen_at
 from audit import show, verify
 from bank import Bank, Call, NoSnapshot, Unusable, first_rows, load_procedures
 from front import start_fronts
-from journal import FileJournal
+from journal import FileJournal, Journal
 from sgt import pack_calls
 
 CALL_BYTES = len(pack_calls([(0,)]))
@@ -29,7 +29,7 @@ IDLE = 0.1  # seconds without a request, after which the journal notes what is s
 class Server:
     """The process of the engine. It runs all that the fronts have asked, makes it safe by one append, and only then replies."""
 
-    def __init__(self, bank: Bank, journal: FileJournal, fronts: list[Connection]) -> None:
+    def __init__(self, bank: Bank, journal: Journal, fronts: list[Connection]) -> None:
         self.bank, self.journal, self.fronts = bank, journal, fronts
         self.batch: list[Call] = []  # calls that ran, and are not safe yet
         self.is_marked, self.day = True, -1
