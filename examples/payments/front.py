@@ -142,9 +142,10 @@ class Front:
             return NO_REQUEST
         if end < len(text):
             return NO_REQUEST
-        if procedure and all(type(value) is int and LEAST <= value <= MOST for value in asked.values()):
+        values = [*asked.values()]
+        if procedure and {*map(type, values)} == {int} and LEAST <= min(values) and max(values) <= MOST:
             return procedure, [asked[key] for key in procedure.request]
-        if self.takes_words and len(asked) == 1 and all(isinstance(value, int) and LEAST <= value <= MOST for value in asked.values()):
+        if self.takes_words and len(values) == 1 and isinstance(values[0], int) and LEAST <= values[0] <= MOST:
             return Word(*asked.popitem())
         return NO_REQUEST
 
