@@ -95,8 +95,8 @@ class Bank:
         return rows
 
     def day(self) -> Optional[int]:
-        """The day, counted from 1970, or None before the first."""
-        return self._engine.get(0, 0)
+        """The day, counted from 1970, or None before the first, or if these procedures have no days."""
+        return self._engine.get(0, 0) if "day" in self.numbers else None
 
     def sizes(self) -> dict[str, int]:
         """How many records the database has, and how many entries the history."""

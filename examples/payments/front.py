@@ -67,6 +67,19 @@ def start_fronts(port: int, procedures: dict[str, Procedure], idle: float = 60) 
         return listener.getsockname()[1], fronts
 
 
+def replies_to(asked: list[tuple[int, Request]], outcomes: bytes, of_words: list[str]) -> dict[int, str]:
+    """What each client gets, in the order in which it has asked."""
+    replies, rest = iter(unpack_outcomes(outcomes)), iter(of_words)
+    lines: dict[int, str] = {}
+    for number, it in asked:
+        if not isinstance(it, (str, Word)):
+            line = it[0].line(it[1][0], next(replies).reply)
+        else:
+            line = it if isinstance(it, str) else next(rest)
+        lines[number] = lines.get(number, "") + line
+    return lines
+
+
 class Front:
     """It waits for the replies to what it has asked. What comes in meanwhile is asked next, at once."""
 
@@ -98,17 +111,12 @@ class Front:
         """Waits for lines, has the server run what they ask, and replies."""
         asked = self.wait()
         calls = pack_calls([(self.numbers[it[0].name], *it[1]) for _, it in asked if not isinstance(it, (str, Word))])
-        self.server.send_bytes(marshal.dumps((calls, [tuple(it) for _, it in asked if isinstance(it, Word)])))
-        outcomes, of_words = marshal.loads(self.server.recv_bytes())
-        replies, of_words = iter(unpack_outcomes(outcomes)), iter(of_words)
-        lines: dict[int, str] = {}
-        for number, it in asked:
-            if not isinstance(it, (str, Word)):
-                line = it[0].line(it[1][0], next(replies).reply)
-            else:
-                line = it if isinstance(it, str) else next(of_words)
-            lines[number] = lines.get(number, "") + line
-        for number, line in lines.items():
+        words = [tuple(it) for _, it in asked if isinstance(it, Word)]
+        outcomes, of_words = b"", []
+        if calls or words:
+            self.server.send_bytes(marshal.dumps((calls, words)))
+            outcomes, of_words = marshal.loads(self.server.recv_bytes())
+        for number, line in replies_to(asked, outcomes, of_words).items():
             try:
                 self.clients[number][0].sendall(line.encode())
             except OSError:  # it is gone, or takes no replies; it can ask again with its id

@@ -158,7 +158,7 @@ def run(server: Server, port: int, admin: pathlib.Path, begin: float) -> None:
     while not ends:
         server.turn()
     server.before_replies()
-    admin.unlink()
+    admin.unlink(missing_ok=True)
 
 
 def add_options(parser: argparse.ArgumentParser) -> None:
