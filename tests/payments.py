@@ -5,8 +5,9 @@
 
 It runs the server as a user does, with the library of `bindings/out`, which has to be made: the replies; a crash under load, ROUNDS
 times (30), or one of its front processes, with what no fsync had kept taken away or garbled; a journal cut at each byte and with a flipped
-bit in each; a full disk; an fsync that fails; large snapshots, and one that fails; another program's procedures; a forged journal; clients that vanish; and a failover over Redis, if the machine has
-it. Each case is reported, and the last line counts them.
+bit in each, and one with a damaged tail, or without its newest file; a full disk; an fsync that fails; large snapshots, and one that fails;
+a clock that jumps; another program's procedures; a forged journal; clients that vanish, or ask nothing; what administrators ask; and
+failovers over Redis, if the machine has it. Each case is reported, and the last line counts them.
 """
 
 import contextlib
@@ -105,6 +106,11 @@ def run(*words, program="payments.py"):
     return ran.returncode, ran.stdout, ran.stderr
 
 
+def adjusted(**numbers):
+    """How a server is started by tests/helpers/noting_fsync.py with these numbers, which it describes."""
+    return {"wrapper": [str(TESTS / "helpers" / "noting_fsync.py")], "env": {name: str(number) for name, number in numbers.items()}}
+
+
 def preloaded(folder, name):
     """The environment that has a program load this C file before the C library."""
     library = folder / f"{name}.so"
@@ -168,9 +174,9 @@ def replies():
         if any("error" not in reply for reply in server.ask(*no_request)):
             raise Differs("a line that is no request was taken")
         same("the payments", [20, 21], [reply["id"] for reply in server.ask(pay(20, 2, 1, 1), pay(21, 2, 1, 1))])
-        long, reply = b'{"balance":9' + b" " * 988, {"error": "a line has at most 1000 bytes"}
-        wanted_of_long = [{"balance": 9, "has": 70}, reply, {"balance": 9, "has": 70}, reply, {"balance": 9, "has": 70}]
-        same("lines that are too long, between others", wanted_of_long, server.ask(long[:-1] + b"}", long + b"}", {"balance": 9}, b"x" * 10**6, {"balance": 9}))
+        good, long = {"balance": 9, "has": 70}, {"error": "a line has at most 1000 bytes"}
+        lines = [b'{"balance":9' + b" " * length + b"}" for length in (987, 988, 0, 10**6, 0)]
+        same("lines that are too long, between others", [good, long, good, long, good], server.ask(*lines))
         same("verify", (0, "calls 1 to 7 give the rows of the server\n", ""), run("verify", folder / "j"))
         same("a second server", (1, f"payments: {folder / 'j'}: another server has this journal\n"), (lambda r: (r[0], r[2]))(run("serve", folder / "j")))
         same("the end", (0, ""), server.end())
@@ -327,7 +333,7 @@ def crashes(rounds, seed):
     with room() as folder:
         notes, journal = folder / "synced", folder / "j"
         words = ("serve", journal, "--accounts", ACCOUNTS, "--cents", CENTS, "--keep")
-        noting = {"wrapper": [str(TESTS / "helpers" / "noting_fsync.py")], "env": {"NOTE_FSYNC": str(notes), "CUT_AFTER": "20000"}}
+        noting = adjusted(NOTE_FSYNC=notes, CUT_AFTER=20_000)
         for number in range(rounds):
             server = Server(*words, **noting) if number % 10 != 9 else None
             if server is None:
@@ -410,7 +416,8 @@ def damaged_tails():
             with Server("serve", folder / "j") as server:
                 said = "".join(server.said)
             lost.append(11 - server.seq)
-            found = re.fullmatch(rf"cut off (\d+) bytes after call {server.seq}: if power was lost, .*; else damage to at most (\d+) that were safe. Kept in (.*)\n", said)
+            told = r"if power was lost, .*; else damage to at most (\d+) that were safe. Kept in (.*)\n"
+            found = re.fullmatch(rf"cut off (\d+) bytes after call {server.seq}: {told}", said)
             if not found or int(found[2]) < lost[-1]:
                 raise Differs(f"of {size} bytes that held {lost[-1]} batches it says {said}")
             same("what is kept", (whole[:-size] + bytes(size))[-int(found[1]) :], pathlib.Path(found[3]).read_bytes())
@@ -497,8 +504,7 @@ def large_snapshots():
     load = Load(random.Random(13))
     with room() as folder:
         words = ("serve", folder / "j", "--accounts", ACCOUNTS, "--cents", CENTS, "--keep")
-        small = {"wrapper": [str(TESTS / "helpers" / "noting_fsync.py")], "env": {"CUT_AFTER": "4000", "CHUNK": "5000"}}
-        small["env"] |= {**preloaded(folder, "short_write"), "SHORT_WRITE": "1000"}
+        small = adjusted(CUT_AFTER=4000, CHUNK=5000, SHORT_WRITE=1000, **preloaded(folder, "short_write"))
         with Server(*words, **small) as server:
             load.run(server, 0.5)
             server.process.kill()
@@ -512,7 +518,6 @@ def large_snapshots():
 
 def failed_snapshot():
     """A snapshot that the disk has no space for ends nothing, and leaves nothing. The server says so, and takes the next one."""
-    small = {"wrapper": [str(TESTS / "helpers" / "noting_fsync.py")], "env": {"CUT_AFTER": "2000"}}
     paid, count = [], 120  # at once: as many as have the history cut
 
     def pay_some(server):
@@ -521,17 +526,17 @@ def failed_snapshot():
 
     with room() as folder:
         admin = folder / "j" / "admin"
-        with Server("serve", folder / "j", "--accounts", 1000, "--cents", CENTS, **small) as server:
+        with Server("serve", folder / "j", "--accounts", 1000, "--cents", CENTS, **adjusted(CUT_AFTER=2000)) as server:
             limits = resource.prlimit(server.process.pid, resource.RLIMIT_FSIZE, (40_000, resource.RLIM_INFINITY))
             pay_some(server)
             health = ask(admin, "health")["health"]
             if not re.search(r"no snapshot after call \d+: .*\.new: .*too large", health):
                 raise Differs(f"health is {health}")
-            same("the files", ["000000000000000.journal", "admin", "newest"], sorted(path.name for path in (folder / "j").iterdir()))
+            same("the files", ["000000000000000.journal", "admin", "newest"], names_in(folder / "j"))
             resource.prlimit(server.process.pid, resource.RLIMIT_FSIZE, limits)
             pay_some(server)
             same("health", "ok", ask(admin, "health")["health"])
-            same("the files", [f"{2 * count + 1:015}.journal", "admin", "newest"], sorted(path.name for path in (folder / "j").iterdir()))
+            same("the files", [f"{2 * count + 1:015}.journal", "admin", "newest"], names_in(folder / "j"))
             server.process.kill()
         same("the payments", [(it["id"], it["from_has"], it["to_has"]) for it in paid], payments_in(folder / "j"))
 
@@ -544,24 +549,23 @@ def begun_snapshots():
             (folder / "j" / f"{number:015}.new").write_bytes(b"12345678 [")
         (folder / "j" / "notes").write_text("of a user")
         with Server("serve", folder / "j") as server:
-            same("the files", ["000000000000000.journal", "admin", "newest", "notes"], sorted(path.name for path in (folder / "j").iterdir()))
+            same("the files", ["000000000000000.journal", "admin", "newest", "notes"], names_in(folder / "j"))
             same("the last call", 11, server.seq)
 
 
 def newest_file_gone():
     """A start whose newest file is gone is refused, whether an older one is there or none."""
-    small = {"wrapper": [str(TESTS / "helpers" / "noting_fsync.py")], "env": {"CUT_AFTER": "100"}}
     with room() as folder:
         for options in ((), ("--keep",)):
             journal = folder / f"j{len(options)}"
-            with Server("serve", journal, "--accounts", 3, *options, **small) as server:
+            with Server("serve", journal, "--accounts", 3, *options, **adjusted(CUT_AFTER=100)) as server:
                 for number in range(20):
                     server.ask(pay(number, 1, 2, 1))
                 server.end()
             *older, newest = sorted(journal.glob("*.journal"))
             same("older files", bool(options), bool(older))
             newest.rename(folder / "aside")
-            wanted = f"payments: {newest}: this file is gone, and with it what was acknowledged after the snapshot in it\n"
+            wanted = f"payments: {newest}: this file is gone, and with it what was acknowledged after its snapshot\n"
             same("a start without the newest file", (1, "", wanted), run("serve", journal))
             (folder / "aside").rename(newest)
             with Server("serve", journal) as server:
@@ -571,49 +575,51 @@ def newest_file_gone():
 def jumping_clock():
     """The day goes on by one at a time; a clock that jumps changes nothing until an operator says the day, forwards or back."""
     with room() as folder:
-        ahead, admin = folder / "ahead", folder / "j" / "admin"
-        skewed = {"wrapper": [str(TESTS / "helpers" / "noting_fsync.py")], "env": {"DAYS_AHEAD": str(ahead)}}
-        words = ("serve", folder / "j", "--accounts", 3, "--cents", 9_000_000)
-
-        def set_clock(days):
-            (folder / "next").write_text(str(days))
-            (folder / "next").rename(ahead)
-
-        set_clock(0)
+        admin, words = folder / "j" / "admin", ("serve", folder / "j", "--accounts", 3, "--cents", 9_000_000)
+        skewed = adjusted(DAYS_AHEAD=folder / "ahead")
+        set_clock(folder, 0)
         with Server(*words, **skewed) as server:
-
-            def pays(number, days, is_within):
-                set_clock(days)
-                (reply,) = server.ask(pay(number, 1, 2, LIMIT))
-                same(f"payment {number}", "paid" if is_within else "refused", list(reply)[1])
-
-            pays(1, 0, True)
             first = ask(admin, "day")["day"]
-            pays(2, 0, False)
-            pays(3, 1, True)
-            pays(4, 400, False)
+            # As much as one may pay on a day: the days that the clock is ahead, and whether it is paid.
+            pays_on(folder, server, ((0, True), (0, False), (1, True), (1, False), (400, False)))
             same("health", f"the clock says day {first + 400}, and the bank has day {first + 1}", ask(admin, "health")["health"])
             same("the day", {"day": first + 1}, ask(admin, "day"))
             same("the day that an operator says", {"day": first + 400}, ask(admin, "day", first + 400))
-            pays(5, 400, True)
-            pays(6, 401, True)
+            pays_on(folder, server, ((400, True), (401, True)))
             same("health", "ok", ask(admin, "health")["health"])
-            pays(7, 1, False)
+            pays_on(folder, server, ((1, False),))
             same("health", f"the clock says day {first + 1}, and the bank has day {first + 401}", ask(admin, "health")["health"])
             same("days that are none", [{"day": first + 401}] * 2, [ask(admin, "day", day) for day in (-1, 100_000)])
             same("the day that an operator says", {"day": first + 1}, ask(admin, "day", first + 1))
-            pays(8, 1, False)  # that day was there, and its limit is reached
-            pays(9, 2, True)
-            for days in (3, 4):  # nobody asks for two days
-                set_clock(days)
+            pays_on(folder, server, ((1, False), (2, True)))
+            for days in (3, 4):  # on which nobody asks
+                set_clock(folder, days)
                 time.sleep(0.5)
-            pays(10, 4, True)
+            pays_on(folder, server, ((4, True),))
             same("verify", 0, run("verify", folder / "j")[0])
             server.process.kill()
-        set_clock(6)
+        set_clock(folder, 6)
         with Server(*words, **skewed) as server:
-            pays(11, 6, False)
+            pays_on(folder, server, ((6, False),))
             same("the day after a start two days later", {"day": first + 4}, ask(admin, "day"))
+
+
+def set_clock(folder, days):
+    """Has the clock of the server be so many days ahead."""
+    (folder / "next").write_text(str(days))
+    (folder / "next").rename(folder / "ahead")
+
+
+def pays_on(folder, server, wanted):
+    """Pays as much as one may on a day, when the clock is so many days ahead, and compares whether it is paid."""
+    for days, is_paid in wanted:
+        set_clock(folder, days)
+        (reply,) = server.ask(pay(time.time_ns() % 10**15, 1, 2, LIMIT))
+        same(f"a payment when the clock is {days} days ahead", is_paid, "paid" in reply)
+
+
+def names_in(folder):
+    return sorted(path.name for path in folder.iterdir())
 
 
 def payments_in(folder):
@@ -755,7 +761,8 @@ def idle_clients():
     def few_files():
         resource.setrlimit(resource.RLIMIT_NOFILE, (files, files))
 
-    with room() as folder, contextlib.ExitStack() as clients, Server("serve", folder / "j", "--accounts", 3, "--idle", 1, before=few_files) as server:
+    with room() as folder, contextlib.ExitStack() as clients:
+        server = clients.enter_context(Server("serve", folder / "j", "--accounts", 3, "--idle", 1, before=few_files))
         idle = [clients.enter_context(server.connect()) for _ in range(most + 100)]
         last = idle.pop()
         last.sendall(request)
@@ -777,7 +784,7 @@ def rows_of_stream(name, port):
 
 
 def failovers():
-    """A follower takes over: from a primary that was killed, from one that was stopped and wakes later, and from one that clients still pay at."""
+    """A follower takes over: from a primary that was killed, one that was stopped and wakes later, and one that clients still pay at."""
     redis = shutil.which("redis-server")
     if redis is None:
         return "left out: there is no redis-server on this machine"
@@ -785,7 +792,7 @@ def failovers():
     with room() as folder, redis_server(redis, folder, "--appendonly", "yes", "--appendfsync", "always") as port:
         own = ("queue", "--redis-port", port, "--accounts", ACCOUNTS, "--cents", CENTS, "--admin")
         # With snapshots now and then, in many chunks.
-        small = {"program": "replicated.py", "wrapper": [str(TESTS / "helpers" / "noting_fsync.py")], "env": {"CUT_AFTER": "40000", "CHUNK": "5000"}}
+        small = {"program": "replicated.py", **adjusted(CUT_AFTER=40_000, CHUNK=5000)}
         for case in cases:
             with Server(*own, folder / "1", **small) as primary, Server(*own, folder / "2", "--follow", **small) as follower:
                 asked(follower, [(pay(10**9, 1, 2, 1), {"id": 10**9, "error": "this server does not run it"})])
@@ -804,7 +811,8 @@ def forgetful_redis():
     for options in ((), ("--appendonly", "yes"), ("--appendfsync", "always"), ("--appendonly", "yes", "--appendfsync", "no")):
         with room() as folder, redis_server(redis, folder, *options) as port:
             wanted = "replicated: Redis: it must run with appendonly yes and appendfsync always\n"
-            same(f"a start on Redis with {options}", (1, "", wanted), run("queue", "--redis-port", port, "--admin", folder / "admin", program="replicated.py"))
+            came = run("queue", "--redis-port", port, "--admin", folder / "admin", program="replicated.py")
+            same(f"a start on Redis with {options}", (1, "", wanted), came)
 
 
 def take_over_killed(load, primary, follower, admin):
@@ -875,7 +883,13 @@ def main():
         return crashes(rounds, seed)
 
     crash_test.__name__ = "crashes"
-    return tell([replies, administration, torn_tails, damaged_tails, damage, full_disk, failing_fsync, large_snapshots, failed_snapshot, begun_snapshots, newest_file_gone, jumping_clock, other_procedures, bad_procedures, forged_journal, killed_fronts, vanished_clients, idle_clients, failovers, forgetful_redis, crash_test], of="payments")
+    cases = [replies, administration]
+    cases += [torn_tails, damaged_tails, damage, newest_file_gone, forged_journal]
+    cases += [full_disk, failing_fsync, large_snapshots, failed_snapshot, begun_snapshots]
+    cases += [jumping_clock, other_procedures, bad_procedures]
+    cases += [killed_fronts, vanished_clients, idle_clients]
+    cases += [failovers, forgetful_redis, crash_test]
+    return tell(cases, of="payments")
 
 
 if __name__ == "__main__":

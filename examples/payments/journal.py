@@ -107,7 +107,7 @@ def store(path: pathlib.Path, chunks: Iterable[bytes]) -> int:
 
 
 class FileJournal:
-    """A folder. N.journal begins with a snapshot after call N, and goes on with the calls after it. The link `newest` leads to the newest."""
+    """A folder. N.journal begins with a snapshot after call N, and goes on with the calls after it. The link `newest` leads to the last."""
 
     def __init__(self, folder: pathlib.Path, keep: bool = False) -> None:
         self.folder, self.keep, self._file, self._newest = folder, keep, -1, folder / "newest"
@@ -134,7 +134,8 @@ class FileJournal:
         for it in self.folder.glob("*.new"):
             it.unlink()  # the beginning of a snapshot, in which a server was killed
         if self._newest.is_symlink() and not self._newest.exists():
-            raise Unusable(f"{self.folder / os.readlink(self._newest)}: this file is gone, and with it what was acknowledged after the snapshot in it")
+            gone = self.folder / os.readlink(self._newest)
+            raise Unusable(f"{gone}: this file is gone, and with it what was acknowledged after its snapshot")
         if not self.paths():
             self.cut(first)
         path = self.paths()[-1]
@@ -149,7 +150,7 @@ class FileJournal:
         return bank, report
 
     def _report(self, seq: int, tail: bytes) -> str:
-        """What a tail after call `seq` may have held. What a killed server leaves is the beginning of a line. All else is kept in a file."""
+        """What a tail after call `seq` may have held. A killed server leaves the beginning of a line. Anything else is kept in a file."""
         begin = f"cut off {len(tail)} bytes after call {seq}: "
         if tail.decode("latin-1").isprintable():
             return begin + "the beginning of a batch that was not safe, and that nobody was told of" if tail else ""
