@@ -170,7 +170,7 @@ def replies():
             ({"balance": 9}, {"balance": 9, "has": 70}),
         ]
         asked(server, wanted)
-        no_request = [b"", b"7", b"[1]", b'{"id":1}', b'{"balance":"x"}', b'{"balance":1.0}', b'{"balance":true}', b'{"day":1}', b"\xff", b'{"balance":1} x', b'{"balance":1}{"balance":1}', b'{"balance":1000000000000000}', b'{"balance":1,"balance":2}', b'{"balance":1,"balance":1}']
+        no_request = [b"", b"7", b"[1]", b'[["balance",1]]', b'{"id":1}', b'{"balance":"x"}', b'{"balance":1.0}', b'{"balance":true}', b'{"day":1}', b"\xff", b'{"balance":1} x', b'{"balance":1}{"balance":1}', b'{"balance":1000000000000000}', b'{"balance":1,"balance":2}', b'{"balance":1,"balance":1}']
         if any("error" not in reply for reply in server.ask(*no_request)):
             raise Differs("a line that is no request was taken")
         same("the payments", [20, 21], [reply["id"] for reply in server.ask(pay(20, 2, 1, 1), pay(21, 2, 1, 1))])

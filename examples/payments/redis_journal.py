@@ -1,7 +1,8 @@
 """The journal in a Redis stream, and what Redis says.
 
 A batch is one entry of the stream, with the id N-0, where N rises by one. Redis refuses an id that is not above the last one. Who appends
-batch N has appended or read batch N-1. So the accepted batches are one chain, and of two primaries one is refused, before it replies, and ends.
+batch N has appended or read batch N-1. So the accepted batches are one chain, and of two primaries one is refused, before it replies, and
+ends.
 
 What Redis promises: with `appendonly yes` and `appendfsync always` a batch is on the disk of its machine before it is accepted.
 What it does not promise: its replication is asynchronous. A failover of Redis itself may lose what was acknowledged.
