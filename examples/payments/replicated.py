@@ -44,7 +44,7 @@ class Replica(Server):
         return {"promoted": self.bank.seq}
 
     def health(self, _: int) -> dict[str, Any]:
-        return {**super().health(_), "follows": self.stream.follows}
+        return {**super().health(0), "follows": self.stream.follows}
 
     def begin_day(self) -> None:
         if not self.stream.follows:
