@@ -5,8 +5,9 @@
 
 It runs the server as a user does, with the library of `bindings/out`, which has to be made: the replies; a crash under load, ROUNDS
 times (30), or one of its front processes, with what no fsync had kept taken away or garbled; a journal cut at each byte and with a flipped
-bit in each; a full disk; an fsync that fails; another program's procedures; a forged journal; and a failover over Redis, if the machine has
-it. Each case is reported, and the last line counts them.
+bit in each, and one with a damaged tail, or without its newest file; a full disk; an fsync that fails; large snapshots, and one that fails;
+a clock that jumps; another program's procedures; a forged journal; clients that vanish, or ask nothing; what administrators ask; and
+failovers over Redis, if the machine has it. Each case is reported, and the last line counts them.
 """
 
 import contextlib
@@ -31,10 +32,11 @@ from helpers.cases import C_SOURCES, TESTS, Differs, same, tell  # noqa: E402
 
 PAYMENTS = TESTS.parent / "examples" / "payments"
 sys.path.insert(0, str(PAYMENTS))
+from administration import ask  # noqa: E402
 from bank import ROW, Bank, Unusable, load_procedures  # noqa: E402
-from front import FRONTS  # noqa: E402
+from front import FRONTS, OTHER_FILES  # noqa: E402
 from journal import FileJournal, seal_batch, unseal  # noqa: E402
-from replicated import RedisJournal  # noqa: E402
+from redis_journal import RedisJournal  # noqa: E402
 
 SECONDS = 60
 PROCEDURES = {name: it.text for name, it in load_procedures(PAYMENTS / "procedures").items()}
@@ -51,10 +53,12 @@ class Server:
         self.process = subprocess.Popen(
             command, stdout=subprocess.PIPE, stderr=subprocess.PIPE, text=True, preexec_fn=before, env={**os.environ, **(env or {})}
         )
+        self.said = []
         for line in self.process.stdout:
             if found := re.match(r"serving on port (\d+) after call (\d+)", line):
                 self.port, self.seq = int(found[1]), int(found[2])
                 return
+            self.said.append(line)
         raise Differs(f"the server did not start: {self.process.communicate()[1]}")
 
     def __enter__(self):
@@ -96,10 +100,22 @@ def room():
         yield pathlib.Path(folder)
 
 
-def run(*words):
+def run(*words, program="payments.py"):
     """Status, standard output and standard error of a command."""
-    ran = subprocess.run([sys.executable, str(PAYMENTS / "payments.py"), *map(str, words)], capture_output=True, text=True, timeout=SECONDS, check=False)
+    ran = subprocess.run([sys.executable, str(PAYMENTS / program), *map(str, words)], capture_output=True, text=True, timeout=SECONDS, check=False)
     return ran.returncode, ran.stdout, ran.stderr
+
+
+def adjusted(**numbers):
+    """How a server is started by tests/helpers/noting_fsync.py with these numbers, which it describes."""
+    return {"wrapper": [str(TESTS / "helpers" / "noting_fsync.py")], "env": {name: str(number) for name, number in numbers.items()}}
+
+
+def preloaded(folder, name):
+    """The environment that has a program load this C file before the C library."""
+    library = folder / f"{name}.so"
+    subprocess.run(["cc", "-O1", "-shared", "-fPIC", "-o", library, C_SOURCES / f"{name}.c", "-ldl"], check=True)
+    return {"LD_PRELOAD": str(library)}
 
 
 def pay(number, payer, payee, amount):
@@ -123,9 +139,9 @@ def tables(rows):
 def recovered(folder):
     """The number of the last call, and the records by table, as a start recovers them from a copy of the journal. And what was cut off."""
     with room() as aside:
-        shutil.copytree(folder, aside / "copy")
-        bank, torn = FileJournal(aside / "copy").start(Bank(0, PROCEDURES, b""))
-        return bank.seq, tables(bank.rows()), torn
+        shutil.copytree(folder, aside / "copy", ignore=shutil.ignore_patterns("admin"))
+        bank, cut_off = FileJournal(aside / "copy").start(Bank(0, PROCEDURES, b""))
+        return bank.seq, tables(bank.rows()), int(re.match(r"cut off (\d+) bytes", cut_off)[1]) if cut_off else 0
 
 
 def replies():
@@ -154,18 +170,43 @@ def replies():
             ({"balance": 9}, {"balance": 9, "has": 70}),
         ]
         asked(server, wanted)
-        no_request = [b"", b"7", b"[1]", b'{"id":1}', b'{"balance":"x"}', b'{"balance":1.0}', b'{"balance":true}', b'{"day":1}', b"\xff", b'{"rows":true} x', b'{"balance":1}{"balance":1}', b'{"balance":1000000000000000}']
+        no_request = [b"", b"7", b"[1]", b'[["balance",1]]', b'{"id":1}', b'{"balance":"x"}', b'{"balance":1.0}', b'{"balance":true}', b'{"day":1}', b"\xff", b'{"balance":1} x', b'{"balance":1}{"balance":1}', b'{"balance":1000000000000000}', b'{"balance":1,"balance":2}', b'{"balance":1,"balance":1}']
         if any("error" not in reply for reply in server.ask(*no_request)):
             raise Differs("a line that is no request was taken")
-        *_, rows, paid = server.ask(pay(20, 2, 1, 1), {"rows": True}, pay(21, 2, 1, 1))
-        same("rows between payments that come at once", (7, 21), (rows["seq"], paid["id"]))
-        same("a line that is too long", [None], server.ask(b"x" * 2000 + b"y" * 2000))
-        same("verify", (0, "calls 1 to 7 give the rows of the server\n", ""), run("verify", folder / "j", "--port", server.port))
+        same("the payments", [20, 21], [reply["id"] for reply in server.ask(pay(20, 2, 1, 1), pay(21, 2, 1, 1))])
+        good, long = {"balance": 9, "has": 70}, {"error": "a line has at most 1000 bytes"}
+        lines = [b'{"balance":9' + b" " * length + b"}" for length in (987, 988, 0, 10**6, 0)]
+        same("lines that are too long, between others", [good, long, good, long, good], server.ask(*lines))
+        same("verify", (0, "calls 1 to 7 give the rows of the server\n", ""), run("verify", folder / "j"))
         same("a second server", (1, f"payments: {folder / 'j'}: another server has this journal\n"), (lambda r: (r[0], r[2]))(run("serve", folder / "j")))
         same("the end", (0, ""), server.end())
+        same("verify without a server", (0, "calls 1 to 7 give the rows of each snapshot\n", ""), run("verify", folder / "j"))
         shown = run("show", folder / "j")[1].splitlines()
         same("show", ["# snapshot after call 0", "2 pay id=17 from=1 to=2 amount=250", "4 open open=9 amount=70"], [shown[0], shown[2], shown[4]])
     return f"{len(wanted)} replies"
+
+
+def administration():
+    """What only administrators may ask: at a socket that nobody else may open, and not at the port."""
+    with room() as folder:
+        admin, words = folder / "j" / "admin", ("serve", folder / "j", "--accounts", 3)
+        with Server(*words) as server:
+            at_port = server.ask(*[{word: True} for word in ("rows", "health", "figures", "promote")])
+            same("words at the port", [{"error"}] * 4, [set(reply) for reply in at_port])
+            same("who may open the socket", 0o600, admin.stat().st_mode & 0o777)
+            asked(server, [(pay(1, 1, 2, 5), {"id": 1, "paid": True, "from_has": 99_995, "to_has": 100_005})])
+            same("rows", (2, 64), (ask(admin, "rows")["seq"], len(ask(admin, "rows")["sha256"])))
+            same("verify", (0, "calls 1 to 2 give the rows of the server\n", ""), run("verify", folder / "j"))
+            same("health", {"health": "ok", "seq": 2}, ask(admin, "health"))
+            figures = ask(admin, "figures")
+            same("the figures", {"seq": 2, "calls": 2, "records": 3 + 1 + 1 + 5}, {key: figures[key] for key in ("seq", "calls", "records")})
+            same("an unknown word", [{"error"}] * 2, [set(ask(admin, word)) for word in ("nothing", "promote")])
+            same("a second server", 1, run(*words)[0])
+            same("health beside a second server", "ok", ask(admin, "health")["health"])
+        with Server(*words) as server:  # the first one was killed, and left its socket
+            same("health", {"health": "ok", "seq": 2}, ask(admin, "health"))
+            same("the end", (0, ""), server.end())
+            same("whether the socket is there", False, admin.exists())
 
 
 class Load:
@@ -174,7 +215,7 @@ class Load:
     def __init__(self, draw):
         self.draw, self.ids = draw, 0
         self.acknowledged, self.asked, self.refused, self.unanswered = {}, {}, set(), []
-        self.again = 0
+        self.again = self.gone = 0
 
     def request(self):
         """A payment: a new one, or one that had no answer before a crash."""
@@ -216,6 +257,7 @@ class Load:
                         continue
                 except ConnectionError:
                     pass
+                self.gone += 1
                 self.close(clients, number)
         for number in list(clients):
             self.close(clients, number)
@@ -291,7 +333,7 @@ def crashes(rounds, seed):
     with room() as folder:
         notes, journal = folder / "synced", folder / "j"
         words = ("serve", journal, "--accounts", ACCOUNTS, "--cents", CENTS, "--keep")
-        noting = {"wrapper": [str(TESTS / "helpers" / "noting_fsync.py")], "env": {"NOTE_FSYNC": str(notes), "CUT_AFTER": "20000"}}
+        noting = adjusted(NOTE_FSYNC=notes, CUT_AFTER=20_000)
         for number in range(rounds):
             server = Server(*words, **noting) if number % 10 != 9 else None
             if server is None:
@@ -317,7 +359,7 @@ def crashes(rounds, seed):
             seq, found, _ = recovered(journal)
             same("the last call", seq, server.seq)
             load.judge(seq, found)
-            same("verify", 0, run("verify", journal, "--port", server.port)[0])
+            same("verify", 0, run("verify", journal)[0])
     if len(load.acknowledged) < 10 * rounds:
         raise Differs(f"only {len(load.acknowledged)} payments were acknowledged in {rounds} rounds")
     return f"{rounds} kills, {early} of them in recovery; {len(load.acknowledged)} payments acknowledged, each there once; {torn} torn tails"
@@ -357,6 +399,29 @@ def torn_tails():
         calls.write_bytes(whole + batch)
         same("a batch that is there whole", first + 2, recovered(folder / "j")[0])
     return f"{len(whole) - last + 3 * len(batch) - 1} lengths"
+
+
+def damaged_tails():
+    """A start says what a tail may have held, and keeps it: at least the batches that it did hold, but of the beginning of a line none."""
+    lost = []
+    with room() as folder:
+        calls, data = a_journal(folder / "j")
+        whole = data[: data.rindex(b"\n\n") + 1]  # the last seven batches have a call each, and the last one is call 11
+        calls.write_bytes(whole[:-20])
+        with Server("serve", folder / "j") as server:
+            same("what it says of the beginning of a line", 1, "".join(server.said).count("the beginning of a batch that was not safe"))
+        same("what is kept of it", [], list((folder / "j").glob("*.tail")))
+        for size in (1, 60, 200, 250):
+            calls.write_bytes(whole[:-size] + bytes(size))
+            with Server("serve", folder / "j") as server:
+                said = "".join(server.said)
+            lost.append(11 - server.seq)
+            told = r"if power was lost, .*; else damage to at most (\d+) that were safe. Kept in (.*)\n"
+            found = re.fullmatch(rf"cut off (\d+) bytes after call {server.seq}: {told}", said)
+            if not found or int(found[2]) < lost[-1]:
+                raise Differs(f"of {size} bytes that held {lost[-1]} batches it says {said}")
+            same("what is kept", (whole[:-size] + bytes(size))[-int(found[1]) :], pathlib.Path(found[3]).read_bytes())
+    return f"of {lost} batches"
 
 
 def damage():
@@ -423,16 +488,144 @@ def failing_fsync():
     """An fsync that fails ends the server before it acknowledges, and it is not tried again."""
     load = Load(random.Random(8))
     with room() as folder:
-        library = folder / "failing_fsync.so"
-        subprocess.run(["cc", "-O1", "-shared", "-fPIC", "-o", library, C_SOURCES / "failing_fsync.c", "-ldl"], check=True)
+        preload = preloaded(folder, "failing_fsync")
         words = ("serve", folder / "j", "--accounts", ACCOUNTS, "--cents", CENTS)
-        for fails_after in (5, 40):
-            with Server(*words, env={"LD_PRELOAD": str(library), "FSYNC_FAILS_AFTER": str(fails_after)}) as server:
+        for fails_after in (10, 40):
+            with Server(*words, env={**preload, "FSYNC_FAILS_AFTER": str(fails_after)}) as server:
                 error = ends_at_once(server, load)
             if "Input/output error" not in error:
                 raise Differs(f"it says {error}")
             load.judge(*recovered(folder / "j")[:2])
     return f"{len(load.acknowledged)} acknowledged"
+
+
+def large_snapshots():
+    """A snapshot in many chunks, each written in parts, as one of over 2 GB is."""
+    load = Load(random.Random(13))
+    with room() as folder:
+        words = ("serve", folder / "j", "--accounts", ACCOUNTS, "--cents", CENTS, "--keep")
+        small = adjusted(CUT_AFTER=4000, CHUNK=5000, SHORT_WRITE=1000, **preloaded(folder, "short_write"))
+        with Server(*words, **small) as server:
+            load.run(server, 0.5)
+            server.process.kill()
+        load.judge(*recovered(folder / "j")[:2])
+        same("verify", 0, run("verify", folder / "j")[0])
+        largest = max(path.read_bytes().index(b"\n\n") for path in (folder / "j").glob("*.journal"))
+    if largest < 20_000:
+        raise Differs(f"the largest snapshot has only {largest} bytes")
+    return f"the largest has {largest} bytes"
+
+
+def failed_snapshot():
+    """A snapshot that the disk has no space for ends nothing, and leaves nothing. The server says so, and takes the next one."""
+    paid, count = [], 120  # at once: as many as have the history cut
+
+    def pay_some(server):
+        begin = len(paid) + 1
+        paid.extend(server.ask(*[pay(number, number % 100 + 1, number % 100 + 2, 1) for number in range(begin, begin + count)]))
+
+    with room() as folder:
+        admin = folder / "j" / "admin"
+        with Server("serve", folder / "j", "--accounts", 1000, "--cents", CENTS, **adjusted(CUT_AFTER=2000)) as server:
+            limits = resource.prlimit(server.process.pid, resource.RLIMIT_FSIZE, (40_000, resource.RLIM_INFINITY))
+            pay_some(server)
+            health = ask(admin, "health")["health"]
+            if not re.search(r"no snapshot after call \d+: .*\.new: .*too large", health):
+                raise Differs(f"health is {health}")
+            same("the files", ["000000000000000.journal", "admin", "newest"], names_in(folder / "j"))
+            resource.prlimit(server.process.pid, resource.RLIMIT_FSIZE, limits)
+            pay_some(server)
+            same("health", "ok", ask(admin, "health")["health"])
+            same("the files", [f"{2 * count + 1:015}.journal", "admin", "newest"], names_in(folder / "j"))
+            server.process.kill()
+        same("the payments", [(it["id"], it["from_has"], it["to_has"]) for it in paid], payments_in(folder / "j"))
+
+
+def begun_snapshots():
+    """What is left of a snapshot in which the server was killed is removed by the next start, and nothing else is."""
+    with room() as folder:
+        a_journal(folder / "j")
+        for number in (3, 5):
+            (folder / "j" / f"{number:015}.new").write_bytes(b"12345678 [")
+        (folder / "j" / "notes").write_text("of a user")
+        with Server("serve", folder / "j") as server:
+            same("the files", ["000000000000000.journal", "admin", "newest", "notes"], names_in(folder / "j"))
+            same("the last call", 11, server.seq)
+
+
+def newest_file_gone():
+    """A start whose newest file is gone is refused, whether an older one is there or none."""
+    with room() as folder:
+        for options in ((), ("--keep",)):
+            journal = folder / f"j{len(options)}"
+            with Server("serve", journal, "--accounts", 3, *options, **adjusted(CUT_AFTER=100)) as server:
+                for number in range(20):
+                    server.ask(pay(number, 1, 2, 1))
+                server.end()
+            *older, newest = sorted(journal.glob("*.journal"))
+            same("older files", bool(options), bool(older))
+            newest.rename(folder / "aside")
+            wanted = f"payments: {newest}: this file is gone, and with it what was acknowledged after its snapshot\n"
+            same("a start without the newest file", (1, "", wanted), run("serve", journal))
+            (folder / "aside").rename(newest)
+            with Server("serve", journal) as server:
+                same("the last call", 21, server.seq)
+
+
+def jumping_clock():
+    """The day goes on by one at a time; a clock that jumps changes nothing until an operator says the day, forwards or back."""
+    with room() as folder:
+        admin, words = folder / "j" / "admin", ("serve", folder / "j", "--accounts", 3, "--cents", 9_000_000)
+        skewed = adjusted(DAYS_AHEAD=folder / "ahead")
+        set_clock(folder, 0)
+        with Server(*words, **skewed) as server:
+            first = ask(admin, "day")["day"]
+            # As much as one may pay on a day: the days that the clock is ahead, and whether it is paid.
+            pays_on(folder, server, ((0, True), (0, False), (1, True), (1, False), (400, False)))
+            same("health", f"the clock says day {first + 400}, and the bank has day {first + 1}", ask(admin, "health")["health"])
+            same("the day", {"day": first + 1}, ask(admin, "day"))
+            same("the day that an operator says", {"day": first + 400}, ask(admin, "day", first + 400))
+            pays_on(folder, server, ((400, True), (401, True)))
+            same("health", "ok", ask(admin, "health")["health"])
+            pays_on(folder, server, ((1, False),))
+            same("health", f"the clock says day {first + 1}, and the bank has day {first + 401}", ask(admin, "health")["health"])
+            same("days that are none", [{"day": first + 401}] * 2, [ask(admin, "day", day) for day in (-1, 100_000)])
+            same("the day that an operator says", {"day": first + 1}, ask(admin, "day", first + 1))
+            pays_on(folder, server, ((1, False), (2, True)))
+            for days in (3, 4):  # on which nobody asks
+                set_clock(folder, days)
+                time.sleep(0.5)
+            pays_on(folder, server, ((4, True),))
+            same("verify", 0, run("verify", folder / "j")[0])
+            server.process.kill()
+        set_clock(folder, 6)
+        with Server(*words, **skewed) as server:
+            pays_on(folder, server, ((6, False),))
+            same("the day after a start two days later", {"day": first + 4}, ask(admin, "day"))
+
+
+def set_clock(folder, days):
+    """Has the clock of the server be so many days ahead."""
+    (folder / "next").write_text(str(days))
+    (folder / "next").rename(folder / "ahead")
+
+
+def pays_on(folder, server, wanted):
+    """Pays as much as one may on a day, when the clock is so many days ahead, and compares whether it is paid."""
+    for days, is_paid in wanted:
+        set_clock(folder, days)
+        (reply,) = server.ask(pay(time.time_ns() % 10**15, 1, 2, LIMIT))
+        same(f"a payment when the clock is {days} days ahead", is_paid, "paid" in reply)
+
+
+def names_in(folder):
+    return sorted(path.name for path in folder.iterdir())
+
+
+def payments_in(folder):
+    """The id of each payment in a journal, and what both had after it."""
+    _, found, _ = recovered(folder)
+    return [(number, found[5][number], found[6][number]) for number in sorted(found[5])]
 
 
 def other_procedures():
@@ -453,7 +646,7 @@ def other_procedures():
             server.process.kill()
         with Server(*own) as server:
             asked(server, [({"balance": 2}, {"balance": 2, "has": 101_005})])
-            same("verify", 0, run("verify", folder / "j", "--port", server.port)[0])
+            same("verify", 0, run("verify", folder / "j")[0])
 
 
 def bad_procedures():
@@ -492,9 +685,9 @@ def forged_journal():
     with room() as folder:
         calls, data = a_journal(folder / "j")
         with Server("serve", folder / "j") as server:
-            same("verify", 0, run("verify", folder / "j", "--port", server.port)[0])
+            same("verify", 0, run("verify", folder / "j")[0])
             calls.write_bytes(forged(data, lambda amount: amount + 1))
-            status, _, error = run("verify", folder / "j", "--port", server.port)
+            status, _, error = run("verify", folder / "j")
             if status != 1 or "do not give what is served" not in error:
                 raise Differs(f"verify of a forged journal: {status} {error}")
         calls.write_bytes(forged(data, lambda _: 10**12))
@@ -516,9 +709,9 @@ def killed_fronts():
         words = ("serve", folder / "j", "--accounts", ACCOUNTS, "--cents", CENTS)
         for number in range(6):
             with Server(*words, port=port) as server:
-                port, fronts = server.port, server.fronts()
-                same("how many front processes there are", FRONTS, len(fronts))
-                threading.Timer(0.1 + draw.random() * 0.3, os.kill, (fronts[number % FRONTS], signal.SIGKILL)).start()
+                port, fronts = server.port, server.fronts()  # the last one is of the administrators
+                same("how many front processes there are", FRONTS + 1, len(fronts))
+                threading.Timer(0.1 + draw.random() * 0.3, os.kill, (fronts[number % len(fronts)], signal.SIGKILL)).start()
                 error = ends_at_once(server, load)
             same("what a server without one of its front processes says", "payments: a front process has ended\n", error)
             load.judge(*recovered(folder / "j")[:2])
@@ -533,6 +726,57 @@ def killed_fronts():
     return f"{len(load.acknowledged)} acknowledged"
 
 
+def vanished_clients():
+    """Clients whose machines vanish, so that an accept, a receive or a send times out, end nothing."""
+    load = Load(random.Random(12))
+    with room() as folder:
+        words = ("serve", folder / "j", "--accounts", ACCOUNTS, "--cents", CENTS)
+        with Server(*words, env={**preloaded(folder, "vanishing"), "VANISH_ONE_IN": "50"}) as server:
+            for _ in range(8):
+                load.run(server, 0.2)
+            same("the end", (0, ""), server.end())
+        load.judge(*recovered(folder / "j")[:2])
+    if load.gone < CLIENTS:
+        raise Differs(f"only {load.gone} clients vanished")
+    return f"{load.gone} of them, {len(load.acknowledged)} acknowledged"
+
+
+def is_dropped(client):
+    """Whether the server has dropped a client that has asked nothing. A part of a line does not keep it."""
+    client.setblocking(False)
+    try:
+        client.send(b" ")
+        return client.recv(1) == b""
+    except BlockingIOError:
+        return False
+    except ConnectionError:
+        return True
+
+
+def idle_clients():
+    """More clients than the server may have files open: those beyond a cap wait, and get their turn when idle ones are dropped."""
+    files, request = 100, json.dumps({"balance": 1}).encode() + b"\n"
+    most = FRONTS * (files - OTHER_FILES)
+
+    def few_files():
+        resource.setrlimit(resource.RLIMIT_NOFILE, (files, files))
+
+    with room() as folder, contextlib.ExitStack() as clients:
+        server = clients.enter_context(Server("serve", folder / "j", "--accounts", 3, "--idle", 1, before=few_files))
+        idle = [clients.enter_context(server.connect()) for _ in range(most + 100)]
+        last = idle.pop()
+        last.sendall(request)
+        end = time.monotonic() + 20
+        while idle and time.monotonic() < end:
+            idle = [client for client in idle if not is_dropped(client)]
+            time.sleep(0.1)
+        same("clients that are idle, and not dropped", 0, len(idle))
+        same("the reply to the one who waited", {"balance": 1, "has": 100_000}, json.loads(last.makefile().readline()))
+        same("a new client", [{"balance": 2, "has": 100_000}], server.ask({"balance": 2}))
+        same("the end", (0, ""), server.end())
+    return f"{most + 100} of them, at most {most} at a time"
+
+
 def rows_of_stream(name, port):
     """The number of the last call, and the records by table, as a follower recovers them."""
     bank = RedisJournal(name, port, True).start(Bank(0, PROCEDURES, b""))
@@ -540,43 +784,85 @@ def rows_of_stream(name, port):
 
 
 def failovers():
-    """A follower takes over from a primary that was killed, and from one that was stopped and wakes later."""
+    """A follower takes over: from a primary that was killed, one that was stopped and wakes later, and one that clients still pay at."""
     redis = shutil.which("redis-server")
     if redis is None:
         return "left out: there is no redis-server on this machine"
-    load = Load(random.Random(9))
-    with room() as folder, socket.socket() as free:
-        free.bind(("127.0.0.1", 0))
+    load, cases = Load(random.Random(9)), (take_over_killed, take_over_stopped, take_over_busy)
+    with room() as folder, redis_server(redis, folder, "--appendonly", "yes", "--appendfsync", "always") as port:
+        own = ("queue", "--redis-port", port, "--accounts", ACCOUNTS, "--cents", CENTS, "--admin")
+        # With snapshots now and then, in many chunks.
+        small = {"program": "replicated.py", **adjusted(CUT_AFTER=40_000, CHUNK=5000)}
+        for case in cases:
+            with Server(*own, folder / "1", **small) as primary, Server(*own, folder / "2", "--follow", **small) as follower:
+                asked(follower, [(pay(10**9, 1, 2, 1), {"id": 10**9, "error": "this server does not run it"})])
+                same("whether it follows", True, ask(folder / "2", "health")["follows"])
+                case(load, primary, follower, folder / "2")
+                same("whether it follows", False, ask(folder / "2", "health")["follows"])
+            load.judge(*rows_of_stream("queue", port))
+    return f"{len(cases)} failovers, {len(load.acknowledged)} payments acknowledged, each there once"
+
+
+def forgetful_redis():
+    """A Redis that may forget what it has accepted is refused, whether all its configuration is wrong or a part of it."""
+    redis = shutil.which("redis-server")
+    if redis is None:
+        return "left out: there is no redis-server on this machine"
+    for options in ((), ("--appendonly", "yes"), ("--appendfsync", "always"), ("--appendonly", "yes", "--appendfsync", "no")):
+        with room() as folder, redis_server(redis, folder, *options) as port:
+            wanted = "replicated: Redis: it must run with appendonly yes and appendfsync always\n"
+            came = run("queue", "--redis-port", port, "--admin", folder / "admin", program="replicated.py")
+            same(f"a start on Redis with {options}", (1, "", wanted), came)
+
+
+def take_over_killed(load, primary, follower, admin):
+    threading.Timer(0.4, primary.process.kill).start()
+    load.run(primary, 0.8)
+    same("what a promotion tells", {"promoted"}, set(ask(admin, "promote")))
+    load.run(follower, 0.4)
+
+
+def take_over_stopped(load, primary, follower, admin):
+    threading.Timer(0.4, primary.process.send_signal, (signal.SIGSTOP,)).start()
+    load.run(primary, 0.8)
+    same("what a promotion tells", {"promoted"}, set(ask(admin, "promote")))
+    load.run(follower, 0.4)
+    primary.process.send_signal(signal.SIGCONT)
+    before = dict(load.acknowledged)
+    load.run(primary, 0.5)
+    same("what a replaced primary acknowledges", before, load.acknowledged)
+    ends_replaced(primary)
+
+
+def take_over_busy(load, primary, follower, admin):
+    promoted = []
+    threading.Timer(0.3, lambda: promoted.append(ask(admin, "promote"))).start()
+    load.run(primary, SECONDS)  # until it is replaced, and ends
+    ends_replaced(primary)
+    same("what a promotion tells", [{"promoted"}], [set(it) for it in promoted])
+    load.run(follower, 0.4)
+
+
+def ends_replaced(primary):
+    """A primary that was replaced ends, and says why."""
+    error = primary.process.communicate(timeout=SECONDS)[1]
+    same("the status of a replaced primary", 1, primary.process.returncode)
+    if "Redis: another primary has appended" not in error:
+        raise Differs(f"a replaced primary says {error}")
+
+
+@contextlib.contextmanager
+def redis_server(program, folder, *words):
+    """A Redis with these options. Its port."""
+    with socket.create_server(("127.0.0.1", 0)) as free:
         port = free.getsockname()[1]
-        free.close()
-        words = [redis, "--port", str(port), "--dir", str(folder), "--appendonly", "yes", "--appendfsync", "always", "--save", ""]
-        process = subprocess.Popen(words, stdout=subprocess.DEVNULL)
-        try:
-            wait_for(port)
-            own = ("queue", "--redis-port", port, "--accounts", ACCOUNTS, "--cents", CENTS)
-            for is_killed in (True, False):
-                with Server(*own, program="replicated.py") as primary, Server(*own, "--follow", program="replicated.py") as follower:
-                    asked(follower, [(pay(10**9, 1, 2, 1), {"id": 10**9, "error": "this server does not run it"})])
-                    stop = primary.process.kill if is_killed else lambda: primary.process.send_signal(signal.SIGSTOP)
-                    threading.Timer(0.4, stop).start()
-                    load.run(primary, 0.8)
-                    (promoted,) = follower.ask({"promote": True})
-                    same("what a promotion tells", {"promoted"}, set(promoted))
-                    load.run(follower, 0.4)
-                    if not is_killed:
-                        primary.process.send_signal(signal.SIGCONT)
-                        before = dict(load.acknowledged)
-                        load.run(primary, 0.5)
-                        same("what a replaced primary acknowledges", before, load.acknowledged)
-                        error = primary.process.communicate(timeout=SECONDS)[1]
-                        same("the status of a replaced primary", 1, primary.process.returncode)
-                        if "Redis" not in error:
-                            raise Differs(f"a replaced primary says {error}")
-                load.judge(*rows_of_stream("queue", port))
-        finally:
-            process.kill()
-            process.wait()
-    return f"2 failovers, {len(load.acknowledged)} payments acknowledged, each there once"
+    process = subprocess.Popen([program, "--port", str(port), "--dir", str(folder), "--save", "", *words], stdout=subprocess.DEVNULL)
+    try:
+        wait_for(port)
+        yield port
+    finally:
+        process.kill()
+        process.wait()
 
 
 def wait_for(port):
@@ -597,7 +883,13 @@ def main():
         return crashes(rounds, seed)
 
     crash_test.__name__ = "crashes"
-    return tell([replies, torn_tails, damage, full_disk, failing_fsync, other_procedures, bad_procedures, forged_journal, killed_fronts, failovers, crash_test], of="payments")
+    cases = [replies, administration]
+    cases += [torn_tails, damaged_tails, damage, newest_file_gone, forged_journal]
+    cases += [full_disk, failing_fsync, large_snapshots, failed_snapshot, begun_snapshots]
+    cases += [jumping_clock, other_procedures, bad_procedures]
+    cases += [killed_fronts, vanished_clients, idle_clients]
+    cases += [failovers, forgetful_redis, crash_test]
+    return tell(cases, of="payments")
 
 
 if __name__ == "__main__":

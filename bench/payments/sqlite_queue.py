@@ -125,7 +125,7 @@ def main() -> None:
     if command == "serve":
         port, fronts = start_fronts(0, {"pay": load_procedures(PAYMENTS / "procedures")["pay"]})
         database = made(path)
-        run(Server(Bank(database), Journal(database), fronts), port, time.perf_counter())
+        run(Server(Bank(database), Journal(database), fronts), port, pathlib.Path(path + ".admin"), time.perf_counter())
         return
     made(path)
     clients, seconds = int(sys.argv[3]), float(sys.argv[4])

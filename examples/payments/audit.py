@@ -1,12 +1,13 @@
 """Reads a journal: prints it, and checks it by a replay in a second engine."""
 
 import argparse
+import contextlib
 import hashlib
-import json
-import socket
 import sys
+from typing import Optional
 
-from bank import Unusable, load_procedures
+from administration import ask
+from bank import Bank, Unusable, load_procedures
 from journal import FileJournal
 
 
@@ -21,12 +22,11 @@ def show(words: argparse.Namespace) -> None:
 
 
 def verify(words: argparse.Namespace) -> None:
-    """Replays the journal in a second engine, and compares every row with each snapshot, and with those of the server at a port, if any."""
-    last, wanted, replayed = sys.maxsize, "", None
-    if words.port:
-        with socket.create_connection(("127.0.0.1", words.port)) as server:
-            server.sendall(b'{"rows":true}\n')
-            last, wanted = json.loads(server.makefile().readline()).values()
+    """Replays the journal in a second engine, and compares every row with each snapshot, and with those of its server, if one runs."""
+    last, wanted, first = sys.maxsize, "", 0
+    replayed: Optional[Bank] = None
+    with contextlib.suppress(FileNotFoundError, ConnectionRefusedError):
+        last, wanted = ask(words.admin or words.folder / "admin", "rows").values()
     journal = FileJournal(words.folder)
     for bank, calls, _ in map(journal.load, journal.paths()):
         if bank.seq > last:

@@ -5,7 +5,7 @@ import pathlib
 import struct
 import sys
 from itertools import compress
-from typing import Any, Sequence
+from typing import Any, Optional, Sequence
 
 sys.path.insert(0, str(pathlib.Path(__file__).resolve().parents[2] / "bindings" / "python"))
 from sgt import Engine, Kind, Reply, pack_calls, unpack_calls, wrote  # noqa: E402
@@ -19,10 +19,14 @@ class Unusable(Exception):
     """A journal or a snapshot that can't be trusted, or a file that is no procedure."""
 
 
+class NoSnapshot(OSError):
+    """A snapshot that could not be stored. The journal goes on without it."""
+
+
 class Procedure:
     """A file of the folder: a procedure, and what clients send and get."""
 
-    def __init__(self, name: str, file: dict) -> None:
+    def __init__(self, name: str, file: dict[str, Any]) -> None:
         self.name, self.text = name, file["procedure"]  # the text is as docs/FORMATS.md has it
         self.request: list[str] = file.get("request", [])  # clients can't ask for a procedure without any keys
         # The parts of a reply, in which %d stands for a number. To put JSON together by `dumps` takes four times as long.
@@ -39,7 +43,7 @@ class Procedure:
         if reply.kind is Kind.COMMITTED:
             told = self._done + "".join([", " + key % value for key, value in zip(self._answers, reply.answers)])
         elif reply.kind is Kind.REFUSED:
-            told = ', "refused": ' + json.dumps(self._reasons.get(reply.code, f"code {reply.code}"))
+            told = ', "refused": ' + json.dumps(self._reasons.get(reply.code or 0, f"code {reply.code}"))
         else:
             told = ', "error": "this server does not run it"'  # as it follows another one
         return "{" + self._begin % first + told + "}\n"
@@ -63,7 +67,7 @@ def load_procedures(folder: pathlib.Path) -> dict[str, Procedure]:
 class Bank:
     """An engine from a snapshot on. `seq` counts the journaled calls from the first opening on."""
 
-    def __init__(self, seq: int, texts: dict[str, list], rows: bytes) -> None:
+    def __init__(self, seq: int, texts: dict[str, list[Any]], rows: bytes) -> None:
         """`texts` are the procedures by name, and `rows` the database as `rows()` returns it."""
         self.seq, self.texts = seq, texts
         self._engine = Engine.bare(1, 4_000_000_000)
@@ -89,6 +93,14 @@ class Bank:
         rows = self._engine.rows_bytes()
         self._records = len(rows) // ROW.size
         return rows
+
+    def day(self) -> Optional[int]:
+        """The day, counted from 1970, or None before the first, or if these procedures have no days."""
+        return self._engine.get(0, 0) if "day" in self.numbers else None
+
+    def sizes(self) -> dict[str, int]:
+        """How many records the database has, and how many entries the history."""
+        return {"records": self._engine.records(), "entries": len(self._engine)}
 
     def cut_if_long(self) -> bool:
         """Frees the history when it is time: it costs memory, and a cut costs a pass over the records. The database stays."""

@@ -1,99 +1,22 @@
 #!/usr/bin/env python3
-"""The queue of payments with its journal in a Redis stream, for more than one machine.
-
-A batch is one entry of the stream, with the id N-0, where N rises by one. Redis refuses an id that is not above the last one. Who appends
-batch N has appended or read batch N-1. So the accepted batches are one chain, and of two primaries one is refused, before it replies, and ends.
-
-What Redis promises: with `appendonly yes` and `appendfsync always` a batch is on the disk of its machine before it is accepted.
-What it does not promise: its replication is asynchronous. A failover of Redis itself may lose what was acknowledged.
-"""
+"""The queue of payments with its journal in a Redis stream, for more than one machine. `redis_journal.py` says what Redis promises."""
 
 import argparse
+import contextlib
 import json
 import pathlib
-import socket
 import sys
 import time
-from typing import Sequence, Union
+from multiprocessing.connection import Connection
+from typing import Any, Sequence
 
-from bank import Bank, Call, Unusable, Procedure, first_rows, load_procedures
-from front import Connection, start_fronts
-from journal import seal_batch, seal_snapshot, unseal_batches, unseal_snapshot
-from payments import Server, run
+from bank import Bank, Procedure, Unusable, first_rows, load_procedures
+from front import start_fronts
+from payments import Server, add_options, run
+from redis_journal import Fenced, RedisJournal
 from sgt import pack_calls, unpack_calls
 
 NOT_HERE = 65_535  # the number of no procedure
-
-
-class RedisJournal:
-    """A stream, and beside it a hash of snapshots, each named by the batch that it stands after."""
-
-    def __init__(self, name: str, port: int, follows: bool) -> None:
-        self.name, self.batch, self.follows = name, 0, follows
-        self._socket = socket.create_connection(("127.0.0.1", port))
-        self._socket.setsockopt(socket.IPPROTO_TCP, socket.TCP_NODELAY, 1)
-        self._replies = self._socket.makefile("rb")
-
-    def start(self, first: Bank) -> Bank:
-        """Recovers. Two servers that start at once agree on the first snapshot."""
-        self.ask("HSETNX", self.name + ":rows", 0, seal_snapshot(first))
-        self.batch = max(map(int, self.ask("HKEYS", self.name + ":rows")))
-        bank, _ = unseal_snapshot(self.ask("HGET", self.name + ":rows", self.batch), f"Redis: the snapshot after batch {self.batch}")
-        self.catch_up(bank)
-        return bank
-
-    def catch_up(self, bank: Bank) -> None:
-        """Runs the calls of the batches that were not read yet."""
-        while entries := self.ask("XRANGE", self.name, f"({self.batch}-0", "+", "COUNT", 1000):
-            for entry, (_, data) in entries:
-                if entry != b"%d-0" % (self.batch + 1):
-                    raise Unusable(f"Redis: batch {self.batch + 1} is missing; the next one is {entry.decode()}")
-                calls, length = unseal_batches(data, 0, bank.seq, f"Redis: batch {self.batch + 1}")
-                if length != len(data):
-                    raise Unusable(f"Redis: batch {self.batch + 1} is damaged at byte {length}")
-                bank.replay(calls)
-                self.batch += 1
-
-    def append(self, seq: int, calls: Sequence[Call]) -> None:
-        """Returns once Redis has the batch. `Unusable` if another primary has appended one since."""
-        self.ask("XADD", self.name, f"{self.batch + 1}-0", "calls", seal_batch(seq, calls))
-        self.batch += 1
-
-    def check(self) -> None:
-        """Before replies that append nothing: a primary that was replaced would report old balances."""
-        last = self.ask("XREVRANGE", self.name, "+", "-", "COUNT", 1)
-        if last and int(last[0][0].split(b"-")[0]) > self.batch:
-            raise Unusable(f"Redis: another primary has appended after batch {self.batch}")
-
-    def cut(self, bank: Bank) -> None:
-        """A snapshot is named by its batch, so a late one of a primary that was replaced does no harm. A follower writes none."""
-        if self.follows:
-            return
-        self.ask("HSET", self.name + ":rows", self.batch, seal_snapshot(bank))
-        self.ask("XTRIM", self.name, "MINID", f"{self.batch + 1}-0")
-        older = [key for key in self.ask("HKEYS", self.name + ":rows") if int(key) < self.batch]
-        if older:
-            self.ask("HDEL", self.name + ":rows", *older)
-
-    def ask(self, *words: Union[bytes, str, int]):
-        """Redis's reply to a command."""
-        parts = [word if isinstance(word, bytes) else str(word).encode() for word in words]
-        try:
-            self._socket.sendall(b"*%d\r\n" % len(parts) + b"".join(b"$%d\r\n%s\r\n" % (len(part), part) for part in parts))
-            return self._reply()
-        except ConnectionError:
-            raise Unusable("Redis: gone") from None
-
-    def _reply(self):
-        line = self._replies.readline()
-        kind, rest = line[:1], line[1:-2]
-        if kind == b"$":
-            return None if rest == b"-1" else self._replies.read(int(rest) + 2)[:-2]
-        if kind == b"*":
-            return [self._reply() for _ in range(int(rest))]
-        if kind not in (b"+", b":"):
-            raise Unusable(f"Redis: {line.decode().strip() or 'gone'}")
-        return int(rest) if kind == b":" else rest
 
 
 class Replica(Server):
@@ -101,55 +24,59 @@ class Replica(Server):
 
     def __init__(self, bank: Bank, journal: RedisJournal, fronts: list[Connection], procedures: dict[str, Procedure]) -> None:
         super().__init__(bank, journal, fronts)
-        self.journal: RedisJournal = journal
+        self.stream = journal
+        self.words["promote"] = self.promote
         self.writers = {bank.numbers[name] for name, it in procedures.items() if '"put"' in json.dumps(it.text)}
 
-    def run(self, calls: bytes, words: Sequence[str] = ()) -> tuple[bytes, list[str]]:
+    def run(self, calls: bytes, words: Sequence[tuple[str, int]] = ()) -> tuple[bytes, list[str]]:
         """A follower runs calls that can't write. For others it has no procedure."""
-        if self.journal.follows:
+        if self.stream.follows:
             calls = pack_calls([(NOT_HERE, *args) if number in self.writers else (number, *args) for number, *args in unpack_calls(calls)])
         return super().run(calls, words)
 
-    def word(self, word: str) -> str:
-        if word == "promote" and self.journal.follows:
-            self.journal.catch_up(self.bank)
-            self.journal.follows = False
-            return json.dumps({"promoted": self.bank.seq}) + "\n"
-        return super().word(word)
+    def promote(self, _: int) -> dict[str, Any]:
+        """Makes a follower the primary, by an empty batch, which fences the old one. That one may be quicker, some times."""
+        while self.stream.follows:
+            self.stream.catch_up(self.bank)
+            with contextlib.suppress(Fenced):
+                self.stream.append(self.bank.seq, ())
+                self.stream.follows = False
+        return {"promoted": self.bank.seq}
+
+    def health(self, _: int) -> dict[str, Any]:
+        return {**super().health(0), "follows": self.stream.follows}
 
     def begin_day(self) -> None:
-        if not self.journal.follows:
+        if not self.stream.follows:
             super().begin_day()
 
     def before_replies(self) -> None:
         """A follower reads on. A primary has its batch accepted, or sees that it is the primary still."""
-        if self.journal.follows:
-            self.journal.catch_up(self.bank)
+        if self.stream.follows:
+            self.stream.catch_up(self.bank)
         elif self.batch:
             super().before_replies()
         else:
-            self.journal.check()
+            self.stream.check()
 
 
 def main() -> None:
     parser = argparse.ArgumentParser(description=__doc__)
     parser.add_argument("name", help="of the stream")
     parser.add_argument("--redis-port", type=int, default=6379)
-    parser.add_argument("--port", type=int, default=0)
+    parser.add_argument("--admin", type=pathlib.Path, required=True, help="where the socket of administration is to be")
     parser.add_argument("--follow", action="store_true", help="follow the primary until promoted")
-    parser.add_argument("--procedures", type=pathlib.Path, default=pathlib.Path(__file__).resolve().parent / "procedures")
-    parser.add_argument("--accounts", type=int, default=1000, help="of a new journal")
-    parser.add_argument("--cents", type=int, default=100_000, help="that each of them has")
+    add_options(parser)
     words = parser.parse_args()
     try:
         begin, procedures = time.perf_counter(), load_procedures(words.procedures)
-        port, fronts = start_fronts(words.port, procedures)
+        port, fronts = start_fronts(words.port, procedures, words.idle)
         texts = {name: it.text for name, it in procedures.items()}
         journal = RedisJournal(words.name, words.redis_port, words.follow)
         bank = journal.start(Bank(0, texts, first_rows(words.accounts, words.cents)))
         if bank.texts != texts:
             raise Unusable("Redis: the stream was written with other procedures")
-        run(Replica(bank, journal, fronts, procedures), port, begin)
+        run(Replica(bank, journal, fronts, procedures), port, words.admin, begin)
     except (Unusable, OSError) as why:
         sys.exit(f"replicated: {why}")
 

@@ -1,17 +1,19 @@
-"""Runs a Python program, and notes for each file how long it was when its last fsync returned.
+"""Runs a program of `examples/payments` with small numbers, and notes for each file how long it was when its last fsync returned.
 
-    NOTE_FSYNC=FILE [CUT_AFTER=ENTRIES] noting_fsync.py PROGRAM WORD..
+    [NOTE_FSYNC=FILE] [CUT_AFTER=ENTRIES] [CHUNK=BYTES] [DAYS_AHEAD=FILE] noting_fsync.py PROGRAM WORD..
 
 A kill loses nothing of the page cache. With these notes a test can take away what only stood there, as a loss of power may.
-CUT_AFTER has the bank of `examples/payments` cut its history after so many entries.
+CUT_AFTER has the bank cut its history after so many entries, CHUNK has a snapshot stored in chunks of so many bytes. The file of DAYS_AHEAD
+says how many days its clock is ahead, each time that it is read.
 """
 
 import os
 import pathlib
 import runpy
 import sys
+import time
 
-note = os.open(os.environ["NOTE_FSYNC"], os.O_WRONLY | os.O_CREAT | os.O_APPEND, 0o600)
+note = os.open(os.environ.get("NOTE_FSYNC", os.devnull), os.O_WRONLY | os.O_CREAT | os.O_APPEND, 0o600)
 fsync = os.fsync
 
 
@@ -29,4 +31,11 @@ if "CUT_AFTER" in os.environ:
     import bank
 
     bank.ENTRIES = int(os.environ["CUT_AFTER"])
+if "CHUNK" in os.environ:
+    import journal
+
+    journal.CHUNK = int(os.environ["CHUNK"])
+if "DAYS_AHEAD" in os.environ:
+    ahead, now = pathlib.Path(os.environ["DAYS_AHEAD"]), time.time
+    time.time = lambda: now() + 86_400 * int(ahead.read_text())
 runpy.run_path(sys.argv[0], run_name="__main__")

@@ -1,0 +1,36 @@
+"""The socket of administration: a file, which the user of the server alone may open. `nc -U` speaks to it too."""
+
+import json
+import os
+import pathlib
+import socket
+from typing import Any
+
+
+def listen_at(path: pathlib.Path) -> socket.socket:
+    """A socket at this path. One that an earlier server has left there is replaced."""
+    if path.is_socket():
+        path.unlink()
+    listener = socket.socket(socket.AF_UNIX)
+    listener.setblocking(False)
+    mask = os.umask(0o177)
+    try:
+        listener.bind(str(path))
+    except OSError as why:
+        raise OSError(f"{path}: {why}") from None
+    finally:
+        os.umask(mask)
+    listener.listen()
+    return listener
+
+
+def ask(path: pathlib.Path, word: str, value: int = True) -> dict[str, Any]:
+    """What the server replies to a word. An OSError if none listens there, or it ends."""
+    with socket.socket(socket.AF_UNIX) as server:
+        server.connect(str(path))
+        server.sendall(json.dumps({word: value}).encode() + b"\n")
+        line = server.makefile().readline()
+        if not line:
+            raise ConnectionError(f"{path}: the server has ended")
+        reply: dict[str, Any] = json.loads(line)
+        return reply
