@@ -11,18 +11,22 @@ use Rattle.sgt_model.specs.Pairs.{Pair}
 use Rattle.sgt_model.specs.Questions.{is_ending}
 use Rattle.sgt_model.specs.Replay.{ReplayAgrees}
 use Rattle.sgt_model.specs.Walks.{Acyclic}
+use Rattle.sgt_progress.specs.Progress.{MakesProgress}
+use Rattle.sgt_progress.specs.RealTime.{KeepsRealTime}
 use Rattle.sgt_engine.specs.EngineView.{EngineView, setting_of, with_entry}
 use Rattle.sgt_c.specs.declared.held.Held.{Held}
 use Rattle.sgt_c.specs.declared.reply_struct.SgtReply.{SgtReply}
 use Rattle.sgt_c.specs.ReplyStructs.{HoldsReply}
 
--- the history is legal, and each part of the headline holds
+-- the history is legal, each part of the headline holds, commit order keeps real time, and the history makes progress
 abbrev pub Headline : EngineView → Type 0
 Headline e = Legal (setting_of e) e.past
     × ReplayAgrees (setting_of e) e.past
     × Acyclic (Pair e.past)
     × AbortsHaveCause (setting_of e) e.past
     × CommitsInOrder e.past
+    × KeepsRealTime (setting_of e) e.past
+    × MakesProgress (setting_of e) e.past
 
 -- the reply to the event is legal and is returned; history and replies each grow by one entry
 abbrev pub AnsweredBy : Event → Held → Option Held → SgtReply → Reply → Type 0

@@ -5,6 +5,8 @@ ghost use Rattle.std.specs.Result.{IsOk};
 ghost use Rattle.sgt_model.specs.declared.event.Event.TheVariants.{Quit};
 ghost use Rattle.sgt_model.specs.Fates.{live};
 ghost use Rattle.sgt_model.specs.Legality.{Legal, LegalReply};
+ghost use Rattle.sgt_progress.specs.Progress.{MakesProgress};
+ghost use Rattle.sgt_progress.specs.RealTime.{KeepsRealTime};
 ghost use Rattle.sgt_engine.specs.EngineView.{setting_of, with_entry};
 ghost use Rattle.sgt_session.specs.declared.receipt.Receipt.{Receipt};
 
@@ -105,6 +107,8 @@ impl<N: Named, R: Records, A: Accesses, G: Graph> Round<N, R, A, G> {
         ensures same { result ≡ self }
         ensures setting { setting_of result ≡ N.setting }
         ensures legal { Legal (setting_of result) result.past }
+        ensures real_time { KeepsRealTime (setting_of result) result.past }
+        ensures progress { MakesProgress (setting_of result) result.past }
     {
         let Round { engine, calls: _ } = self;
         let _ = engine.history();

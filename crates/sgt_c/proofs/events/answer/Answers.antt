@@ -14,6 +14,14 @@ returns-in-Ok-clause-ok c =
         done.legal,
         subst (HoldsReply c.write_reply.new.into) (sym (answered_with _ _ _ _ _ done c.reply_lists.ensures)) c.write_reply.ensures.reply,
         subst Headline done.adds
-            (c.answer.ensures.legal, c.answer.ensures.replay, c.answer.ensures.no_cycle, c.answer.ensures.causes, c.answer.ensures.order),
+            (
+              c.answer.ensures.legal,
+              c.answer.ensures.replay,
+              c.answer.ensures.no_cycle,
+              c.answer.ensures.causes,
+              c.answer.ensures.order,
+              c.answer.ensures.real_time,
+              c.answer.ensures.progress,
+            ),
       ),
     )

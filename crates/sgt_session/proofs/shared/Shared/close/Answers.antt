@@ -2,6 +2,8 @@ use Rattle.std.proofs.Common.{◌≡◌, ◌∙◌, length, reverse, refl, ap, s
 use Rattle.std.proofs.lemmas.List.{reverse-reverse, length-reverse}
 use Rattle.std.specs.List.{sum_by}
 use Rattle.sgt_model.specs.Legality.{Legal}
+use Rattle.sgt_progress.specs.Progress.{MakesProgress}
+use Rattle.sgt_progress.specs.RealTime.{KeepsRealTime}
 use Rattle.sgt_engine.specs.EngineView.{EngineView}
 use Rattle.sgt_session.specs.Accounts.{AccountsForHistory}
 use Rattle.sgt_session.proofs.shared.Shared.close.Goals as goal
@@ -22,6 +24,14 @@ returns-clause-setting g c = c.into_engine.ensures.setting
 
 pub returns-clause-legal : goal.returns-clause-legal
 returns-clause-legal g c = subst (λ s. Legal s c.into_engine.result.past) c.into_engine.ensures.setting c.into_engine.ensures.legal
+
+pub returns-clause-real_time : goal.returns-clause-real_time
+returns-clause-real_time g c =
+    subst (λ s. KeepsRealTime s c.into_engine.result.past) c.into_engine.ensures.setting c.into_engine.ensures.real_time
+
+pub returns-clause-progress : goal.returns-clause-progress
+returns-clause-progress g c =
+    subst (λ s. MakesProgress s c.into_engine.result.past) c.into_engine.ensures.setting c.into_engine.ensures.progress
 
 pub returns-clause-accounts : goal.returns-clause-accounts
 returns-clause-accounts g c =
