@@ -85,7 +85,7 @@ enum sgt_status {
     SGT_PROC_FLAW = 21   /* the procedure `procedure` has the flaw `number`, from 1 to 10: see docs/FORMATS.md */
 };
 
-/* Why an opening or a procedure was refused. `kind` is the status, and says which other fields count. */
+/* Why an opening or a procedure was refused. `kind` is the status, and says which other fields count. The others keep their values. */
 typedef struct sgt_fault {
     uint32_t kind;
     uint32_t number;     /* of SGT_BAD_OPENING and SGT_PROC_FLAW */
@@ -123,7 +123,10 @@ enum sgt_cause {
     SGT_BY_FALL = 4    /* cascading abort: it had read from an aborted one; `tid` is the one whose abort began the cascade */
 };
 
-/* `kind` says which other fields count. The others keep their old values, so copy `tid` at SGT_STARTED. */
+/*
+ * `kind` says which other fields count. The others keep their old values, and so do the items of `answer`, `walk` and `fell` after
+ * those that count. So copy `tid` at SGT_STARTED.
+ */
 typedef struct sgt_reply {
     uint32_t kind;
     uint32_t cause;
@@ -150,7 +153,7 @@ enum sgt_asked {
     SGT_QUIT = 4    /* a quit of the transaction `tid` */
 };
 
-/* `kind` says which other fields count. */
+/* `kind` says which other fields count. The others keep their old values. */
 typedef struct sgt_event {
     uint32_t kind;
     uint32_t tid;
@@ -180,8 +183,8 @@ typedef struct sgt_call {
 } sgt_call;
 
 /*
- * The outcome of a call of many: its last `reply`, and `tid` if a transaction was started. `wrote` is 1 if one of its steps wrote a
- * record, and else 0. So a call that is committed and did not write has changed nothing, and a journal may leave it out.
+ * The outcome of a call of many: its last `reply`, and `tid` if a transaction was started, else 0. `wrote` is 1 if one of its steps
+ * wrote a record, and else 0. So a call that is committed and did not write has changed nothing, and a journal may leave it out.
  */
 typedef struct sgt_outcome {
     uint32_t tid;
@@ -386,8 +389,10 @@ uint32_t sgt_entries(const sgt_engine *engine, uint64_t *count);
 uint32_t sgt_entry(const sgt_engine *engine, uint64_t place, sgt_event *event, sgt_reply *reply);
 
 /*
- * The calls of the committed and refused transactions, in the order of their replies, each with its answers or its code. It
- * is proved that running this list one after another gives the same answers, codes and database.
+ * The calls of the committed and refused transactions, in the order of their replies, each with its answers or its code. It is
+ * proved that running this list one after another gives the same answers, codes and database: by the procedures alone, and by
+ * sgt_run_many on a new engine with the same initial database, procedures and limits. There none of them has to wait or is
+ * aborted.
  *
  * The history is read from position `from` on. The first calls are written to `calls`, whose capacity is `room`, and their
  * number to `count`. The position to continue from is written to `next`: pass it as `from` the next time. When `next` is what

@@ -498,6 +498,221 @@ static void many_calls_are_run(void)
     sgt_close(&other);
 }
 
+static const char two[] = "{\"limits\":[8,100,1],\"accounts\":[[1,101,500,1000],[2,102,50,60]],\"procedures\":[]}";
+
+/* Steps a transaction to its end, and commits it. */
+static void ends(sgt_engine *engine, uint32_t tid, uint32_t kind)
+{
+    sgt_reply told = {0};
+    do {
+        if (sgt_step(engine, tid, &told) != 0) CHECK(!"a step is answered");
+    } while (told.kind == 8 || told.kind == 9);
+    CHECK(sgt_commit(engine, tid, &told) == 0 && told.kind == kind);
+}
+
+/* Whether an outcome ends its call as it ended before. */
+static int is_told_again(const sgt_outcome *outcome, const sgt_call *call)
+{
+    const sgt_reply *told = &outcome->reply;
+    if (told->kind != call->kind) return 0;
+    if (told->kind == 15) return told->code == call->code;
+    return told->answers == call->answers && memcmp(told->answer, call->answer, call->answers * sizeof *call->answer) == 0;
+}
+
+/* Calls that ended in another order than they were started in, one of them refused, run again on a new engine. */
+static void calls_are_run_again(void)
+{
+    const int64_t first[] = {2, 5}, nobody[] = {9, 1};
+    sgt_engine engine = {0}, other = {0};
+    sgt_fault fault = {0};
+    sgt_reply told = {0};
+    sgt_call calls[4] = {{0}};
+    sgt_outcome outcomes[4] = {{0}};
+    sgt_row rows[8] = {{0}}, again[8] = {{0}};
+    uint64_t count = 0, next = 0, done = 0, all = 0;
+    CHECK(opens(&engine, two, &fault) == 0 && opens(&other, two, &fault) == 0);
+    CHECK(sgt_start(&engine, 1, first, 2, &told) == 0 && told.kind == 1);
+    CHECK(sgt_start(&engine, 1, deposit, 2, &told) == 0 && told.kind == 1);
+    CHECK(sgt_start(&engine, 1, nobody, 2, &told) == 0 && told.kind == 1);
+    CHECK(sgt_start(&engine, 0, deposit, 1, &told) == 0 && told.kind == 1);
+    ends(&engine, 1, 13);
+    ends(&engine, 2, 15);
+    ends(&engine, 3, 13);
+    ends(&engine, 0, 13);
+    CHECK(sgt_calls(&engine, 0, calls, 4, &count, &next) == 0 && count == 4);
+    CHECK(calls[0].tid == 1 && calls[1].tid == 2 && calls[2].tid == 3 && calls[3].tid == 0);
+    CHECK(sgt_run_many(&other, calls, 4, outcomes, 4, &done) == 0 && done == 4);
+    for (int i = 0; i < 4; i++) CHECK(is_told_again(&outcomes[i], &calls[i]));
+    CHECK(sgt_rows(&engine, 0, SGT_LEAST, rows, 8, &all) == 0 && all == 6);
+    CHECK(sgt_rows(&other, 0, SGT_LEAST, again, 8, &all) == 0 && all == 6);
+    CHECK(memcmp(rows, again, sizeof rows) == 0);
+    sgt_close(&engine);
+    sgt_close(&other);
+}
+
+/* Fills both with a pattern: what a call wrote, and what it should write. */
+static void fill(sgt_reply *told, sgt_reply *want)
+{
+    memset(told, 0x5a, sizeof *told);
+    memset(want, 0x5a, sizeof *want);
+}
+
+/* Whether just the fields were written that are set in `want`. Both are filled again. */
+static int wrote_just(sgt_reply *told, sgt_reply *want)
+{
+    int same = memcmp(told, want, sizeof *told) == 0;
+    fill(told, want);
+    return same;
+}
+
+static void set_record(sgt_reply *want, uint32_t kind, uint32_t table, int64_t number)
+{
+    want->kind = kind;
+    want->table = table;
+    want->number = number;
+}
+
+static void set_committed(sgt_reply *want, int64_t answer)
+{
+    want->kind = 13;
+    want->answers = 1;
+    want->answer[0] = answer;
+}
+
+static void set_by_quit(sgt_reply *want, uint32_t kind)
+{
+    want->kind = kind;
+    want->cause = 3;
+}
+
+static void fields_that_do_not_count_stay(void)
+{
+    const int64_t nobody[] = {9, 100};
+    sgt_engine engine = {0};
+    sgt_fault fault = {0};
+    sgt_reply told, want;
+    fill(&told, &want);
+    CHECK(opens(&engine, opening, &fault) == 0);
+    CHECK(sgt_step(&engine, 0, &told) == 0);
+    want.kind = 6;
+    CHECK(wrote_just(&told, &want));
+    CHECK(sgt_start(&engine, 1, deposit, 2, &told) == 0);
+    want.kind = 1;
+    want.tid = 0;
+    CHECK(wrote_just(&told, &want));
+    CHECK(sgt_step(&engine, 0, &told) == 0);
+    set_record(&want, 8, 0, 1);
+    want.found = 1;
+    want.value = 101;
+    CHECK(wrote_just(&told, &want));
+    CHECK(sgt_commit(&engine, 0, &told) == 0);
+    want.kind = 11;
+    CHECK(wrote_just(&told, &want));
+    CHECK(sgt_step(&engine, 0, &told) == 0);
+    fill(&told, &want);
+    CHECK(sgt_step(&engine, 0, &told) == 0);
+    set_record(&want, 9, 2, 101);
+    want.value = 1100;
+    CHECK(wrote_just(&told, &want));
+    CHECK(sgt_commit(&engine, 0, &told) == 0);
+    set_committed(&want, 1100);
+    CHECK(wrote_just(&told, &want));
+    CHECK(sgt_start(&engine, 1, nobody, 2, &told) == 0);
+    fill(&told, &want);
+    CHECK(sgt_step(&engine, 1, &told) == 0);
+    set_record(&want, 8, 0, 9);
+    want.found = 0;
+    CHECK(wrote_just(&told, &want));
+    CHECK(sgt_quit(&engine, 1, &told) == 0);
+    set_by_quit(&want, 14);
+    want.fallen = 0;
+    CHECK(wrote_just(&told, &want));
+    CHECK(sgt_quit(&engine, 1, &told) == 0);
+    set_by_quit(&want, 7);
+    CHECK(wrote_just(&told, &want));
+    sgt_close(&engine);
+}
+
+static void fields_of_entries_stay(void)
+{
+    sgt_engine engine = {0};
+    sgt_fault fault = {0};
+    sgt_reply told, want;
+    sgt_event asked, event;
+    fill(&told, &want);
+    memset(&asked, 0x5a, sizeof asked);
+    memset(&event, 0x5a, sizeof event);
+    CHECK(opens(&engine, opening, &fault) == 0);
+    CHECK(sgt_start(&engine, 1, deposit, 2, &told) == 0);
+    CHECK(sgt_quit(&engine, 0, &told) == 0);
+    fill(&told, &want);
+    CHECK(sgt_entry(&engine, 0, &asked, &told) == 0);
+    want.kind = 1;
+    want.tid = 0;
+    CHECK(wrote_just(&told, &want));
+    event.kind = 1;
+    event.procedure = 1;
+    event.args = 2;
+    memcpy(event.arg, deposit, sizeof deposit);
+    CHECK(memcmp(&asked, &event, sizeof asked) == 0);
+    CHECK(sgt_entry(&engine, 1, &asked, &told) == 0);
+    event.kind = 4;
+    event.tid = 0;
+    CHECK(memcmp(&asked, &event, sizeof asked) == 0);
+    sgt_close(&engine);
+}
+
+static void fields_of_runs_stay(void)
+{
+    const sgt_call calls[] = {{.procedure = 1, .args = 2, .arg = {1, 100}}, {.procedure = 77}};
+    sgt_engine engine = {0};
+    sgt_fault fault = {0};
+    sgt_reply told, want;
+    sgt_outcome outcomes[2];
+    uint32_t t = 77;
+    uint64_t done = 0;
+    fill(&told, &want);
+    memset(outcomes, 0x5a, sizeof outcomes);
+    CHECK(opens(&engine, opening, &fault) == 0);
+    CHECK(sgt_run(&engine, 77, deposit, 0, &t, &told) == 0);
+    want.kind = 2;
+    CHECK(wrote_just(&told, &want) && t == 77);
+    CHECK(sgt_run(&engine, 1, deposit, 2, &t, &told) == 0);
+    set_committed(&want, 1100);
+    CHECK(wrote_just(&told, &want) && t == 0);
+    CHECK(sgt_run_many(&engine, calls, 2, outcomes, 2, &done) == 0);
+    set_committed(&want, 1200);
+    CHECK(wrote_just(&outcomes[0].reply, &want) && outcomes[0].tid == 1);
+    want.kind = 2;
+    CHECK(wrote_just(&outcomes[1].reply, &want) && outcomes[1].tid == 0);
+    sgt_close(&engine);
+}
+
+static void fields_of_faults_stay(void)
+{
+    sgt_engine engine = {0};
+    sgt_fault fault, want;
+    uint16_t number = 77;
+    memset(&fault, 0x5a, sizeof fault);
+    memset(&want, 0x5a, sizeof want);
+    CHECK(opens(&engine, "nope", &fault) == 16);
+    want.kind = 16;
+    CHECK(memcmp(&fault, &want, sizeof fault) == 0);
+    CHECK(opens(&engine, shape, &fault) == 20);
+    want.kind = 20;
+    want.procedure = 5;
+    want.depth = 2;
+    want.place[0] = 1;
+    want.place[1] = 0;
+    CHECK(memcmp(&fault, &want, sizeof fault) == 0);
+    CHECK(opens(&engine, opening, &fault) == 0);
+    CHECK(opens(&engine, shape, &fault) == 3);
+    CHECK(opens_with(&engine, shape, 0, 0, &fault) == 3);
+    CHECK(sgt_procedure(&engine, (const uint8_t *)"[0,[]]", 6, &number, &fault) == 0 && number == 5);
+    CHECK(memcmp(&fault, &want, sizeof fault) == 0);
+    sgt_close(&engine);
+}
+
 /* Each pointer of each call in turn: a null engine is a closed one, and another null pointer a bad call. Nothing is written. */
 static void null_pointers_are_told(void)
 {
@@ -902,6 +1117,11 @@ int main(void)
     procedures_have_numbers_of_16_bits();
     a_run_goes_to_its_end();
     many_calls_are_run();
+    calls_are_run_again();
+    fields_that_do_not_count_stay();
+    fields_of_entries_stay();
+    fields_of_runs_stay();
+    fields_of_faults_stay();
     null_pointers_are_told();
     lists_of_no_items_may_be_null();
     a_busy_engine_is_left_alone();

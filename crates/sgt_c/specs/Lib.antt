@@ -1,5 +1,6 @@
 -- the structs of C, and what their fields say
 pub mod ReplyStructs
+pub mod KeptFields
 pub mod ReplyReadings
 pub mod EventStructs
 pub mod FaultStructs
@@ -15,6 +16,7 @@ pub mod Calls
 pub mod Rows
 pub mod Runs
 pub mod ManyRuns
+pub mod Reruns
 pub mod Openings
 pub mod BareOpenings
 pub mod Cuts

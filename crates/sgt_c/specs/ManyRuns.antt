@@ -18,11 +18,12 @@ IsAsked c = (c.procedure < 2 ^ 16) × (c.args ≤ 4)
 abbrev pub args_in : SgtCall → List ℤ
 args_in c = take c.args c.arg
 
--- the call ran from its start to its last reply; that is in its outcome, and whether one of its steps wrote
+-- the call ran from its start to its last reply; that is in its outcome, with the number of its transaction, or 0 if none was
+-- started, and whether one of its steps wrote
 abbrev pub RanOne : SgtCall → SgtOutcome → EngineView → EngineView → Type 0
 RanOne c o e after = (started : Option ℕ) × (wrote : Bool) × (last : Reply)
     × Runs (Start c.procedure (args_in c)) started wrote last e after
-    × IsNumberTold started o.tid × (o.wrote ≡ cond wrote 1 0) × HoldsReply o.reply last
+    × IsNumberTold started 0 o.tid × (o.wrote ≡ cond wrote 1 0) × HoldsReply o.reply last
 
 -- each call ran, one after another, and its outcome is at its index
 abbrev pub RanAll : List SgtCall → List SgtOutcome → EngineView → EngineView → Type 0

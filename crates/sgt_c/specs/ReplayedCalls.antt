@@ -1,5 +1,6 @@
 -- The calls of the committed and refused transactions, as C reads them. The replay runs this list one after another.
 use Rattle.std.specs.Prelude.{◌≡◌, ℕ, ◌≤◌, ◌<◌, ◌+◌, cond, nat_eq, length, map, take, reverse, List, [], ◌∷◌, ◌++◌, Option, Some, None}
+use Rattle.std.specs.List.{All}
 use Rattle.sgt_model.specs.declared.entry.Entry.{Entry}
 use Rattle.sgt_model.specs.declared.event.Event.{Event}
 use Rattle.sgt_model.specs.declared.reply.Reply.{Reply}
@@ -10,6 +11,7 @@ use Rattle.sgt_model.specs.Replay.{RunResult, GaveAnswers, AskedCode, told, told
 use Rattle.sgt_c.specs.declared.call_struct.SgtCall.{SgtCall}
 use Rattle.sgt_c.specs.declared.call_struct.Started.{Started}
 use Rattle.sgt_c.specs.declared.held.Held.{Held}
+use Rattle.sgt_c.specs.ManyRuns.{IsAsked}
 
 -- ---- what a struct says
 
@@ -56,9 +58,10 @@ pub record AreTold (entries : List Entry) (from : ℕ) (to : List SgtCall) (coun
   pub results : Adds told result_in entries from to count next
   pub ends : Adds told_ends ends_in entries from to count next
 
--- the same, and no entry follows them unless all structs are filled
+-- the same; each can be asked for again; and no entry follows them unless all structs are filled
 pub record ArePassed (entries : List Entry) (from : ℕ) (to : List SgtCall) (count next : ℕ) : Type 0 where
   pub told : AreTold entries from to count next
+  pub asked : All IsAsked (take count to)
   pub onward : from ≤ next
   pub within : next ≤ length entries
   pub room : count ≤ length to

@@ -80,17 +80,19 @@ RunsOnTo t wrote short e after = (last : Reply) × (short_reply last ≡ short) 
 abbrev pub RunsTo : Event → Option ℕ → Bool → ShortReply → EngineView → EngineView → Type 0
 RunsTo start started wrote short e after = (last : Reply) × (short_reply last ≡ short) × Runs start started wrote last e after
 
--- the number is returned, if there is one
-abbrev pub IsNumberTold : Option ℕ → ℕ → Type 0
-IsNumberTold None told = Unit {0}
-IsNumberTold (Some t) told = told ≡ t
+-- the number is returned, if there is one; else what was there before is unchanged
+abbrev pub IsNumberTold : Option ℕ → ℕ → ℕ → Type 0
+IsNumberTold None before told = told ≡ before
+IsNumberTold (Some t) before told = told ≡ t
 
--- the run is in the history, its last reply is returned, and each part of the headline holds
-abbrev pub Ran : Event → Option Held → Option Held → ℕ → SgtReply → Type 0
-Ran start None new tid told = ⊥
-Ran start (Some h) None tid told = ⊥
-Ran start (Some h) (Some h') tid told = (started : Option ℕ) × (wrote : Bool) × (last : Reply)
-    × Runs start started wrote last h.engine h'.engine × IsNumberTold started tid × HoldsReply told last × Headline h'.engine × (h'.part ≡ h.part)
+-- the run is in the history, the number of its transaction and its last reply are returned, and each part of the headline
+-- holds
+abbrev pub Ran : Event → Option Held → Option Held → ℕ → ℕ → SgtReply → Type 0
+Ran start None new before tid told = ⊥
+Ran start (Some h) None before tid told = ⊥
+Ran start (Some h) (Some h') before tid told = (started : Option ℕ) × (wrote : Bool) × (last : Reply)
+    × Runs start started wrote last h.engine h'.engine × IsNumberTold started before tid × HoldsReply told last
+    × Headline h'.engine × (h'.part ≡ h.part)
 
 -- the transaction made some steps, and is live
 abbrev pub StopsLive : ℕ → EngineView → EngineView → Type 0

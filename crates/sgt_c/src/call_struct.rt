@@ -1,6 +1,7 @@
 //! The struct of a call for C: what ran, and its result.
 ghost use Rattle.std.specs.Prelude.{◌≡◌, ◌≤◌, length};
 ghost use Rattle.sgt_model.specs.Replay.{GaveAnswers, AskedCode};
+ghost use Rattle.sgt_c.specs.ManyRuns.{IsAsked};
 ghost use Rattle.sgt_c.specs.ReplayedCalls.{call_in, called, ends_in, result_in};
 
 use crate::event_struct::write_args;
@@ -35,6 +36,7 @@ impl SgtCall {
     /// The call of a transaction that was committed with these answers.
     pub fn committed(t: Tid, started: &Started, answers: &[i64]) -> SgtCall
         requires { length answers.now ≤ 8 }
+        ensures asked { IsAsked result }
         ensures ends { ends_in result ≡ (t, 13) }
         ensures call { call_in result ≡ called started.now }
         ensures told { result_in result ≡ GaveAnswers answers.now }
@@ -46,6 +48,7 @@ impl SgtCall {
 
     /// The call of a transaction that was refused with this code.
     pub fn refused(t: Tid, started: &Started, code: u16) -> SgtCall
+        ensures asked { IsAsked result }
         ensures ends { ends_in result ≡ (t, 15) }
         ensures call { call_in result ≡ called started.now }
         ensures told { result_in result ≡ AskedCode code }
@@ -56,6 +59,7 @@ impl SgtCall {
     }
 
     fn untold(kind: u32, t: Tid, started: &Started) -> SgtCall
+        ensures asked { IsAsked result }
         ensures ends { ends_in result ≡ (t, kind) }
         ensures call { call_in result ≡ called started.now }
     {

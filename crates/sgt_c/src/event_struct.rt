@@ -1,7 +1,8 @@
 //! The struct of an event for C, and how it is written.
-ghost use Rattle.std.specs.Prelude.{◌≡◌, take};
+ghost use Rattle.std.specs.Prelude.{◌≡◌, ◌≤◌, drop, take};
 ghost use Rattle.sgt_model.specs.declared.event.Event.TheVariants as event;
 ghost use Rattle.sgt_c.specs.EventStructs.{HoldsEvent};
+ghost use Rattle.sgt_c.specs.KeptFields.{KeepsOtherEventFields};
 
 use sgt_model::{Args, Event};
 
@@ -18,9 +19,10 @@ pub struct SgtEvent {
     pub arg: [i64; 4],
 }
 
-/// Writes an event for C.
+/// Writes an event for C. The fields that do not count for its kind keep their values.
 pub fn write_event(into: &mut SgtEvent, event: &Event)
-    ensures { HoldsEvent into.new event.now }
+    ensures event { HoldsEvent into.new event.now }
+    ensures kept { KeepsOtherEventFields into.old into.new }
 {
     match event {
         Event::Start { procedure, args } => {
@@ -37,14 +39,18 @@ pub fn write_event(into: &mut SgtEvent, event: &Event)
 fn write_named(into: &mut SgtEvent, kind: u32, t: u32)
     ensures kind { into.new.kind ≡ kind }
     ensures tid { into.new.tid ≡ t }
+    ensures procedure { into.new.procedure ≡ into.old.procedure }
+    ensures args { (into.new.args ≡ into.old.args) × (into.new.arg ≡ into.old.arg) }
 {
     into.kind = kind;
     into.tid = t;
 }
 
-/// Writes arguments, and returns how many there are.
+/// Writes arguments, and returns how many there are. The items after them stay.
 pub fn write_args(to: &mut [i64; 4], args: &Args) -> u32
-    ensures { take result to.new ≡ args.now }
+    ensures args { take result to.new ≡ args.now }
+    ensures few { result ≤ 4 }
+    ensures rest { drop result to.new ≡ drop result to.old }
 {
     let count = args.len();
     to[..count].copy_from_slice(args.as_slice());

@@ -10,6 +10,7 @@ ghost use Rattle.sgt_model.specs.declared.event.Event.TheVariants.{Start, Step, 
 ghost use Rattle.sgt_c.specs.Calls.{Answered, EndsSucceed, QuitsSucceed};
 ghost use Rattle.sgt_c.specs.Asked.{IsCall};
 ghost use Rattle.sgt_c.specs.Handles.{IsBusy, IsClosed};
+ghost use Rattle.sgt_c.specs.KeptFields.{KeepsOtherFields};
 
 use crate::asked::{arguments, is_call};
 use crate::handle::Handle;
@@ -34,6 +35,7 @@ pub extern "C" fn sgt_start(
     ensures ok { result ≡ 0 → Answered (Start procedure args.now) engine.old.slot.held engine.new.slot.held reply.new }
     ensures unchanged { result ≢ 0 → engine.new.slot.held ≡ engine.old.slot.held }
     ensures unwritten { result ≢ 0 → reply.new ≡ reply.old }
+    ensures kept { result ≡ 0 → KeepsOtherFields reply.old reply.new }
     ensures bad_call { (result ≡ 5) ↔ (¬ IsCall procedure args.now) }
     ensures busy { (result ≡ 10) ↔ (IsCall procedure args.now × IsBusy engine.old.state) }
     ensures closed { (result ≡ 2) ↔ (IsCall procedure args.now × IsClosed engine.old.state engine.old.slot.held) }
@@ -57,6 +59,7 @@ pub extern "C" fn sgt_step(alloc: Global, engine: &mut Handle, t: u32, reply: &m
     ensures ok { result ≡ 0 → Answered (Step t) engine.old.slot.held engine.new.slot.held reply.new }
     ensures unchanged { result ≢ 0 → engine.new.slot.held ≡ engine.old.slot.held }
     ensures unwritten { result ≢ 0 → reply.new ≡ reply.old }
+    ensures kept { result ≡ 0 → KeepsOtherFields reply.old reply.new }
     ensures busy { (result ≡ 10) ↔ IsBusy engine.old.state }
     ensures closed { (result ≡ 2) ↔ IsClosed engine.old.state engine.old.slot.held }
     ensures ends { EndsSucceed (Step t) engine.old.slot.held result }
@@ -80,6 +83,7 @@ pub extern "C" fn sgt_commit(
     ensures ok { result ≡ 0 → Answered (Commit t) engine.old.slot.held engine.new.slot.held reply.new }
     ensures unchanged { result ≢ 0 → engine.new.slot.held ≡ engine.old.slot.held }
     ensures unwritten { result ≢ 0 → reply.new ≡ reply.old }
+    ensures kept { result ≡ 0 → KeepsOtherFields reply.old reply.new }
     ensures busy { (result ≡ 10) ↔ IsBusy engine.old.state }
     ensures closed { (result ≡ 2) ↔ IsClosed engine.old.state engine.old.slot.held }
     ensures ends { EndsSucceed (Commit t) engine.old.slot.held result }
@@ -98,6 +102,7 @@ pub extern "C" fn sgt_quit(alloc: Global, engine: &mut Handle, t: u32, reply: &m
     ensures ok { result ≡ 0 → Answered (Quit t) engine.old.slot.held engine.new.slot.held reply.new }
     ensures unchanged { result ≢ 0 → engine.new.slot.held ≡ engine.old.slot.held }
     ensures unwritten { result ≢ 0 → reply.new ≡ reply.old }
+    ensures kept { result ≡ 0 → KeepsOtherFields reply.old reply.new }
     ensures busy { (result ≡ 10) ↔ IsBusy engine.old.state }
     ensures closed { (result ≡ 2) ↔ IsClosed engine.old.state engine.old.slot.held }
     ensures quits { QuitsSucceed (Quit t) engine.old.slot.held result }
@@ -114,6 +119,7 @@ fn ask(alloc: Global, engine: &mut Handle, event: Event, reply: &mut SgtReply) -
     ensures ok { result ≡ 0 → Answered event engine.old.slot.held engine.new.slot.held reply.new }
     ensures unchanged { result ≢ 0 → engine.new.slot.held ≡ engine.old.slot.held }
     ensures unwritten { result ≢ 0 → reply.new ≡ reply.old }
+    ensures kept { result ≡ 0 → KeepsOtherFields reply.old reply.new }
     ensures busy { (result ≡ 10) ↔ IsBusy engine.old.state }
     ensures closed { (result ≡ 2) ↔ IsClosed engine.old.state engine.old.slot.held }
     ensures ends { EndsSucceed event engine.old.slot.held result }
@@ -142,6 +148,7 @@ fn ask(alloc: Global, engine: &mut Handle, event: Event, reply: &mut SgtReply) -
 #[inline(always)]
 fn answer(held: &mut Held, event: Event, reply: &mut SgtReply) -> Result<(), NoMemory>
     ensures ok { OnOk result (Answered event (Some held.old) (Some held.new) reply.new) }
+    ensures kept { OnOk result (KeepsOtherFields reply.old reply.new) }
     ensures unchanged { OnErr result ((held.new ≡ held.old) × (reply.new ≡ reply.old)) }
     ensures ends { (r : Reply) → LegalReply (setting_of held.old.engine) held.old.engine.past event r
         → is_ending r ≡ true

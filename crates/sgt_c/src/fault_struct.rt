@@ -1,6 +1,7 @@
 //! The struct of a fault for C, and how it is written.
-ghost use Rattle.std.specs.Prelude.{◌≡◌, ◌≤◌, length, take};
+ghost use Rattle.std.specs.Prelude.{◌≡◌, ◌≤◌, drop, length, take};
 ghost use Rattle.sgt_c.specs.FaultStructs.{HoldsFault};
+ghost use Rattle.sgt_c.specs.KeptFields.{KeepsOtherFaultFields};
 
 use crate::status;
 use sgt_format::OpeningError;
@@ -22,10 +23,11 @@ pub struct SgtFault {
     pub place: [u64; 128],
 }
 
-/// Writes a fault for C, and returns its status.
+/// Writes a fault for C, and returns its status. The fields that do not count for its kind keep their values.
 pub fn write_fault(into: &mut SgtFault, error: &OpeningError) -> u32
     ensures status { result ≡ into.new.kind }
     ensures fault { HoldsFault into.new error.now }
+    ensures kept { KeepsOtherFaultFields into.old into.new }
 {
     match error {
         OpeningError::NotJson => into.kind = status::NOT_JSON,
@@ -52,7 +54,8 @@ pub fn write_fault(into: &mut SgtFault, error: &OpeningError) -> u32
 
 /// Writes positions, and returns how many: 128, the most that a `Place` stores, or fewer.
 fn write_place(to: &mut [u64; 128], place: &Place) -> u32
-    ensures { take result to.new ≡ take 128 place.now }
+    ensures place { take result to.new ≡ take 128 place.now }
+    ensures rest { drop result to.new ≡ drop result to.old }
 {
     let positions = first_128(place.as_slice());
     let count = positions.len();

@@ -2,6 +2,7 @@
 ghost use Rattle.std.specs.Prelude.{◌≡◌, ◌≢◌, ◌≤◌, ◌<◌, ◌↔◌, true, false, Some, IfSome, length, slice_get};
 ghost use Rattle.sgt_model.specs.declared.entry.Entry.{Entry};
 ghost use Rattle.sgt_model.specs.ShortReplies.{reply_with, short_reply};
+ghost use Rattle.sgt_c.specs.KeptFields.{KeepsOtherEventFields, KeepsOtherFields};
 ghost use Rattle.sgt_c.specs.Entries.{HoldsEntry, ReturnsEntry, HasNoEntry};
 ghost use Rattle.sgt_c.specs.Handles.{IsBusy, IsClosed};
 
@@ -57,6 +58,8 @@ pub extern "C" fn sgt_entry(
     ensures statuses { result ≢ 10 → result ≢ 0 → result ≢ 2 → result ≡ 4 }
     ensures event_unwritten { result ≢ 0 → event.new ≡ event.old }
     ensures unwritten { result ≢ 0 → reply.new ≡ reply.old }
+    ensures event_kept { result ≡ 0 → KeepsOtherEventFields event.old event.new }
+    ensures kept { result ≡ 0 → KeepsOtherFields reply.old reply.new }
     ensures same { engine.new.slot.held ≡ engine.old.slot.held }
     ensures leaves { IsBusy engine.new.state → IsBusy engine.old.state }
     ensures stays { IsBusy engine.old.state → engine.new.state ≡ engine.old.state }
@@ -78,6 +81,8 @@ fn write_entry(history: &History, place: u64, event: &mut SgtEvent, reply: &mut 
     ensures none { result ≡ false → length history.now.entries ≤ place }
     ensures there { result ≡ true → place < length history.now.entries }
     ensures unwritten { result ≡ false → (event.new ≡ event.old) × (reply.new ≡ reply.old) }
+    ensures event_kept { result ≡ true → KeepsOtherEventFields event.old event.new }
+    ensures kept { result ≡ true → KeepsOtherFields reply.old reply.new }
 {
     match history.get_entry(place as usize) {
         Some(entry) => {

@@ -1,6 +1,7 @@
 //! Opening and closing a handle.
-ghost use Rattle.std.specs.Prelude.{◌≡◌, ◌≢◌, ◌≤◌, ◌↔◌, None, IsSome, IfSome, IfOk, IfErr};
+ghost use Rattle.std.specs.Prelude.{◌≡◌, ◌≢◌, ◌<◌, ◌≤◌, ◌↔◌, None, IsSome, IfSome, IfOk, IfErr};
 ghost use Rattle.sgt_format.specs.Openings.{Refuses};
+ghost use Rattle.sgt_c.specs.KeptFields.{KeepsOtherFaultFields};
 ghost use Rattle.sgt_c.specs.Openings.{OpenedAs, RefusedAs};
 ghost use Rattle.sgt_c.specs.Handles.{IsBusy};
 
@@ -31,6 +32,8 @@ pub extern "C" fn sgt_open(
     ensures busy { (result ≡ 10) ↔ IsBusy engine.old.state }
     ensures open { (result ≡ 3) ↔ IsSome engine.old.slot.held }
     ensures refused { 16 ≤ result → (result ≡ fault.new.kind) × RefusedAs opening.now fault.new }
+    ensures unwritten { result ≢ 1 → result < 16 → fault.new ≡ fault.old }
+    ensures fault_kept { KeepsOtherFaultFields fault.old fault.new }
     ensures unchanged { result ≢ 0 → engine.new.slot.held ≡ engine.old.slot.held }
     ensures leaves { IsBusy engine.new.state → IsBusy engine.old.state }
     ensures stays { IsBusy engine.old.state → engine.new.state ≡ engine.old.state }

@@ -1,9 +1,10 @@
 //! Opening a handle with rows of the caller.
-ghost use Rattle.std.specs.Prelude.{◌≡◌, ◌≢◌, ◌≤◌, ◌↔◌, None, IsSome, IfSome, IfOk, IfErr, OnOk};
+ghost use Rattle.std.specs.Prelude.{◌≡◌, ◌≢◌, ◌<◌, ◌≤◌, ◌↔◌, None, IsSome, IfSome, IfOk, IfErr, OnOk};
 ghost use Rattle.std.specs.List.{All};
 ghost use Rattle.sgt_model.specs.Contents.{Key, put_in};
 ghost use Rattle.sgt_model.specs.Databases.{contents_of};
 ghost use Rattle.sgt_format.specs.Openings.{Refuses};
+ghost use Rattle.sgt_c.specs.KeptFields.{KeepsOtherFaultFields};
 ghost use Rattle.sgt_c.specs.Openings.{OpenedWith, RefusedAs};
 ghost use Rattle.sgt_c.specs.Rows.{IsRow, row_of, with_rows};
 ghost use Rattle.sgt_c.specs.Handles.{IsBusy};
@@ -42,6 +43,8 @@ pub extern "C" fn sgt_open_with(
     ensures open { (result ≡ 3) ↔ IsSome engine.old.slot.held }
     ensures bad_call { (result ≡ 5) ↔ ((¬ IsBusy engine.old.state) × (engine.old.slot.held ≡ None) × (¬ All IsRow rows.now)) }
     ensures refused { 16 ≤ result → (result ≡ fault.new.kind) × RefusedAs opening.now fault.new }
+    ensures unwritten { result ≢ 1 → result < 16 → fault.new ≡ fault.old }
+    ensures fault_kept { KeepsOtherFaultFields fault.old fault.new }
     ensures unchanged { result ≢ 0 → engine.new.slot.held ≡ engine.old.slot.held }
     ensures leaves { IsBusy engine.new.state → IsBusy engine.old.state }
     ensures stays { IsBusy engine.old.state → engine.new.state ≡ engine.old.state }

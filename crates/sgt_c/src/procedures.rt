@@ -1,5 +1,6 @@
 //! Adding procedures.
 ghost use Rattle.std.specs.Prelude.{◌≡◌, ◌≢◌, ◌<◌, ◌≤◌, ◌↔◌, IfErr, IfOk, OnErr};
+ghost use Rattle.sgt_c.specs.KeptFields.{KeepsOtherFaultFields};
 ghost use Rattle.sgt_c.specs.Puts.{Added, HasBegun, HasNoNumber, IsAdded, IsRefusal, IsTextRefused};
 ghost use Rattle.sgt_c.specs.Handles.{IsBusy, IsClosed};
 
@@ -38,6 +39,7 @@ pub extern "C" fn sgt_procedure(
     ensures statuses { result ≢ 10 → result < 16 → result ≢ 7 → result ≢ 9 → result ≤ 2 }
     ensures kept { result ≢ 0 → number.new ≡ number.old }
     ensures unwritten { result ≢ 1 → result < 16 → fault.new ≡ fault.old }
+    ensures fault_kept { KeepsOtherFaultFields fault.old fault.new }
     ensures leaves { IsBusy engine.new.state → IsBusy engine.old.state }
     ensures stays { IsBusy engine.old.state → engine.new.state ≡ engine.old.state }
 {

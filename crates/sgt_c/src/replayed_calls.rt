@@ -1,11 +1,14 @@
 //! The calls of the committed and refused transactions, in the order of their replies.
 ghost use Rattle.std.specs.Prelude.{◌≡◌, ◌≢◌, ◌≤◌, ◌<◌, ◌↔◌, IsNone, IfSome, IfNone, ◌++◌, drop, length, take};
+ghost use Rattle.std.specs.List.{All};
 ghost use Rattle.std.specs.Option.{option_map};
 ghost use Rattle.sgt_model.specs.Fates.{subject};
 ghost use Rattle.sgt_model.specs.Progress.{call_in as started_in, call_of};
 ghost use Rattle.sgt_model.specs.Replay.{told_call_in, told_in};
 ghost use Rattle.sgt_c.specs.Entries.{HasNoPlace};
+ghost use Rattle.sgt_c.specs.ManyRuns.{IsAsked};
 ghost use Rattle.sgt_c.specs.ReplayedCalls.{ArePassed, IsToldAt, ReturnsCalls, call_in, called, ends_by, ends_in, listed, past_at, result_in};
+ghost use Rattle.sgt_c.specs.Reruns.{CanBeRerun};
 ghost use Rattle.sgt_c.specs.Handles.{IsBusy, IsClosed};
 
 use crate::call_struct::{SgtCall, Started};
@@ -13,6 +16,7 @@ use crate::handle::Handle;
 use crate::status;
 use sgt_log::{EntryRef, History};
 use sgt_model::{Args, Event, ShortReply, Tid};
+use sgt_progress::reruns_agree;
 use std::alloc::Global;
 
 /// The calls of the committed and refused transactions from a position of the history on, in the order of their
@@ -34,6 +38,7 @@ pub extern "C" fn sgt_calls(
     next: &mut u64,
 ) -> u32
     ensures returned { result ≡ 0 → ReturnsCalls engine.old.slot.held from calls.new count.new next.new }
+    ensures again { result ≡ 0 → CanBeRerun engine.old.slot.held from calls.new count.new next.new }
     ensures rest { drop count.new calls.new ≡ drop count.new calls.old }
     ensures room { length calls.new ≡ length calls.old }
     ensures none { (result ≡ 4) ↔ HasNoPlace engine.old.slot.held from }
@@ -46,6 +51,8 @@ pub extern "C" fn sgt_calls(
     ensures leaves { IsBusy engine.new.state → IsBusy engine.old.state }
     ensures stays { IsBusy engine.old.state → engine.new.state ≡ engine.old.state }
 {
+    // Given one after another to a new engine, the calls that a history told are told the same.
+    reruns_agree();
     if engine.is_busy() {
         return status::BUSY;
     }
@@ -105,6 +112,7 @@ fn pass_from(history: &History, from: usize, to: &mut [SgtCall]) -> Passed
 fn put(to: &mut [SgtCall], count: usize, call: Option<SgtCall>) -> usize
     requires { count < length to.old }
     ensures put { take result to.new ≡ take count to.old ++ listed (λ call. call) call }
+    ensures asked { All IsAsked (take count to.old) → IfSome call IsAsked → All IsAsked (take result to.new) }
     ensures rest { drop result to.new ≡ drop result to.old }
     ensures room { length to.new ≡ length to.old }
     ensures within { (count ≤ result) × (result ≤ length to.new) }
@@ -121,7 +129,8 @@ fn put(to: &mut [SgtCall], count: usize, call: Option<SgtCall>) -> usize
 /// The call of the transaction that the entry at a position commits or refuses, if any.
 fn told_at(history: &History, place: usize) -> Option<SgtCall>
     requires { place < length history.now.entries }
-    ensures { IsToldAt history.now.entries place result }
+    ensures told { IsToldAt history.now.entries place result }
+    ensures asked { IfSome result IsAsked }
 {
     let entry = history.entry(place);
     told_by(history, place, &entry)
@@ -134,6 +143,7 @@ fn told_by(history: &History, place: usize, entry: &EntryRef<'_>) -> Option<SgtC
     ensures calls { told_call_in (past_at history.now.entries place) entry.now.event entry.now.reply ≡ listed call_in result }
     ensures results { told_in entry.now.reply ≡ listed result_in result }
     ensures ends { ends_by entry.now.event entry.now.reply ≡ listed ends_in result }
+    ensures asked { IfSome result IsAsked }
 {
     let t = subject(entry);
     match entry.short() {

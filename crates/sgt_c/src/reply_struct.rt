@@ -1,7 +1,8 @@
 //! The struct of a reply for C, and how it is written.
-ghost use Rattle.std.specs.Prelude.{◌≡◌, ◌≤◌, length, take};
+ghost use Rattle.std.specs.Prelude.{◌≡◌, ◌≤◌, drop, length, take};
 ghost use Rattle.sgt_model.specs.declared.reply.Reply.TheVariants as reply;
 ghost use Rattle.sgt_model.specs.ShortReplies.{full_cause, full_fate, reply_with};
+ghost use Rattle.sgt_c.specs.KeptFields.{KeepsOtherFields, WritesCause, with_record};
 ghost use Rattle.sgt_c.specs.ReplyStructs.{HoldsReply, HoldsCause};
 
 use sgt_model::{Answers, Key, ReplyLists, ShortCause, ShortFate, ShortReply, Tids};
@@ -58,13 +59,17 @@ impl SgtReply {
     }
 }
 
-/// Writes a reply for C, with its lists.
+/// Writes a reply for C, with its lists. The fields that do not count for its kind keep their values.
 #[inline(always)]
 pub fn write_reply(into: &mut SgtReply, reply: &ShortReply, lists: &ReplyLists)
-    ensures { HoldsReply into.new (reply_with reply.now lists.now) }
+    ensures reply { HoldsReply into.new (reply_with reply.now lists.now) }
+    ensures kept { KeepsOtherFields into.old into.new }
 {
     match reply {
-        ShortReply::Started(t) => write_tid(into, 1, t.0),
+        ShortReply::Started(t) => {
+            into.kind = 1;
+            into.tid = t.0;
+        }
         ShortReply::NoProcedure => into.kind = 2,
         ShortReply::BadArgs => into.kind = 3,
         ShortReply::Spent => into.kind = 4,
@@ -73,57 +78,47 @@ pub fn write_reply(into: &mut SgtReply, reply: &ShortReply, lists: &ReplyLists)
         ShortReply::Over(fate) => write_over(into, *fate, &lists.walk),
         ShortReply::Looked { key, value } => write_looked(into, *key, *value),
         ShortReply::Wrote { key, value } => {
-            into.kind = 9;
-            write_record(into, *key, *value);
+            write_record(into, 9, *key);
+            into.value = *value;
         }
         ShortReply::Ended => into.kind = 10,
         ShortReply::NotEnded => into.kind = 11,
-        ShortReply::Waits(first) => write_tid(into, 12, first.0),
+        ShortReply::Waits(first) => {
+            into.kind = 12;
+            into.tid = first.0;
+        }
         ShortReply::Committed => write_committed(into, &lists.answers),
         ShortReply::Aborted(cause) => write_aborted(into, *cause, lists),
         ShortReply::Refused(code) => write_refused(into, *code, &lists.fell),
     }
 }
 
-fn write_tid(into: &mut SgtReply, kind: u32, t: u32)
-    ensures kind { into.new.kind ≡ kind }
-    ensures tid { into.new.tid ≡ t }
+fn write_record(into: &mut SgtReply, kind: u32, key: Key)
+    ensures { into.new ≡ with_record kind key into.old }
 {
     into.kind = kind;
-    into.tid = t;
-}
-
-fn write_record(into: &mut SgtReply, key: Key, value: i64)
-    ensures kind { into.new.kind ≡ into.old.kind }
-    ensures found { into.new.found ≡ into.old.found }
-    ensures table { into.new.table ≡ key.0 }
-    ensures number { into.new.number ≡ key.1 }
-    ensures value { into.new.value ≡ value }
-{
     into.table = key.table() as u32;
     into.number = key.id();
-    into.value = value;
 }
 
 fn write_looked(into: &mut SgtReply, key: Key, value: Option<i64>)
-    ensures { HoldsReply into.new (reply.Looked key value) }
+    ensures reply { HoldsReply into.new (reply.Looked key value) }
+    ensures kept { KeepsOtherFields into.old into.new }
 {
-    into.kind = 8;
+    write_record(into, 8, key);
     match value {
         Some(value) => {
             into.found = 1;
-            write_record(into, key, value);
+            into.value = value;
         }
-        None => {
-            into.found = 0;
-            write_record(into, key, 0);
-        }
+        None => into.found = 0,
     }
 }
 
 #[inline(never)]
 fn write_committed(into: &mut SgtReply, answers: &Answers)
-    ensures { HoldsReply into.new (reply.Committed answers.now) }
+    ensures reply { HoldsReply into.new (reply.Committed answers.now) }
+    ensures kept { KeepsOtherFields into.old into.new }
 {
     let _few = answers.len();
     into.kind = 13;
@@ -132,7 +127,8 @@ fn write_committed(into: &mut SgtReply, answers: &Answers)
 
 #[inline(never)]
 fn write_aborted(into: &mut SgtReply, cause: ShortCause, lists: &ReplyLists)
-    ensures { HoldsReply into.new (reply.Aborted (full_cause cause lists.now.walk) lists.now.fell) }
+    ensures reply { HoldsReply into.new (reply.Aborted (full_cause cause lists.now.walk) lists.now.fell) }
+    ensures kept { KeepsOtherFields into.old into.new }
 {
     into.kind = 14;
     write_cause(into, cause, &lists.walk);
@@ -141,7 +137,8 @@ fn write_aborted(into: &mut SgtReply, cause: ShortCause, lists: &ReplyLists)
 
 #[inline(never)]
 fn write_refused(into: &mut SgtReply, code: u16, fell: &Tids)
-    ensures { HoldsReply into.new (reply.Refused code fell.now) }
+    ensures reply { HoldsReply into.new (reply.Refused code fell.now) }
+    ensures kept { KeepsOtherFields into.old into.new }
 {
     into.kind = 15;
     into.code = code as u32;
@@ -150,7 +147,8 @@ fn write_refused(into: &mut SgtReply, code: u16, fell: &Tids)
 
 #[inline(never)]
 fn write_over(into: &mut SgtReply, fate: ShortFate, walk: &Tids)
-    ensures { HoldsReply into.new (reply.Over (full_fate fate walk.now)) }
+    ensures reply { HoldsReply into.new (reply.Over (full_fate fate walk.now)) }
+    ensures kept { KeepsOtherFields into.old into.new }
 {
     into.kind = 7;
     match fate {
@@ -165,7 +163,7 @@ fn write_over(into: &mut SgtReply, fate: ShortFate, walk: &Tids)
 
 fn write_cause(into: &mut SgtReply, cause: ShortCause, walk: &Tids)
     ensures cause { HoldsCause into.new (full_cause cause walk.now) }
-    ensures kind { into.new.kind ≡ into.old.kind }
+    ensures kept { WritesCause into.old into.new }
 {
     match cause {
         ShortCause::Cycle => {
@@ -180,10 +178,11 @@ fn write_cause(into: &mut SgtReply, cause: ShortCause, walk: &Tids)
     }
 }
 
-/// Writes answers, and returns how many there are.
+/// Writes answers, and returns how many there are. The items after them stay.
 pub fn write_answers(to: &mut [i64; 8], answers: &[i64]) -> u32
     requires { length answers.now ≤ 8 }
-    ensures { take result to.new ≡ answers.now }
+    ensures answers { take result to.new ≡ answers.now }
+    ensures rest { drop result to.new ≡ drop result to.old }
 {
     let count = answers.len();
     for i in 0..count {
@@ -193,7 +192,8 @@ pub fn write_answers(to: &mut [i64; 8], answers: &[i64]) -> u32
 }
 
 fn write_tids(to: &mut [u32; 32], tids: &Tids) -> u32
-    ensures { take result to.new ≡ tids.now }
+    ensures tids { take result to.new ≡ tids.now }
+    ensures rest { drop result to.new ≡ drop result to.old }
 {
     let count = tids.len();
     for i in 0..count {

@@ -5,6 +5,7 @@ ghost use Rattle.sgt_model.specs.declared.reply.Reply.{Reply};
 ghost use Rattle.sgt_model.specs.Fates.{live};
 ghost use Rattle.sgt_engine.specs.EngineView.{with_entry};
 ghost use Rattle.sgt_c.specs.Asked.{IsCall};
+ghost use Rattle.sgt_c.specs.KeptFields.{KeepsOtherFields};
 ghost use Rattle.sgt_c.specs.Runs.{Ran, GaveUp, RunsTo, GivesUp, RunsOnTo, StepsTo, StopsLive, is_access, is_end, is_write};
 ghost use Rattle.sgt_c.specs.Handles.{IsBusy, IsClosed};
 
@@ -19,7 +20,7 @@ use std::alloc::Global;
 
 /// Runs a procedure from its start to its commit, for a caller whose transactions need not run concurrently. The last
 /// reply is returned: to the commit, to the step that aborted the transaction, or to the start that was refused. Each
-/// event is an entry of the history. The number of a transaction that was started is written to `tid`.
+/// event is an entry of the history. The number of a transaction that was started is written to `tid`; else that stays.
 ///
 /// - `BAD_CALL`, tested first: there are over 4 arguments.
 /// - `BUSY`; `CLOSED`.
@@ -34,7 +35,8 @@ pub extern "C" fn sgt_run(
     reply: &mut SgtReply,
 ) -> u32
     ensures ran { result ≡ 0 →
-        Ran (Start procedure args.now) engine.old.slot.held engine.new.slot.held tid.new reply.new }
+        Ran (Start procedure args.now) engine.old.slot.held engine.new.slot.held tid.old tid.new reply.new }
+    ensures kept { result ≡ 0 → KeepsOtherFields reply.old reply.new }
     ensures gave_up { result ≡ 1 →
         GaveUp (Start procedure args.now) engine.old.slot.held engine.new.slot.held }
     ensures unchanged { 2 ≤ result → engine.new.slot.held ≡ engine.old.slot.held }
@@ -72,7 +74,8 @@ fn run_in(
     reply: &mut SgtReply,
 ) -> Result<(), NoMemory>
     ensures ran { OnOk result
-        (Ran (Start procedure args) (Some held.old) (Some held.new) tid.new reply.new) }
+        (Ran (Start procedure args) (Some held.old) (Some held.new) tid.old tid.new reply.new) }
+    ensures kept { OnOk result (KeepsOtherFields reply.old reply.new) }
     ensures gave_up { OnErr result (GaveUp (Start procedure args) (Some held.old) (Some held.new)) }
     ensures unwritten { OnErr result ((tid.new ≡ tid.old) × (reply.new ≡ reply.old)) }
 {

@@ -2,6 +2,7 @@
 ghost use Rattle.std.specs.Prelude.{◌≡◌, ◌≢◌, ◌≤◌, ◌↔◌, ℕ, Option, IsTrue, OnOk, IfErr, OnErr, drop, length};
 ghost use Rattle.std.specs.List.{All};
 ghost use Rattle.sgt_model.specs.declared.event.Event.TheVariants.{Start};
+ghost use Rattle.sgt_c.specs.KeptFields.{KeepOtherFields, KeepsOtherFields};
 ghost use Rattle.sgt_c.specs.ManyRuns.{GaveUpAt, IsAsked, RanAll, RanMany, RanOne, StoppedAt, args_in};
 ghost use Rattle.sgt_c.specs.Runs.{GivesUp};
 ghost use Rattle.sgt_c.specs.Handles.{IsBusy, IsClosed};
@@ -36,6 +37,7 @@ pub extern "C" fn sgt_run_many(
     ensures all { result ≡ 0 → done.new ≡ length calls.now }
     ensures gave_up { result ≡ 1 →
         GaveUpAt done.new engine.old.slot.held calls.now outcomes.new engine.new.slot.held }
+    ensures kept { result ≤ 1 → KeepOtherFields outcomes.old outcomes.new }
     ensures rest { result ≤ 1 → drop done.new outcomes.new ≡ drop done.new outcomes.old }
     ensures room { length outcomes.new ≡ length outcomes.old }
     ensures unchanged { 2 ≤ result → engine.new.slot.held ≡ engine.old.slot.held }
@@ -103,6 +105,7 @@ fn run_each(
     ensures rest_ok { OnOk result (drop (length calls.now) outcomes.new ≡ drop (length calls.now) outcomes.old) }
     ensures stopped { IfErr result (λ at. StoppedAt at calls.now outcomes.new engine.old engine.new) }
     ensures rest_err { IfErr result (λ at. drop at outcomes.new ≡ drop at outcomes.old) }
+    ensures kept { KeepOtherFields outcomes.old outcomes.new }
     ensures room { length outcomes.new ≡ length outcomes.old }
 {
     for (index, call) in calls.iter().enumerate() {
@@ -121,6 +124,7 @@ fn run_one(engine: &mut SgtEngine, call: &SgtCall, into: &mut SgtOutcome) -> Res
     ensures gave_up { OnErr result ((started : Option ℕ)
         × GivesUp (Start call.now.procedure (args_in call.now)) started engine.old engine.new) }
     ensures unwritten { OnErr result (into.new ≡ into.old) }
+    ensures kept { KeepsOtherFields into.old.reply into.new.reply }
 {
     match &run(engine, call.procedure as u16, args(call)) {
         Ok(outcome) => {

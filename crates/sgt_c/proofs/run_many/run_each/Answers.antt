@@ -1,7 +1,11 @@
-use Rattle.std.proofs.Common.{rules, arith, get_or}
+use Rattle.std.proofs.Common.{rules, arith, get_or, refl}
 use Rattle.std.proofs.lemmas.Option.{slice_get-get_or}
+use Rattle.sgt_c.proofs.KeptFields.{keep_all, kept_next, no_outcome}
 use Rattle.sgt_c.proofs.ManyRuns.{no_call, ran_before, ran_next, rest_next}
 use Rattle.sgt_c.proofs.run_many.run_each.Goals as goal
+
+pub loop-index-init : goal.loop-index-init
+loop-index-init c = record { ran = refl; room = refl; rest = refl; kept = keep_all c.args.outcomes.now }
 
 pub loop-index-preserved : goal.loop-index-preserved
 loop-index-preserved c = record {
@@ -10,6 +14,9 @@ loop-index-preserved c = record {
       (omega (arith, c.loop-index.invariant.room, c.requires.room)) c.loop-index.invariant.ran c.in-Ok.ensures.ran;
   room = search rules;
   rest = rest_next c.loop-index.outcomes c.args.outcomes.now c.loop-index.index c.run_one.new.into c.loop-index.invariant.rest;
+  kept = kept_next c.args.outcomes.now c.loop-index.outcomes c.loop-index.index no_outcome c.run_one.new.into
+      (omega (arith, c.loop-index-test.true, c.loop-index.invariant.room, c.requires.room)) c.loop-index.invariant.rest
+      c.run_one.ensures.kept c.loop-index.invariant.kept;
 }
 
 pub returns-in-Err-clause-stopped : goal.returns-in-Err-clause-stopped

@@ -1,0 +1,432 @@
+-- Calls that are run again, one after another, on a new engine.
+use Rattle.std.specs.Prelude.{◌≡◌, ℕ, suc, ◌≤◌, ℤ, Bool, true, false, List, [], ◌∷◌, ◌++◌, length, map, take, drop, reverse, Option, Some, None}
+use Rattle.std.specs.List.{All}
+use Rattle.std.proofs.Common.{refl, sym, ap, ap₂, ◌∙◌, subst, inl, inr, arith, length-append}
+use Rattle.std.proofs.lemmas.Grind.{reverse_onto}
+use Rattle.std.proofs.lemmas.List.{append_assoc, append-nil, length-reverse, length-map, map-append, reverse-append, reverse-reverse, take-append-drop, take_all}
+use Rattle.std.proofs.lemmas.List.Elements.{All-head, All-tail}
+use Rattle.sgt_model.specs.declared.entry.Entry.{Entry}
+use Rattle.sgt_model.specs.declared.event.Event.{Event}
+use Rattle.sgt_model.specs.declared.event.Event.TheVariants.{Start, Step, Commit}
+use Rattle.sgt_model.specs.declared.reply.Reply.{Reply}
+use Rattle.sgt_model.specs.declared.reply.Reply.TheVariants as reply
+use Rattle.sgt_model.specs.Fates.{ending_in, is_start}
+use Rattle.sgt_model.specs.Legality.{Legal, LegalReply}
+use Rattle.sgt_model.specs.Progress.{Call}
+use Rattle.sgt_model.specs.Questions.{is_ending}
+use Rattle.sgt_model.specs.Replay.{RunResult, GaveAnswers, AskedCode, told, told_calls, told_in}
+use Rattle.sgt_model.specs.Settings.{Setting}
+use Rattle.sgt_model.specs.ShortReplies.{short_reply}
+use Rattle.sgt_model.proofs.Facts.{legal_older}
+use Rattle.sgt_engine.specs.EngineView.{EngineView, setting_of, with_entry}
+use Rattle.sgt_progress.specs.Alone.{IsAlone, NoneLive}
+use Rattle.sgt_progress.specs.GivenCalls.{GivenCallsAreTold, given_calls}
+use Rattle.sgt_progress.specs.Reruns.{IsOneByOne, TellTheSame}
+use Rattle.sgt_progress.proofs.Alone.{started_alone, stays_alone}
+use Rattle.sgt_progress.proofs.RunAlone.{StepsSo, commit_ends, none_after_end, none_at_first, none_stays, step_so}
+use Rattle.sgt_c.specs.declared.call_struct.SgtCall.{SgtCall}
+use Rattle.sgt_c.specs.declared.held.Held.{Held}
+use Rattle.sgt_c.specs.declared.outcome_struct.SgtOutcome.{SgtOutcome}
+use Rattle.sgt_c.specs.declared.reply_struct.SgtReply.{SgtReply}
+use Rattle.sgt_c.specs.ManyRuns.{RanAll, args_in}
+use Rattle.sgt_c.specs.ReplayedCalls.{ArePassed, AreTold, call_in, past_at, result_in}
+use Rattle.sgt_c.specs.ReplyStructs.{HoldsReply}
+use Rattle.sgt_c.specs.Reruns.{CanBeRerun, HoldResults, HoldsResult, RerunTellsTheSame}
+use Rattle.sgt_c.specs.Runs.{CommitsIf, IsAccess, Runs, RunsOn, is_access, is_end, with_entries}
+
+-- ---- one transaction, entry by entry
+
+-- nothing is live, and these calls were given one after another
+record Between (past : List Entry) (given : List Call) : Type 0 where
+  by : IsOneByOne past
+  none : NoneLive past
+  calls : given_calls past ≡ given
+
+-- the same, but t is the only live transaction
+record Amid (past : List Entry) (t : ℕ) (given : List Call) : Type 0 where
+  by : IsOneByOne past
+  alone : IsAlone past t
+  calls : given_calls past ≡ given
+
+-- a reply that starts none, ends none and tells none its end
+record IsPlain (event : Event) (t : ℕ) (r : Reply) : Type 0 where
+  no_start : is_start r ≡ false
+  no_end : ending_in event r t ≡ None
+  no_result : told_in r ≡ []
+
+access_plain : (event : Event) (t : ℕ) (r : Reply) → is_access (short_reply r) ≡ true → IsPlain event t r
+access_plain event t (reply.Looked k v) a = record { no_start = refl; no_end = refl; no_result = refl }
+access_plain event t (reply.Wrote k v) a = record { no_start = refl; no_end = refl; no_result = refl }
+access_plain event t _ a = absurd cc
+
+end_plain : (event : Event) (t : ℕ) (r : Reply) → is_end (short_reply r) ≡ true → IsPlain event t r
+end_plain event t reply.Ended a = record { no_start = refl; no_end = refl; no_result = refl }
+end_plain event t _ a = absurd cc
+
+end_is : (r : Reply) → is_end (short_reply r) ≡ true → r ≡ reply.Ended
+end_is reply.Ended a = refl
+end_is _ a = absurd cc
+
+step_goes : (past : List Entry) (t : ℕ) (given : List Call) (r : Reply) → IsPlain (Step t) t r → Amid past t given
+    → Amid (record { event = Step t; reply = r } ∷ past) t given
+step_goes past t given r plain amid = record {
+  by = (amid.by, inr (t, amid.alone, inl refl));
+  alone = stays_alone past (record { event = Step t; reply = r }) t amid.alone plain.no_start plain.no_end;
+  calls = amid.calls;
+}
+
+-- the accesses of the only live one
+record Went (past after : List Entry) (t : ℕ) (given : List Call) : Type 0 where
+  amid : Amid after t given
+  told_same : told after ≡ told past
+
+accesses_go : (past : List Entry) (t : ℕ) (given : List Call) (steps : List Entry) → All (IsAccess t) steps → Amid past t given → Went past (steps ++ past) t given
+accesses_go past t given [] all amid = record { amid = amid; told_same = refl }
+accesses_go past t given (e ∷ steps) all amid =
+    let one = All-head (IsAccess t) e steps all in
+    let before = accesses_go past t given steps (All-tail (IsAccess t) e steps all) amid in
+    let plain = access_plain (Step t) t e.reply one.1 in record {
+      amid = subst (λ (v : Event). Amid (record { event = v; reply = e.reply } ∷ steps ++ past) t given) (sym one.0)
+          (step_goes (steps ++ past) t given e.reply plain before.amid);
+      told_same = ap (λ l. l ++ told (steps ++ past)) plain.no_result ∙ before.told_same;
+    }
+
+-- the last step, if it is neither an access nor the procedure's end
+ends_else : (r : Reply) → is_access (short_reply r) ≡ false → is_end (short_reply r) ≡ false → StepsSo r → is_ending r ≡ true
+ends_else (reply.Looked k v) a b so = absurd cc
+ends_else (reply.Wrote k v) a b so = absurd cc
+ends_else reply.Ended a b so = absurd cc
+ends_else (reply.Started t) a b so = so
+ends_else reply.NoProcedure a b so = so
+ends_else reply.BadArgs a b so = so
+ends_else reply.Spent a b so = so
+ends_else reply.Full a b so = so
+ends_else reply.Unknown a b so = so
+ends_else (reply.Over f) a b so = so
+ends_else reply.NotEnded a b so = so
+ends_else (reply.Waits u) a b so = so
+ends_else (reply.Committed answers) a b so = so
+ends_else (reply.Aborted why fell) a b so = so
+ends_else (reply.Refused code fell) a b so = so
+
+-- ---- one call
+
+-- a call was run from its start to its end, after which nothing is live; of it this reply was told
+record RanTo (s : Setting) (past after : List Entry) (given : List Call) (c : Call) (last : Reply) : Type 0 where
+  between : Between after (c ∷ given)
+  told_more : told after ≡ told_in last ++ told past
+
+module _ (s : Setting) (past : List Entry) (given : List Call) (so_far : Between past given) (p : ℕ) (args : List ℤ) where
+  abbrev own : Call
+  own = record { procedure = p; args = args }
+
+  refused : (last : Reply) → is_start last ≡ false → RanTo s past (record { event = Start p args; reply = last } ∷ past) given own last
+  refused last no_start = record {
+    between = record {
+      by = (so_far.by, inl so_far.none);
+      none = none_stays past (record { event = Start p args; reply = last }) no_start so_far.none;
+      calls = ap (λ l. own ∷ l) so_far.calls;
+    };
+    told_more = refl;
+  }
+
+  module _ (t : ℕ) (steps : List Entry) (all : All (IsAccess t) steps) (r : Reply) (last_step : is_access (short_reply r) ≡ false) where
+    abbrev begun : List Entry
+    begun = record { event = Start p args; reply = reply.Started t } ∷ past
+
+    abbrev walked : List Entry
+    walked = steps ++ begun
+
+    abbrev stepped : List Entry
+    stepped = record { event = Step t; reply = r } ∷ walked
+
+    went : Legal s begun → Went begun walked t (own ∷ given)
+    went legal = accesses_go begun t (own ∷ given) steps all (record {
+      by = (so_far.by, inl so_far.none);
+      alone = started_alone s past (record { event = Start p args; reply = reply.Started t }) legal so_far.none t refl;
+      calls = ap (λ l. own ∷ l) so_far.calls;
+    })
+
+    aborted : Legal s stepped → is_end (short_reply r) ≡ false → RanTo s past stepped given own r
+    aborted legal no_end =
+        let w = went (legal_older s steps begun legal.0) in record {
+          between = record {
+            by = (w.amid.by, inr (t, w.amid.alone, inl refl));
+            none = none_after_end s walked (record { event = Step t; reply = r }) t legal w.amid.alone
+                (ends_else r last_step no_end (step_so s walked legal.0 t w.amid.alone r legal.1));
+            calls = w.amid.calls;
+          };
+          told_more = ap (λ l. told_in r ++ l) w.told_same;
+        }
+
+    ended : (last : Reply) → Legal s (record { event = Commit t; reply = last } ∷ stepped) → is_end (short_reply r) ≡ true
+        → RanTo s past (record { event = Commit t; reply = last } ∷ stepped) given own last
+    ended last legal at_end =
+        let w = went (legal_older s steps begun legal.0.0) in
+        let plain = end_plain (Step t) t r at_end in
+        let amid = step_goes walked t (own ∷ given) r plain w.amid in
+        let ending = commit_ends s walked t last w.amid.alone.is_live
+        (subst (LegalReply s walked (Step t)) (end_is r at_end) legal.0.1)
+        (subst (λ (q : Reply). IsAlone (record { event = Step t; reply = q } ∷ walked) t) (end_is r at_end) amid.alone)
+        (subst (λ (q : Reply). LegalReply s (record { event = Step t; reply = q } ∷ walked) (Commit t) last) (end_is r at_end) legal.1) in
+        record {
+          between = record {
+            by = (amid.by, inr (t, amid.alone, inr refl));
+            none = none_after_end s stepped (record { event = Commit t; reply = last }) t legal amid.alone ending;
+            calls = amid.calls;
+          };
+          told_more = ap (λ l. told_in last ++ l) (ap (λ l. l ++ told walked) plain.no_result ∙ w.told_same);
+        }
+
+-- ---- as the engine's view has it
+
+-- what is so of the engine before a call, if it is so of the engine after it
+record Follows (s : Setting) (e after : EngineView) (given : List Call) (c : Call) (last : Reply) : Type 0 where
+  legal : Legal s e.past
+  same : setting_of after ≡ setting_of e
+  ran : Between e.past given → RanTo s e.past after.past given c last
+
+module _ (s : Setting) (e : EngineView) (given : List Call) (p : ℕ) (args : List ℤ) where
+  abbrev requested : Call
+  requested = record { procedure = p; args = args }
+
+  runs_on : (t : ℕ) (wrote : Bool) (last : Reply) (after : EngineView) → RunsOn t wrote last (with_entry (Start p args) (reply.Started t) e) after
+      → Legal s after.past → Follows s e after given requested last
+  runs_on t wrote last after (r, stepped, (steps, all, last_step, _, stepped_is), commits) legal = go (is_end (short_reply r)) refl commits
+    where
+      steps_end : EngineView
+      steps_end = with_entry (Step t) r (with_entries steps (with_entry (Start p args) (reply.Started t) e))
+
+      go : (b : Bool) → is_end (short_reply r) ≡ b → CommitsIf b t r last stepped after → Follows s e after given requested last
+      go true at_end is =
+          let after_is : after ≡ with_entry (Commit t) last steps_end = is ∙ ap (with_entry (Commit t) last) stepped_is in
+          let all_legal = subst (λ (v : EngineView). Legal s v.past) after_is legal in
+          subst (λ (v : EngineView). Follows s e v given requested last) (sym after_is) (record {
+            legal = (legal_older s steps _ all_legal.0.0).0;
+            same = refl;
+            ran = λ so_far. ended s e.past given so_far p args t steps all r last_step last all_legal at_end;
+          })
+      go false no_end (last_is, is) =
+          let after_is : after ≡ steps_end = is ∙ stepped_is in
+          let all_legal = subst (λ (v : EngineView). Legal s v.past) after_is legal in
+          subst (λ (v : EngineView). Follows s e v given requested last) (sym after_is) (subst (λ q. Follows s e steps_end given requested q) (sym last_is) (record {
+            legal = (legal_older s steps _ all_legal.0).0;
+            same = refl;
+            ran = λ so_far. aborted s e.past given so_far p args t steps all r last_step all_legal no_end;
+          }))
+
+  runs : (started : Option ℕ) (wrote : Bool) (last : Reply) (after : EngineView) → Runs (Start p args) started wrote last e after → Legal s after.past
+      → Follows s e after given requested last
+  runs None wrote last after (no_start, _, is) legal =
+      let all_legal = subst (λ (v : EngineView). Legal s v.past) is legal in
+      subst (λ (v : EngineView). Follows s e v given requested last) (sym is) (record {
+        legal = all_legal.0;
+        same = refl;
+        ran = λ so_far. refused s e.past given so_far p args last no_start;
+      })
+  runs (Some t) wrote last after ran legal = runs_on t wrote last after ran legal
+
+-- ---- all calls
+
+-- the results that these replies report, the last one first
+abbrev results_of : List Reply → List RunResult
+results_of [] = []
+results_of (r ∷ replies) = results_of replies ++ told_in r
+
+-- these are the last replies of the calls
+abbrev Said : List SgtCall → List SgtOutcome → List Reply → Type 0
+Said [] outcomes [] = Unit {0}
+Said [] outcomes (r ∷ replies) = ⊥
+Said (c ∷ calls) [] replies = ⊥
+Said (c ∷ calls) (o ∷ outcomes) [] = ⊥
+Said (c ∷ calls) (o ∷ outcomes) (r ∷ replies) = HoldsReply o.reply r × Said calls outcomes replies
+
+legal_before : (s : Setting) (calls : List SgtCall) (outcomes : List SgtOutcome) (e after : EngineView) → RanAll calls outcomes e after
+    → Legal s after.past → Legal s e.past
+legal_before s [] outcomes e after is legal = subst (λ (v : EngineView). Legal s v.past) is legal
+legal_before s (c ∷ calls) [] e after ran legal = absurd ran
+legal_before s (c ∷ calls) (o ∷ outcomes) e after (between, (started, wrote, last, one, _, _, _), rest) legal =
+    (runs s e [] c.procedure (args_in c) started wrote last between one (legal_before s calls outcomes between after rest legal)).legal
+
+same_before : (s : Setting) (calls : List SgtCall) (outcomes : List SgtOutcome) (e after : EngineView) → RanAll calls outcomes e after
+    → Legal s after.past → setting_of after ≡ setting_of e
+same_before s [] outcomes e after is legal = ap setting_of is
+same_before s (c ∷ calls) [] e after ran legal = absurd ran
+same_before s (c ∷ calls) (o ∷ outcomes) e after (between, (started, wrote, last, one, _, _, _), rest) legal =
+    same_before s calls outcomes between after rest legal
+    ∙ (runs s e [] c.procedure (args_in c) started wrote last between one (legal_before s calls outcomes between after rest legal)).same
+
+record RanAllTo (past after : List Entry) (given : List Call) (calls : List SgtCall) (outcomes : List SgtOutcome) : Type 0 where
+  replies : List Reply
+  said : Said calls outcomes replies
+  between : Between after (reverse (map call_in calls) ++ given)
+  told_more : told after ≡ results_of replies ++ told past
+
+all_ran : (s : Setting) (calls : List SgtCall) (outcomes : List SgtOutcome) (e after : EngineView) (given : List Call) → RanAll calls outcomes e after
+    → Legal s after.past → Between e.past given → RanAllTo e.past after.past given calls outcomes
+all_ran s [] outcomes e after given is legal so_far =
+    subst (λ (v : EngineView). RanAllTo e.past v.past given [] outcomes) (sym is) (record { replies = []; said = tt; between = so_far; told_more = refl })
+all_ran s (c ∷ calls) [] e after given ran legal so_far = absurd ran
+all_ran s (c ∷ calls) (o ∷ outcomes) e after given (between, (started, wrote, last, one, _, _, holds), rest) legal so_far =
+    let first = (runs s e given c.procedure (args_in c) started wrote last between one (legal_before s calls outcomes between after rest legal)).ran so_far in
+    let others = all_ran s calls outcomes between after (call_in c ∷ given) rest legal first.between in record {
+      replies = last ∷ others.replies;
+      said = (holds, others.said);
+      between = subst (Between after.past)
+          (sym (ap (λ l. l ++ given) (reverse_onto (map call_in calls) (call_in c) []) ∙ append_assoc (reverse (map call_in calls)) (call_in c ∷ []) given))
+          others.between;
+      told_more = others.told_more ∙ ap (λ l. results_of others.replies ++ l) first.told_more
+          ∙ sym (append_assoc (results_of others.replies) (told_in last) (told e.past));
+    }
+
+-- ---- results
+
+one_at_most : (r : Reply) → length (told_in r) ≤ 1
+one_at_most (reply.Committed answers) = omega arith
+one_at_most (reply.Refused code fell) = omega arith
+one_at_most _ = omega arith
+
+results_few : (replies : List Reply) → length (results_of replies) ≤ length replies
+results_few [] = omega arith
+results_few (r ∷ replies) =
+    let a = length-append (results_of replies) (told_in r) in let b = one_at_most r in let c = results_few replies in omega (arith, a, b, c)
+
+said_length : (calls : List SgtCall) (outcomes : List SgtOutcome) (replies : List Reply) → Said calls outcomes replies → length replies ≡ length calls
+said_length [] outcomes [] said = refl
+said_length [] outcomes (r ∷ replies) said = absurd said
+said_length (c ∷ calls) [] replies said = absurd said
+said_length (c ∷ calls) (o ∷ outcomes) [] said = absurd said
+said_length (c ∷ calls) (o ∷ outcomes) (r ∷ replies) said = ap suc (said_length calls outcomes replies said.1)
+
+holds_result : (s : SgtReply) (r : Reply) (x : RunResult) → HoldsReply s r → told_in r ≡ x ∷ [] → HoldsResult s x
+holds_result s (reply.Committed answers) x holds is = subst (HoldsResult s) (first is) holds
+  where
+    first : GaveAnswers answers ∷ [] ≡ x ∷ [] → GaveAnswers answers ≡ x
+    first e = cc
+holds_result s (reply.Refused code fell) x holds is = subst (HoldsResult s) (first is) (holds.0, holds.1)
+  where
+    first : AskedCode code ∷ [] ≡ x ∷ [] → AskedCode code ≡ x
+    first e = cc
+holds_result s _ x holds is = absurd cc
+
+-- the last items of equal lists, and the items before them
+last_same : (xs ys : List RunResult) (x y : RunResult) → xs ++ x ∷ [] ≡ ys ++ y ∷ [] → (xs ≡ ys) × (x ≡ y)
+last_same [] [] x y e = (refl, cc)
+last_same [] (z ∷ ys) x y e = absurd (too_long ys (second e))
+  where
+    second : x ∷ [] ≡ z ∷ ys ++ y ∷ [] → ys ++ y ∷ [] ≡ []
+    second e = cc
+
+    too_long : (ys : List RunResult) → ys ++ y ∷ [] ≡ [] → ⊥
+    too_long [] e = cc
+    too_long (w ∷ ys) e = cc
+last_same (z ∷ xs) [] x y e = absurd (too_long xs (second e))
+  where
+    second : z ∷ xs ++ x ∷ [] ≡ y ∷ [] → xs ++ x ∷ [] ≡ []
+    second e = cc
+
+    too_long : (xs : List RunResult) → xs ++ x ∷ [] ≡ [] → ⊥
+    too_long [] e = cc
+    too_long (w ∷ xs) e = cc
+last_same (z ∷ xs) (w ∷ ys) x y e =
+    let rest = last_same xs ys x y (second e) in (ap₂ (λ u l. u ∷ l) (first e) rest.0, rest.1)
+  where
+    first : z ∷ xs ++ x ∷ [] ≡ w ∷ ys ++ y ∷ [] → z ≡ w
+    first e = cc
+
+    second : z ∷ xs ++ x ∷ [] ≡ w ∷ ys ++ y ∷ [] → xs ++ x ∷ [] ≡ ys ++ y ∷ []
+    second e = cc
+
+same_results : (calls : List SgtCall) (outcomes : List SgtOutcome) (replies : List Reply) → Said calls outcomes replies
+    → results_of replies ≡ reverse (map result_in calls) → HoldResults outcomes calls
+same_results [] outcomes [] said same = tt
+same_results [] outcomes (r ∷ replies) said same = absurd said
+same_results (c ∷ calls) [] replies said same = absurd said
+same_results (c ∷ calls) (o ∷ outcomes) [] said same = absurd said
+same_results (c ∷ calls) (o ∷ outcomes) (r ∷ replies) said same =
+    by_result (same_results calls outcomes replies said.1) (told_in r) refl (one_at_most r)
+  where
+    others : List RunResult
+    others = reverse (map result_in calls)
+
+    all_same : results_of replies ++ told_in r ≡ others ++ result_in c ∷ []
+    all_same = same ∙ reverse_onto (map result_in calls) (result_in c) []
+
+    by_result : (results_of replies ≡ others → HoldResults outcomes calls) → (l : List RunResult) → told_in r ≡ l → length (told_in r) ≤ 1 → HoldResults (o ∷ outcomes) (c ∷ calls)
+    by_result rest [] none few =
+        let a = results_few replies in
+        let b = said_length calls outcomes replies said.1 in
+        let d = length-append others (result_in c ∷ []) in
+        let f = length-reverse (map result_in calls) in
+        let g = length-map calls result_in in
+        let h = ap length (sym (append-nil (results_of replies)) ∙ ap (λ l. results_of replies ++ l) (sym none) ∙ all_same) in
+        absurd (omega (arith, a, b, d, f, g, h))
+    by_result rest (x ∷ []) one few =
+        let both = last_same (results_of replies) others x (result_in c) (ap (λ l. results_of replies ++ l) (sym one) ∙ all_same) in
+        (holds_result o.reply r (result_in c) said.0 (one ∙ ap (λ y. y ∷ []) both.1), rest both.0)
+    by_result rest (x ∷ y ∷ l) two few = let h = ap length two in absurd (omega (arith, h, few))
+
+-- ---- the law
+
+-- calls that were read from a history can be run again
+pub rerun_tells_the_same : GivenCallsAreTold → (s : Setting) (past : List Entry) (calls : List SgtCall) → Legal s past → told_calls past ≡ reverse (map call_in calls)
+    → told past ≡ reverse (map result_in calls) → RerunTellsTheSame s past calls
+rerun_tells_the_same law s past calls legal calls_are results_are fresh after outcomes (same, new) (ran, headline, _) = (
+  same_results calls outcomes all.replies all.said (sym told_all ∙ agrees.1.told_same ∙ results_are),
+  agrees.1,
+)
+  where
+    same_then : setting_of after.engine ≡ s
+    same_then = same_before (setting_of after.engine) calls outcomes fresh.engine after.engine ran headline.0 ∙ same
+
+    legal_then : Legal s after.engine.past
+    legal_then = subst (λ x. Legal x after.engine.past) same_then headline.0
+
+    all : RanAllTo fresh.engine.past after.engine.past [] calls outcomes
+    all = all_ran s calls outcomes fresh.engine after.engine [] ran legal_then (subst (λ l. Between l []) (sym new) (record {
+      by = tt;
+      none = none_at_first;
+      calls = refl;
+    }))
+
+    told_all : told after.engine.past ≡ results_of all.replies
+    told_all = all.told_more ∙ ap (λ l. results_of all.replies ++ told l) new ∙ append-nil (results_of all.replies)
+
+    agrees : (told_calls after.engine.past ≡ told_calls past) × TellTheSame s after.engine.past past
+    agrees = law s past legal after.engine.past legal_then all.between.by all.between.none
+        (all.between.calls ∙ append-nil (reverse (map call_in calls)) ∙ sym calls_are)
+
+-- ---- the calls up to a position of a history
+
+legal_at : (s : Setting) (past : List Entry) (next : ℕ) → Legal s past → Legal s (past_at (reverse past) next)
+legal_at s past next legal = legal_older s (reverse (drop next (reverse past))) (past_at (reverse past) next) (subst (Legal s) parts legal)
+  where
+    parts : past ≡ reverse (drop next (reverse past)) ++ past_at (reverse past) next
+    parts = sym (reverse-reverse past) ∙ ap reverse (sym (take-append-drop next (reverse past)))
+        ∙ reverse-append (take next (reverse past)) (drop next (reverse past))
+
+-- what was read earlier, and then these
+module _ {X : Type 0} (read : List Entry → List X) (field : SgtCall → X) (entries : List Entry) (from next : ℕ) (earlier now : List SgtCall) where
+  joined : read [] ≡ [] → read (past_at entries from) ≡ reverse (map field (take (length earlier) earlier)) ++ read (past_at entries 0)
+      → read (past_at entries next) ≡ reverse (map field now) ++ read (past_at entries from) → read (past_at entries next) ≡ reverse (map field (earlier ++ now))
+  joined none before more =
+      more ∙ ap (λ l. reverse (map field now) ++ l) (before ∙ ap (λ l. reverse (map field (take (length earlier) earlier)) ++ l) none
+      ∙ append-nil _ ∙ ap (λ l. reverse (map field l)) (take_all (length earlier) earlier (omega arith)))
+      ∙ sym (ap reverse (map-append field earlier now) ∙ reverse-append (map field earlier) (map field now))
+
+pub can_be_rerun : GivenCallsAreTold → (h : Held) (from : ℕ) (to : List SgtCall) (count next : ℕ) → Legal (setting_of h.engine) h.engine.past
+    → AreTold (reverse h.engine.past) from to count next → CanBeRerun (Some h) from to count next
+can_be_rerun law h from to count next legal now earlier before =
+    rerun_tells_the_same law (setting_of h.engine) (past_at (reverse h.engine.past) next) (earlier ++ take count to)
+    (legal_at (setting_of h.engine) h.engine.past next legal)
+    (joined told_calls call_in (reverse h.engine.past) from next earlier (take count to) refl before.calls now.calls)
+    (joined told result_in (reverse h.engine.past) from next earlier (take count to) refl before.results now.results)
+
+-- the same of the engine that a call has taken out of its handle
+pub taken_can_be_rerun : GivenCallsAreTold → (held : Option Held) (h lent : Held) (entries : List Entry) (from : ℕ) (to : List SgtCall) (count next : ℕ)
+    → Some h ≡ held → lent ≡ h → reverse entries ≡ lent.engine.past → Legal (setting_of lent.engine) lent.engine.past
+    → ArePassed entries from to count next → CanBeRerun held from to count next
+taken_can_be_rerun law held h lent entries from to count next taken same is legal passed =
+    subst (λ o. CanBeRerun o from to count next) taken (subst (λ (x : Held). CanBeRerun (Some x) from to count next) same
+    (can_be_rerun law lent from to count next legal
+    (subst (λ l. AreTold l from to count next) (sym (reverse-reverse entries) ∙ ap reverse is) passed.told)))
