@@ -1,5 +1,5 @@
 -- Calls that are run again, one after another, on a new engine.
-use Rattle.std.specs.Prelude.{◌≡◌, ℕ, ◌+◌, ◌≤◌, ℤ, Bool, true, false, cond, List, [], ◌∷◌, ◌++◌, length, map, take, drop, reverse, Option, Some, None}
+use Rattle.std.specs.Prelude.{◌≡◌, ℕ, suc, ◌≤◌, ℤ, Bool, true, false, List, [], ◌∷◌, ◌++◌, length, map, take, drop, reverse, Option, Some, None}
 use Rattle.std.specs.List.{All}
 use Rattle.std.proofs.Common.{refl, sym, ap, ap₂, ◌∙◌, subst, inl, inr, arith, length-append}
 use Rattle.std.proofs.lemmas.Grind.{reverse_onto}
@@ -20,7 +20,7 @@ use Rattle.sgt_model.specs.ShortReplies.{short_reply}
 use Rattle.sgt_model.proofs.Facts.{legal_older}
 use Rattle.sgt_engine.specs.EngineView.{EngineView, setting_of, with_entry}
 use Rattle.sgt_progress.specs.Alone.{IsAlone, NoneLive}
-use Rattle.sgt_progress.specs.GivenCalls.{GivenCallsAreTold, given_call, given_calls}
+use Rattle.sgt_progress.specs.GivenCalls.{GivenCallsAreTold, given_calls}
 use Rattle.sgt_progress.specs.Reruns.{IsOneByOne, TellTheSame}
 use Rattle.sgt_progress.proofs.Alone.{started_alone, stays_alone}
 use Rattle.sgt_progress.proofs.RunAlone.{StepsSo, commit_ends, none_after_end, none_at_first, none_stays, step_so}
@@ -28,10 +28,10 @@ use Rattle.sgt_c.specs.declared.call_struct.SgtCall.{SgtCall}
 use Rattle.sgt_c.specs.declared.held.Held.{Held}
 use Rattle.sgt_c.specs.declared.outcome_struct.SgtOutcome.{SgtOutcome}
 use Rattle.sgt_c.specs.declared.reply_struct.SgtReply.{SgtReply}
-use Rattle.sgt_c.specs.ManyRuns.{RanAll, RanMany, RanOne, args_in}
+use Rattle.sgt_c.specs.ManyRuns.{RanAll, args_in}
 use Rattle.sgt_c.specs.ReplayedCalls.{ArePassed, AreTold, call_in, past_at, result_in}
 use Rattle.sgt_c.specs.ReplyStructs.{HoldsReply}
-use Rattle.sgt_c.specs.Reruns.{CanBeRerun, HoldResults, HoldsResult, IsNew, RerunTellsTheSame}
+use Rattle.sgt_c.specs.Reruns.{CanBeRerun, HoldResults, HoldsResult, RerunTellsTheSame}
 use Rattle.sgt_c.specs.Runs.{CommitsIf, IsAccess, Runs, RunsOn, is_access, is_end, with_entries}
 
 -- ---- one transaction, entry by entry
@@ -117,15 +117,15 @@ record RanTo (s : Setting) (past after : List Entry) (given : List Call) (c : Ca
   told_more : told after ≡ told_in last ++ told past
 
 module _ (s : Setting) (past : List Entry) (given : List Call) (so_far : Between past given) (p : ℕ) (args : List ℤ) where
-  abbrev c : Call
-  c = record { procedure = p; args = args }
+  abbrev own : Call
+  own = record { procedure = p; args = args }
 
-  refused : (last : Reply) → is_start last ≡ false → RanTo s past (record { event = Start p args; reply = last } ∷ past) given c last
+  refused : (last : Reply) → is_start last ≡ false → RanTo s past (record { event = Start p args; reply = last } ∷ past) given own last
   refused last no_start = record {
     between = record {
       by = (so_far.by, inl so_far.none);
       none = none_stays past (record { event = Start p args; reply = last }) no_start so_far.none;
-      calls = ap (λ l. c ∷ l) so_far.calls;
+      calls = ap (λ l. own ∷ l) so_far.calls;
     };
     told_more = refl;
   }
@@ -140,14 +140,14 @@ module _ (s : Setting) (past : List Entry) (given : List Call) (so_far : Between
     abbrev stepped : List Entry
     stepped = record { event = Step t; reply = r } ∷ walked
 
-    went : Legal s begun → Went begun walked t (c ∷ given)
-    went legal = accesses_go begun t (c ∷ given) steps all (record {
+    went : Legal s begun → Went begun walked t (own ∷ given)
+    went legal = accesses_go begun t (own ∷ given) steps all (record {
       by = (so_far.by, inl so_far.none);
       alone = started_alone s past (record { event = Start p args; reply = reply.Started t }) legal so_far.none t refl;
-      calls = ap (λ l. c ∷ l) so_far.calls;
+      calls = ap (λ l. own ∷ l) so_far.calls;
     })
 
-    aborted : Legal s stepped → is_end (short_reply r) ≡ false → RanTo s past stepped given c r
+    aborted : Legal s stepped → is_end (short_reply r) ≡ false → RanTo s past stepped given own r
     aborted legal no_end =
         let w = went (legal_older s steps begun legal.0) in record {
           between = record {
@@ -160,15 +160,15 @@ module _ (s : Setting) (past : List Entry) (given : List Call) (so_far : Between
         }
 
     ended : (last : Reply) → Legal s (record { event = Commit t; reply = last } ∷ stepped) → is_end (short_reply r) ≡ true
-        → RanTo s past (record { event = Commit t; reply = last } ∷ stepped) given c last
+        → RanTo s past (record { event = Commit t; reply = last } ∷ stepped) given own last
     ended last legal at_end =
         let w = went (legal_older s steps begun legal.0.0) in
         let plain = end_plain (Step t) t r at_end in
-        let amid = step_goes walked t (c ∷ given) r plain w.amid in
+        let amid = step_goes walked t (own ∷ given) r plain w.amid in
         let ending = commit_ends s walked t last w.amid.alone.is_live
-            (subst (LegalReply s walked (Step t)) (end_is r at_end) legal.0.1)
-            (subst (λ (q : Reply). IsAlone (record { event = Step t; reply = q } ∷ walked) t) (end_is r at_end) amid.alone)
-            (subst (λ (q : Reply). LegalReply s (record { event = Step t; reply = q } ∷ walked) (Commit t) last) (end_is r at_end) legal.1) in
+        (subst (LegalReply s walked (Step t)) (end_is r at_end) legal.0.1)
+        (subst (λ (q : Reply). IsAlone (record { event = Step t; reply = q } ∷ walked) t) (end_is r at_end) amid.alone)
+        (subst (λ (q : Reply). LegalReply s (record { event = Step t; reply = q } ∷ walked) (Commit t) last) (end_is r at_end) legal.1) in
         record {
           between = record {
             by = (amid.by, inr (t, amid.alone, inr refl));
@@ -187,21 +187,21 @@ record Follows (s : Setting) (e after : EngineView) (given : List Call) (c : Cal
   ran : Between e.past given → RanTo s e.past after.past given c last
 
 module _ (s : Setting) (e : EngineView) (given : List Call) (p : ℕ) (args : List ℤ) where
-  abbrev c : Call
-  c = record { procedure = p; args = args }
+  abbrev requested : Call
+  requested = record { procedure = p; args = args }
 
   runs_on : (t : ℕ) (wrote : Bool) (last : Reply) (after : EngineView) → RunsOn t wrote last (with_entry (Start p args) (reply.Started t) e) after
-      → Legal s after.past → Follows s e after given c last
+      → Legal s after.past → Follows s e after given requested last
   runs_on t wrote last after (r, stepped, (steps, all, last_step, _, stepped_is), commits) legal = go (is_end (short_reply r)) refl commits
     where
-      abbrev steps_end : EngineView
+      steps_end : EngineView
       steps_end = with_entry (Step t) r (with_entries steps (with_entry (Start p args) (reply.Started t) e))
 
-      go : (b : Bool) → is_end (short_reply r) ≡ b → CommitsIf b t r last stepped after → Follows s e after given c last
+      go : (b : Bool) → is_end (short_reply r) ≡ b → CommitsIf b t r last stepped after → Follows s e after given requested last
       go true at_end is =
           let after_is : after ≡ with_entry (Commit t) last steps_end = is ∙ ap (with_entry (Commit t) last) stepped_is in
           let all_legal = subst (λ (v : EngineView). Legal s v.past) after_is legal in
-          subst (λ (v : EngineView). Follows s e v given c last) (sym after_is) (record {
+          subst (λ (v : EngineView). Follows s e v given requested last) (sym after_is) (record {
             legal = (legal_older s steps _ all_legal.0.0).0;
             same = refl;
             ran = λ so_far. ended s e.past given so_far p args t steps all r last_step last all_legal at_end;
@@ -209,17 +209,17 @@ module _ (s : Setting) (e : EngineView) (given : List Call) (p : ℕ) (args : Li
       go false no_end (last_is, is) =
           let after_is : after ≡ steps_end = is ∙ stepped_is in
           let all_legal = subst (λ (v : EngineView). Legal s v.past) after_is legal in
-          subst (λ (v : EngineView). Follows s e v given c last) (sym after_is) (subst (λ q. Follows s e steps_end given c q) (sym last_is) (record {
+          subst (λ (v : EngineView). Follows s e v given requested last) (sym after_is) (subst (λ q. Follows s e steps_end given requested q) (sym last_is) (record {
             legal = (legal_older s steps _ all_legal.0).0;
             same = refl;
             ran = λ so_far. aborted s e.past given so_far p args t steps all r last_step all_legal no_end;
           }))
 
   runs : (started : Option ℕ) (wrote : Bool) (last : Reply) (after : EngineView) → Runs (Start p args) started wrote last e after → Legal s after.past
-      → Follows s e after given c last
+      → Follows s e after given requested last
   runs None wrote last after (no_start, _, is) legal =
       let all_legal = subst (λ (v : EngineView). Legal s v.past) is legal in
-      subst (λ (v : EngineView). Follows s e v given c last) (sym is) (record {
+      subst (λ (v : EngineView). Follows s e v given requested last) (sym is) (record {
         legal = all_legal.0;
         same = refl;
         ran = λ so_far. refused s e.past given so_far p args last no_start;
@@ -245,14 +245,14 @@ legal_before : (s : Setting) (calls : List SgtCall) (outcomes : List SgtOutcome)
     → Legal s after.past → Legal s e.past
 legal_before s [] outcomes e after is legal = subst (λ (v : EngineView). Legal s v.past) is legal
 legal_before s (c ∷ calls) [] e after ran legal = absurd ran
-legal_before s (c ∷ calls) (o ∷ outcomes) e after (between, (started, wrote, last, one, _), rest) legal =
+legal_before s (c ∷ calls) (o ∷ outcomes) e after (between, (started, wrote, last, one, _, _, _), rest) legal =
     (runs s e [] c.procedure (args_in c) started wrote last between one (legal_before s calls outcomes between after rest legal)).legal
 
 same_before : (s : Setting) (calls : List SgtCall) (outcomes : List SgtOutcome) (e after : EngineView) → RanAll calls outcomes e after
     → Legal s after.past → setting_of after ≡ setting_of e
 same_before s [] outcomes e after is legal = ap setting_of is
 same_before s (c ∷ calls) [] e after ran legal = absurd ran
-same_before s (c ∷ calls) (o ∷ outcomes) e after (between, (started, wrote, last, one, _), rest) legal =
+same_before s (c ∷ calls) (o ∷ outcomes) e after (between, (started, wrote, last, one, _, _, _), rest) legal =
     same_before s calls outcomes between after rest legal
     ∙ (runs s e [] c.procedure (args_in c) started wrote last between one (legal_before s calls outcomes between after rest legal)).same
 
@@ -296,7 +296,7 @@ said_length [] outcomes [] said = refl
 said_length [] outcomes (r ∷ replies) said = absurd said
 said_length (c ∷ calls) [] replies said = absurd said
 said_length (c ∷ calls) (o ∷ outcomes) [] said = absurd said
-said_length (c ∷ calls) (o ∷ outcomes) (r ∷ replies) said = ap (λ n. n + 1) (said_length calls outcomes replies said.1)
+said_length (c ∷ calls) (o ∷ outcomes) (r ∷ replies) said = ap suc (said_length calls outcomes replies said.1)
 
 holds_result : (s : SgtReply) (r : Reply) (x : RunResult) → HoldsReply s r → told_in r ≡ x ∷ [] → HoldsResult s x
 holds_result s (reply.Committed answers) x holds is = subst (HoldsResult s) (first is) holds
@@ -343,7 +343,8 @@ same_results [] outcomes [] said same = tt
 same_results [] outcomes (r ∷ replies) said same = absurd said
 same_results (c ∷ calls) [] replies said same = absurd said
 same_results (c ∷ calls) (o ∷ outcomes) [] said same = absurd said
-same_results (c ∷ calls) (o ∷ outcomes) (r ∷ replies) said same = by_result (told_in r) refl (one_at_most r)
+same_results (c ∷ calls) (o ∷ outcomes) (r ∷ replies) said same =
+    by_result (same_results calls outcomes replies said.1) (told_in r) refl (one_at_most r)
   where
     others : List RunResult
     others = reverse (map result_in calls)
@@ -351,8 +352,8 @@ same_results (c ∷ calls) (o ∷ outcomes) (r ∷ replies) said same = by_resul
     all_same : results_of replies ++ told_in r ≡ others ++ result_in c ∷ []
     all_same = same ∙ reverse_onto (map result_in calls) (result_in c) []
 
-    by_result : (l : List RunResult) → told_in r ≡ l → length (told_in r) ≤ 1 → HoldResults (o ∷ outcomes) (c ∷ calls)
-    by_result [] none few =
+    by_result : (results_of replies ≡ others → HoldResults outcomes calls) → (l : List RunResult) → told_in r ≡ l → length (told_in r) ≤ 1 → HoldResults (o ∷ outcomes) (c ∷ calls)
+    by_result rest [] none few =
         let a = results_few replies in
         let b = said_length calls outcomes replies said.1 in
         let d = length-append others (result_in c ∷ []) in
@@ -360,21 +361,20 @@ same_results (c ∷ calls) (o ∷ outcomes) (r ∷ replies) said same = by_resul
         let g = length-map calls result_in in
         let h = ap length (sym (append-nil (results_of replies)) ∙ ap (λ l. results_of replies ++ l) (sym none) ∙ all_same) in
         absurd (omega (arith, a, b, d, f, g, h))
-    by_result (x ∷ []) one few =
+    by_result rest (x ∷ []) one few =
         let both = last_same (results_of replies) others x (result_in c) (ap (λ l. results_of replies ++ l) (sym one) ∙ all_same) in
-        (holds_result o.reply r (result_in c) said.0 (one ∙ ap (λ y. y ∷ []) both.1), same_results calls outcomes replies said.1 both.0)
-    by_result (x ∷ y ∷ l) two few = let h = ap length two in absurd (omega (arith, h, few))
+        (holds_result o.reply r (result_in c) said.0 (one ∙ ap (λ y. y ∷ []) both.1), rest both.0)
+    by_result rest (x ∷ y ∷ l) two few = let h = ap length two in absurd (omega (arith, h, few))
 
 -- ---- the law
 
 -- calls that were read from a history can be run again
 pub rerun_tells_the_same : GivenCallsAreTold → (s : Setting) (past : List Entry) (calls : List SgtCall) → Legal s past → told_calls past ≡ reverse (map call_in calls)
     → told past ≡ reverse (map result_in calls) → RerunTellsTheSame s past calls
-rerun_tells_the_same law s past calls legal calls_are results_are fresh after outcomes (same, new) (ran, headline, _) =
-    (
-      same_results calls outcomes all.replies all.said (sym told_all ∙ agrees.1.told_same ∙ results_are),
-      agrees.1,
-    )
+rerun_tells_the_same law s past calls legal calls_are results_are fresh after outcomes (same, new) (ran, headline, _) = (
+  same_results calls outcomes all.replies all.said (sym told_all ∙ agrees.1.told_same ∙ results_are),
+  agrees.1,
+)
   where
     same_then : setting_of after.engine ≡ s
     same_then = same_before (setting_of after.engine) calls outcomes fresh.engine after.engine ran headline.0 ∙ same
@@ -411,7 +411,7 @@ module _ {X : Type 0} (read : List Entry → List X) (field : SgtCall → X) (en
       → read (past_at entries next) ≡ reverse (map field now) ++ read (past_at entries from) → read (past_at entries next) ≡ reverse (map field (earlier ++ now))
   joined none before more =
       more ∙ ap (λ l. reverse (map field now) ++ l) (before ∙ ap (λ l. reverse (map field (take (length earlier) earlier)) ++ l) none
-      ∙ append-nil _ ∙ ap (λ l. reverse (map field l)) (take_all earlier (length earlier) (omega arith)))
+      ∙ append-nil _ ∙ ap (λ l. reverse (map field l)) (take_all (length earlier) earlier (omega arith)))
       ∙ sym (ap reverse (map-append field earlier now) ∙ reverse-append (map field earlier) (map field now))
 
 pub can_be_rerun : GivenCallsAreTold → (h : Held) (from : ℕ) (to : List SgtCall) (count next : ℕ) → Legal (setting_of h.engine) h.engine.past

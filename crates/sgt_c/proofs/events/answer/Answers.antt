@@ -13,15 +13,14 @@ returns-in-Ok-clause-ok c =
         ap (λ (e : EngineView). Some (record { engine = e; part = c.args.held.now.part })) done.adds,
         done.legal,
         subst (HoldsReply c.write_reply.new.into) (sym (answered_with _ _ _ _ _ done c.reply_lists.ensures)) c.write_reply.ensures.reply,
-        subst Headline done.adds
-            (
-              c.answer.ensures.legal,
-              c.answer.ensures.replay,
-              c.answer.ensures.no_cycle,
-              c.answer.ensures.causes,
-              c.answer.ensures.order,
-              c.answer.ensures.real_time,
-              c.answer.ensures.progress,
-            ),
+        subst Headline done.adds (
+          c.answer.ensures.legal,
+          c.answer.ensures.replay,
+          c.answer.ensures.no_cycle,
+          c.answer.ensures.causes,
+          c.answer.ensures.order,
+          c.answer.ensures.real_time,
+          c.answer.ensures.progress,
+        ),
       ),
     )
