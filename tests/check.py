@@ -153,10 +153,11 @@ LINES = {
 
 
 def all_histories(transactions, items, accesses, operations):
-    """Those of at most so many: a transaction or an item is new only as the next one."""
+    """Those of at most so many, and at least one operation: a transaction or an item is new only as the next one."""
 
     def behind(before, left, used, ended):
-        yield before
+        if before:
+            yield before
         if len(before) == operations:
             return
         for transaction in range(1, min(len(left) + 1, transactions) + 1):

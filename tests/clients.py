@@ -195,6 +195,23 @@ def names_anomalies(program):
         same("name", (False, name), (told["serializable"], told["anomaly"]))
 
 
+def in_turn(history):
+    """Each transaction ends before the next begins."""
+    entries = []
+    for process, it in enumerate(history):
+        entries.append({"type": "invoke", "process": process, "f": "txn", "value": it.operations})
+        entries.append({"type": it.status, "process": process, "f": "txn", "value": it.operations})
+    return lines_of(entries)
+
+
+def names_a_stale_read(program):
+    """One read sees a value, and another, which begins later, misses it."""
+    history = [one("ok", (A, 1, 1)), one("ok", (R, 1, (1,))), one("ok", (R, 1, ()))]
+    same("without time", 0, check(program, in_turn(history))[0])
+    status, text, _ = check(program, in_turn(history), "--strict")
+    same("verdict", (1, "strictly serializable no: G-single-realtime"), (status, text.splitlines()[1]))
+
+
 def reads_each_form(program):
     """One object a line, one array, objects over several lines, with and without white space: one report."""
     history = NAMED["G2-item"]
@@ -296,6 +313,8 @@ GOOD = '{"type":"ok","process":0,"f":"txn","value":[["append",1,1]]}\n'
 FAULTS = {
     "{": "line 1, entry 1: no JSON from column 1 on",
     "x": "line 1, entry 1: no JSON from column 1 on",
+    GOOD + "{\n": "line 3, entry 2: no JSON from column 1 on",
+    GOOD + '{"type":"ok",\n "process" 1}': "line 3, entry 2: no JSON from column 12 on",
     "5": "line 1, entry 1: no object",
     '"{"': "line 1, entry 1: no object",
     "\xff": None,
@@ -327,8 +346,10 @@ FAULTS = {
         "line 2, entry 2: the operations are not those of the invocation, line 1, entry 1",
     GOOD.replace("ok", "invoke") + GOOD.replace('[["append",1,1]]', "[]").replace("ok", "info"):
         "line 2, entry 2: the operations are not those of the invocation, line 1, entry 1",
-    GOOD + GOOD: "entry 2 appends 1 to key 1 a second time",
-    GOOD + '{"type":"info","process":0,"value":[["append",1,2],["append",1,2]]}': "entry 2 appends 2 to key 1 a second time",
+    GOOD + GOOD: "line 2 appends 1 to key 1 a second time, after line 1",
+    GOOD + '{"type":"info","process":0,"value":[["append",1,2],["append",1,2]]}':
+        "line 2 appends 2 to key 1 a second time, after line 2",
+    "[" + GOOD + "," + GOOD * 2: "entry 2 appends 1 to key 1 a second time, after entry 1",
     "[" * 100_000: None,
     '{"a":' * 100_000: None,
 }
@@ -391,7 +412,8 @@ def recorded_ones(program):
     return ", ".join(told)
 
 
-CASES = [on_all_small_histories, on_drawn_histories, on_drawn_histories_strictly, names_anomalies, reads_each_form,
+CASES = [on_all_small_histories, on_drawn_histories, on_drawn_histories_strictly, names_anomalies, names_a_stale_read,
+         reads_each_form,
          takes_null_for_the_empty_list, takes_processes_of_any_name, skips_what_is_no_transaction, refuses_nothing,
          refuses_an_end_of_other_operations, keeps_time_only_with_invocations, tells_faults, survives_hostile_bytes, needs_its_model, draws_its_witness, recorded_ones]
 

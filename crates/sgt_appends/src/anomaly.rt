@@ -72,14 +72,21 @@ fn of_cycle(edges: &[Edge]) -> Anomaly {
     }
 }
 
-/// Whether one read saw a value of a transaction and missed another.
+/// Whether one read saw a value of a transaction and missed another of the same one.
 fn is_intermediate(edges: &[Edge]) -> bool {
     match edges {
-        [first, second] => match (first.reason, second.reason) {
-            (Reason::Seen { read, .. }, Reason::Missed { read: other, .. }) => read == other,
-            (Reason::Missed { read, .. }, Reason::Seen { read: other, .. }) => read == other,
-            _ => false,
-        },
+        [first, second] => {
+            first.from == second.to && first.to == second.from && is_one_read(first, second)
+        }
+        _ => false,
+    }
+}
+
+/// Whether one edge is by what a read saw, and the other by what the read at the same position missed.
+fn is_one_read(first: &Edge, second: &Edge) -> bool {
+    match (first.reason, second.reason) {
+        (Reason::Seen { read, .. }, Reason::Missed { read: other, .. }) => read == other,
+        (Reason::Missed { read, .. }, Reason::Seen { read: other, .. }) => read == other,
         _ => false,
     }
 }

@@ -7,7 +7,7 @@ use Rattle.sgt_clients.specs.declared.fault.ClientsFault.TheVariants as fault
 -- an error that no read or write made, nor the length of the input
 abbrev pub IsOwn : ClientsFault → Type 0
 IsOwn (fault.Entry line entry flaw) = ⊤
-IsOwn (fault.Twice entry value key) = ⊤
+IsOwn (fault.Twice second value key first) = ⊤
 IsOwn fault.NoOperations = ⊤
 IsOwn fault.NoInvocations = ⊤
 IsOwn fault.Undecided = ⊤

@@ -158,6 +158,10 @@ impl ClientsReader {
         match self.take_text(alloc, text) {
             Ok(()) => Ok(()),
             Err(ReadError::Flaw(flaw)) => Err(ClientsFault::Entry(line, self.entries, flaw)),
+            Err(ReadError::NotJson(further, column)) => {
+                let at = line.saturating_add(further.saturating_sub(1) as u64);
+                Err(ClientsFault::Entry(at, self.entries, Flaw::NotJson(column)))
+            }
             Err(ReadError::Invoked(process)) => Err(self.invoked_fault(alloc, line, process)),
             Err(ReadError::OtherOperations(number)) => {
                 Err(ClientsFault::Entry(line, self.entries, self.other_flaw(number)))
@@ -402,7 +406,7 @@ fn read_tree(alloc: Global, text: &[u8]) -> Result<Value, ReadError>
         Err(error) => if error.is_memory() {
             Err(ReadError::NoMemory)
         } else {
-            Err(ReadError::Flaw(Flaw::NotJson(error.column())))
+            Err(ReadError::NotJson(error.line(), error.column().max(1)))
         },
     }
 }

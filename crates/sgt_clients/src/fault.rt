@@ -40,11 +40,24 @@ pub enum Flaw {
     TooManyProcesses,
 }
 
+/// The position of an entry in the input, from 1.
+#[derive(Clone, Copy, Debug, PartialEq, Eq, Error)]
+pub enum Position {
+    /// By lines, if each entry stands on a line of its own.
+    #[error("line {0}")]
+    Line(usize),
+    /// By entries.
+    #[error("entry {0}")]
+    Entry(usize),
+}
+
 /// Why an entry was not read.
 #[derive(Debug, Drop, PartialEq, Eq)]
 pub(crate) enum ReadError {
     /// The entry is wrong.
     Flaw(Flaw),
+    /// The text is not JSON, from this line and column of it on, both from 1.
+    NotJson(usize, usize),
     /// The process with this number has invoked another transaction, and has not ended it.
     Invoked(u32),
     /// The operations are not those of the transaction's invocation.
@@ -67,9 +80,9 @@ pub enum ClientsFault {
     /// The entry, which starts on the line, is wrong.
     #[error("line {0}, entry {1}: {2}")]
     Entry(u64, usize, Flaw),
-    /// The transaction that ended or began at this entry appends the value to the key, which has it already.
-    #[error("entry {0} appends {1} to key {2} a second time")]
-    Twice(usize, u32, Shown),
+    /// The transaction that ended or began here appends the value to the key, after the one that ended or began there.
+    #[error("{0} appends {1} to key {2} a second time, after {3}")]
+    Twice(Position, u32, Shown, Position),
     /// There is no transaction to judge.
     #[error("no operations")]
     NoOperations,

@@ -47,7 +47,7 @@ mod twice;
 mod witness_text;
 
 pub use clients::{Clients, Event, Span, read_clients};
-pub use fault::{ClientsFault, Flaw};
+pub use fault::{ClientsFault, Flaw, Position};
 pub use finding::{Finding, Step, Why, check_clients};
 pub use graph_text::append_graph;
 pub use json_text::append_json;

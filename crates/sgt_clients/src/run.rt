@@ -131,7 +131,9 @@ fn own(error: ClientsFault) -> ClientsFault
 {
     match error {
         ClientsFault::Entry(line, entry, flaw) => ClientsFault::Entry(line, entry, flaw),
-        ClientsFault::Twice(entry, value, key) => ClientsFault::Twice(entry, value, key),
+        ClientsFault::Twice(second, value, key, first) => {
+            ClientsFault::Twice(second, value, key, first)
+        }
         ClientsFault::NoOperations => ClientsFault::NoOperations,
         ClientsFault::NoInvocations => ClientsFault::NoInvocations,
         ClientsFault::Undecided => ClientsFault::Undecided,

@@ -1,43 +1,67 @@
 //! Values that are appended twice to a key.
 
 use crate::clients::Clients;
-use crate::fault::ClientsFault;
+use crate::fault::{ClientsFault, Position};
 use crate::piece::entry_of;
 use sgt_appends::Operation;
 use sgt_model::NoMemory;
 use sgt_notation::Shown;
 use std::alloc::Global;
-use std::collections::BTreeSet;
+use std::collections::BTreeMap;
+
+/// An append of a value that its key has already.
+#[derive(Clone, Copy)]
+struct Again {
+    key: u32,
+    value: u32,
+    /// The transaction that appends the value first.
+    first: usize,
+}
 
 /// The fault of the first append of a value that its key has already.
 pub(crate) fn twice_fault(alloc: Global, clients: &Clients) -> Result<ClientsFault, NoMemory> {
-    let mut met = BTreeSet::new(alloc);
+    let mut met = BTreeMap::new(alloc);
     for (number, transaction) in clients.transactions.iter().enumerate() {
-        if let Some((key, value)) = first_met(&mut met, transaction.operations.as_slice())? {
-            let entry = entry_of(clients, number);
+        if let Some(again) = first_met(&mut met, number, transaction.operations.as_slice())? {
             return Ok(ClientsFault::Twice(
-                entry,
-                value,
-                shown_name(alloc, clients.keys.as_slice(), key)?,
+                position_of(clients, number),
+                again.value,
+                shown_name(alloc, clients.keys.as_slice(), again.key)?,
+                position_of(clients, again.first),
             ));
         }
     }
     Ok(ClientsFault::Undecided)
 }
 
-/// The first append of these operations that is met again, by its key and its value. The others are met now.
+/// The first append of these operations of the transaction that is met again. The others are met now.
 fn first_met(
-    met: &mut BTreeSet<(u32, u32)>,
+    met: &mut BTreeMap<(u32, u32), usize>,
+    number: usize,
     operations: &[Operation],
-) -> Result<Option<(u32, u32)>, NoMemory> {
+) -> Result<Option<Again>, NoMemory> {
     for operation in operations {
         if let Operation::Append { key, value } = operation {
-            if !met.insert((*key, *value))? {
-                return Ok(Some((*key, *value)));
+            if let Some(first) = met.insert((*key, *value), number)? {
+                return Ok(Some(Again {
+                    key: *key,
+                    value: *value,
+                    first,
+                }));
             }
         }
     }
     Ok(None)
+}
+
+/// The position of the entry at which the transaction ended, or else of the one at which it began.
+fn position_of(clients: &Clients, number: usize) -> Position {
+    let entry = entry_of(clients, number);
+    if clients.by_line {
+        Position::Line(entry)
+    } else {
+        Position::Entry(entry)
+    }
 }
 
 /// The text of the key or process with this number, among these.
