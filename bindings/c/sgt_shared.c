@@ -100,9 +100,9 @@ struct sgt_shared {
     unsigned passed;             /* how often others came first while a thread slept for the lock */
     struct event changed;        /* a transaction has ended, or a cut is over */
     struct event queued;         /* a call can be drained */
+    atomic_uint_fast64_t number; /* of this engine, in its tickets: looked at before the lock is taken */
     sgt_engine engine;           /* this and what follows is zero at first, up to `next` */
     sgt_shared_config config;
-    uint64_t number;             /* of this engine, in its tickets */
     uint64_t part;               /* cuts so far: that of sgt_part */
     uint64_t sequence;           /* calls that were committed or refused so far */
     uint64_t read;               /* the place of the history up to which these were handed on */
@@ -453,11 +453,11 @@ static inline uint32_t leave(sgt_shared *s, uint32_t status)
 /* Enters for a call that names a transaction. */
 static inline uint32_t enter_for(sgt_shared *s, const sgt_ticket *ticket)
 {
-    if (s && !ticket) return SGT_BAD_CALL;
+    if (!s) return SGT_CLOSED;
+    if (!ticket) return SGT_BAD_CALL;
+    if (ticket->engine != atomic_load_explicit(&s->number, memory_order_relaxed)) return SGT_MISUSE;
     uint32_t status = enter(s);
-    if (status != SGT_OK) return status;
-    if (ticket->engine != s->number) return leave(s, SGT_MISUSE);
-    return ticket->part == s->part ? (uint32_t)SGT_OK : leave(s, SGT_STALE);
+    return status != SGT_OK || ticket->part == s->part ? status : leave(s, SGT_STALE);
 }
 
 /* Hooks */
