@@ -198,7 +198,7 @@ def is_there(page, name):
 
 
 # Words with a slash, or an ending, that are no files.
-NO_FILES = {"-Ibindings/c", "bank.c", ".../bindings/rust", "procedures/gift.json"}
+NO_FILES = {"-Ibindings/c", "-Ibindings/cpp", "bank.c", ".../bindings/rust", "procedures/gift.json"}
 PLACEHOLDERS = re.compile(r"NAME|CRATE|FILE|FUNCTION|\.\.\.")
 
 

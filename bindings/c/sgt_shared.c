@@ -100,9 +100,9 @@ struct sgt_shared {
     unsigned passed;             /* how often others came first while a thread slept for the lock */
     struct event changed;        /* a transaction has ended, or a cut is over */
     struct event queued;         /* a call can be drained */
+    atomic_uint_fast64_t number; /* of this engine, in its tickets: looked at before the lock is taken */
     sgt_engine engine;           /* this and what follows is zero at first, up to `next` */
     sgt_shared_config config;
-    uint64_t number;             /* of this engine, in its tickets */
     uint64_t part;               /* cuts so far: that of sgt_part */
     uint64_t sequence;           /* calls that were committed or refused so far */
     uint64_t read;               /* the place of the history up to which these were handed on */
@@ -283,13 +283,18 @@ static void beckon(sgt_shared *s)
     pthread_mutex_unlock(&s->line.lock);
 }
 
-/* Takes the lock: at once if it is free. */
-static void lock(sgt_shared *s)
+/* Waits for the lock. */
+static void await_lock(sgt_shared *s)
 {
-    if (is_free(s, false) && try_lock(s)) return;
     const bool is_alone = atomic_fetch_add_explicit(&s->waiting, 1, memory_order_relaxed) == 0;
     if (!is_alone || !look_out(s, MOST_SPIN, false)) line_up(s);
     atomic_fetch_sub_explicit(&s->waiting, 1, memory_order_relaxed);
+}
+
+/* Takes the lock: at once if it is free. */
+static inline void lock(sgt_shared *s)
+{
+    if (!is_free(s, false) || !try_lock(s)) await_lock(s);
 }
 
 /* Counts a call that came before those of threads that sleep for the lock. */
@@ -299,7 +304,7 @@ static void pass(sgt_shared *s)
     if (++s->passed == MOST_PASSED) atomic_store_explicit(&s->is_owed, true, memory_order_relaxed);
 }
 
-static void unlock(sgt_shared *s)
+static inline void unlock(sgt_shared *s)
 {
     pass(s);
     atomic_store_explicit(&s->is_held, false, memory_order_relaxed);
@@ -413,23 +418,22 @@ static bool begin_call(sgt_shared *s)
     return !at;
 }
 
-/* Ends a call, if it was made from inside a hook. */
+/* Ends a call from inside a hook. */
 static void end_call(void)
 {
-    if (!hooks) return;
     pthread_mutex_lock(&calling);
     hooks->shared->called = 0;
     pthread_mutex_unlock(&calling);
 }
 
-static uint32_t enter(sgt_shared *s)
+static inline uint32_t enter(sgt_shared *s)
 {
     if (!s) return SGT_CLOSED;
     if (is_in_child(s) || (hooks && !begin_call(s))) return SGT_MISUSE;
     lock(s);
     if (s->is_open) return SGT_OK;
     unlock(s);
-    end_call();
+    if (hooks) end_call();
     return SGT_CLOSED;
 }
 
@@ -437,23 +441,23 @@ static void quit_abandoned(sgt_shared *s);
 static void tell(sgt_shared *s);
 static void cut_if_due(sgt_shared *s);
 
-static uint32_t leave(sgt_shared *s, uint32_t status)
+static inline uint32_t leave(sgt_shared *s, uint32_t status)
 {
     if (s->tells) tell(s);
     if (s->config.cut_after) cut_if_due(s);
     unlock(s);
-    end_call();
+    if (hooks) end_call();
     return status;
 }
 
 /* Enters for a call that names a transaction. */
-static uint32_t enter_for(sgt_shared *s, const sgt_ticket *ticket)
+static inline uint32_t enter_for(sgt_shared *s, const sgt_ticket *ticket)
 {
-    if (s && !ticket) return SGT_BAD_CALL;
+    if (!s) return SGT_CLOSED;
+    if (!ticket) return SGT_BAD_CALL;
+    if (ticket->engine != atomic_load_explicit(&s->number, memory_order_relaxed)) return SGT_MISUSE;
     uint32_t status = enter(s);
-    if (status != SGT_OK) return status;
-    if (ticket->engine != s->number) return leave(s, SGT_MISUSE);
-    return ticket->part == s->part ? (uint32_t)SGT_OK : leave(s, SGT_STALE);
+    return status != SGT_OK || ticket->part == s->part ? status : leave(s, SGT_STALE);
 }
 
 /* Hooks */
@@ -479,7 +483,7 @@ static void break_off(void *hook)
 {
     end_hook(hook);
     unlock(((struct hook *)hook)->shared);
-    end_call();
+    if (hooks) end_call();
 }
 
 /* Calls the hook for the call that has just ended. All else is done, so that it may throw. */

@@ -102,16 +102,22 @@ class Teller:
 
     def _tell_all(self) -> None:
         """An interrupt may come anywhere: then the next call goes on from there."""
-        while True:
-            while self._told < self._count.value:
-                self._tell_one(self._calls[self._told])
-                self._told += 1
+        self._tell_taken()
+        taken = BATCH
+        while taken == BATCH:
             self._count.value = 0
             self._told = 0
             status = FREE.sgt_shared_drain(self._shared, 0, self._calls, BATCH, self._count)
-            if status == CLOSED or (status == 0 and self._count.value == 0):
+            if status == CLOSED:
                 return
             check(status)
+            taken = self._count.value
+            self._tell_taken()
+
+    def _tell_taken(self) -> None:
+        while self._told < self._count.value:
+            self._tell_one(self._calls[self._told])
+            self._told += 1
 
     def _tell_one(self, told: CEnded) -> None:
         ended = ended_of(told)
