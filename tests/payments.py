@@ -139,7 +139,7 @@ def tables(rows):
 def recovered(folder):
     """The number of the last call, and the records by table, as a start recovers them from a copy of the journal. And what was cut off."""
     with room() as aside:
-        shutil.copytree(folder, aside / "copy", ignore=shutil.ignore_patterns("admin"))
+        shutil.copytree(folder, aside / "copy", symlinks=True, ignore=shutil.ignore_patterns("admin"))
         bank, cut_off = FileJournal(aside / "copy").start(Bank(0, PROCEDURES, b""))
         return bank.seq, tables(bank.rows()), int(re.match(r"cut off (\d+) bytes", cut_off)[1]) if cut_off else 0
 
