@@ -1,4 +1,7 @@
-"""Calls of a shared engine that ended, and the hook that is called for each."""
+"""Calls of a shared engine that ended, and the hook that is called for each.
+
+Before Python 3.11 an interrupt may come where a `with` block releases its lock, and leave it held. Then later calls wait for ever.
+"""
 
 from __future__ import annotations
 

@@ -199,7 +199,8 @@ class SharedEngine(Uncopied):
     def drain(self, most: int = 1024, timeout: Optional[float] = None) -> list[Ended]:
         """Takes at most so many of the stored calls, oldest first. Returns an empty list if none comes in time.
 
-        Raises BadCall if the engine stores none. What an interrupt keeps it from returning is returned by the next call.
+        Raises BadCall if the engine stores none. What an interrupt keeps it from returning is returned by the next call;
+        before Python 3.11, unless the interrupt comes between the return and the next instruction.
         """
         if not self._keeps:
             raise BadCall("the engine stores no calls: open it with keeps_ended")
