@@ -398,6 +398,8 @@ uint32_t sgt_entry(const sgt_engine *engine, uint64_t place, sgt_event *event, s
  * number to `count`. The position to continue from is written to `next`: pass it as `from` the next time. When `next` is what
  * sgt_entries returns, there are no more calls. After a cut positions begin at 0 again.
  *
+ * Each call is a start. If a journal of calls is longer than the most starts, cut in between; else the rest are SGT_SPENT.
+ *
  * The cost grows with the entries from `from` to `next`, and for each call with the entries back to its start.
  *
  * If the result is not SGT_OK, calls, count and next are unchanged:
