@@ -349,7 +349,7 @@ FAULTS = {
     GOOD + GOOD: "line 2 appends 1 to key 1 a second time, after line 1",
     GOOD + '{"type":"info","process":0,"value":[["append",1,2],["append",1,2]]}':
         "line 2 appends 2 to key 1 a second time, after line 2",
-    "[" + GOOD + "," + GOOD * 2: "entry 2 appends 1 to key 1 a second time, after entry 1",
+    GOOD.strip() * 2: "entry 2 appends 1 to key 1 a second time, after entry 1",
     "[" * 100_000: None,
     '{"a":' * 100_000: None,
 }
