@@ -60,21 +60,33 @@ class Told:
                 raise Differs(f"no such order: {text!r}")
             return
         same("status", 1, status)
-        if not re.fullmatch(rf"{head} no: [A-Za-z0-9-]+", lines[1]):
-            raise Differs(f"no verdict: {lines[1]!r}")
-        if " before t" in lines[2] and lines[2].startswith("  t") and STEP.fullmatch(lines[2]):
-            self.compare_cycle(lines[2:])
+        if STEP.fullmatch(lines[2]):
+            name = self.compare_cycle(lines[2:])
         else:
             same("lines", 3, len(lines))
-            self.compare_fault(lines[2].strip())
+            name = self.compare_fault(lines[2].strip())
+        same("verdict", f"{head} no: {name}", lines[1])
 
     def compare_cycle(self, lines):
+        """Tests its steps, and gives its name."""
         steps = [STEP.fullmatch(it).groups() for it in lines]
         froms, tos = [int(it[0]) - 1 for it in steps], [int(it[1]) - 1 for it in steps]
         same("ends of the steps", froms[1:] + froms[:1], tos)
         for one, other, (_, _, why) in zip(froms, tos, steps):
             if one == other or not self.shows(one, other, why):
                 raise Differs(f"t{one + 1} before t{other + 1} does not follow from {why!r}")
+        self.compare_reads()
+        return name_of_cycle([why for _, _, why in steps])
+
+    def compare_reads(self):
+        """A cycle is told only where of two reads of a key one is always a prefix of the other."""
+        longest = {}
+        for one in self.history:
+            for _, key, seen in (it for it in one.operations if it[0] == "r" and one.status == COMMITTED):
+                before = longest.get(key, ())
+                if before[:len(seen)] != seen[:len(before)]:
+                    raise Differs(f"key {key} was read as {before} and as {seen}")
+                longest[key] = max(before, seen, key=len)
 
     def appends(self, transaction, key, value):
         return ("append", int(key), int(value)) in self.history[transaction].operations
@@ -101,28 +113,56 @@ class Told:
             and first in values and second in values[values.index(first) + 1:]
 
     def compare_fault(self, why):
+        """Tests what is said of a read, and gives its name."""
         reader, key, seen, rest = re.fullmatch(READ + ", (.*)", why).groups()
         reader, values = int(reader) - 1, list(map(int, seen.split()))
-        if not self.reads(reader, key, seen) or not self.is_fault(reader, key, values, rest):
+        name = self.name_of_fault(reader, key, values, rest) if self.reads(reader, key, seen) else None
+        if name is None:
             raise Differs(f"no fault: {why!r}")
+        return name
 
-    def is_fault(self, reader, key, values, rest):
-        number = int((re.findall(r"\d+", rest) or [0])[0])
+    def name_of_fault(self, reader, key, values, rest):
+        """The name of a fault of a read, or None if there is no such fault."""
         own = [it[2] for it in self.history[reader].operations if it[0] == "append" and it[1] == int(key)]
-        if rest.startswith("but no transaction"):
-            number = int(re.fullmatch(r"but no transaction that may have committed appends (\d+)", rest)[1])
-            may = [it for it in range(len(self.history)) if self.history[it].status != "fail"]
-            return number in values and not any(self.appends(it, key, number) for it in may)
-        if rest.startswith("with a value twice"):
-            return values.count(number) > 1
-        if rest.endswith("appended only later"):
-            return number in values and number in own
-        if rest.startswith("which does not end with"):
-            return bool(own)
-        later, first, by, same_first = map(int, re.fullmatch(
-            r"with (\d+) before (\d+), but t(\d+) \(\w+ \d+\) appended (\d+) first", rest).groups())
-        mine = [it[2] for it in self.history[by - 1].operations if it[0] == "append" and it[1] == int(key)]
-        return first == same_first and mine.index(first) < mine.index(later) and first in values[values.index(later):]
+        if told := re.fullmatch(r"but no transaction that may have committed appends (\d+)", rest):
+            written = any(self.appends(it, key, told[1]) for it in range(len(self.history)))
+            return "unwritten" if int(told[1]) in values and not written else None
+        if told := re.fullmatch(rf"with (\d+) of {PLACED}, which aborted", rest):
+            aborted = self.history[int(told[2]) - 1].status == "fail" and self.appends(int(told[2]) - 1, key, told[1])
+            return "G1a" if int(told[1]) in values and aborted else None
+        if told := re.fullmatch(r"with a value twice: (\d+)", rest):
+            return "duplicate-elements" if values.count(int(told[1])) > 1 else None
+        if told := re.fullmatch(rf"with (\d+), which t{reader + 1} appended only later", rest):
+            return "internal" if int(told[1]) in values and int(told[1]) in own else None
+        if rest == f"which does not end with what t{reader + 1} had appended":
+            return "internal" if own else None
+        return "incompatible-order" if self.is_other_order(key, values, rest) else None
+
+    def is_other_order(self, key, values, rest):
+        """Whether another read saw another order, or the transaction that appended two of the values, of which none is there twice."""
+        if told := re.fullmatch(f"but {READ}", rest):
+            other = list(map(int, told[3].split()))
+            return told[2] == key and self.reads(int(told[1]) - 1, key, told[3]) and other[:len(values)] != values[:len(other)]
+        told = re.fullmatch(rf"with (\d+) before (\d+), but {PLACED} appended \2 first", rest)
+        later, first, by = int(told[1]), int(told[2]), int(told[3]) - 1
+        mine = [it[2] for it in self.history[by].operations if it[0] == "append" and it[1] == int(key)]
+        return mine.index(first) < mine.index(later) and values.index(later) < values.index(first) and len(set(values)) == len(values)
+
+
+def name_of_cycle(reasons):
+    """As Adya and Elle name it, by its steps: ww, wr, rw, and real time."""
+    missed = [it.split(", without ")[0] for it in reasons if ", without " in it]
+    seen = [it.split(", with ")[0] for it in reasons if it.endswith(" appended") and ", with " in it]
+    timed = any(" ended before " in it for it in reasons)
+    if len(missed) > 1:
+        name = "G2-item"
+    elif missed and len(reasons) == 2 and seen == missed:
+        name = "G1b"
+    elif missed:
+        name = "G-single"
+    else:
+        name = "G1c" if seen else "G0"
+    return name + "-realtime" * timed
 
 
 def compare(program, draw, history, strict):
@@ -184,6 +224,15 @@ NAMED = {
     "duplicate-elements": [one("ok", (A, 1, 1)), one("ok", (R, 1, (1, 1)))],
 }
 
+# The lines of a witness that names its operations in another way than the histories above.
+WITNESSES = [
+    ([one("fail", (A, 1, 3)), one("ok", (R, 1, (3,)))], "G1a", "t2 (line 4) read key 1 as [3], with 3 of t1 (line 2), which aborted"),
+    ([one("ok", (A, 1, 3), (A, 1, 4)), one("ok", (R, 1, (3, 4, 3)))], "duplicate-elements",
+     "t2 (line 4) read key 1 as [3 4 3], with a value twice: 3"),
+    ([one("ok", (A, 1, 1)), one("ok", (A, 1, 2)), one("ok", (R, 1, (1, 2))), one("ok", (R, 1, (2,)))], "incompatible-order",
+     "t4 (line 8) read key 1 as [2], but t3 (line 6) read key 1 as [1 2]"),
+]
+
 
 def names_anomalies(program):
     for name, history in NAMED.items():
@@ -204,12 +253,27 @@ def in_turn(history):
     return lines_of(entries)
 
 
-def names_a_stale_read(program):
-    """One read sees a value, and another, which begins later, misses it."""
-    history = [one("ok", (A, 1, 1)), one("ok", (R, 1, (1,))), one("ok", (R, 1, ()))]
-    same("without time", 0, check(program, in_turn(history))[0])
-    status, text, _ = check(program, in_turn(history), "--strict")
-    same("verdict", (1, "strictly serializable no: G-single-realtime"), (status, text.splitlines()[1]))
+def names_the_operations(program):
+    for history, name, line in WITNESSES:
+        _, text, _ = check(program, in_turn(history))
+        same("witness", [f"serializable no: {name}", f"  {line}"], text.splitlines()[1:])
+    stale = [one("ok", (A, 1, 1)), one("ok", (R, 1, (1,))), one("ok", (R, 1, ()))]
+    same("stale read", "strictly serializable no: G-single-realtime", check(program, in_turn(stale), "--strict")[1].splitlines()[1])
+
+
+def shows_values_of_a_long_read(program):
+    """Of 30 values the last 16, and before them those of the step."""
+    values = tuple(range(1, 31))
+    history = [one("ok", (A, 1, 1), (A, 2, 1)), *(one("ok", (A, 1, it)) for it in values[1:]), one("ok", (R, 1, values), (R, 2, ()))]
+    status, text, _ = check(program, in_turn(history))
+    same("status", 1, status)
+    steps = [it for it in text.splitlines() if "read key 1 as" in it]
+    shown = [re.search(r"\[(.*)\], with (\d+)(?: of t\d+ before (\d+))?", it).groups() for it in steps]
+    for listed, *spoken in shown:
+        spoken = sorted({int(it) for it in spoken if it})
+        wanted = ".." + "".join(f" {it} .." for it in spoken if it <= 14) + "".join(f" {it}" for it in values[14:])
+        same("values", wanted, listed)
+    return f"{len(steps)} steps"
 
 
 def reads_each_form(program):
@@ -349,7 +413,7 @@ FAULTS = {
     GOOD + GOOD: "line 2 appends 1 to key 1 a second time, after line 1",
     GOOD + '{"type":"info","process":0,"value":[["append",1,2],["append",1,2]]}':
         "line 2 appends 2 to key 1 a second time, after line 2",
-    "[" + GOOD + "," + GOOD * 2: "entry 2 appends 1 to key 1 a second time, after entry 1",
+    GOOD.strip() * 2: "entry 2 appends 1 to key 1 a second time, after entry 1",
     "[" * 100_000: None,
     '{"a":' * 100_000: None,
 }
@@ -412,8 +476,8 @@ def recorded_ones(program):
     return ", ".join(told)
 
 
-CASES = [on_all_small_histories, on_drawn_histories, on_drawn_histories_strictly, names_anomalies, names_a_stale_read,
-         reads_each_form,
+CASES = [on_all_small_histories, on_drawn_histories, on_drawn_histories_strictly, names_anomalies, names_the_operations,
+         shows_values_of_a_long_read, reads_each_form,
          takes_null_for_the_empty_list, takes_processes_of_any_name, skips_what_is_no_transaction, refuses_nothing,
          refuses_an_end_of_other_operations, keeps_time_only_with_invocations, tells_faults, survives_hostile_bytes, needs_its_model, draws_its_witness, recorded_ones]
 

@@ -9,6 +9,7 @@ use Rattle.sgt_appends.specs.Guides.{appended_by}
 use Rattle.sgt_appends.specs.Faults.{IsFault}
 use Rattle.sgt_appends.proofs.Words.{Has-append_left, Has-append_cases, StandsBefore-back, StandsBefore-front, IsOnce-append, IsOnce-front, not_both, StandsBefore-has}
 use Rattle.sgt_appends.proofs.Running.{has_appended}
+use Rattle.sgt_appends.proofs.Prefixes.{comparable}
 use Rattle.sgt_appends.proofs.Orders.{IsReadIn, read_in, place_of}
 
 -- transactions that are named once each append no value twice
@@ -50,12 +51,20 @@ no_fault h order t k own seen once serial committed it fault = elim fault [
           not_both (appended_by h k order) w.1 w.2 whole_once (in_its_order h k order w.0 w.1 w.2 (in_order w.0 w.1 w.2 w.3 w.4) w.3) stand
       | inr last ↦ elim last [
         | inl w ↦ w (appended_by h k it.before) it.are
-        | inr w ↦ elim (Has-append_cases (appended_by h k it.before) own w.0 (subst (λ xs. Has xs w.0) it.are w.1)) [
-          | inl v ↦
-              let who = has_appended h k it.before w.0 v in
-              let less : place_of order who.0 < place_of order t = it.earlier who.0 who.1 in
-              omega (arith, less, ap (place_of order) (once.by_one who.0 t k w.0 who.2 w.2))
-          | inr v ↦ w.3 v
+        | inr rest ↦ elim rest [
+          | inl w ↦ elim (Has-append_cases (appended_by h k it.before) own w.0 (subst (λ xs. Has xs w.0) it.are w.1)) [
+            | inl v ↦
+                let who = has_appended h k it.before w.0 v in
+                let less : place_of order who.0 < place_of order t = it.earlier who.0 who.1 in
+                omega (arith, less, ap (place_of order) (once.by_one who.0 t k w.0 who.2 w.2))
+            | inr v ↦ w.3 v
+          ]
+          | inr w ↦
+              let there = read_in h nothing order w.0 k w.2.1.0 w.1 serial.run (serial.committed w.0 w.2.0) w.2.1.1 in
+              elim (comparable (appended_by h k order) seen it.more w.1 there.more it.whole there.whole) [
+                | inl v ↦ w.3 v
+                | inr v ↦ w.4 v
+              ]
         ]
       ]
     ]

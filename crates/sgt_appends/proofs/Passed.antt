@@ -10,7 +10,7 @@ use Rattle.sgt_appends.specs.declared.transaction.Status.{Status}
 use Rattle.sgt_appends.specs.declared.transaction.Status.TheVariants.{Committed, Aborted, Unknown}
 use Rattle.sgt_appends.specs.declared.transaction.Transaction.{Transaction}
 use Rattle.sgt_appends.specs.declared.fault.Fault.{Fault}
-use Rattle.sgt_appends.specs.declared.fault.Fault.TheVariants.{Unwritten, Twice, Swapped, EndsOtherwise, Ahead}
+use Rattle.sgt_appends.specs.declared.fault.Fault.TheVariants.{Unwritten, Aborted, Twice, Swapped, EndsOtherwise, Ahead, Incompatible}
 use Rattle.sgt_appends.specs.Lists.{Has, IsOnce, StandsBefore}
 use Rattle.sgt_appends.specs.Runs.{operations_of, Ended, MayRun, IsSerializable}
 use Rattle.sgt_appends.specs.Precedences.{appended, Appends, Reads, HasReadAfter, AppendsOnce}
@@ -234,6 +234,8 @@ pub fault_one : (h : List Transaction) (at : Positions) (t p k : ℕ) (seen : Li
     → IsFaultAt h at t p k last x fault → Faults h t k (own_at h t p k) seen fault
 fault_one h at t p k seen i last x (Unwritten v) index passed within is it =
     (subst (λ w. Has seen w) (sym it.0) (has_at seen i x within is), subst (λ w. (u : ℕ) → Appends h u k w → ¬ MayRun h u) (sym it.0) it.1)
+fault_one h at t p k seen i last x (Aborted by append) index passed within is it =
+    (x, index.found k x by append it.0, has_at seen i x within is, it.1)
 fault_one h at t p k seen i last x (Twice v) index passed within is it =
     let before = passed.last_are it.1 it.2 it.4 in
     let same : before.0 ≡ x = same_value (operations_of h it.1) it.2 k before.0 x
@@ -255,9 +257,18 @@ fault_one h at t p k seen i last x (Swapped by first second) index passed within
       stands_at seen i before.0 x before.1 within is,
     )
 fault_one h at t p k seen i last x EndsOtherwise index passed within is it = absurd it
+fault_one h at t p k seen i last x (Incompatible other read) index passed within is it = absurd it
 fault_one h at t p k seen i last x (Ahead append) index passed within is it =
     let here = index.found k x t append it.0 in
     (x, here, not_yet (operations_of h t) p append k x ((index_once h at index).once t k) here it.1, has_at seen i x within is)
+
+-- the fault, or a value that stands there twice
+pub twice_told : (h : List Transaction) (t k : ℕ) (own seen : List ℕ) (fault told : Fault)
+    → (told ≡ fault) ⊎ ((v : ℕ) × (told ≡ Twice v) × StandsBefore seen v v) → Faults h t k own seen fault → Faults h t k own seen told
+twice_told h t k own seen fault told is it = elim is [
+  | inl same ↦ subst (λ f. Faults h t k own seen f) (sym same) it
+  | inr w ↦ subst (λ f. Faults h t k own seen f) (sym w.1) w.2
+]
 
 -- if a read has a fault there is no serial run
 pub fault_shown : (h : List Transaction) (t p : ℕ) (fault : Fault) → AppendsOnce h → HasFault h t p fault → ¬ IsSerializable h
@@ -266,11 +277,19 @@ fault_shown h t p fault once it =
   where
     as_fault : (f : Fault) → Faults h t it.0 (own_at h t p it.0) it.1 f → IsFault h t it.0 (own_at h t p it.0) it.1
     as_fault (Unwritten v) is = inl (v, is.0, is.1)
+    as_fault (Aborted by append) is = inl (is.0, is.2, is.3)
     as_fault (Twice v) is = inr (inl (v, is))
     as_fault (Swapped by first second) is =
         inr (inr (inl (by, is.0, is.1, at_both (operations_of h by) first second it.0 is.0 is.1 is.2 is.3 is.4, is.5)))
     as_fault EndsOtherwise is = inr (inr (inr (inl is)))
-    as_fault (Ahead append) is = inr (inr (inr (inr (is.0, is.3, at_appends h t append it.0 is.0 is.1, is.2))))
+    as_fault (Ahead append) is = inr (inr (inr (inr (inl (is.0, is.3, at_appends h t append it.0 is.0 is.1, is.2)))))
+    as_fault (Incompatible other read) is = inr (inr (inr (inr (inr (
+      other,
+      is.0,
+      (is.1, (own_at h other read it.0, reads_at h other read it.0 is.0 is.2)),
+      is.3,
+      is.4,
+    )))))
 
 pub not_read : (os : List Operation) (p l v k : ℕ) (values : Vec ℕ) → slice_get os p ≡ Some (Append l v)
     → ¬ (slice_get os p ≡ Some (Read k values))

@@ -2,9 +2,9 @@
 use Rattle.std.specs.Prelude.{◌≡◌, ◌⊎◌, ◌++◌, ℕ, List}
 use Rattle.sgt_appends.specs.declared.transaction.Status.TheVariants.{Committed}
 use Rattle.sgt_appends.specs.declared.transaction.Transaction.{Transaction}
-use Rattle.sgt_appends.specs.Lists.{Has, StandsBefore}
+use Rattle.sgt_appends.specs.Lists.{Has, StandsBefore, IsPrefix}
 use Rattle.sgt_appends.specs.Runs.{operations_of, Ended, MayRun, IsSerializable}
-use Rattle.sgt_appends.specs.Precedences.{appended, Appends, Reads, AppendsOnce}
+use Rattle.sgt_appends.specs.Precedences.{appended, Appends, Reads, HasSeen, AppendsOnce}
 
 -- a value was seen that only aborted transactions append, or none
 abbrev pub IsUnwritten : List Transaction → ℕ → List ℕ → Type 0
@@ -27,9 +27,13 @@ EndsOtherwise own seen = (base : List ℕ) → ¬ (seen ≡ base ++ own)
 abbrev pub IsAhead : List Transaction → ℕ → ℕ → List ℕ → List ℕ → Type 0
 IsAhead h t k own seen = (value : ℕ) × Has seen value × Appends h t k value × (¬ Has own value)
 
+-- another read of the key saw a list, and neither list is a prefix of the other
+abbrev pub IsIncompatible : List Transaction → ℕ → List ℕ → Type 0
+IsIncompatible h k seen = (u : ℕ) × (other : List ℕ) × HasSeen h u k other × (¬ IsPrefix seen other) × (¬ IsPrefix other seen)
+
 -- a fault of a read of t at the key
 abbrev pub IsFault : List Transaction → ℕ → ℕ → List ℕ → List ℕ → Type 0
-IsFault h t k own seen = IsUnwritten h k seen ⊎ (IsTwice seen ⊎ (IsSwapped h k seen ⊎ (EndsOtherwise own seen ⊎ IsAhead h t k own seen)))
+IsFault h t k own seen = IsUnwritten h k seen ⊎ (IsTwice seen ⊎ (IsSwapped h k seen ⊎ (EndsOtherwise own seen ⊎ (IsAhead h t k own seen ⊎ IsIncompatible h k seen))))
 
 -- if a read of a committed transaction has a fault, there is no serial run
 abbrev pub FaultsAreEnough : Type 0

@@ -8,8 +8,8 @@ use Rattle.sgt_appends.specs.declared.transaction.Operation.TheVariants.{Read}
 use Rattle.sgt_appends.specs.declared.transaction.Status.TheVariants.{Committed, Unknown}
 use Rattle.sgt_appends.specs.declared.transaction.Transaction.{Transaction}
 use Rattle.sgt_appends.specs.declared.fault.Fault.{Fault}
-use Rattle.sgt_appends.specs.declared.fault.Fault.TheVariants.{Unwritten, Twice, Swapped, EndsOtherwise, Ahead}
-use Rattle.sgt_appends.specs.Lists.{Has, StandsBefore}
+use Rattle.sgt_appends.specs.declared.fault.Fault.TheVariants.{Unwritten, Aborted, Twice, Swapped, EndsOtherwise, Ahead, Incompatible}
+use Rattle.sgt_appends.specs.Lists.{Has, StandsBefore, IsPrefix}
 use Rattle.sgt_appends.specs.Runs.{operations_of, Ended, MayRun}
 use Rattle.sgt_appends.specs.Precedences.{appended, Appends}
 use Rattle.sgt_appends.specs.Orders.{IsClean}
@@ -26,11 +26,14 @@ own_at h t p k = appended k (take p (operations_of h t))
 -- the meaning of each fault of a read of t at the key; it saw these values, and t had appended `own` before
 abbrev pub Faults : List Transaction → ℕ → ℕ → List ℕ → List ℕ → Fault → Type 0
 Faults h t k own seen (Unwritten value) = Has seen value × ((u : ℕ) → Appends h u k value → ¬ MayRun h u)
+Faults h t k own seen (Aborted by append) = (v : ℕ) × AppendAt h by append k v × Has seen v × ((u : ℕ) → Appends h u k v → ¬ MayRun h u)
 Faults h t k own seen (Twice value) = StandsBefore seen value value
 Faults h t k own seen (Swapped by first second) = (v : ℕ) × (w : ℕ) × (first < second) × AppendAt h by first k v × AppendAt h by second k w
     × StandsBefore seen w v
 Faults h t k own seen EndsOtherwise = (base : List ℕ) → ¬ (seen ≡ base ++ own)
 Faults h t k own seen (Ahead append) = (v : ℕ) × AppendAt h t append k v × (¬ Has own v) × Has seen v
+Faults h t k own seen (Incompatible other read) = (list : List ℕ) × Ended h other Committed × IsReadAt h other read k list
+    × (¬ IsPrefix seen list) × (¬ IsPrefix list seen)
 
 -- the committed transaction has at this position a read with the fault
 abbrev pub HasFault : List Transaction → ℕ → ℕ → Fault → Type 0
@@ -56,10 +59,12 @@ last_in map t = get nat_cmp map t
 -- of its last value before.
 abbrev pub IsFaultAt : List Transaction → Positions → ℕ → ℕ → ℕ → Lasts → ℕ → Fault → Type 0
 IsFaultAt h at t p k last value (Unwritten v) = (v ≡ value) × ((u : ℕ) → Appends h u k value → ¬ MayRun h u)
+IsFaultAt h at t p k last value (Aborted by append) = (at k value ≡ Some (by, append)) × ((u : ℕ) → Appends h u k value → ¬ MayRun h u)
 IsFaultAt h at t p k last value (Twice v) = (v ≡ value) × (u : ℕ) × (q : ℕ) × (at k value ≡ Some (u, q)) × (last u ≡ Some q)
 IsFaultAt h at t p k last value (Swapped by first second) = (at k value ≡ Some (by, first)) × (last by ≡ Some second) × (first < second)
 IsFaultAt h at t p k last value EndsOtherwise = ⊥
 IsFaultAt h at t p k last value (Ahead append) = (at k value ≡ Some (t, append)) × (p ≤ append)
+IsFaultAt h at t p k last value (Incompatible other read) = ⊥
 
 -- The value has no fault. Its appender may have run, is not the reader at a later position, and appends it after its
 -- last value seen.

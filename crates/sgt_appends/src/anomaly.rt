@@ -1,8 +1,7 @@
 //! The names of witnesses in the literature. They are tested, not proved.
 
 use crate::check::Witness;
-use crate::fault::{Fault, appends, key_read};
-use crate::transaction::Transaction;
+use crate::fault::Fault;
 use crate::witness::{Edge, Reason};
 
 /// The name of a witness.
@@ -22,7 +21,8 @@ pub enum Anomaly {
     GSingle,
     /// A cycle with more reads that missed an append.
     G2Item,
-    /// Two values of a transaction were seen in the opposite order.
+    /// Two values of a transaction were seen in the opposite order, or two reads saw lists of which neither is a prefix
+    /// of the other.
     IncompatibleOrder,
     /// A read contradicts what its own transaction appends.
     Internal,
@@ -32,15 +32,11 @@ pub enum Anomaly {
     Duplicate,
 }
 
-/// The name of the history's witness.
-pub fn name_of(history: &[Transaction], witness: &Witness) -> Anomaly {
+/// The name of the witness.
+pub fn name_of(witness: &Witness) -> Anomaly {
     match witness {
         Witness::Cycle(edges) => of_cycle(edges.as_slice()),
-        Witness::Fault {
-            reader,
-            read,
-            fault,
-        } => of_fault(history, *reader, *read, fault),
+        Witness::Fault { fault, .. } => of_fault(fault),
     }
 }
 
@@ -91,32 +87,13 @@ fn is_one_read(first: &Edge, second: &Edge) -> bool {
     }
 }
 
-/// The name of the read's fault.
-fn of_fault(history: &[Transaction], reader: usize, read: usize, fault: &Fault) -> Anomaly {
+/// The name of a read's fault.
+fn of_fault(fault: &Fault) -> Anomaly {
     match fault {
-        Fault::Unwritten(value) => {
-            if is_appended(history, reader, read, *value) {
-                Anomaly::G1a
-            } else {
-                Anomaly::Unwritten
-            }
-        }
+        Fault::Unwritten(_) => Anomaly::Unwritten,
+        Fault::Aborted { .. } => Anomaly::G1a,
         Fault::Twice(_) => Anomaly::Duplicate,
-        Fault::Swapped { .. } => Anomaly::IncompatibleOrder,
-        Fault::EndsOtherwise => Anomaly::Internal,
-        Fault::Ahead { .. } => Anomaly::Internal,
+        Fault::Swapped { .. } | Fault::Incompatible { .. } => Anomaly::IncompatibleOrder,
+        Fault::EndsOtherwise | Fault::Ahead { .. } => Anomaly::Internal,
     }
-}
-
-/// Whether a transaction appends the value to the key that is read at the position.
-fn is_appended(history: &[Transaction], reader: usize, read: usize, value: u32) -> bool {
-    let Some(key) = key_read(history, reader, read) else {
-        return false;
-    };
-    for transaction in history {
-        if appends(transaction.operations.as_slice(), key, value) {
-            return true;
-        }
-    }
-    false
 }

@@ -1,8 +1,12 @@
 //! The verdict on a history.
 ghost use Rattle.std.specs.Prelude.{IfOk};
-ghost use Rattle.sgt_appends.specs.Verdicts.{IsRight, IsExact};
+ghost use Rattle.sgt_appends.specs.Precedences.{AppendsOnce};
+ghost use Rattle.sgt_appends.specs.Runs.{IsSerializable};
+ghost use Rattle.sgt_appends.specs.Verdicts.{IsRight, IsExact, IsWitness};
+ghost use Rattle.sgt_appends.specs.Witnesses.{IsEdgeCycle};
 
 use crate::append_index::AppendIndex;
+use crate::compatible::first_incompatible;
 use crate::fault::Fault;
 use crate::premises::unknown_read;
 use crate::reads::first_fault;
@@ -68,6 +72,22 @@ fn verdict_of(alloc: Global, history: &[Transaction]) -> Result<Verdict, NoMemor
     }
     match solve(alloc, history, &appends)? {
         Ok(order) => Ok(Verdict::Serial(order)),
-        Err(edges) => Ok(Verdict::Violated(Witness::Cycle(edges))),
+        Err(edges) => Ok(Verdict::Violated(witness_of(alloc, history, edges)?)),
+    }
+}
+
+/// The witness of a history with this cycle: two reads that contradict one another, or else the cycle.
+fn witness_of(alloc: Global, history: &[Transaction], edges: Vec<Edge>) -> Result<Witness, NoMemory>
+    requires once { AppendsOnce history.now }
+    requires cycle { IsEdgeCycle history.now edges.items }
+    ensures { IfOk result (λ witness. (¬ IsSerializable history.now) × IsWitness history.now witness) }
+{
+    match first_incompatible(alloc, history)? {
+        Some((reader, read, fault)) => Ok(Witness::Fault {
+            reader,
+            read,
+            fault,
+        }),
+        None => Ok(Witness::Cycle(edges)),
     }
 }

@@ -1,7 +1,7 @@
 //! Faults of a single read, with the helpers that test them.
 ghost use Rattle.std.specs.Prelude.{◌≡◌, ◌↔◌, ◌++◌, ℕ, List, [], ◌∷◌, IsTrue, IfOk, OnOk};
 ghost use Rattle.std.proofs.Common.{take, drop};
-ghost use Rattle.sgt_appends.specs.Lists.{Has};
+ghost use Rattle.sgt_appends.specs.Lists.{IsPrefix};
 ghost use Rattle.sgt_appends.specs.Runs.{operations_of};
 ghost use Rattle.sgt_appends.specs.Precedences.{appended};
 
@@ -12,8 +12,13 @@ use std::alloc::Global;
 /// A fault of a single read. Operations are named by their positions in their transactions.
 #[derive(Clone, Copy, Debug, PartialEq, Eq)]
 pub enum Fault {
-    /// It saw a value that only aborted transactions append, or none.
+    /// It saw a value that no transaction appends.
     Unwritten(u32),
+    /// It saw a value that only this transaction appends, which aborted.
+    Aborted {
+        by: usize,
+        append: usize,
+    },
     /// It saw a value twice.
     Twice(u32),
     /// It saw two values of one transaction in the opposite order.
@@ -28,14 +33,11 @@ pub enum Fault {
     Ahead {
         append: usize,
     },
-}
-
-/// The key of the read at the position.
-pub(crate) fn key_read(history: &[Transaction], reader: usize, read: usize) -> Option<u32> {
-    match history.get(reader)?.operations.get(read)? {
-        Operation::Read { key, .. } => Some(*key),
-        Operation::Append { .. } => None,
-    }
+    /// Another read of the key saw a list, and neither list is a prefix of the other.
+    Incompatible {
+        other: usize,
+        read: usize,
+    },
 }
 
 /// Whether the list ends with the other.
@@ -43,6 +45,13 @@ pub(crate) fn ends_with(values: &[u32], end: &[u32]) -> bool
     ensures { IsTrue result ↔ ((front : List ℕ) × (values.now ≡ front ++ end.now)) }
 {
     end.len() <= values.len() && &values[values.len() - end.len()..] == end
+}
+
+/// Whether the other is a prefix of the list.
+pub(crate) fn starts_with(values: &[u32], start: &[u32]) -> bool
+    ensures { IsTrue result ↔ IsPrefix start.now values.now }
+{
+    start.len() <= values.len() && &values[..start.len()] == start
 }
 
 /// What the operations of the transaction before the position append to the key.
@@ -106,26 +115,4 @@ fn add_put(own: &mut Vec<u32>, operation: &Operation, of: u32) -> Result<(), NoM
         }
     }
     Ok(())
-}
-
-/// Whether one of the operations appends the value to the key.
-pub(crate) fn appends(operations: &[Operation], of: u32, what: u32) -> bool
-    ensures { IsTrue result ↔ Has (appended of operations.now) what }
-{
-    for operation in operations {
-        if puts(operation, of, what) {
-            return true;
-        }
-    }
-    false
-}
-
-/// Whether the operation appends the value to the key.
-fn puts(operation: &Operation, of: u32, what: u32) -> bool
-    ensures { IsTrue result ↔ Has (appended of (operation.now ∷ [])) what }
-{
-    match operation {
-        Operation::Append { key, value } => *key == of && *value == what,
-        Operation::Read { .. } => false,
-    }
 }

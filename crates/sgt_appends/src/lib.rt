@@ -27,6 +27,7 @@
 mod anomaly;
 mod append_index;
 mod check;
+mod compatible;
 mod contents;
 mod edges;
 mod fault;

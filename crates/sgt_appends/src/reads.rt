@@ -1,15 +1,18 @@
 //! Faults of reads, found in one pass over what each read saw.
-ghost use Rattle.std.specs.Prelude.{◌≡◌, ℕ, List, Some, IfSome, IsNone, IfOk};
+ghost use Rattle.std.specs.Prelude.{◌≡◌, ◌⊎◌, ℕ, List, Some, IfSome, IsNone, IfOk};
 ghost use Rattle.sgt_appends.specs.Runs.{Ended, MayRun};
 ghost use Rattle.sgt_appends.specs.Precedences.{Appends};
 ghost use Rattle.sgt_appends.specs.Orders.{IsClean, AllClean};
 ghost use Rattle.sgt_appends.specs.Indexes.{position_of, IsIndex};
-ghost use Rattle.sgt_appends.specs.Reads.{IsReadAt, own_at, HasFault, IsCleanAt, AreCleanIn, last_in, IsFaultAt, IsPassedOne};
+ghost use Rattle.sgt_appends.specs.Reads.{IsReadAt, own_at, HasFault, IsCleanAt, AreCleanIn, Lasts, last_in, IsFaultAt, IsPassedOne};
+ghost use Rattle.sgt_appends.specs.Lists.{StandsBefore};
+ghost use Rattle.sgt_appends.specs.declared.fault.Fault.TheVariants.{Twice};
 ghost use Rattle.sgt_appends.specs.declared.transaction.Status.TheVariants.{Committed};
 
 use crate::append_index::AppendIndex;
 use crate::fault::{Fault, ends_with, own_before};
 use crate::transaction::{Operation, Status, Transaction};
+use crate::witness::stands_before;
 use sgt_model::NoMemory;
 use std::alloc::Global;
 use std::collections::BTreeMap;
@@ -128,7 +131,7 @@ fn fault_of(
     let mut last = BTreeMap::new(alloc);
     for value in read.seen {
         if let Some(fault) = fault_at(history, appends, read, &mut last, *value)? {
-            return Ok(Some(fault));
+            return Ok(Some(twice_or(read.seen, fault)));
         }
     }
     Ok(None)
@@ -152,7 +155,7 @@ fn fault_at(
         (last_in last.old) (last_in last.new) value) }
 {
     let Some((by, append)) = written_by(history, appends, read.key, value) else {
-        return Ok(Some(Fault::Unwritten(value)));
+        return Ok(Some(unwritten(history, appends, read.key, value)));
     };
     if by == read.reader && append >= read.position {
         return Ok(Some(Fault::Ahead { append }));
@@ -171,6 +174,44 @@ fn fault_at(
         }));
     }
     Ok(None)
+}
+
+/// The fault of a read that saw the value, which no transaction appends that may have taken effect.
+fn unwritten(history: &[Transaction], appends: &AppendIndex, key: u32, value: u32) -> Fault
+    requires index { IsIndex history.now (position_of appends.now) }
+    requires none { (u : ℕ) → Appends history.now u key value → ¬ MayRun history.now u }
+    ensures { (t p : ℕ) (last : Lasts) → IsFaultAt history.now (position_of appends.now) t p key last value result }
+{
+    match appends.find(key, value) {
+        Some((by, append)) => Fault::Aborted { by, append },
+        None => Fault::Unwritten(value),
+    }
+}
+
+/// The fault of a read that saw these values. If two of them stand in the wrong order, and one stands there twice, that
+/// is the fault.
+fn twice_or(seen: &[u32], fault: Fault) -> Fault
+    ensures { (result ≡ fault) ⊎ ((v : ℕ) × (result ≡ Twice v) × StandsBefore seen.now v v) }
+{
+    match fault {
+        Fault::Swapped { .. } => match twice_in(seen) {
+            Some(value) => Fault::Twice(value),
+            None => fault,
+        },
+        _ => fault,
+    }
+}
+
+/// The first value that stands in the list twice.
+fn twice_in(seen: &[u32]) -> Option<u32>
+    ensures { IfSome result (λ v. StandsBefore seen.now v v) }
+{
+    for value in seen {
+        if stands_before(seen, *value, *value) {
+            return Some(*value);
+        }
+    }
+    None
 }
 
 /// Where a transaction that is not aborted appends the value to the key.

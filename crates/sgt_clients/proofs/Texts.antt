@@ -10,6 +10,7 @@ use Rattle.sgt_appends.specs.declared.transaction.Transaction.{Transaction}
 use Rattle.sgt_clients.specs.declared.clients.Clients.{Clients}
 use Rattle.sgt_clients.specs.declared.counts.Counts.{Counts}
 use Rattle.sgt_clients.specs.declared.evidence.Put.{Put}
+use Rattle.sgt_clients.specs.declared.evidence.Spoken.{Spoken}
 use Rattle.sgt_clients.specs.Evidence.{put_of, seen_of}
 use Rattle.sgt_clients.specs.JsonText.{skipped_member}
 use Rattle.sgt_clients.specs.ReportText.{key_text, values_text, read_text, with_value, has_status}
@@ -69,21 +70,21 @@ of_counts words h n transactions committed aborted unknown =
     ∙ ap (λ m. words (length h) (count_by (has_status Committed) h) (count_by (has_status Aborted) h) m) unknown
 
 -- no read, no words
-pub read_none : (c : Clients) (o : Option Operation) (text : List ℕ) → seen_of o ≡ None → text ≡ text ++ read_text c o
-read_none c None text none = sym (append-nil text)
-read_none c (Some (Append k value)) text none = sym (append-nil text)
-read_none c (Some (Read k values)) text none = absurd (cc)
+pub read_none : (c : Clients) (s : Spoken) (o : Option Operation) (text : List ℕ) → seen_of o ≡ None → text ≡ text ++ read_text c s o
+read_none c s None text none = sym (append-nil text)
+read_none c s (Some (Append k value)) text none = sym (append-nil text)
+read_none c s (Some (Read k values)) text none = absurd (cc)
 
-abbrev read_words : Clients → Option (ℕ × List ℕ) → List ℕ
-read_words c (Some it) = codes " read key " ++ key_text c it.0 ++ codes " as " ++ values_text it.1
-read_words c None = []
+abbrev read_words : Clients → Spoken → Option (ℕ × List ℕ) → List ℕ
+read_words c s (Some it) = codes " read key " ++ key_text c it.0 ++ codes " as " ++ values_text s it.1
+read_words c s None = []
 
-pub read_some : (c : Clients) (o : Option Operation) (k : ℕ) (values : List ℕ) → seen_of o ≡ Some (k, values)
-    → codes " read key " ++ key_text c k ++ codes " as " ++ values_text values ≡ read_text c o
-read_some c None k values some = absurd (cc)
-read_some c (Some (Append key value)) k values some = absurd (cc)
-read_some c (Some (Read key seen)) k values some =
-    ap (read_words c) (sym some)
+pub read_some : (c : Clients) (s : Spoken) (o : Option Operation) (k : ℕ) (values : List ℕ) → seen_of o ≡ Some (k, values)
+    → codes " read key " ++ key_text c k ++ codes " as " ++ values_text s values ≡ read_text c s o
+read_some c s None k values some = absurd (cc)
+read_some c s (Some (Append key value)) k values some = absurd (cc)
+read_some c s (Some (Read key seen)) k values some =
+    ap (read_words c s) (sym some)
 
 -- no append, no words
 pub value_none : (words : ℕ → List ℕ) (o : Option Operation) → put_of o ≡ None → with_value words o ≡ []

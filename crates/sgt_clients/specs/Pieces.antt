@@ -13,4 +13,4 @@ piece_text c (Number n) = decimal n
 piece_text c (Transaction t) = transaction_text t
 piece_text c (Placed t) = placed c t
 piece_text c (Key k) = key_text c k
-piece_text c (Values values) = values_text values.now
+piece_text c (Values values spoken) = values_text spoken values.now

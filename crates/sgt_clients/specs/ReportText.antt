@@ -1,5 +1,5 @@
 -- The lines of a report on what clients saw.
-use Rattle.std.specs.Prelude.{◌+◌, ◌-◌, ◌^◌, ◌++◌, ◌==◌, ℕ, Bool, true, false, nat_lt, if◌then◌else◌, min, List, [], ◌∷◌, length, drop, Option, Some, None, option_and_then, slice_get, codes, count_by}
+use Rattle.std.specs.Prelude.{◌+◌, ◌-◌, ◌^◌, ◌++◌, ◌==◌, ◌||◌, ℕ, Bool, true, false, nat_lt, if◌then◌else◌, min, List, [], ◌∷◌, length, take, drop, Option, Some, None, option_and_then, slice_get, codes, count_by}
 use Rattle.std.specs.Option.{option_map_or}
 use Rattle.std.specs.List.{flat_map}
 use Rattle.std.specs.Fmt.{decimal}
@@ -14,6 +14,7 @@ use Rattle.sgt_appends.specs.declared.witness.Reason.{Reason}
 use Rattle.sgt_appends.specs.declared.witness.Reason.TheVariants.{Seen, Missed, InOrder}
 use Rattle.sgt_clients.specs.declared.clients.Clients.{Clients}
 use Rattle.sgt_clients.specs.declared.clients.Span.{Span}
+use Rattle.sgt_clients.specs.declared.evidence.Spoken.{Spoken}
 use Rattle.sgt_clients.specs.declared.finding.Why.{Why}
 use Rattle.sgt_clients.specs.declared.finding.Why.TheVariants.{Observed, RealTime}
 use Rattle.sgt_clients.specs.declared.finding.Step.{Step}
@@ -53,23 +54,48 @@ abbrev pub spaced : List ℕ → List ℕ
 spaced [] = []
 spaced (v ∷ vs) = decimal v ++ flat_map next_value vs
 
--- the values that are shown: of more than 16 only the last 16, after two points
-abbrev pub shown_text : List ℕ → List ℕ
-shown_text vs = if nat_lt 16 (length vs) then codes ".." ++ flat_map next_value (drop (length vs - 16) vs) else spaced vs
+-- whether the value is spoken of
+abbrev pub is_spoken : Spoken → ℕ → Bool
+is_spoken s v = option_map_or (λ w. w == v) s.one false || option_map_or (λ w. w == v) s.other false
+
+-- a value that is left out, unless it is spoken of; then there are two points after it
+abbrev pub left_out_text : Spoken → ℕ → List ℕ
+left_out_text s v = if is_spoken s v then next_value v ++ codes " .." else []
+
+-- the values that are shown: of more than 16 only the last 16, after two points and those before that are spoken of
+abbrev pub shown_text : Spoken → List ℕ → List ℕ
+shown_text s vs =
+    if nat_lt 16 (length vs)
+    then codes ".." ++ flat_map (left_out_text s) (take (length vs - 16) vs) ++ flat_map next_value (drop (length vs - 16) vs)
+    else spaced vs
 
 -- the values in brackets
-abbrev pub values_text : List ℕ → List ℕ
-values_text vs = codes "[" ++ shown_text vs ++ codes "]"
+abbrev pub values_text : Spoken → List ℕ → List ℕ
+values_text s vs = codes "[" ++ shown_text s vs ++ codes "]"
 
 -- the operation at a position of a transaction, if there is one
 abbrev pub operation_at : Clients → ℕ → ℕ → Option Operation
 operation_at c t p = option_and_then (λ x. slice_get x.operations.items p) (slice_get c.transactions.items t)
 
--- the key and the values that a read saw
-abbrev pub read_text : Clients → Option Operation → List ℕ
-read_text c (Some (Read k values)) = codes " read key " ++ key_text c k ++ codes " as " ++ values_text values.items
-read_text c (Some (Append k value)) = []
-read_text c None = []
+-- the key and the values that a read saw, of which these are spoken of
+abbrev pub read_text : Clients → Spoken → Option Operation → List ℕ
+read_text c s (Some (Read k values)) = codes " read key " ++ key_text c k ++ codes " as " ++ values_text s values.items
+read_text c s (Some (Append k value)) = []
+read_text c s None = []
+
+-- the value of an append
+abbrev pub value_of : Option Operation → Option ℕ
+value_of (Some (Append k value)) = Some value
+value_of (Some (Read k values)) = None
+value_of None = None
+
+-- one value is spoken of, or none
+abbrev pub of_one : Option ℕ → Spoken
+of_one value = record { one = value; other = None }
+
+-- up to two values are spoken of
+abbrev pub of_two : Option ℕ → Option ℕ → Spoken
+of_two value next = record { one = value; other = next }
 
 -- the words on the value of an append
 abbrev pub with_value : (ℕ → List ℕ) → Option Operation → List ℕ
@@ -92,11 +118,12 @@ in_order_text t u v w = codes ", with " ++ decimal v ++ codes " of " ++ transact
 
 -- what was observed that puts transaction t before u
 abbrev pub reason_text : Clients → ℕ → ℕ → Reason → List ℕ
-reason_text c t u (Seen append read) = transaction_text u ++ read_text c (operation_at c u read)
+reason_text c t u (Seen append read) = transaction_text u ++ read_text c (of_one (value_of (operation_at c t append))) (operation_at c u read)
     ++ with_value (of_appender (codes ", with ") t) (operation_at c t append)
-reason_text c t u (Missed read append) = transaction_text t ++ read_text c (operation_at c t read)
+reason_text c t u (Missed read append) = transaction_text t ++ read_text c (of_one None) (operation_at c t read)
     ++ with_value (of_appender (codes ", without ") u) (operation_at c u append)
-reason_text c t u (InOrder first second reader read) = placed c reader ++ read_text c (operation_at c reader read)
+reason_text c t u (InOrder first second reader read) = placed c reader
+    ++ read_text c (of_two (value_of (operation_at c t first)) (value_of (operation_at c u second))) (operation_at c reader read)
     ++ with_values (in_order_text t u) (operation_at c t first) (operation_at c u second)
 
 -- the reason of a step
@@ -117,17 +144,33 @@ abbrev pub swapped_text : Clients → ℕ → ℕ → ℕ → List ℕ
 swapped_text c t v w = codes ", with " ++ decimal w ++ codes " before " ++ decimal v ++ codes ", but " ++ placed c t ++ codes " appended "
     ++ decimal v ++ codes " first"
 
+-- a value of an aborted transaction
+abbrev pub aborted_text : Clients → ℕ → ℕ → List ℕ
+aborted_text c t v = codes ", with " ++ decimal v ++ codes " of " ++ placed c t ++ codes ", which aborted"
+
 -- what is wrong with a read
 abbrev pub wrong_text : Clients → ℕ → Fault → List ℕ
 wrong_text c reader (fault.Unwritten value) = codes ", but no transaction that may have committed appends " ++ decimal value
+wrong_text c reader (fault.Aborted by append) = with_value (aborted_text c by) (operation_at c by append)
 wrong_text c reader (fault.Twice value) = codes ", with a value twice: " ++ decimal value
 wrong_text c reader fault.EndsOtherwise = codes ", which does not end with what " ++ transaction_text reader ++ codes " had appended"
 wrong_text c reader (fault.Ahead append) = with_value (ahead_text reader) (operation_at c reader append)
 wrong_text c reader (fault.Swapped by first second) = with_values (swapped_text c by) (operation_at c by first) (operation_at c by second)
+wrong_text c reader (fault.Incompatible other read) = codes ", but " ++ (placed c other ++ read_text c (of_one None) (operation_at c other read))
+
+-- the values that a fault speaks of
+abbrev pub spoken_of : Clients → ℕ → Fault → Spoken
+spoken_of c reader (fault.Unwritten value) = of_one (Some value)
+spoken_of c reader (fault.Aborted by append) = of_one (value_of (operation_at c by append))
+spoken_of c reader (fault.Twice value) = of_one (Some value)
+spoken_of c reader fault.EndsOtherwise = of_one None
+spoken_of c reader (fault.Ahead append) = of_one (value_of (operation_at c reader append))
+spoken_of c reader (fault.Swapped by first second) = of_two (value_of (operation_at c by first)) (value_of (operation_at c by second))
+spoken_of c reader (fault.Incompatible other read) = of_one None
 
 -- a read, and what is wrong with it
 abbrev pub fault_text : Clients → ℕ → ℕ → Fault → List ℕ
-fault_text c reader read fault = placed c reader ++ read_text c (operation_at c reader read) ++ wrong_text c reader fault
+fault_text c reader read fault = placed c reader ++ read_text c (spoken_of c reader fault) (operation_at c reader read) ++ wrong_text c reader fault
 
 -- whether the status is this one
 abbrev pub is_status : Status → Status → Bool

@@ -1,7 +1,8 @@
 //! The operations that a witness names.
 
-ghost use Rattle.std.specs.Prelude.{◌≡◌, option_map};
-ghost use Rattle.sgt_clients.specs.ReportText.{operation_at};
+ghost use Rattle.std.specs.Prelude.{◌≡◌, ◌==◌, option_map, false};
+ghost use Rattle.std.specs.Option.{option_map_or};
+ghost use Rattle.sgt_clients.specs.ReportText.{operation_at, value_of, of_one, of_two, is_spoken};
 ghost use Rattle.sgt_clients.specs.Evidence.{put_of, seen_of};
 
 use crate::clients::Clients;
@@ -19,6 +20,52 @@ pub(crate) struct Put {
 pub(crate) struct Seen<'a> {
     pub key: u32,
     pub values: &'a [u32],
+}
+
+/// Up to two values that a text speaks of.
+#[derive(Clone, Copy, Debug, PartialEq, Eq)]
+pub(crate) struct Spoken {
+    pub one: Option<u32>,
+    pub other: Option<u32>,
+}
+
+impl Spoken {
+    /// This value, or none.
+    pub fn of_one(value: Option<u32>) -> Self
+        ensures { result ≡ of_one value }
+    {
+        Spoken {
+            one: value,
+            other: None,
+        }
+    }
+
+    /// These values.
+    pub fn of_two(value: Option<u32>, next: Option<u32>) -> Self
+        ensures { result ≡ of_two value next }
+    {
+        Spoken {
+            one: value,
+            other: next,
+        }
+    }
+
+    /// Whether the value is one of them.
+    pub fn has(self, value: u32) -> bool
+        ensures { result ≡ is_spoken self value }
+    {
+        is_value(self.one, value) || is_value(self.other, value)
+    }
+}
+
+/// Whether it is this value.
+fn is_value(one: Option<u32>, value: u32) -> bool
+    ensures { result ≡ option_map_or (λ w. w == value) one false }
+{
+    match one {
+        Some(other) => other == value,
+        None => false,
+    }
 }
 
 /// The operation at the position of the transaction.
@@ -41,6 +88,16 @@ pub(crate) fn put_at(clients: &Clients, transaction: usize, place: usize) -> Opt
             key: *key,
             value: *value,
         }),
+        Operation::Read { .. } => None,
+    }
+}
+
+/// The value of the append at the position of the transaction.
+pub(crate) fn value_at(clients: &Clients, transaction: usize, place: usize) -> Option<u32>
+    ensures { result ≡ value_of (operation_at clients.now transaction place) }
+{
+    match operation_at(clients, transaction, place)? {
+        Operation::Append { value, .. } => Some(*value),
         Operation::Read { .. } => None,
     }
 }

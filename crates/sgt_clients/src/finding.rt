@@ -65,7 +65,7 @@ pub fn check_clients(alloc: Global, clients: &Clients) -> Result<Finding, Client
     match check_appends(alloc, history)? {
         Verdict::Serial(order) => Ok(Finding::Serial(order)),
         Verdict::Violated(witness) => {
-            let name = name_text(name_of(history, &witness));
+            let name = name_text(name_of(&witness));
             Ok(finding_of(alloc, witness, name)?)
         }
         Verdict::AppendedTwice => Err(twice_fault(alloc, clients)?),

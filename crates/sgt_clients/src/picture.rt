@@ -194,6 +194,8 @@ fn add_fault(
                 None => scene.add(here),
             }
         }
+        Fault::Aborted { by, append } => scene.add_pair(at(*by, *append), here),
+        Fault::Incompatible { other, read } => scene.add_pair(at(*other, *read), here),
         Fault::Swapped { by, first, second } => {
             scene.add(at(*by, *first))?;
             scene.add_pair(at(*by, *second), here)

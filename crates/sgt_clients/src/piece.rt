@@ -1,10 +1,11 @@
 //! Texts made of pieces.
 
 ghost use Rattle.std.specs.Prelude.{◌≡◌, ◌++◌, flat_map, OnOk};
-ghost use Rattle.sgt_clients.specs.ReportText.{entry_of, placed, key_text, spaced, next_value, shown_text, values_text};
+ghost use Rattle.sgt_clients.specs.ReportText.{entry_of, placed, key_text, spaced, next_value, left_out_text, shown_text, values_text};
 ghost use Rattle.sgt_clients.specs.Pieces.{piece_text};
 
 use crate::clients::Clients;
+use crate::evidence::Spoken;
 use sgt_format::{append_number, append_numbered};
 use sgt_model::NoMemory;
 
@@ -24,8 +25,9 @@ pub(crate) enum Piece<'a> {
     Placed(usize),
     /// The text of the key.
     Key(u32),
-    /// The values in brackets, separated by spaces: `[1 2]`. Of a long list only the last ones are shown.
-    Values(&'a [u32]),
+    /// The values in brackets, separated by spaces: `[1 2]`. Of a long list only the last ones are shown, and those that
+    /// are spoken of.
+    Values(&'a [u32], Spoken),
 }
 
 /// Appends the pieces in order.
@@ -52,7 +54,7 @@ fn append_piece(text: &mut Vec<u8>, clients: &Clients, piece: &Piece<'_>) -> Res
         Piece::Transaction(number) => Ok(append_numbered(text, b"t", number.saturating_add(1))?),
         Piece::Placed(number) => append_placed(text, clients, *number),
         Piece::Key(key) => append_key(text, clients, *key),
-        Piece::Values(values) => append_values(text, values),
+        Piece::Values(values, spoken) => append_values(text, values, *spoken),
     }
 }
 
@@ -92,25 +94,46 @@ fn append_key(text: &mut Vec<u8>, clients: &Clients, key: u32) -> Result<(), NoM
 }
 
 /// Appends the values in brackets.
-fn append_values(text: &mut Vec<u8>, values: &[u32]) -> Result<(), NoMemory>
-    ensures { OnOk result (text.new.items ≡ text.old.items ++ values_text values.now) }
+fn append_values(text: &mut Vec<u8>, values: &[u32], spoken: Spoken) -> Result<(), NoMemory>
+    ensures { OnOk result (text.new.items ≡ text.old.items ++ values_text spoken values.now) }
 {
     text.extend_from_slice(b"[")?;
-    append_shown(text, values)?;
+    append_shown(text, values, spoken)?;
     text.extend_from_slice(b"]")?;
     Ok(())
 }
 
 /// Appends the values that are shown.
-fn append_shown(text: &mut Vec<u8>, values: &[u32]) -> Result<(), NoMemory>
-    ensures { OnOk result (text.new.items ≡ text.old.items ++ shown_text values.now) }
+fn append_shown(text: &mut Vec<u8>, values: &[u32], spoken: Spoken) -> Result<(), NoMemory>
+    ensures { OnOk result (text.new.items ≡ text.old.items ++ shown_text spoken values.now) }
 {
-    if values.len() > MOST_SHOWN {
-        text.extend_from_slice(b"..")?;
-        append_each(text, &values[values.len() - MOST_SHOWN..])
-    } else {
-        append_spaced(text, values)
+    if values.len() <= MOST_SHOWN {
+        return append_spaced(text, values);
     }
+    text.extend_from_slice(b"..")?;
+    append_left_out(text, &values[..values.len() - MOST_SHOWN], spoken)?;
+    append_each(text, &values[values.len() - MOST_SHOWN..])
+}
+
+/// Appends each value that is spoken of, of those that are left out.
+fn append_left_out(text: &mut Vec<u8>, values: &[u32], spoken: Spoken) -> Result<(), NoMemory>
+    ensures { OnOk result (text.new.items ≡ text.old.items ++ flat_map (left_out_text spoken) values.now) }
+{
+    for value in values {
+        append_if_spoken(text, *value, spoken)?;
+    }
+    Ok(())
+}
+
+/// Appends the value, with two points after it, if it is spoken of.
+fn append_if_spoken(text: &mut Vec<u8>, value: u32, spoken: Spoken) -> Result<(), NoMemory>
+    ensures { OnOk result (text.new.items ≡ text.old.items ++ left_out_text spoken value) }
+{
+    if spoken.has(value) {
+        append_numbered(text, b" ", value)?;
+        text.extend_from_slice(b" ..")?;
+    }
+    Ok(())
 }
 
 /// Appends the values, separated by spaces.

@@ -138,7 +138,7 @@ fn cycle_finding(
         return Err(ClientsFault::Undecided);
     }
     let witness = Witness::Cycle(observed_of(alloc, edges, history.len())?);
-    let name = strict_name_text(name_of(history, &witness));
+    let name = strict_name_text(name_of(&witness));
     Ok(Finding::Cycle(steps, name))
 }
 

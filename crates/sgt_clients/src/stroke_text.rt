@@ -1,7 +1,7 @@
 //! The operations of a picture, in the form of a textbook's history.
 
 use crate::clients::Clients;
-use crate::evidence::operation_at;
+use crate::evidence::{Spoken, operation_at};
 use crate::piece::{Piece, append_pieces};
 use crate::scene::Stroke;
 use sgt_appends::Status;
@@ -81,7 +81,7 @@ fn label_of(alloc: Global, clients: &Clients, stroke: &Stroke) -> Result<Vec<u8>
             &[
                 Piece::Key(*key),
                 Piece::Words(b": "),
-                Piece::Values(values.as_slice()),
+                Piece::Values(values.as_slice(), Spoken::of_one(None)),
             ],
         )?,
         None => (),

@@ -3,10 +3,10 @@
 ghost use Rattle.std.specs.Prelude.{◌≡◌, ◌++◌, codes, OnOk};
 ghost use Rattle.std.specs.Fmt.{decimal};
 ghost use Rattle.sgt_appends.specs.declared.witness.Reason.TheVariants.{Seen, Missed};
-ghost use Rattle.sgt_clients.specs.ReportText.{transaction_text, placed, key_text, values_text, operation_at, read_text, with_value, with_values, in_order_text, reason_text, ahead_text, swapped_text, wrong_text, fault_text};
+ghost use Rattle.sgt_clients.specs.ReportText.{transaction_text, placed, key_text, values_text, operation_at, read_text, with_value, with_values, in_order_text, reason_text, ahead_text, aborted_text, swapped_text, wrong_text, spoken_of, fault_text};
 
 use crate::clients::Clients;
-use crate::evidence::{put_at, seen_at};
+use crate::evidence::{Spoken, put_at, seen_at, value_at};
 use crate::finding::Step;
 use crate::piece::{Piece, append_pieces};
 use sgt_appends::{Fault, Reason};
@@ -30,7 +30,11 @@ pub(crate) fn append_reason(
             reader,
             read,
         } => {
-            append_placed_read(text, clients, *reader, *read)?;
+            let spoken = Spoken::of_two(
+                value_at(clients, step.from, *first),
+                value_at(clients, step.to, *second),
+            );
+            append_placed_read(text, clients, *reader, *read, spoken)?;
             append_in_order(text, clients, step, *first, *second)
         }
     }
@@ -42,11 +46,12 @@ fn append_placed_read(
     clients: &Clients,
     reader: usize,
     read: usize,
+    spoken: Spoken,
 ) -> Result<(), NoMemory>
-    ensures { OnOk result (text.new.items ≡ text.old.items ++ (placed clients.now reader ++ read_text clients.now (operation_at clients.now reader read))) }
+    ensures { OnOk result (text.new.items ≡ text.old.items ++ (placed clients.now reader ++ read_text clients.now spoken (operation_at clients.now reader read))) }
 {
     append_pieces(text, clients, &[Piece::Placed(reader)])?;
-    append_seen_values(text, clients, reader, read)
+    append_seen_values(text, clients, reader, read, spoken)
 }
 
 /// Appends the transaction, and the read at its position.
@@ -55,11 +60,12 @@ fn append_read(
     clients: &Clients,
     reader: usize,
     read: usize,
+    spoken: Spoken,
 ) -> Result<(), NoMemory>
-    ensures { OnOk result (text.new.items ≡ text.old.items ++ (transaction_text reader ++ read_text clients.now (operation_at clients.now reader read))) }
+    ensures { OnOk result (text.new.items ≡ text.old.items ++ (transaction_text reader ++ read_text clients.now spoken (operation_at clients.now reader read))) }
 {
     append_pieces(text, clients, &[Piece::Transaction(reader)])?;
-    append_seen_values(text, clients, reader, read)
+    append_seen_values(text, clients, reader, read, spoken)
 }
 
 /// Appends the key and the values of the read.
@@ -68,11 +74,12 @@ fn append_seen_values(
     clients: &Clients,
     reader: usize,
     read: usize,
+    spoken: Spoken,
 ) -> Result<(), NoMemory>
-    ensures { OnOk result (text.new.items ≡ text.old.items ++ read_text clients.now (operation_at clients.now reader read)) }
+    ensures { OnOk result (text.new.items ≡ text.old.items ++ read_text clients.now spoken (operation_at clients.now reader read)) }
 {
     match seen_at(clients, reader, read) {
-        Some(seen) => append_key_values(text, clients, seen.key, seen.values),
+        Some(seen) => append_key_values(text, clients, seen.key, seen.values, spoken),
         None => Ok(()),
     }
 }
@@ -83,8 +90,9 @@ fn append_key_values(
     clients: &Clients,
     key: u32,
     values: &[u32],
+    spoken: Spoken,
 ) -> Result<(), NoMemory>
-    ensures { OnOk result (text.new.items ≡ text.old.items ++ (codes " read key " ++ key_text clients.now key ++ codes " as " ++ values_text values.now)) }
+    ensures { OnOk result (text.new.items ≡ text.old.items ++ (codes " read key " ++ key_text clients.now key ++ codes " as " ++ values_text spoken values.now)) }
 {
     append_pieces(
         text,
@@ -93,7 +101,7 @@ fn append_key_values(
             Piece::Words(b" read key "),
             Piece::Key(key),
             Piece::Words(b" as "),
-            Piece::Values(values),
+            Piece::Values(values, spoken),
         ],
     )
 }
@@ -108,7 +116,8 @@ fn append_seen(
 ) -> Result<(), NoMemory>
     ensures { OnOk result (text.new.items ≡ text.old.items ++ reason_text clients.now step.now.from step.now.to (Seen append read)) }
 {
-    append_read(text, clients, step.to, read)?;
+    let spoken = Spoken::of_one(value_at(clients, step.from, append));
+    append_read(text, clients, step.to, read, spoken)?;
     let Some(put) = put_at(clients, step.from, append) else {
         return Ok(());
     };
@@ -135,7 +144,7 @@ fn append_missed(
 ) -> Result<(), NoMemory>
     ensures { OnOk result (text.new.items ≡ text.old.items ++ reason_text clients.now step.now.from step.now.to (Missed read append)) }
 {
-    append_read(text, clients, step.from, read)?;
+    append_read(text, clients, step.from, read, Spoken::of_one(None))?;
     let Some(put) = put_at(clients, step.to, append) else {
         return Ok(());
     };
@@ -194,8 +203,30 @@ pub(crate) fn append_fault(
 ) -> Result<(), NoMemory>
     ensures { OnOk result (text.new.items ≡ text.old.items ++ fault_text clients.now reader read fault.now) }
 {
-    append_placed_read(text, clients, reader, read)?;
+    append_placed_read(
+        text,
+        clients,
+        reader,
+        read,
+        spoken_of(clients, reader, fault),
+    )?;
     append_wrong(text, clients, reader, fault)
+}
+
+/// The values that the fault of a read of the reader speaks of.
+fn spoken_of(clients: &Clients, reader: usize, fault: &Fault) -> Spoken
+    ensures { result ≡ spoken_of clients.now reader fault.now }
+{
+    match fault {
+        Fault::Unwritten(value) | Fault::Twice(value) => Spoken::of_one(Some(*value)),
+        Fault::Aborted { by, append } => Spoken::of_one(value_at(clients, *by, *append)),
+        Fault::Ahead { append } => Spoken::of_one(value_at(clients, reader, *append)),
+        Fault::Swapped { by, first, second } => Spoken::of_two(
+            value_at(clients, *by, *first),
+            value_at(clients, *by, *second),
+        ),
+        Fault::EndsOtherwise | Fault::Incompatible { .. } => Spoken::of_one(None),
+    }
 }
 
 /// Appends what is wrong with a read of the reader.
@@ -214,6 +245,7 @@ fn append_wrong(
             b", but no transaction that may have committed appends ",
             *value,
         ),
+        Fault::Aborted { by, append } => append_aborted(text, clients, *by, *append),
         Fault::Twice(value) => append_value(text, clients, b", with a value twice: ", *value),
         Fault::EndsOtherwise => append_pieces(
             text,
@@ -227,6 +259,10 @@ fn append_wrong(
         Fault::Ahead { append } => append_ahead(text, clients, reader, *append),
         Fault::Swapped { by, first, second } => {
             append_swapped(text, clients, *by, *first, *second)
+        }
+        Fault::Incompatible { other, read } => {
+            text.extend_from_slice(b", but ")?;
+            append_placed_read(text, clients, *other, *read, Spoken::of_one(None))
         }
     }
 }
@@ -244,6 +280,43 @@ fn append_value(
         text,
         clients,
         &[Piece::Words(words), Piece::Number(value as usize)],
+    )
+}
+
+/// Appends that the reader saw a value of a transaction that aborted.
+fn append_aborted(
+    text: &mut Vec<u8>,
+    clients: &Clients,
+    by: usize,
+    append: usize,
+) -> Result<(), NoMemory>
+    ensures { OnOk result (text.new.items ≡ text.old.items ++ with_value (aborted_text clients.now by) (operation_at clients.now by append)) }
+{
+    match put_at(clients, by, append) {
+        Some(put) => append_of_aborted(text, clients, by, put.value),
+        None => Ok(()),
+    }
+}
+
+/// Appends that the value is one of the transaction, which aborted.
+fn append_of_aborted(
+    text: &mut Vec<u8>,
+    clients: &Clients,
+    by: usize,
+    value: u32,
+) -> Result<(), NoMemory>
+    ensures { OnOk result (text.new.items ≡ text.old.items ++ aborted_text clients.now by value) }
+{
+    append_pieces(
+        text,
+        clients,
+        &[
+            Piece::Words(b", with "),
+            Piece::Number(value as usize),
+            Piece::Words(b" of "),
+            Piece::Placed(by),
+            Piece::Words(b", which aborted"),
+        ],
     )
 }
 

@@ -49,7 +49,7 @@ fn is_serial(alloc: Global, history: &[Transaction]) -> Result<bool, NoMemory> {
 /// The name of the witness that the history is not serializable.
 fn named(alloc: Global, history: &[Transaction]) -> Result<Option<Anomaly>, NoMemory> {
     match check_appends(alloc, history)? {
-        Verdict::Violated(witness) => Ok(Some(name_of(history, &witness))),
+        Verdict::Violated(witness) => Ok(Some(name_of(&witness))),
         _ => Ok(None),
     }
 }
@@ -76,14 +76,21 @@ fn one_reader_of_one_appender(rt: HostRuntime) -> Result<(), Fail> {
 }
 
 #[test]
-fn forked_versions_are_a_cycle(rt: HostRuntime) -> Result<(), Fail> {
+fn forked_versions_are_in_two_orders(rt: HostRuntime) -> Result<(), Fail> {
     let alloc = rt.alloc();
     let mut history = Vec::new(alloc);
     history.push(appender(alloc, Status::Committed, [1].as_slice())?)?;
     history.push(appender(alloc, Status::Unknown, [2].as_slice())?)?;
     history.push(reader(alloc, [1].as_slice())?)?;
     history.push(reader(alloc, [2].as_slice())?)?;
-    assert!(rt; matches!(&named(alloc, history.as_slice())?, Some(Anomaly::G2Item)));
+    assert!(rt;
+        matches!(
+            &named(alloc, history.as_slice())?,
+            Some(Anomaly::IncompatibleOrder)
+        )
+    );
+    let fault = Fault::Incompatible { other: 2, read: 0 };
+    assert!(rt; fault_of(alloc, history.as_slice())? == Some((3, 0, fault)));
     Ok(())
 }
 

@@ -1,10 +1,8 @@
 use Rattle.std.proofs.Common.{rules}
 use Rattle.sgt_appends.specs.Indexes.{position_of, IsIndex}
 use Rattle.sgt_appends.specs.Reads.{HasFault}
-use Rattle.sgt_appends.specs.Witnesses.{IsEdgeCycle}
 use Rattle.sgt_appends.proofs.Filed.{index_once}
 use Rattle.sgt_appends.proofs.Passed.{fault_shown}
-use Rattle.sgt_appends.proofs.Loops.{all_precede, cycle_shown}
 use Rattle.sgt_appends.proofs.check.verdict_of.Goals as goal
 
 pub returns-in-Some-2 : goal.returns-in-Some-2
@@ -18,11 +16,3 @@ returns-in-Some-2 c =
 
 pub solve-requires-clause-clean : goal.solve-requires-clause-clean
 solve-requires-clause-clean c = c.in_ok-reader.ensures.clean (search rules)
-
-pub returns : goal.returns
-returns c =
-    let index : IsIndex c.args.history.now (position_of c.in-Some.appends) = search rules in
-    let cycle : IsEdgeCycle c.args.history.now c.in-Err.edges.items = search rules in (
-      cycle_shown c.args.history.now c.in-Err.edges.items (index_once c.args.history.now (position_of c.in-Some.appends) index) cycle,
-      (cycle, all_precede c.args.history.now c.in-Err.edges.items cycle.shown),
-    )

@@ -2,8 +2,8 @@ use Rattle.std.proofs.Common.{rules, ◌≡◌, ◌++◌, true, get_or, sym, ap,
 use Rattle.std.proofs.lemmas.Grind.{common_steps}
 use Rattle.std.proofs.lemmas.List.{take_all, take_more}
 use Rattle.sgt_appends.specs.Indexes.{position_of}
-use Rattle.sgt_appends.specs.Reads.{last_in, IsPassed}
-use Rattle.sgt_appends.proofs.Passed.{passed_one, passed_clean, fault_one}
+use Rattle.sgt_appends.specs.Reads.{own_at, last_in, IsPassed}
+use Rattle.sgt_appends.proofs.Passed.{passed_one, passed_clean, fault_one, twice_told}
 use Rattle.sgt_appends.proofs.reads.fault_of.Goals as goal
 
 pub returns-then-not-ends_with-clause-fault : goal.returns-then-not-ends_with-clause-fault
@@ -24,9 +24,12 @@ returns-in-Some-clause-fault c = (
   c.args.read.seen.now,
   c.requires.committed,
   c.requires.read,
-  fault_one c.args.history.now (position_of c.args.appends.now) c.args.read.reader c.args.read.position c.args.read.key
+  twice_told c.args.history.now c.args.read.reader c.args.read.key
+      (own_at c.args.history.now c.args.read.reader c.args.read.position c.args.read.key) c.args.read.seen.now c.in-Some.fault
+      c.twice_or.result c.twice_or.ensures
+      (fault_one c.args.history.now (position_of c.args.appends.now) c.args.read.reader c.args.read.position c.args.read.key
       c.args.read.seen.now c.loop-value.value-index (last_in c.loop-value.last) (get_or c.args.read.seen.now c.loop-value.value-index 0)
-      c.in-Some.fault c.requires.index c.loop-value.invariant c.loop-value-test.true refl (search rules),
+      c.in-Some.fault c.requires.index c.loop-value.invariant c.loop-value-test.true refl (search rules)),
 )
 
 pub loop-value-preserved : goal.loop-value-preserved

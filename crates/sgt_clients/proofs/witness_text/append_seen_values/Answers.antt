@@ -11,5 +11,5 @@ returns-in-Some c =
     search rules in
     on_ok c.append_key_values.result _ _
     (λ more. more ∙ ap (λ l. c.args.text.now.items ++ l)
-    (read_some c.args.clients.now (operation_at c.args.clients.now c.args.reader c.args.read) c.in-Some.seen.key c.in-Some.seen.values.now is))
+    (read_some c.args.clients.now c.args.spoken (operation_at c.args.clients.now c.args.reader c.args.read) c.in-Some.seen.key c.in-Some.seen.values.now is))
     c.append_key_values.ensures
