@@ -38,18 +38,19 @@ is_hindered (reply.Waits u) = true
 is_hindered (reply.Aborted (cause.Cycle walk) fell) = true
 is_hindered _ = false
 
--- the only live transaction is never told to wait, and never aborted for a cycle
+-- the only live transaction never waits, and is never aborted for a cycle
 abbrev pub AloneIsNotAborted : Type 0
 AloneIsNotAborted = InEach (λ s past. (t : ℕ) → IsAlone past t → (event : Event) → IsStepOrCommitOf event t → (r : Reply) → LegalReply s past event r → is_hindered r ≡ false)
 
--- it is live, it committed, or it raised a code itself: no cycle, no fall, no quit
+-- it is live, has committed, or has aborted with a code of its own: not for a cycle, in cascade, or by its caller
 abbrev pub IsByItself : Option Fate → Type 0
 IsByItself None = Unit {0}
 IsByItself (Some fate.Committed) = Unit {0}
 IsByItself (Some (fate.Aborted (cause.Asked code))) = Unit {0}
 IsByItself (Some _) = ⊥
 
--- while no other is asked, the only live transaction is live, or it has committed, or raised a code itself
+-- as long as all events are its steps and commits, the only live transaction is live, has committed, or has aborted with a code of
+-- its own
 abbrev pub AloneEndsByItself : Type 0
 AloneEndsByItself = InEach (λ s past. (t : ℕ) → IsAlone past t → (later : List Entry) → AreStepsAndCommitsOf t later → Legal s (later ++ past) → IsByItself (fate_of (later ++ past) t))
 

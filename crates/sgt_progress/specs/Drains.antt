@@ -15,12 +15,12 @@ use Rattle.sgt_progress.specs.Alone.{NoneLive, IsAlone, IsStepOrCommitOf}
 abbrev pub accesses_left : Setting → List Entry → ℕ → ℕ
 accesses_left s past t = most_accesses (s.rules.procedures (call_of past t).procedure) - made past t
 
--- a number of each of the list, added up
+-- the sum of f over a list
 abbrev pub total : (ℕ → ℕ) → List ℕ → ℕ
 total f [] = 0
 total f (t ∷ l) = f t + total f l
 
--- of each live transaction the accesses that it can still make, and its end
+-- over all live transactions: the accesses that each can still make, and its end
 abbrev pub events_left : Setting → List Entry → ℕ
 events_left s past = total (λ t. accesses_left s past t + 1) (live_ones past)
 
@@ -34,8 +34,8 @@ abbrev pub StartNone : List Entry → Type 0
 StartNone [] = Unit {0}
 StartNone (e ∷ past) = (is_start e.reply ≡ false) × StartNone past
 
--- No livelock: where no transaction is started, whatever is asked in whatever order, there are at most so many accesses and
--- ends
+-- No livelock: if no transaction is started, accesses and ends together are at most `events_left`, whatever events come in
+-- whatever order
 abbrev pub MovesAreFew : Type 0
 MovesAreFew = InEach (λ s past. (later : List Entry) → Legal s (later ++ past) → StartNone later → moves later + events_left s (later ++ past) ≤ events_left s past)
 
@@ -65,7 +65,7 @@ EndsWithin zero s past t = live past t ≡ false
 EndsWithin (suc n) s past t = (live past t ≡ false) ⊎ ((r : Reply) → LegalReply s past (next_event s past t) r
     → EndsWithin n s (record { event = next_event s past t; reply = r } ∷ past) t)
 
--- the only live transaction ends by the accesses that it can still make, and one event more
+-- the only live transaction ends within the accesses that it can still make, and one event more
 abbrev pub AloneEnds : Type 0
 AloneEnds = InEach (λ s past. (t : ℕ) → IsAlone past t → EndsWithin (accesses_left s past t + 1) s past t)
 

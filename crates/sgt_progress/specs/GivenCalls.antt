@@ -1,4 +1,4 @@
--- The committed and refused calls of a history, given to a new engine one after another: each is told its end there too.
+-- The committed and refused calls of a history, given to a new engine one after another: each commits or is refused there too.
 use Rattle.std.specs.Prelude.{◌≡◌, List, [], ◌∷◌, ◌++◌}
 use Rattle.sgt_model.specs.declared.event.Event.{Event}
 use Rattle.sgt_model.specs.declared.event.Event.TheVariants.{Start}
@@ -21,8 +21,8 @@ given_calls [] = []
 given_calls (e ∷ past) = given_call e.event ++ given_calls past
 
 -- Command logging: if the committed and refused calls of a legal history, and no others, are requested one after another of a
--- new engine, and nothing is live at the end, then each of them was told the same there, and the same is committed. So no start
--- is refused, and none of them is aborted at a step or has to wait
+-- new engine, and nothing is live at the end, then each of them gets the same answers or code there, and the same is committed.
+-- So no start is refused, and none of them is aborted at a step or has to wait
 abbrev pub GivenCallsAreTold : Type 0
 GivenCallsAreTold = InEach (λ s past. (again : List Entry) → Legal s again → IsOneByOne again → NoneLive again
     → given_calls again ≡ told_calls past → (told_calls again ≡ told_calls past) × TellTheSame s again past)

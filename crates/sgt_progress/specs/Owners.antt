@@ -1,4 +1,4 @@
--- Sessions, each with its transactions: which of them may all be asleep.
+-- Owners of transactions, such as threads: whether all of them may be blocked.
 use Rattle.std.specs.Prelude.{◌≡◌, ℕ, true, List}
 use Rattle.sgt_model.specs.declared.entry.Entry.{Entry}
 use Rattle.sgt_model.specs.Fates.{live}
@@ -7,7 +7,7 @@ use Rattle.sgt_model.specs.Legality.{Legal}
 use Rattle.sgt_model.specs.Laws.{InEach}
 use Rattle.sgt_progress.specs.Moves.{WaitsFor}
 
--- an owner is held up: one of its live transactions may be told to wait
+-- an owner is held up: the next event of one of its live transactions may be answered by a wait
 pub record HeldUp (s : Setting) (past : List Entry) (owner : ℕ → ℕ) (o : ℕ) : Type 0 where
   pub t : ℕ
   pub own : owner t ≡ o

@@ -1,5 +1,5 @@
 -- Strict serializability (Papadimitriou (1979); Herlihy and Wing (1990)): a serial order that keeps real time. Of two
--- transactions, if one was told its answers or its code before the other was started, it is before it in the order.
+-- transactions, if the commit or refusal of one was reported before the other was started, it comes first in the order.
 use Rattle.std.specs.Prelude.{◌≡◌, ℕ, ◌⊎◌, List, [], ◌∷◌, ◌++◌, map, Some}
 use Rattle.sgt_model.specs.declared.event.Event.{Event}
 use Rattle.sgt_model.specs.declared.reply.Reply.{Reply}
@@ -24,13 +24,13 @@ abbrev pub told_ones : List Entry → List ℕ
 told_ones [] = []
 told_ones (e ∷ past) = told_one_in e.event e.reply ++ told_ones past
 
--- t was told its answers or its code before u was started
+-- the commit or refusal of t was reported before u was started
 abbrev pub EndsBeforeStart : List Entry → ℕ → ℕ → Type 0
 EndsBeforeStart [] t u = ⊥
 EndsBeforeStart (e ∷ past) t u = ((started_in e.event e.reply ≡ Some u) × Member t (told_ones past)) ⊎ EndsBeforeStart past t u
 
--- Strictly serializable. The replay runs the calls of these transactions, each once, in this order, the last one first; run
--- so, they give what was told and leave the committed values; and one that ended before another was started comes before it
+-- Strictly serializable. The replay runs the calls of these transactions, each once, in this order (the last one first). It
+-- gives what was reported, and leaves the committed values. If t ended before u was started, t comes before u
 pub record KeepsRealTime (s : Setting) (past : List Entry) : Type 0 where
   pub once : Distinct (told_ones past)
   pub calls : told_calls past ≡ map (call_of past) (told_ones past)

@@ -1,4 +1,4 @@
--- Going round: each live transaction is asked its next event in turn.
+-- Round robin: each live transaction makes its next event in turn.
 use Rattle.std.specs.Prelude.{◌≡◌, ℕ, zero, suc, ◌+◌, ◌≤◌, true, false, ◌⊎◌, List, [], ◌∷◌}
 use Rattle.sgt_model.specs.declared.reply.Reply.{Reply}
 use Rattle.sgt_model.specs.declared.entry.Entry.{Entry}
@@ -11,7 +11,7 @@ use Rattle.sgt_progress.specs.Moves.{next_event}
 use Rattle.sgt_progress.specs.Alone.{NoneLive}
 use Rattle.sgt_progress.specs.Drains.{events_left}
 
--- each of the listed ones in turn, if it is live when its turn comes, is asked its next event, which gets some legal reply
+-- each of the listed ones, if it is live when its turn comes, makes its next event, which gets some legal reply
 abbrev pub Turns : Setting → List Entry → List ℕ → List Entry → Type 0
 Turns s past [] after = after ≡ past
 Turns s past (t ∷ others) after = ((live past t ≡ false) × Turns s past others after)

@@ -23,12 +23,13 @@ pub fn no_deadlock()
     ensures waits { NoWaitCycle }
 {}
 
-/// What is asked of the only live transaction neither waits nor is aborted for a cycle.
+/// A step or a commit of the only live transaction neither waits nor is aborted for a cycle.
 pub fn alone_is_not_aborted()
     ensures { AloneIsNotAborted }
 {}
 
-/// If nobody else is asked, the only live transaction commits, raises a code itself, or is still live.
+/// As long as all events are its steps and commits, the only live transaction commits, raises a code of its own, or is
+/// still live.
 pub fn alone_ends_by_itself()
     ensures { AloneEndsByItself }
 {}
@@ -43,7 +44,7 @@ pub fn replay_keeps_real_time()
     ensures { ReplayKeepsRealTime }
 {}
 
-/// No livelock: where nothing is started, there are at most so many accesses and ends, whatever is asked.
+/// No livelock: if nothing is started, accesses and ends are at most `events_left`, whatever events come.
 pub fn moves_are_few()
     ensures { MovesAreFew }
 {}
@@ -67,8 +68,8 @@ pub fn closed_cycles_stay()
     ensures exact { CyclesAloneAreRejected }
 {}
 
-/// The committed and refused calls decide what was told and what is committed; given again one after another, each is told
-/// the same.
+/// The committed and refused calls decide what was reported and what is committed. Given again one after another, each
+/// gets the same.
 pub fn reruns_agree()
     ensures decide { CallsDecide }
     ensures again { RerunsAgree }
@@ -76,8 +77,8 @@ pub fn reruns_agree()
     ensures given { GivenCallsAreTold }
 {}
 
-/// Going round the live transactions, in any order: each round makes an access or ends one, so after enough rounds none is
-/// live.
+/// Round robin over the live transactions, in any order: each round makes an access or ends one, so after enough rounds
+/// none is live.
 pub fn rounds_drain()
     ensures moves { RoundsMove }
     ensures drain { RoundsDrain }

@@ -7,7 +7,8 @@
 //! - **Real time** (`RealTime.antt`): a transaction that was reported to have ended before another was started comes
 //!   before it in the serial order.
 //! - **Reruns** (`Reruns.antt`): the committed calls alone decide what was reported and what is committed. Given again,
-//!   one after another, they get the same. So a log of commands is enough to recover.
+//!   one after another, they get the same (`GivenCalls.antt`: also of a new engine). So a log of commands is enough to
+//!   recover.
 //! - **Rejections** (`Needed.antt`): an access is rejected exactly if the graph would have a cycle with it.
 //!   `sgt_textbook` says the same by the textbook's definition of serializable histories.
 //!
