@@ -844,7 +844,7 @@ uint32_t sgt_shared_close(sgt_shared **shared)
     sgt_shared *s = shared ? *shared : 0;
     if (!s) return SGT_CLOSED;
     if (is_in_hook(s) || is_in_child(s)) return SGT_MISUSE;
-    if (!try_lock(s)) return SGT_BUSY;
+    if (!is_free(s, false) || !try_lock(s)) return SGT_BUSY; /* a caller that asks again and again leaves the lock to those that wait */
     const uint32_t status = shut(s);
     unlock(s);
     if (status == SGT_OK) set_aside(s), *shared = 0;

@@ -134,12 +134,13 @@ static void *counts(void *of)
 
 static void a_close_beside_calls_is_busy_or_closes(void)
 {
+    const struct timespec moment = {0, 50000}; /* for the calls that wait */
     for (int made = 0; made < CLOSES; made++) {
         sgt_shared *shared = opened(0), *same = shared;
         pthread_t threads[2];
-        uint32_t status = SGT_BUSY;
+        uint32_t status;
         for (int i = 0; i < 2; i++) CHECK(pthread_create(&threads[i], 0, counts, shared) == 0);
-        while (status == SGT_BUSY) status = sgt_shared_close(&same);
+        while ((status = sgt_shared_close(&same)) == SGT_BUSY) nanosleep(&moment, 0);
         CHECK(status == SGT_OK && !same);
         for (int i = 0; i < 2; i++) pthread_join(threads[i], 0);
         CHECK(sgt_shared_close(&shared) == SGT_CLOSED);
