@@ -201,10 +201,10 @@ def draws_drawn_histories(sgt):
     return f"{cycles} of 100 with a cycle, {violations} with a violation alone"
 
 
-def draws_nothing(sgt):
+def draws_no_empty_history(sgt):
     for given in ("", "# nothing\n"):
-        _, text, _ = sgt.run("check", "--timeline", given=given)
-        same("marks", [], Drawing(text).marks)
+        told = sgt.run("check", "--timeline", given=given)
+        same("status, output and error", (2, "", "no operations\n"), told)
 
 
 def draws_the_widest(sgt):
@@ -297,7 +297,7 @@ def brings_nothing_along(sgt):
 CASES = [
     draws_each_example,
     draws_drawn_histories,
-    draws_nothing,
+    draws_no_empty_history,
     draws_the_widest,
     draws_the_longest_whole,
     draws_a_cycle_of_a_long_history,
