@@ -49,7 +49,7 @@ class Stored:
 
     def add(self, call: CEnded) -> None:
         with self._lock:
-            self._calls = [*self._calls, call]
+            self._calls.append(call)
             self._added.notify_all()
 
     def wait(self, timeout: Optional[float]) -> None:
