@@ -6,16 +6,17 @@
  * used here.
  *
  * An engine lives in an sgt_engine of the caller. Transactions are started, make one access at each step, and are committed
- * or aborted (`quit`). Each of these events gets one reply, and the history stores both. Every call returns a status; SGT_OK
- * is 0. The engine's answer to an event is a reply and not a status: all is full, a commit has to wait, a transaction is
- * aborted.
+ * or aborted (`quit`). What a step does is decided by the transaction's stored procedure; once that is at its end, the caller
+ * may decide on accesses itself: sgt_read, sgt_write, sgt_remove. A transaction of sgt_begin has such accesses alone. Each of
+ * these events gets one reply, and the history stores both. Every call returns a status; SGT_OK is 0. The engine's answer to
+ * an event is a reply and not a status: all is full, a commit has to wait, a transaction is aborted.
  *
  * DUTIES OF THE CALLER. The library does not check them. The proofs hold only if they are kept.
  *
  *   - An sgt_engine is all zero bytes before its first sgt_open: `sgt_engine engine = {0};`. From then on only the library
  *     writes it. Do not copy it: a copy would be a second owner of the same engine. You may move it by memcpy while no call
  *     runs, if the old bytes are never used again.
- *   - An sgt_reply, sgt_event, sgt_call, sgt_outcome, sgt_fault or sgt_row is initialized before it is passed, with any
+ *   - An sgt_reply, sgt_event, sgt_call, sgt_access, sgt_outcome, sgt_fault or sgt_row is initialized before it is passed, with any
  *     values: `sgt_reply reply = {0};`.
  *   - Pointers are aligned, and point to as much as the call says. No two pointers of one call overlap.
  *   - One call at a time to one engine. If threads share an engine, put a lock around each call, or join one thread before
@@ -42,8 +43,9 @@
  *   - those of the opening, from 5 on;
  *   - those that sgt_procedure adds.
  *
- * An engine of sgt_open_bare has only those of sgt_procedure, from 0 on. Tables and procedures are passed as 64 bits, so that
- * a number out of range is not taken for another: it is SGT_BAD_CALL.
+ * An engine of sgt_open_bare has only those of sgt_procedure, from 0 on. In every engine, number 65535 is the empty procedure,
+ * SGT_EMPTY: it takes no arguments, makes no access and answers nothing. sgt_begin starts it. Tables and procedures are passed
+ * as 64 bits, so that a number out of range is not taken for another: it is SGT_BAD_CALL.
  */
 #ifndef SGT_H
 #define SGT_H
@@ -74,9 +76,11 @@ enum sgt_status {
     SGT_TAKEN = 8,       /* the key of a row already has a value */
     SGT_TOO_MANY = 9,    /* no number is left for a procedure, or for the part after a cut */
     SGT_BUSY = 10,       /* another call is in the engine */
+    SGT_SELF_WAIT = 11,  /* of sgt_shared.h: the call would wait for its own thread, without a deadline */
     SGT_TIMED_OUT = 12,  /* of sgt_shared.h: the deadline passed */
     SGT_STALE = 13,      /* of sgt_shared.h: the transaction belongs to a part of the history that was cut */
     SGT_MISUSE = 14,     /* of sgt_shared.h: a call that may not be made from here, or a ticket of another engine */
+    SGT_UNDONE = 15,     /* of sgt_shared.h: the transaction was aborted by a conflict, and may be tried again */
     SGT_NOT_JSON = 16,   /* the opening, or the procedure's text, is not JSON */
     SGT_BAD_LINE = 17,   /* the opening is JSON, but not of the shape of an opening */
     SGT_BAD_LIMITS = 18, /* a limit is out of its range */
@@ -99,15 +103,15 @@ typedef struct sgt_fault {
 enum sgt_kind {
     SGT_STARTED = 1,       /* the transaction `tid` was started */
     SGT_NO_PROCEDURE = 2,  /* no procedure has that number */
-    SGT_BAD_ARGS = 3,      /* the procedure takes another number of arguments, or one of them is no value */
+    SGT_BAD_ARGS = 3,      /* the procedure takes another number of arguments, or one of them is no value; or sgt_write was to write no value */
     SGT_SPENT = 4,         /* the limits allow no more starts */
     SGT_FULL = 5,          /* the limits allow no more live transactions */
     SGT_UNKNOWN = 6,       /* no transaction of that number was started */
     SGT_OVER = 7,          /* the transaction has already ended; `cause` says how */
-    SGT_LOOKED = 8,        /* the step read the record `table`, `number`: `found` is 1 and `value` its value, or `found` is 0 */
-    SGT_WROTE = 9,         /* the step wrote `value` to the record `table`, `number` */
+    SGT_LOOKED = 8,        /* the record `table`, `number` was read: `found` is 1 and `value` its value, or `found` is 0: there is none */
+    SGT_WROTE = 9,         /* it was written: `found` is 1 and `value` is what was written, or `found` is 0: it was removed */
     SGT_ENDED = 10,        /* the procedure has ended, and nothing was done: the transaction may be committed */
-    SGT_NOT_ENDED = 11,    /* the procedure has not ended: the transaction cannot be committed yet */
+    SGT_NOT_ENDED = 11,    /* the procedure has not ended: neither a commit nor an access of the caller's own is possible yet */
     SGT_WAITS = 12,        /* the commit has to wait for the transaction `tid`: call it again later */
     SGT_COMMITTED = 13,    /* the transaction is committed; its answers are the first `answers` of `answer` */
     SGT_ABORTED = 14,      /* the transaction is aborted, by `cause`; the first `fallen` of `fell` are aborted in cascade */
@@ -117,7 +121,7 @@ enum sgt_kind {
 /* How a transaction ended. SGT_ABORTED has a cycle, a code or a quit; SGT_OVER has any of these. */
 enum sgt_cause {
     SGT_BY_COMMIT = 0,
-    SGT_BY_CYCLE = 1, /* its step would close a cycle of conflicts: the first `walked` of `walk`, itself first */
+    SGT_BY_CYCLE = 1, /* its access would close a cycle of conflicts: the first `walked` of `walk`, itself first */
     SGT_BY_CODE = 2,   /* its procedure raised `code` */
     SGT_BY_QUIT = 3,   /* its caller aborted it */
     SGT_BY_FALL = 4    /* cascading abort: it had read from an aborted one; `tid` is the one whose abort began the cascade */
@@ -150,7 +154,10 @@ enum sgt_asked {
     SGT_START = 1,  /* a start of the procedure `procedure` with the first `args` of `arg` */
     SGT_STEP = 2,   /* a step of the transaction `tid` */
     SGT_COMMIT = 3, /* a commit of the transaction `tid` */
-    SGT_QUIT = 4    /* a quit of the transaction `tid` */
+    SGT_QUIT = 4,   /* a quit of the transaction `tid` */
+    SGT_READ = 5,   /* an sgt_read by the transaction `tid`, of the record `table`, `number` */
+    SGT_WRITE = 6,  /* an sgt_write of `value`, which need not be a value, to that record */
+    SGT_REMOVE = 7  /* an sgt_remove of that record */
 };
 
 /* `kind` says which other fields count. The others keep their old values. */
@@ -160,6 +167,10 @@ typedef struct sgt_event {
     uint32_t procedure;
     uint32_t args;
     int64_t arg[4];
+    uint32_t table;
+    uint32_t spare;
+    int64_t number;
+    int64_t value;
 } sgt_event;
 
 /* A record of the database, and its value. `spare` is unused. */
@@ -180,7 +191,22 @@ typedef struct sgt_call {
     uint32_t answers;   /* of SGT_COMMITTED: how many items `answer` has */
     int64_t arg[4];
     int64_t answer[8];
+    uint64_t accesses;  /* how many accesses its caller decided on: sgt_accesses returns them */
 } sgt_call;
+
+/*
+ * An access that a transaction's caller decided on. Every field is filled; those that do not count are 0. `kind` is as in an
+ * sgt_event. `found` is 1 if there is a value, which is in `value`: what a read found, or what was written. Else it is 0: the read
+ * found no record, or the record was removed. `spare` is unused.
+ */
+typedef struct sgt_access {
+    uint32_t kind; /* SGT_READ, SGT_WRITE or SGT_REMOVE */
+    uint32_t table;
+    int64_t number;
+    int64_t value;
+    uint32_t found;
+    uint32_t spare;
+} sgt_access;
 
 /*
  * The outcome of a call of many: its last `reply`, and `tid` if a transaction was started, else 0. `wrote` is 1 if one of its steps
@@ -195,6 +221,9 @@ typedef struct sgt_outcome {
 /* The least and the greatest of values, arguments and record numbers. */
 #define SGT_LEAST INT64_C(-999999999999999)
 #define SGT_MOST INT64_C(999999999999999)
+
+/* The number of the empty procedure, in every engine. */
+#define SGT_EMPTY 65535
 
 /*
  * Opens an engine. `opening` is `length` bytes of JSON, of any length: the first line of a script, without its end. It holds
@@ -263,7 +292,7 @@ uint32_t sgt_put(sgt_engine *engine, const sgt_row *rows, size_t count, uint64_t
  *
  *   - SGT_CLOSED.
  *   - SGT_BEGUN, tested next: there is a history.
- *   - SGT_TOO_MANY: there are 65536 procedures.
+ *   - SGT_TOO_MANY: there are 65535 procedures.
  *   - SGT_NOT_JSON, SGT_PROC_SHAPE or SGT_PROC_FLAW: the text spells no procedure, or one with a flaw. The fault is written to
  *     `fault`, with the number that the procedure was to get.
  *   - SGT_NO_MEMORY.
@@ -313,6 +342,48 @@ uint32_t sgt_commit(sgt_engine *engine, uint32_t tid, sgt_reply *reply);
 uint32_t sgt_quit(sgt_engine *engine, uint32_t tid, sgt_reply *reply);
 
 /*
+ * Accesses on which the caller decides: events as the four above, for a program whose transactions are its own code. Begin a
+ * transaction; read, write and remove records one by one, each by what the replies so far said; then sgt_commit or sgt_quit:
+ *
+ *     sgt_begin(&engine, &reply);                        // SGT_STARTED: reply.tid
+ *     uint32_t tid = reply.tid;
+ *     sgt_read(&engine, tid, 2, 101, &reply);            // SGT_LOOKED: reply.found, reply.value
+ *     sgt_write(&engine, tid, 2, 101, reply.value - 40, &reply);   // SGT_WROTE
+ *     sgt_commit(&engine, tid, &reply);                  // SGT_COMMITTED, with no answers; or SGT_WAITS: call it again later
+ *
+ * It is proved that these transactions are serializable together with those of stored procedures: running the committed ones one
+ * after another, in commit order, each caller deciding as it did, gives each read the same value and ends in the committed
+ * database. A transaction that read from an aborted one is aborted in cascade. So a caller acts on what it was told outside the
+ * engine only after SGT_COMMITTED.
+ *
+ * With SGT_OK the reply to sgt_read, sgt_write and sgt_remove is one of these:
+ *
+ *   - SGT_LOOKED or SGT_WROTE: the access is made;
+ *   - SGT_ABORTED with SGT_BY_CYCLE: it would close a cycle of conflicts, so the transaction is aborted: start again;
+ *   - SGT_NOT_ENDED: the transaction's stored procedure is not at its end, or has raised a code: nothing is done;
+ *   - SGT_BAD_ARGS, of sgt_write: `value` is not from SGT_LEAST to SGT_MOST: nothing is done;
+ *   - SGT_OVER or SGT_UNKNOWN.
+ *
+ * If the result is not SGT_OK, neither the engine nor the reply has changed:
+ *
+ *   - SGT_BAD_CALL, tested first: the table is over 7, or the number is not from SGT_LEAST to SGT_MOST.
+ *   - SGT_CLOSED.
+ *   - SGT_NO_MEMORY, but never for an event that ends a live transaction.
+ */
+
+/* Starts a transaction of the empty procedure. The reply is SGT_STARTED, SGT_SPENT or SGT_FULL. It has no SGT_BAD_CALL. */
+uint32_t sgt_begin(sgt_engine *engine, sgt_reply *reply);
+
+/* Reads a record: its newest value that is not undone, committed or not, or none. */
+uint32_t sgt_read(sgt_engine *engine, uint32_t tid, uint64_t table, int64_t number, sgt_reply *reply);
+
+/* Writes a value to a record, whether or not there is such a record. */
+uint32_t sgt_write(sgt_engine *engine, uint32_t tid, uint64_t table, int64_t number, int64_t value, sgt_reply *reply);
+
+/* Removes a record, whether or not there is such a record. It conflicts with other accesses as a write does. */
+uint32_t sgt_remove(sgt_engine *engine, uint32_t tid, uint64_t table, int64_t number, sgt_reply *reply);
+
+/*
  * Runs a procedure from its start to its commit, for a caller whose transactions need not run concurrently. It makes a start,
  * then steps as long as they read or write, and at the end of the procedure the commit. Each is an event with its entry. The
  * number of a transaction that was started is written to `tid`; else `tid` is unchanged. The reply is the last one:
@@ -332,13 +403,14 @@ uint32_t sgt_run(sgt_engine *engine, uint64_t procedure, const int64_t *args, si
 
 /*
  * Runs `count` calls one after another, each as sgt_run does: for batches, and to repeat what sgt_calls returned. Only
- * `procedure`, `args` and `arg` of a call count. The outcome of each call is written at its index in `outcomes`, whose
+ * `procedure`, `args`, `arg` and `accesses` of a call count. The outcome of each call is written at its index in `outcomes`, whose
  * capacity is `room`. The number of calls that ran is written to `done`. A call also counts as run if its start is refused,
  * or if its transaction is aborted or has to wait: its outcome says so, and the next call follows.
  *
  * If the result is neither SGT_OK nor SGT_NO_MEMORY, outcomes and done are unchanged:
  *
- *   - SGT_BAD_CALL, tested first: a call has over 4 arguments or a procedure over 65535, or `room` is less than `count`.
+ *   - SGT_BAD_CALL, tested first: a call has over 4 arguments or a procedure over 65535, its `accesses` are not 0, or `room` is
+ *     less than `count`. Such accesses are the caller's to make again: see sgt_accesses.
  *   - SGT_CLOSED.
  *   - SGT_NO_MEMORY: the calls before number `done`, counted from 0, ran. Of that call nothing has changed, or its transaction
  *     was started and is aborted.
@@ -390,9 +462,13 @@ uint32_t sgt_entry(const sgt_engine *engine, uint64_t place, sgt_event *event, s
 
 /*
  * The calls of the committed and refused transactions, in the order of their replies, each with its answers or its code. It is
- * proved that running this list one after another gives the same answers, codes and database: by the procedures alone, and by
- * sgt_run_many on a new engine with the same initial database, procedures and limits. There none of them has to wait or is
- * aborted.
+ * proved that running this list one after another gives the same answers, codes and database: by the procedures and the callers'
+ * accesses alone, and on a new engine with the same initial database, procedures and limits. There none of them has to wait or is
+ * aborted, and each read of a caller finds the same:
+ *
+ *   - calls whose `accesses` are 0 are run by sgt_run_many;
+ *   - a call with accesses is started by sgt_start, with SGT_EMPTY or another procedure, and stepped to its end; then its
+ *     accesses, which sgt_accesses returns, are made again by sgt_read, sgt_write and sgt_remove; then it is committed.
  *
  * The history is read from position `from` on. The first calls are written to `calls`, whose capacity is `room`, and their
  * number to `count`. The position to continue from is written to `next`: pass it as `from` the next time. When `next` is what
@@ -408,6 +484,18 @@ uint32_t sgt_entry(const sgt_engine *engine, uint64_t place, sgt_event *event, s
  *   - SGT_NONE: `from` is more than the number of entries.
  */
 uint32_t sgt_calls(const sgt_engine *engine, uint64_t from, sgt_call *calls, size_t room, uint64_t *count, uint64_t *next);
+
+/*
+ * The accesses on which the caller of the transaction `tid` decided, in the order in which they were made, each with the value that
+ * it read or wrote. Accesses of its stored procedure are not among them, nor those that were not made. The transaction may be
+ * live or have ended. A transaction that was not started has none.
+ *
+ * The first accesses are written to `accesses`, whose capacity is `room`. The number of all, which may be more, is written to
+ * `count`: for a call of sgt_calls it is `accesses`. The cost grows with the entries back to the transaction's start.
+ *
+ * SGT_CLOSED. If the result is not SGT_OK, accesses and count are unchanged.
+ */
+uint32_t sgt_accesses(const sgt_engine *engine, uint32_t tid, sgt_access *accesses, size_t room, uint64_t *count);
 
 /*
  * Allocates memory for `entries` more entries, of 40 bytes each, so that the history is not moved until then. The lists of

@@ -9,7 +9,6 @@ It makes the library by `bindings/build`, which proves `crates/sgt_c` first unle
 its output is compared. Each case is reported, also what was left out since a program is missing. The last line counts the cases.
 """
 
-import contextlib
 import copy
 import os
 import pathlib
@@ -26,6 +25,7 @@ from collections import Counter
 sys.dont_write_bytecode = True
 from helpers.cases import C_SOURCES, TESTS, Differs, same, tell  # noqa: E402
 from helpers.library import BINDINGS, C_FLAGS, CPP_FLAGS, OUT, SANITIZERS, WRAPS, built, can, run  # noqa: E402
+from helpers.package import Interrupted, elsewhere, interrupted, interrupts, module, refusal, what  # noqa: E402
 
 TOP = TESTS.parent
 STORY = (BINDINGS / "bank.out").read_text()
@@ -138,6 +138,13 @@ def tells_the_status_of_each_call(room):
     return f"{count} checks"
 
 
+def tells_what_callers_decide(room):
+    told = run([built(room, "cc", C_FLAGS, C_SOURCES / "own_access.c")])
+    count = told.split()[0]
+    same("what is told", f"{count} checks, 0 failed\n", told)
+    return f"{count} checks"
+
+
 def goes_on_where_each_allocation_is_refused(room):
     told = run([built(room, "cc", C_FLAGS, BINDINGS / "c" / "refused.c", WRAPS)])
     count = told.split()[0]
@@ -149,7 +156,7 @@ def is_clean_under_sanitizers(room):
     if not can(room, "cc", SANITIZERS):
         return "left out: cc has no sanitizers here"
     c = BINDINGS / "c"
-    plain = (c / "bank.c", c / "transfers.c", c / "threads.c", C_SOURCES / "calls.c")
+    plain = (c / "bank.c", c / "transfers.c", c / "threads.c", C_SOURCES / "calls.c", C_SOURCES / "own_access.c")
     for source, extra in ((c / "refused.c", WRAPS), *((source, []) for source in plain)):
         run([built(room, "cc", C_FLAGS, source, SANITIZERS + extra)])
     return None
@@ -231,7 +238,7 @@ def runs_the_programs_of_its_page(room):
         told.append(run([built(room, "cc", C_FLAGS, source)]))
     env = dict(os.environ, PYTHONPATH=str(BINDINGS / "python"), PYTHONDONTWRITEBYTECODE="1")
     told += [run([sys.executable, "-W", "error", "-c", text], env=env) for text in programs_of("python", "with ")]
-    same("what the programs tell", ["80000\n", "1500\n", "80000\n", "COMMITTED 1500\n"], told)
+    same("what the programs tell", ["80000\n", "paid 30\n", "1500\n", "80000\n", "paid 30\n", "COMMITTED 1500\n"], told)
     if not shutil.which("rustc") or not (room / "libsgt.rlib").exists():
         return "but for those in Rust: no rustc here"
     program = room / "page_rust"
@@ -241,14 +248,6 @@ def runs_the_programs_of_its_page(room):
         run([*words, room / "page.rs"])
         same("what the program in Rust tells", "80000\n", run([program]))
     return None
-
-
-def module():
-    """The package for Python."""
-    sys.path.insert(0, str(BINDINGS / "python"))
-    import sgt
-
-    return sgt
 
 
 def gives_each_reply_and_fault_its_text(_):
@@ -493,55 +492,23 @@ def waits_with_deadlines_in_python(_):
     same("a closed engine", "refused", refusal(lambda: bank.get(2, 101)))
 
 
-class Interrupted(BaseException):
-    """What the handler of a signal raises here."""
-
-
-@contextlib.contextmanager
-def interrupts(seconds):
-    """A signal raises Interrupted after so many seconds, unless the block has ended by then."""
-    is_on = True
-
-    def handle(*_):
-        if is_on:
-            raise Interrupted
-
-    before = signal.signal(signal.SIGALRM, handle)
-    signal.setitimer(signal.ITIMER_REAL, seconds)
-    try:
-        yield
-    finally:
-        is_on = False
-        signal.setitimer(signal.ITIMER_REAL, 0)
-        signal.signal(signal.SIGALRM, before)
-
-
-def interrupted(call, seconds=0.2):
-    """Makes a call that waits, and that a signal has to end."""
-    began = time.monotonic()
-    try:
-        with interrupts(seconds):
-            call()
-    except Interrupted:
-        same("that the call ends soon", True, time.monotonic() - began < seconds + 2)
-        return
-    raise Differs("a call went on when a signal came")
+def stepped(transaction):
+    """Makes all accesses of a transaction."""
+    while transaction.step().kind in (module().Kind.LOOKED, module().Kind.WROTE):
+        pass
+    return transaction
 
 
 def ends_a_wait_at_a_signal(_):
     """A signal ends each call that waits, and leaves nothing live that nobody has."""
     sgt = module()
     with sgt.SharedEngine(limits=(2, 1000, 1), accounts=[(1, 101, 500, 1000)], keeps_ended=True) as bank:
-        writer = bank.transaction(1, 1, 100)
-        while writer.step().kind is not sgt.Kind.ENDED:
-            pass
+        writer = elsewhere(lambda: stepped(bank.transaction(1, 1, 100)))
         interrupted(lambda: bank.run(0, 1))
         same("who is live after the run", [writer.ticket], [live.ticket for live in bank.live()])
         interrupted(bank.cut)
         interrupted(bank.drain)
-        reader = bank.transaction(0, 1)
-        while reader.step().kind is not sgt.Kind.ENDED:
-            pass
+        reader = stepped(bank.transaction(0, 1))
         interrupted(reader.commit)
         same("who is live after the commit", [writer.ticket, reader.ticket], [live.ticket for live in bank.live()])
         threading.Timer(0.25, reader.quit).start()  # so the start succeeds in the wait in which the signal comes
@@ -727,22 +694,6 @@ def refuses_a_forked_child(_):
         same("the parent's value", 1000, bank.get(2, 101))
 
 
-def what(error, call, told):
-    """Returns how a call ended: with this error, or with its result."""
-    try:
-        return call()
-    except error:
-        return told
-
-
-def refusal(call):
-    """Whether the call is refused, by an error or by its result."""
-    try:
-        return call()
-    except (ValueError, IndexError):
-        return "refused"
-
-
 CASES = [
     makes_the_library,
     has_one_version,
@@ -753,6 +704,7 @@ CASES = [
     transfers_side_by_side,
     counts_the_money_of_eight_threads,
     tells_the_status_of_each_call,
+    tells_what_callers_decide,
     goes_on_where_each_allocation_is_refused,
     is_clean_under_sanitizers,
     tells_the_story_in_cpp,

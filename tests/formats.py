@@ -88,7 +88,8 @@ committed 999999999999999 0: ["commit",1]
 """
 
 STARTS = """
-no procedure: ["start", 65535, [1,-1000000000000000]]\r
+no procedure: ["start", 65534, [1,-1000000000000000]]\r
+bad args: ["start", 65535, [1,-1000000000000000]]\r
 bad args: ["start", 5, [1,-1000000000000000]]\r
 bad args: ["start", 5, [1000000000000000,1]]
 bad args: ["start",5,[9223372036854775807,-9223372036854775808]]
@@ -96,6 +97,70 @@ bad args: ["start",5,[1]]
 bad args: ["start",5,[1,2,3,4]]
 no procedure: ["start",6,[1,2]]
 started 0: ["start", 5, [1,-999999999999999]]\r
+"""
+
+# Behind an opening whose procedure 5 has two answers and no access, and whose procedure 6 writes two records.
+TWO_WRITES = '[0,[["put",3,7,5],["put",3,8,6]]]'
+
+ACCESSES = r"""
+started 0: ["begin"]
+started 1: ["start",65535,[]]
+started 2: ["start",5,[1,2]]
+started 3: ["start",6,[]]
+ended: ["step",0]
+read 3/9 none: ["read",0,3,9]
+wrote 3/9 41: ["write",0,3,9,41]
+read 3/9 41: ["read",0,3,9]
+removed 3/9: ["remove",0,3,9]
+read 3/9 none: ["read", 0, 3, 9]
+removed 4/-1: [ "remove" , 0, 4 ,-1 ]
+wrote 7/999999999999999 -999999999999999: ["write", 0, 7, 999999999999999, -999999999999999]
+wrote 0/0 0: ["wr\u0069te",0,0,0,0]
+bad args: ["write",0,0,0,1000000000000000]
+bad args: ["write",0,0,0,-9223372036854775808]
+bad args: ["write" ,0,0,0,9223372036854775807]
+read 0/0 0: ["read",0,0,0]
+wrote 3/1 5: ["write",2,3,1,5]
+committed 1 2: ["commit",2]
+not ended: ["read",3,3,1]
+not ended: ["write",3,3,1,1000000000000000]
+wrote 3/7 5: ["step",3]
+not ended: ["remove",3,3,1]
+wrote 3/8 6: ["step",3]
+removed 3/7: ["remove",3,3,7]
+read 3/8 6: ["read",3,3,8]
+committed none: ["commit",3]
+over committed: ["read",3,3,8]
+over committed: ["write",3,3,8,1000000000000000]
+unknown: ["read",4,3,8]
+unknown: ["write",4294967295,3,8,1000000000000000]
+committed none: ["commit",0]
+aborted quit fell none: ["quit",1]
+over aborted quit: ["remove",1,3,8]
+started 4: [ "begin" ]
+started 5: ["b\u0065gin"]
+read 3/8 6: ["read",4,3,8]
+read 3/1 5: ["read",5,3,1]
+wrote 3/8 7: ["write",5,3,8,7]
+aborted cycle 4 5 fell none: ["write",4,3,1,9]
+over aborted cycle 4 5: ["remove",4,3,1]
+committed none: ["commit",5]
+started 6: ["begin"]
+started 7: ["begin"]
+removed 3/8: ["remove",6,3,8]
+read 3/8 none: ["read",7,3,8]
+waits 6: ["commit",7]
+aborted quit fell 7: ["quit",6]
+over fell 6: ["read",7,3,8]
+started 8: ["begin"]
+read 3/8 7: ["read",8,3,8]
+removed 3/8: ["remove",8,3,8]
+still live: ["cut"]
+committed none: ["commit",8]
+cut 53: ["cut"]
+started 0: ["begin"]
+read 3/8 none: ["read",0,3,8]
+read 3/1 5: ["read",0,3,1]
 """
 
 NO_EVENTS = """
@@ -109,6 +174,36 @@ NO_EVENTS = """
 ["start",0,[1],2]
 ["start",0,[[1]]]
 [["step",0]]
+"begin"
+["begin",0]
+["Begin"]
+["begin",[]]
+["read",0,3]
+["read",0,3,1,1]
+["read",0,8,1]
+["read",0,-1,1]
+["read",0,256,1]
+["read",3,0,1000000000000000]
+["read",0,3,-1000000000000000]
+["read",0,3,9223372036854775808]
+["read",4294967296,3,1]
+["read",-1,3,1]
+["read",0,3,1.0]
+["read",0,3,-0]
+["read",0,"3",1]
+["remove",0,3]
+["remove",0,3,1,1]
+["remove",0,8,1]
+["remove",0,3,1000000000000000]
+["write",0,3,1]
+["write",0,3,1,1,1]
+["write",0,3,1,null]
+["write",0,3,1,"1"]
+["write",0,3,1,1.5]
+["write",0,3,1,9223372036854775808]
+["write",0,8,1,1]
+["write",0,3,1000000000000000,1]
+["write",0,[3,1],1]
 ["job",0,[]]
 """
 
@@ -119,7 +214,7 @@ SPELLINGS = """
 bad args: ["start", 5, [999999999999999999, -999999999999999999]]
 bad args: ["start",5,[1000000000000000000,-1000000000000000000]]
 bad args: ["start", 5, [1, 2, 3]]
-no procedure: ["start", 65535, []]
+no procedure: ["start", 65534, []]
 started 0: ["start", 5, [1, -2]]
 started 1: ["start",  5,  [3,  -4]]
 started 2: ["start", 5 , [5,6 ] ]
@@ -152,6 +247,10 @@ def reads_events(sgt):
     are_answered(sgt, opening("[8,100]", procedures=TWO_ARGUMENTS), EVENTS)
 
 
+def reads_accesses_of_callers(sgt):
+    are_answered(sgt, opening("[8,100]", procedures=f"{TWO_ARGUMENTS},{TWO_WRITES}"), ACCESSES)
+
+
 def reads_either_spelling(sgt):
     are_answered(sgt, opening("[8,100]", procedures=TWO_ARGUMENTS), SPELLINGS)
 
@@ -178,8 +277,8 @@ def refuses_lines_of_no_json(sgt):
 
 
 def reads_jobs(sgt):
-    given = f'{opening("[4,9]", procedures=TWO_ARGUMENTS)}\n["job",5,[101,-3]]\n["job",65535,[]]\n["job",5,[]]\n'
-    same("a bank", (0, "0 committed 101 -3\n1 refused 1\n2 refused 2\n", ""), sgt.run("bank", given=given))
+    given = f'{opening("[4,9]", procedures=TWO_ARGUMENTS)}\n["job",5,[101,-3]]\n["job",65534,[]]\n["job",5,[]]\n["job",65535,[]]\n'
+    same("a bank", (0, "0 committed 101 -3\n1 refused 1\n2 refused 2\n3 committed none\n", ""), sgt.run("bank", given=given))
     for line in NO_EVENTS.replace("start", "job").split("\n")[1:-2]:
         same(line, (2, "", "line 2: bad line\n"), sgt.run("bank", "--workers", "1", given=f"{opening()}\n{line}\n"))
 
@@ -661,6 +760,14 @@ EXPLAINED_EVENTS = (
     ('["quit","0"]', 'expected a transaction from 0 to 4294967295, found "0"'),
     ('["step",4294967296]', "expected a transaction from 0 to 4294967295, found 4294967296"),
     ('["cut",0]', 'expected ["cut"], found ["cut",0]'),
+    ('["begin",0]', 'expected ["begin"], found ["begin",0]'),
+    ('["read",0,3]', 'expected ["read",transaction,table,number], found ["read",0,3]'),
+    ('["remove",0,3,1,1]', 'expected ["remove",transaction,table,number], found ["remove",0,3,1,1]'),
+    ('["write",0,3,1]', 'expected ["write",transaction,table,number,value], found ["write",0,3,1]'),
+    ('["read",-1,3,1]', "expected a transaction from 0 to 4294967295, found -1"),
+    ('["write",0,8,1,1.5]', "expected a table from 0 to 7, found 8"),
+    ('["remove",0,3,1000000000000000]', "expected a number of at most 15 digits, found 1000000000000000"),
+    ('["write",0,3,1,1.5]', "expected a whole number as the value, found 1.5"),
     ('["start",0]', 'expected ["start",procedure,[argument,..]], found ["start",0]'),
     ('["start",65536,[]]', "expected a procedure from 0 to 65535, found 65536"),
     ('["start",0,1]', "expected a list of arguments, found 1"),
@@ -672,6 +779,8 @@ EXPLAINED_JOBS = (
     ("{}", 'expected a job, as ["job",0,[1]], found {}'),
     ('["jobs",0,[]]', 'unknown word "jobs"'),
     ('["step",0]', 'an event stands in the input of "sgt bank", which takes jobs: ["job",procedure,[argument,..]]'),
+    ('["begin"]', 'an event stands in the input of "sgt bank", which takes jobs: ["job",procedure,[argument,..]]'),
+    ('["write",0,3,1,1]', 'an event stands in the input of "sgt bank", which takes jobs: ["job",procedure,[argument,..]]'),
     ('["cut"]', 'an event stands in the input of "sgt bank", which takes jobs: ["job",procedure,[argument,..]]'),
     ('["job",0]', 'expected ["job",procedure,[argument,..]], found ["job",0]'),
     ('["job",-1,[]]', "expected a procedure from 0 to 65535, found -1"),
@@ -1202,6 +1311,7 @@ def writes_each_reply_before_it_reads_on(sgt):
 
 CASES = [
     reads_events,
+    reads_accesses_of_callers,
     reads_either_spelling,
     takes_no_blank_inside_a_number,
     reads_starts,

@@ -23,6 +23,9 @@ from helpers.cases import Differs, same, tell  # noqa: E402
 
 SEED, LINES, LINES_OF_A_RUN = 1, 1_000_000, 20_000
 
+# The greatest value, and the number of the empty procedure, which every script has.
+MOST, EMPTY = 999_999_999_999_999, 65_535
+
 # The most bytes of a line, and the most lists and objects within each other.
 LONGEST_LINE, DEEPEST = 65_536, 127
 
@@ -109,10 +112,21 @@ def is_number(one, least, most):
     return type(one) is int and least <= one <= most
 
 
+def is_place(t, table, number):
+    """Whether these are a transaction and a record's table and number."""
+    return is_number(t, 0, 2**32 - 1) and is_number(table, 0, 7) and is_number(number, -MOST, MOST)
+
+
 def event_in(tree):
     """The event that a tree spells, if it spells one."""
     if not isinstance(tree, list):
         return None
+    if tree == ["begin"]:
+        return "start", EMPTY, []
+    if len(tree) == 4 and tree[0] in ("read", "remove") and is_place(*tree[1:]):
+        return tuple(tree)
+    if len(tree) == 5 and tree[0] == "write" and is_place(*tree[1:4]) and is_number(tree[4], -(2**63), 2**63 - 1):
+        return tuple(tree)
     if len(tree) == 2 and tree[0] in ("step", "commit", "quit") and is_number(tree[1], 0, 2**32 - 1):
         return tuple(tree)
     if len(tree) == 3 and tree[0] == "start" and is_number(tree[1], 0, 2**16 - 1) and isinstance(tree[2], list):
@@ -144,7 +158,6 @@ def read(line):
 
 UNKNOWN, DEPOSITED = "unknown\n", "committed 1100\n"
 RECORDS = "0/1 101\n0/2 102\n1/101 500\n1/102 0\n2/101 1000\n2/102 200\n"
-MOST = 999_999_999_999_999
 ACCOUNTS = '"accounts":[[1,101,500,1000],[2,102,0,200]]'
 
 
@@ -172,15 +185,34 @@ class Place:
         if word != "start":
             if number >= len(self.transactions):
                 return UNKNOWN
+            if word not in ("step", "commit", "quit"):
+                return self.access(number, word, *rest)
             return self.transactions[number][("step", "commit", "quit").index(word)]
-        if number >= len(self.arguments):
+        if number >= len(self.arguments) and number != EMPTY:
             return "no procedure\n"
         args = rest[0]
-        if len(args) != self.arguments[number] or any(abs(arg) > MOST for arg in args):
+        if len(args) != (0 if number == EMPTY else self.arguments[number]) or any(abs(arg) > MOST for arg in args):
             return "bad args\n"
         return self.started
 
+    def access(self, t, word, table, number, value=None):
+        """The reply to an access on which a caller decides. Only BUSY has transactions whose procedures have ended: 1, which has
+        written 2/101, and 2, which has read that and 0/1 and 1/101."""
+        ended = self.transactions[t][0]
+        if ended != "ended\n":
+            return ended if ended.startswith("over") else "not ended\n"
+        if value is not None and abs(value) > MOST:
+            return "bad args\n"
+        key = f"{table}/{number}"
+        if word == "read":
+            found = dict(row.split(" ") for row in RECORDS.splitlines()) | {"2/101": "1100"}
+            return f"read {key} {found.get(key, 'none')}\n"
+        if t == 1 and key in ("0/1", "1/101", "2/101"):
+            return CYCLE
+        return f"removed {key}\n" if word == "remove" else f"wrote {key} {value}\n"
 
+
+CYCLE = "aborted cycle 1 2 fell 2\n"
 QUIT = "aborted quit fell none\n"
 OF_FIVE = (1, 2, 2, 2, 2)
 
@@ -218,8 +250,11 @@ BUSY = Place(
 REPLIES = {
     *("started 0\n", "started 5\n", "no procedure\n", "bad args\n", "spent\n", "full\n", UNKNOWN, "over committed\n"),
     *("over aborted quit\n", "read 0/1 101\n", "read 0/2 102\n", "wrote 3/7 4\n", "ended\n", "not ended\n", "waits 1\n"),
-    *(DEPOSITED, QUIT, "aborted quit fell 2\n"),
+    *(DEPOSITED, QUIT, CYCLE, "aborted quit fell 2\n"),
 }
+
+# A reply to an access of a caller counts by its first word.
+ACCESSED = re.compile("read|wrote|removed")
 
 # What stands after a line: nothing, not even its end; its end; that and an empty line; that and a step of one not started.
 NOTHING, BREAK, EMPTY_LINE, STEP = b"", b"\n", b"\n\n", b'\n["step",4294967295]\n'
@@ -348,15 +383,21 @@ class Draws:
 
     def event(self):
         """An event, or a list that is nearly one."""
-        name = self.pick((b"start", b"start", b"step", b"step", b"commit", b"quit", b"job", b""))
+        name = self.pick((b"start", b"start", b"step", b"step", b"commit", b"quit", b"begin", b"read", b"write", b"remove", b"job", b""))
         line = self.blanks() + b"[" + self.word(name)
         if self.once_in(4):
             for _ in range(self.below(4)):
                 line += self.comma() + self.item()
-        else:
-            line += self.comma() + self.number()
+        elif name != b"begin":
+            is_access = name in (b"read", b"write", b"remove")
+            line += self.comma() + (b"%d" % self.below(5) if is_access else self.number())
             if name == b"start":
                 line += self.comma() + self.arguments()
+            if is_access:
+                line += self.comma() + (b"%d" % self.below(8) if self.once_in(2) else self.number())
+                line += self.comma() + (self.pick((b"1", b"101", b"102")) if self.once_in(2) else self.number())
+            if name == b"write":
+                line += self.comma() + self.number()
         return line + b"]" + self.blanks()
 
     def opening(self):
@@ -497,13 +538,14 @@ def answers_hostile_lines_as_another_reader_does(program):
             place, ending = draws.place(), draws.ending()
             what, reply, written = expected(place, line, ending)
             kinds[name, what] += 1
-            replies[reply] += 1
+            word = ACCESSED.match(reply)
+            replies[word[0] if word and reply not in REPLIES else reply] += 1
             scripts.append(place.before + line + ending)
             wanted.append(written)
         for script, one, other in zip(scripts, wanted, run(program, scripts)):
             if one != other:
                 raise Differs(f"{script!r:.2000}: wanted {one!r:.400}, came {other!r:.400}")
-    same("the replies", REPLIES | {""}, set(replies))
+    same("the replies", REPLIES | {"", "read", "wrote", "removed"}, set(replies))
     for what in ("event", "record", "bad record", "bad line", "not JSON", "long line", "no line"):
         told = [(name, count) for (name, other), count in kinds.items() if other == what]
         print(f"{what}: " + ", ".join(f"{count} {name}" for name, count in sorted(told)))

@@ -309,6 +309,56 @@ def writes_a_script_as_a_history(sgt):
     sgt.expect("script", "--history", given=given + "[]\n", status=2, out=history, err="line 17: bad line\n")
 
 
+# A caller reads and removes, another one reads what is removed then; and a write in the next part.
+ACCESSES = OPENING + """["begin"]
+["begin"]
+["read",0,1,101]
+["remove",1,2,101]
+["write",1,3,1,7]
+["write",1,3,2,7]
+["remove",1,3,2]
+["read",0,0,1]
+["read",0,2,101]
+["commit",0]
+["commit",1]
+["commit",0]
+["cut"]
+["begin"]
+["write",0,3,1,8]
+"""
+
+
+def answers_accesses_of_callers(sgt):
+    replies = "started 0\nstarted 1\nread 1/101 500\nremoved 2/101\nwrote 3/1 7\nwrote 3/2 7\nremoved 3/2\nread 0/1 101\n"
+    replies += "read 2/101 none\nwaits 1\ncommitted none\ncommitted none\ncut 12\nstarted 0\nwrote 3/1 8\n"
+    sgt.expect("script", given=ACCESSES, out=replies + "0/1 101\n1/101 500\n3/1 7\n")
+    sgt.expect("script", "--records", given=ACCESSES, out='["record",0,1,101]\n["record",1,101,500]\n["record",3,1,7]\n')
+    history = "r0[1/101]\nw1[2/101]\nw1[3/1]\nw1[3/2]\nw1[3/2]\nr0[0/1]\nr0[2/101]\nc1\nc0\n# cut 12\nw0[3/1]\n"
+    sgt.expect("script", "--history", given=ACCESSES, out=history)
+
+
+def explains_accesses_of_callers(sgt):
+    """A write of a caller closes a cycle, and one who read another's write is aborted in cascade."""
+    given = OPENING + """["begin"]
+["start",0,[1]]
+["read",0,1,101]
+["step",1]
+["step",1]
+["step",1]
+["write",1,1,101,1]
+["remove",0,2,101]
+["begin"]
+["read",2,1,101]
+["quit",1]
+["begin"]
+"""
+    replies = "started 0\nstarted 1\nread 1/101 500\nread 0/1 101\nread 1/101 500\nread 2/101 1000\nwrote 1/101 1\n"
+    replies += "aborted cycle 0 1 fell none\nstarted 2\nread 1/101 1\naborted quit fell 2\nstarted 3\n"
+    told = "line 9: 1 wrote 1/101 at line 8, which 0 read at line 4\nline 9: 0 would write 2/101, which 1 read at line 7\n"
+    told += "line 12: 2 read 1/101 of 1 at line 11\n1 transaction is live at the end: 3\n"
+    sgt.expect("script", "--explain", given=given, out=replies + RECORDS, err=told)
+
+
 def writes_each_example_as_a_history_of_the_classes_that_are_promised(sgt):
     for script in sorted(EXAMPLES.glob("*.jsonl")):
         if '"cut"' not in script.read_text():
@@ -779,6 +829,8 @@ CASES = [
     draws_drawn_histories,
     draws_what_dot_takes,
     writes_a_script_as_a_history,
+    answers_accesses_of_callers,
+    explains_accesses_of_callers,
     writes_each_example_as_a_history_of_the_classes_that_are_promised,
     writes_each_bank_as_a_history_of_the_classes_that_are_promised,
     writes_what_a_script_leaves_as_records,

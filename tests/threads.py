@@ -45,7 +45,7 @@ FUZZER = ["-g", "-fsanitize=fuzzer,address,undefined", "-fno-sanitize-recover=al
 NO_TARGET = "int LLVMFuzzerTestOneInput(const char *data, unsigned long size) { return data ? 0 : (int)size; }"
 
 # What has to come in a run of so many calls, so that it tests what it is for.
-WANTED = ("tried again", "waited", "timed out", "quit", "cuts", "committed")
+WANTED = ("tried again", "waited", "decided", "transacted", "timed out", "quit", "cuts", "committed")
 WANTED_OF_RUNS = ("timed out", "cuts", "committed")
 
 
@@ -112,15 +112,19 @@ def entries_of(parts):
 
 
 def compare_replies(told, entries):
-    """Whoever steps got each reply; whoever runs got the last one."""
+    """Whoever steps got each reply; whoever runs got the last one. A transaction function whose try was quit, and cut off, is tried
+    again: of that try only the quit was told."""
     for ticket, replies in told.items():
         ran = [reply for kind, reply in replies if kind == "run"]
-        if not ran:
+        if {kind for kind, _ in replies} == {"quit"}:
+            same(f"what was told of {ticket}", Counter(), Counter(replies) - Counter(entries[ticket]))
+        elif not ran:
             same(f"what was told of {ticket}", Counter(entries[ticket]), Counter(replies))
+        if not ran:
             continue
         others = Counter(reply for reply in replies if reply[0] != "run")
         left = Counter(entries[ticket]) - others
-        lasts = [reply for kind, reply in left if kind in ("step", "commit")]
+        lasts = [reply for kind, reply in left if kind in ("step", "commit", "read", "write", "remove")]
         if len(ran) != 1 or ran[0] not in lasts or others - Counter(entries[ticket]):
             raise Differs(f"a run of {ticket} was told {replies}, in place of {entries[ticket]}")
 

@@ -16,6 +16,10 @@ uint32_t proved_sgt_start(sgt_engine *, uint64_t, const int64_t *, size_t, sgt_r
 uint32_t proved_sgt_step(sgt_engine *, uint32_t, sgt_reply *);
 uint32_t proved_sgt_commit(sgt_engine *, uint32_t, sgt_reply *);
 uint32_t proved_sgt_quit(sgt_engine *, uint32_t, sgt_reply *);
+uint32_t proved_sgt_begin(sgt_engine *, sgt_reply *);
+uint32_t proved_sgt_read(sgt_engine *, uint32_t, uint64_t, int64_t, sgt_reply *);
+uint32_t proved_sgt_write(sgt_engine *, uint32_t, uint64_t, int64_t, int64_t, sgt_reply *);
+uint32_t proved_sgt_remove(sgt_engine *, uint32_t, uint64_t, int64_t, sgt_reply *);
 uint32_t proved_sgt_run(sgt_engine *, uint64_t, const int64_t *, size_t, uint32_t *, sgt_reply *);
 uint32_t proved_sgt_run_many(sgt_engine *, const sgt_call *, size_t, sgt_outcome *, size_t, uint64_t *);
 uint32_t proved_sgt_get(sgt_engine *, uint64_t, int64_t, int64_t *);
@@ -24,6 +28,7 @@ uint32_t proved_sgt_records(sgt_engine *, uint64_t *);
 uint32_t proved_sgt_entries(sgt_engine *, uint64_t *);
 uint32_t proved_sgt_entry(sgt_engine *, uint64_t, sgt_event *, sgt_reply *);
 uint32_t proved_sgt_calls(sgt_engine *, uint64_t, sgt_call *, size_t, uint64_t *, uint64_t *);
+uint32_t proved_sgt_accesses(sgt_engine *, uint32_t, sgt_access *, size_t, uint64_t *);
 uint32_t proved_sgt_reserve(sgt_engine *, uint64_t);
 uint32_t proved_sgt_cut(sgt_engine *, uint64_t *);
 uint32_t proved_sgt_part(sgt_engine *, uint64_t *);
@@ -40,6 +45,7 @@ static union {
     uint8_t text;
     sgt_row row;
     sgt_call call;
+    sgt_access access;
     sgt_outcome outcome;
 } none;
 
@@ -117,6 +123,30 @@ uint32_t sgt_quit(sgt_engine *engine, uint32_t tid, sgt_reply *reply)
     return reply ? proved_sgt_quit(engine, tid, reply) : (uint32_t)SGT_BAD_CALL;
 }
 
+uint32_t sgt_begin(sgt_engine *engine, sgt_reply *reply)
+{
+    if (!engine) return SGT_CLOSED;
+    return reply ? proved_sgt_begin(engine, reply) : (uint32_t)SGT_BAD_CALL;
+}
+
+uint32_t sgt_read(sgt_engine *engine, uint32_t tid, uint64_t table, int64_t number, sgt_reply *reply)
+{
+    if (!engine) return SGT_CLOSED;
+    return reply ? proved_sgt_read(engine, tid, table, number, reply) : (uint32_t)SGT_BAD_CALL;
+}
+
+uint32_t sgt_write(sgt_engine *engine, uint32_t tid, uint64_t table, int64_t number, int64_t value, sgt_reply *reply)
+{
+    if (!engine) return SGT_CLOSED;
+    return reply ? proved_sgt_write(engine, tid, table, number, value, reply) : (uint32_t)SGT_BAD_CALL;
+}
+
+uint32_t sgt_remove(sgt_engine *engine, uint32_t tid, uint64_t table, int64_t number, sgt_reply *reply)
+{
+    if (!engine) return SGT_CLOSED;
+    return reply ? proved_sgt_remove(engine, tid, table, number, reply) : (uint32_t)SGT_BAD_CALL;
+}
+
 uint32_t sgt_run(sgt_engine *engine, uint64_t procedure, const int64_t *args, size_t count, uint32_t *tid, sgt_reply *reply)
 {
     if (!engine) return SGT_CLOSED;
@@ -167,6 +197,13 @@ uint32_t sgt_calls(const sgt_engine *engine, uint64_t from, sgt_call *calls, siz
     if (!engine) return SGT_CLOSED;
     if (!is_list(calls, room) || !count || !next) return SGT_BAD_CALL;
     return proved_sgt_calls(read_from(engine), from, calls ? calls : &none.call, room, count, next);
+}
+
+uint32_t sgt_accesses(const sgt_engine *engine, uint32_t tid, sgt_access *accesses, size_t room, uint64_t *count)
+{
+    if (!engine) return SGT_CLOSED;
+    if (!is_list(accesses, room) || !count) return SGT_BAD_CALL;
+    return proved_sgt_accesses(read_from(engine), tid, accesses ? accesses : &none.access, room, count);
 }
 
 uint32_t sgt_reserve(sgt_engine *engine, uint64_t entries) { return engine ? proved_sgt_reserve(engine, entries) : (uint32_t)SGT_CLOSED; }

@@ -17,7 +17,7 @@
 
 #include "sgt_shared.h"
 
-enum { MOST_LIVE = 32, MOST_ARGS = 4, MOST_PROCEDURE = 65535 };
+enum { MOST_LIVE = 32, MOST_ARGS = 4, MOST_PROCEDURE = 65535, MOST_ABORTS = 8 };
 
 enum {
     MOST_SPIN = 5000,    /* nanoseconds for which a thread looks whether the lock is free, before it sleeps */
@@ -68,7 +68,10 @@ struct live {
     uint32_t tid;
     uint32_t procedure;
     bool waits;
+    bool waits_for_ever;
     bool is_abandoned;       /* it is aborted as soon as the hook that abandoned it has returned */
+    uint32_t first;          /* the one that its commit waits for */
+    uint64_t thread;         /* that made the last call for it */
     int64_t since;
 };
 
@@ -112,6 +115,8 @@ struct sgt_shared {
     uint32_t most;               /* how many the limits allow, known after an SGT_FULL */
     uint32_t committing;         /* threads whose commit waits, or has ended and not returned yet */
     uint32_t cutters;            /* threads that wait for a cut */
+    uint32_t loners;             /* threads that wait until nobody is live, to start one alone */
+    bool is_alone;               /* whether the live one is to stay alone */
     uint32_t asked;              /* threads that are asked whether they are interrupted */
     bool abandons;               /* whether a live transaction is abandoned */
     uint64_t cut_at;             /* so many entries make a cut due */
@@ -150,9 +155,11 @@ struct closed {
 static pthread_mutex_t calling = PTHREAD_MUTEX_INITIALIZER;
 static _Thread_local struct hook *hooks;
 static _Thread_local struct watch watch;
+static _Thread_local uint64_t own_number;
 static struct closed closed = {.lock = PTHREAD_MUTEX_INITIALIZER};
 static atomic_uint forks;
 static atomic_uint_fast64_t opened;
+static atomic_uint_fast64_t threads;
 
 /* Time */
 
@@ -501,6 +508,13 @@ static void tell(sgt_shared *s)
 
 /* Who is live */
 
+/* The number of this thread. No other thread ever has it. */
+static uint64_t this_thread(void)
+{
+    if (own_number == 0) own_number = atomic_fetch_add(&threads, 1) + 1;
+    return own_number;
+}
+
 static struct live *find(sgt_shared *s, uint32_t tid)
 {
     for (uint32_t i = 0; i < s->lives; i++) {
@@ -512,7 +526,23 @@ static struct live *find(sgt_shared *s, uint32_t tid)
 /* Numbers rise, so the newest is the last. */
 static void add(sgt_shared *s, uint32_t tid, uint32_t procedure)
 {
-    if (s->lives < MOST_LIVE) s->live[s->lives++] = (struct live){.tid = tid, .procedure = procedure, .since = now()};
+    if (s->lives == MOST_LIVE) return;
+    s->live[s->lives++] = (struct live){.tid = tid, .procedure = procedure, .thread = this_thread(), .since = now()};
+}
+
+/* Notes that this thread makes a call for a transaction. */
+static void claim(sgt_shared *s, uint32_t tid)
+{
+    struct live *it = find(s, tid);
+    if (it) it->thread = this_thread();
+}
+
+/* Whether a live transaction is this thread's. */
+static bool has_own(const sgt_shared *s)
+{
+    uint32_t i = 0;
+    while (i < s->lives && s->live[i].thread != this_thread()) i++;
+    return i < s->lives;
 }
 
 static void drop(sgt_shared *s, uint32_t tid)
@@ -521,7 +551,7 @@ static void drop(sgt_shared *s, uint32_t tid)
     if (!it) return;
     size_t behind = (size_t)(&s->live[s->lives] - (it + 1));
     memmove(it, it + 1, behind * sizeof *it);
-    s->lives--;
+    if (--s->lives == 0) s->is_alone = false;
 }
 
 static sgt_ticket ticket_of(const sgt_shared *s, uint32_t tid) { return (sgt_ticket){s->number, s->part, tid, 0}; }
@@ -576,6 +606,7 @@ static void answered(sgt_shared *s, uint32_t tid, const sgt_reply *reply)
 /* An event of a transaction that was started. */
 static uint32_t ask(sgt_shared *s, uint32_t (*event)(sgt_engine *, uint32_t, sgt_reply *), uint32_t tid, sgt_reply *reply)
 {
+    claim(s, tid);
     uint32_t status = event(&s->engine, tid, reply);
     if (status == SGT_OK) answered(s, tid, reply);
     return status;
@@ -597,33 +628,66 @@ static void quit_abandoned(sgt_shared *s)
 
 /* Waiting */
 
-/* Waits until some transaction has ended, or nobody is live. Whether that came before the deadline. */
-static bool await_end(sgt_shared *s, struct deadline *until)
+/* Whether all live transactions are this thread's. */
+static bool has_all(const sgt_shared *s)
 {
-    const uint64_t ends = s->ends;
-    bool in_time = true;
-    while (s->ends == ends && s->lives > 0 && in_time) in_time = rest(s, &s->changed, until);
-    return s->ends != ends || s->lives == 0;
+    uint32_t i = 0;
+    while (i < s->lives && s->live[i].thread == this_thread()) i++;
+    return i == s->lives;
 }
 
-/* Waits until fewer are live than the limits allow. Whether that came before the deadline. */
-static bool await_room(sgt_shared *s, struct deadline *until)
+/* The transaction for which a thread waits for ever in a commit, or null. */
+static const struct live *waited_for(sgt_shared *s, uint64_t thread)
 {
-    bool in_time = true;
-    while (s->lives >= s->most && in_time) in_time = rest(s, &s->changed, until);
-    return s->lives < s->most;
+    uint32_t i = 0;
+    while (i < s->lives && !(s->live[i].thread == thread && s->live[i].waits_for_ever)) i++;
+    return i < s->lives ? find(s, s->live[i].first) : 0;
 }
 
-/* Waits until a transaction, or the one that its commit waits for, has ended. Whether that came before the deadline. */
-static bool await_turn(sgt_shared *s, uint32_t tid, uint32_t first, struct deadline *until)
+/* Whether this thread would wait for itself, maybe through others, if it waited for this transaction for ever. */
+static bool is_own(sgt_shared *s, uint32_t tid)
+{
+    const struct live *it = find(s, tid);
+    for (uint32_t i = 0; it && i < s->lives; i++) {
+        if (it->thread == this_thread()) return true;
+        it = waited_for(s, it->thread);
+    }
+    return false;
+}
+
+/* Waits until more transactions have ended than these, or nobody is live. SGT_TIMED_OUT; SGT_SELF_WAIT. */
+static uint32_t await_end(sgt_shared *s, uint64_t ends, struct deadline *until)
+{
+    bool in_time = true;
+    while (s->ends == ends && s->lives > 0 && in_time) {
+        if (until->never && has_all(s)) return SGT_SELF_WAIT;
+        in_time = rest(s, &s->changed, until);
+    }
+    return s->ends != ends || s->lives == 0 ? SGT_OK : SGT_TIMED_OUT;
+}
+
+/* Waits until fewer are live than the limits allow. SGT_TIMED_OUT; SGT_SELF_WAIT. */
+static uint32_t await_room(sgt_shared *s, struct deadline *until)
+{
+    bool in_time = true;
+    while (s->lives >= s->most && in_time) {
+        if (until->never && has_all(s)) return SGT_SELF_WAIT;
+        in_time = rest(s, &s->changed, until);
+    }
+    return s->lives < s->most ? SGT_OK : SGT_TIMED_OUT;
+}
+
+/* Waits until a transaction, or the one that its commit waits for, has ended. SGT_TIMED_OUT; SGT_SELF_WAIT. */
+static uint32_t await_turn(sgt_shared *s, uint32_t tid, uint32_t first, struct deadline *until)
 {
     bool in_time = true;
     struct live *it = find(s, tid);
-    if (it) it->waits = true;
+    if (it && until->never && is_own(s, first)) return SGT_SELF_WAIT;
+    if (it) it->waits = true, it->waits_for_ever = until->never, it->first = first;
     while (find(s, tid) && find(s, first) && in_time) in_time = rest(s, &s->changed, until);
     it = find(s, tid);
-    if (it) it->waits = false;
-    return !it || !find(s, first);
+    if (it) it->waits = it->waits_for_ever = false;
+    return !it || !find(s, first) ? SGT_OK : SGT_TIMED_OUT;
 }
 
 /*
@@ -636,7 +700,8 @@ static uint32_t go_on(sgt_shared *s, uint32_t tid, struct deadline *until, sgt_r
     s->committing++;
     while (status == SGT_OK && reply->kind == SGT_WAITS) {
         ++*waits;
-        status = await_turn(s, tid, reply->tid, until) ? ask(s, sgt_commit, tid, reply) : (uint32_t)SGT_TIMED_OUT;
+        status = await_turn(s, tid, reply->tid, until);
+        if (status == SGT_OK) status = ask(s, sgt_commit, tid, reply);
     }
     if (--s->committing == 0 && s->lives == 0) announce(s, &s->changed);
     return status;
@@ -861,11 +926,48 @@ static bool is_call(struct call *call, uint64_t procedure, const int64_t *args, 
     return true;
 }
 
-/* Waits until a transaction may be started. */
-static uint32_t may_start(sgt_shared *s, struct deadline *until)
+/*
+ * Whether a start has to wait for others: for all that are live, if it is to be alone, and else for one that is to be alone. A thread
+ * that has something live does not wait for one that is still to start, which waits for this thread.
+ */
+static bool is_held_up(const sgt_shared *s, bool alone)
 {
-    if (!await_cut(s, until)) return SGT_TIMED_OUT;
-    return !s->config.keeps_ended || reserve(&s->queue, s->lives + 1) ? SGT_OK : SGT_NO_MEMORY;
+    return alone ? s->lives > 0 : s->is_alone || (s->loners > 0 && !has_own(s));
+}
+
+/*
+ * Whether the next try is made alone: after so many aborts, unless this thread has something else live, which would have to end before.
+ */
+static bool is_due_alone(const sgt_shared *s, uint32_t aborts, uint32_t most) { return aborts >= most && !has_own(s); }
+
+/* Waits until a transaction may be started, alone or not. SGT_TIMED_OUT; SGT_SELF_WAIT. */
+static uint32_t await_others(sgt_shared *s, bool alone, struct deadline *until)
+{
+    bool in_time = true;
+    while (in_time) {
+        if (!await_cut(s, until)) return SGT_TIMED_OUT;
+        if (!is_held_up(s, alone)) return SGT_OK;
+        if (until->never && has_own(s)) return SGT_SELF_WAIT;
+        in_time = rest(s, &s->changed, until);
+    }
+    return is_held_up(s, alone) || s->cutters > 0 || s->pauses ? SGT_TIMED_OUT : SGT_OK;
+}
+
+/* Waits until a transaction may be started, and makes room for its end. */
+static uint32_t may_start(sgt_shared *s, bool alone, struct deadline *until)
+{
+    if (alone) s->loners++;
+    uint32_t status = await_others(s, alone, until);
+    if (status == SGT_OK && s->config.keeps_ended && !reserve(&s->queue, s->lives + 1)) status = SGT_NO_MEMORY;
+    if (alone && --s->loners == 0) announce(s, &s->changed);
+    return status;
+}
+
+/* Quits a transaction, unless it has ended. */
+static void quit(sgt_shared *s, uint32_t tid)
+{
+    sgt_reply reply = {0};
+    if (find(s, tid)) ask(s, sgt_quit, tid, &reply);
 }
 
 /* One try of a run. Where the deadline comes, or memory is refused, its transaction is quit. */
@@ -882,10 +984,7 @@ static uint32_t try_once(sgt_shared *s, const struct call *call, struct deadline
     }
     add(s, tid, call->procedure);
     status = go_on(s, tid, until, &out->reply, &out->waits);
-    if (status != SGT_OK && find(s, tid)) {
-        sgt_reply quit = {0};
-        ask(s, sgt_quit, tid, &quit);
-    }
+    if (status != SGT_OK) quit(s, tid);
     return status;
 }
 
@@ -895,19 +994,20 @@ static bool is_conflict(const sgt_reply *reply)
     return (reply->kind == SGT_ABORTED && reply->cause == SGT_BY_CYCLE) || (reply->kind == SGT_OVER && reply->cause == SGT_BY_FALL);
 }
 
-/* Runs it. */
+/* Runs it. Each try but the last was aborted by a conflict, or found no room. */
 static uint32_t run(sgt_shared *s, struct run *it, sgt_shared_outcome *out)
 {
     if (is_late(&it->until)) return SGT_TIMED_OUT;
     for (;;) {
-        uint32_t status = may_start(s, &it->until);
+        uint32_t status = may_start(s, is_due_alone(s, out->tries, MOST_ABORTS), &it->until);
         if (status == SGT_OK) status = try_once(s, &it->call, &it->until, out);
         if (status != SGT_OK) return status;
         const bool is_full = out->reply.kind == SGT_FULL;
         if (!is_full && (!is_conflict(&out->reply) || out->tries == it->tries)) return SGT_OK;
         if (out->reply.kind == SGT_OVER) continue; /* one has just ended */
         out->waits++;
-        if (!(is_full ? await_room(s, &it->until) : await_end(s, &it->until))) return SGT_TIMED_OUT;
+        status = is_full ? await_room(s, &it->until) : await_end(s, s->ends, &it->until);
+        if (status != SGT_OK) return status;
     }
 }
 
@@ -922,7 +1022,7 @@ static uint32_t run_beside(sgt_shared *s, struct run *it, sgt_shared_outcome *ou
 }
 
 /* Whether nobody is live, so that a run never waits. */
-static bool is_quiet(const sgt_shared *s) { return s->lives == 0 && s->committing == 0 && s->cutters == 0; }
+static bool is_quiet(const sgt_shared *s) { return s->lives == 0 && s->committing == 0 && s->cutters == 0 && s->loners == 0; }
 
 uint32_t sgt_shared_run(sgt_shared *shared, uint64_t procedure, const int64_t *args, size_t count, const sgt_run_options *options,
                         sgt_shared_outcome *outcome)
@@ -941,17 +1041,18 @@ uint32_t sgt_shared_run(sgt_shared *shared, uint64_t procedure, const int64_t *a
 
 /* Steps */
 
-static uint32_t start(sgt_shared *s, const struct call *call, struct deadline *until, sgt_ticket *ticket, sgt_reply *reply)
+static uint32_t start(sgt_shared *s, const struct call *call, bool alone, struct deadline *until, sgt_ticket *ticket, sgt_reply *reply)
 {
     for (;;) {
-        uint32_t status = may_start(s, until);
+        uint32_t status = may_start(s, alone, until);
         if (status != SGT_OK) return status;
         status = sgt_start(&s->engine, call->procedure, call->args, call->count, reply);
         if (status != SGT_OK) return status;
-        if (reply->kind == SGT_STARTED) add(s, reply->tid, call->procedure), *ticket = ticket_of(s, reply->tid);
+        if (reply->kind == SGT_STARTED) add(s, reply->tid, call->procedure), *ticket = ticket_of(s, reply->tid), s->is_alone = alone;
         if (reply->kind != SGT_FULL) return SGT_OK;
         s->most = s->lives;
-        if (!await_room(s, until)) return SGT_TIMED_OUT;
+        status = await_room(s, until);
+        if (status != SGT_OK) return status;
     }
 }
 
@@ -964,15 +1065,72 @@ uint32_t sgt_shared_start(sgt_shared *shared, uint64_t procedure, const int64_t 
     struct deadline until = deadline_in(wait_ns);
     uint32_t status = enter(shared);
     if (status != SGT_OK) return status;
-    status = start(shared, &call, &until, ticket, &told);
+    status = start(shared, &call, false, &until, ticket, &told);
     if (status == SGT_OK) *reply = told;
     return leave(shared, status);
+}
+
+uint32_t sgt_shared_begin(sgt_shared *shared, int64_t wait_ns, sgt_ticket *ticket, sgt_reply *reply)
+{
+    return sgt_shared_start(shared, SGT_EMPTY, 0, 0, wait_ns, ticket, reply);
 }
 
 uint32_t sgt_shared_step(sgt_shared *shared, const sgt_ticket *ticket, sgt_reply *reply)
 {
     uint32_t status = reply ? enter_for(shared, ticket) : (uint32_t)SGT_BAD_CALL;
     return status == SGT_OK ? leave(shared, ask(shared, sgt_step, ticket->tid, reply)) : status;
+}
+
+/* An access that a caller decides: `asked` is SGT_READ, SGT_WRITE or SGT_REMOVE. */
+struct access {
+    uint32_t asked;
+    uint64_t table;
+    int64_t number, value;
+};
+
+/* Makes an access. */
+static uint32_t make(sgt_shared *s, uint32_t tid, const struct access *it, sgt_reply *reply)
+{
+    uint32_t status = SGT_OK;
+    claim(s, tid);
+    if (it->asked == SGT_READ) status = sgt_read(&s->engine, tid, it->table, it->number, reply);
+    else if (it->asked == SGT_WRITE) status = sgt_write(&s->engine, tid, it->table, it->number, it->value, reply);
+    else status = sgt_remove(&s->engine, tid, it->table, it->number, reply);
+    if (status == SGT_OK) answered(s, tid, reply);
+    return status;
+}
+
+static uint32_t access_by(sgt_shared *shared, const sgt_ticket *ticket, const struct access *it, sgt_reply *reply)
+{
+    uint32_t status = reply ? enter_for(shared, ticket) : (uint32_t)SGT_BAD_CALL;
+    return status == SGT_OK ? leave(shared, make(shared, ticket->tid, it, reply)) : status;
+}
+
+uint32_t sgt_shared_read(sgt_shared *shared, const sgt_ticket *ticket, uint64_t table, int64_t number, sgt_reply *reply)
+{
+    return access_by(shared, ticket, &(struct access){SGT_READ, table, number, 0}, reply);
+}
+
+uint32_t sgt_shared_write(sgt_shared *shared, const sgt_ticket *ticket, uint64_t table, int64_t number, int64_t value, sgt_reply *reply)
+{
+    return access_by(shared, ticket, &(struct access){SGT_WRITE, table, number, value}, reply);
+}
+
+uint32_t sgt_shared_remove(sgt_shared *shared, const sgt_ticket *ticket, uint64_t table, int64_t number, sgt_reply *reply)
+{
+    return access_by(shared, ticket, &(struct access){SGT_REMOVE, table, number, 0}, reply);
+}
+
+uint32_t sgt_shared_accesses(sgt_shared *shared, const sgt_ticket *ticket, sgt_access *accesses, size_t room, uint64_t *count)
+{
+    if (!count || (!accesses && room > 0)) return SGT_BAD_CALL;
+    if (shared && ticket && !is_in_child(shared) && is_in_hook(shared)) { /* the hook has the lock */
+        if (ticket->engine != shared->number) return SGT_MISUSE;
+        if (ticket->part != shared->part) return SGT_STALE;
+        return sgt_accesses(&shared->engine, ticket->tid, accesses, room, count);
+    }
+    const uint32_t status = enter_for(shared, ticket);
+    return status == SGT_OK ? leave(shared, sgt_accesses(&shared->engine, ticket->tid, accesses, room, count)) : status;
 }
 
 uint32_t sgt_shared_quit(sgt_shared *shared, const sgt_ticket *ticket, sgt_reply *reply)
@@ -983,8 +1141,11 @@ uint32_t sgt_shared_quit(sgt_shared *shared, const sgt_ticket *ticket, sgt_reply
 
 uint32_t sgt_shared_abandon(sgt_shared *shared, const sgt_ticket *ticket)
 {
-    sgt_reply reply = {0};
-    if (!shared || !ticket || is_in_child(shared) || !is_in_hook(shared)) return sgt_shared_quit(shared, ticket, &reply);
+    if (!shared || !ticket || is_in_child(shared) || !is_in_hook(shared)) {
+        const uint32_t status = enter_for(shared, ticket);
+        if (status == SGT_OK) quit(shared, ticket->tid);
+        return status == SGT_OK ? leave(shared, SGT_OK) : status;
+    }
     if (ticket->engine != shared->number) return SGT_MISUSE;
     if (ticket->part != shared->part) return SGT_STALE;
     struct live *it = find(shared, ticket->tid);
@@ -1018,20 +1179,252 @@ uint32_t sgt_shared_live(sgt_shared *shared, sgt_live *rows, size_t room, uint64
     return leave(shared, SGT_OK);
 }
 
+/* Transaction functions */
+
+/* Whether the transaction is there, as far as its size and its engine say. */
+static bool is_made(const sgt_transaction *t) { return t && t->size >= sizeof *t && t->shared; }
+
+/* Notes that the last try has ended, by its reply. The status is SGT_UNDONE if that was by a conflict. */
+static uint32_t end_try(sgt_transaction *t)
+{
+    t->is_live = 0;
+    t->status = is_conflict(&t->reply) ? SGT_UNDONE : SGT_OK;
+    return t->status;
+}
+
+/* The same of one that was aborted in cascade, and whose part of the history was cut off, so that nothing is known of it any more. */
+static uint32_t end_cut_off(sgt_transaction *t)
+{
+    t->is_live = 0, t->reply.kind = SGT_UNKNOWN;
+    return t->status = SGT_UNDONE;
+}
+
+/* Makes an access of a transaction, and notes what came of it. */
+static uint32_t access_in(sgt_transaction *t, const struct access *it)
+{
+    if (!is_made(t) || t->tries == 0) return SGT_BAD_CALL;
+    if (!t->is_live) return SGT_UNDONE;
+    sgt_reply reply = {0};
+    uint32_t status = enter_for(t->shared, &t->ticket);
+    if (status == SGT_STALE) return end_cut_off(t);
+    if (status == SGT_OK) {
+        status = make(t->shared, t->ticket.tid, it, &reply);
+        if (status == SGT_OK) t->reply = reply, t->ends = t->shared->ends;
+        leave(t->shared, status);
+    }
+    if (status == SGT_OK && (reply.kind == SGT_ABORTED || reply.kind == SGT_OVER)) return end_try(t), SGT_UNDONE;
+    if (status == SGT_OK && reply.kind == SGT_BAD_ARGS) status = SGT_BAD_CALL;
+    if (status != SGT_OK && t->status == SGT_OK) t->status = status;
+    return status;
+}
+
+uint32_t sgt_transaction_read(sgt_transaction *transaction, uint64_t table, int64_t number, int64_t *value)
+{
+    if (!value) return SGT_BAD_CALL;
+    const uint32_t status = access_in(transaction, &(struct access){SGT_READ, table, number, 0});
+    if (status != SGT_OK) return status;
+    if (!transaction->reply.found) return SGT_NONE;
+    *value = transaction->reply.value;
+    return SGT_OK;
+}
+
+uint32_t sgt_transaction_write(sgt_transaction *transaction, uint64_t table, int64_t number, int64_t value)
+{
+    return access_in(transaction, &(struct access){SGT_WRITE, table, number, value});
+}
+
+uint32_t sgt_transaction_remove(sgt_transaction *transaction, uint64_t table, int64_t number)
+{
+    return access_in(transaction, &(struct access){SGT_REMOVE, table, number, 0});
+}
+
+/* Waits, after a cycle, until one of those that were in the way may have ended. */
+static uint32_t await_next(sgt_shared *s, sgt_transaction *t, struct deadline *until)
+{
+    if (t->status != SGT_UNDONE || t->reply.kind != SGT_ABORTED || s->ends != t->ends || s->lives == 0) return SGT_OK;
+    t->waits++;
+    return await_end(s, t->ends, until);
+}
+
+/* Starts the next try, alone or not. */
+static uint32_t start_try(sgt_shared *s, sgt_transaction *t, bool alone, struct deadline *until)
+{
+    const struct call call = {.procedure = SGT_EMPTY};
+    sgt_reply reply = {0};
+    uint32_t status = alone ? (uint32_t)SGT_OK : await_next(s, t, until);
+    if (status == SGT_OK) status = start(s, &call, alone, until, &t->ticket, &reply);
+    if (status != SGT_OK) return status;
+    t->reply = reply, t->status = SGT_OK;
+    t->is_live = reply.kind == SGT_STARTED;
+    t->tries += t->is_live;
+    return SGT_OK;
+}
+
+/* Makes the next try: alone after so many. */
+static uint32_t next_try(sgt_shared *shared, sgt_transaction *t, uint32_t tries, struct deadline *until)
+{
+    if (t->is_live) sgt_transaction_quit(t);
+    t->shared = shared;
+    uint32_t status = enter(shared);
+    if (status != SGT_OK) return status;
+    return leave(shared, start_try(shared, t, is_due_alone(shared, t->tries, tries), until));
+}
+
+uint32_t sgt_shared_try(sgt_shared *shared, sgt_transaction *transaction, const sgt_transact_options *options)
+{
+    static const sgt_transact_options plain = SGT_TRANSACT_OPTIONS;
+    if (!options) options = &plain;
+    if (!transaction || transaction->size < sizeof *transaction || options->size < sizeof *options) return SGT_BAD_CALL;
+    struct deadline until = deadline_in(options->wait_ns);
+    return next_try(shared, transaction, options->tries, &until);
+}
+
+/* Commits the last try, or quits it if an access of it failed, or the commit does. */
+static uint32_t commit_try(sgt_shared *s, sgt_transaction *t, struct deadline *until)
+{
+    uint32_t status = t->status;
+    sgt_reply reply = {0};
+    if (status == SGT_OK) status = ask(s, sgt_commit, t->ticket.tid, &reply);
+    if (status == SGT_OK) status = go_on(s, t->ticket.tid, until, &reply, &t->waits);
+    if (status != SGT_OK) quit(s, t->ticket.tid);
+    else t->reply = reply;
+    t->ends = s->ends;
+    return status;
+}
+
+static uint32_t commit_until(sgt_transaction *t, struct deadline *until)
+{
+    if (!is_made(t) || t->tries == 0) return SGT_BAD_CALL;
+    if (!t->is_live) return t->status;
+    uint32_t status = enter_for(t->shared, &t->ticket);
+    if (status == SGT_STALE) return end_cut_off(t);
+    if (status == SGT_OK) status = leave(t->shared, commit_try(t->shared, t, until));
+    if (status == SGT_OK) return end_try(t);
+    t->is_live = 0;
+    return t->status = status;
+}
+
+uint32_t sgt_transaction_commit(sgt_transaction *transaction, int64_t wait_ns)
+{
+    struct deadline until = deadline_in(wait_ns);
+    return commit_until(transaction, &until);
+}
+
+uint32_t sgt_transaction_quit(sgt_transaction *transaction)
+{
+    sgt_reply reply = {0};
+    if (!is_made(transaction) || transaction->tries == 0) return SGT_BAD_CALL;
+    if (!transaction->is_live) return transaction->status;
+    const uint32_t status = sgt_shared_quit(transaction->shared, &transaction->ticket, &reply);
+    if (status == SGT_STALE) return end_cut_off(transaction);
+    if (status != SGT_OK) return status;
+    transaction->reply = reply;
+    return end_try(transaction);
+}
+
+/* What is to be done where a body does not return: glibc's longjmp, too, calls what is noted in `jump`. */
+struct guard {
+    sgt_transaction *transaction;
+#ifdef __GLIBC__
+    struct _pthread_cleanup_buffer jump;
+#endif
+};
+
+#ifdef __GLIBC__
+void _pthread_cleanup_push(struct _pthread_cleanup_buffer *buffer, void (*routine)(void *), void *argument);
+void _pthread_cleanup_pop(struct _pthread_cleanup_buffer *buffer, int executes);
+#endif
+
+/* Aborts the transaction of a body that does not return. */
+static void break_body_off(void *transaction)
+{
+    const sgt_transaction *t = transaction;
+    sgt_shared_abandon(t->shared, &t->ticket);
+}
+
+static void begin_guard(struct guard *guard)
+{
+#ifdef __GLIBC__
+    _pthread_cleanup_push(&guard->jump, break_body_off, guard->transaction);
+#else
+    (void)guard;
+#endif
+}
+
+static void end_guard(struct guard *guard)
+{
+#ifdef __GLIBC__
+    _pthread_cleanup_pop(&guard->jump, 0);
+#else
+    (void)guard;
+#endif
+}
+
+/* Ends the guard of a body that threw an exception, or ended its thread. */
+static void break_guard(void *guard)
+{
+    end_guard(guard);
+    break_body_off(((struct guard *)guard)->transaction);
+}
+
+/* Calls the body. What it returns. */
+static uint32_t call(sgt_body body, void *context, sgt_transaction *t)
+{
+    struct guard guard = {.transaction = t};
+    uint32_t told = 0;
+    begin_guard(&guard);
+    pthread_cleanup_push(break_guard, &guard);
+    told = body(context, t);
+    pthread_cleanup_pop(0);
+    end_guard(&guard);
+    return told;
+}
+
+/* Ends a try as its body says. It is quit if an access of it failed. */
+static uint32_t end_as_told(sgt_transaction *t, uint32_t told, struct deadline *until)
+{
+    if (told == SGT_COMMIT) return commit_until(t, until);
+    const uint32_t failed = told == SGT_QUIT ? t->status : (uint32_t)SGT_BAD_CALL;
+    const uint32_t status = sgt_transaction_quit(t);
+    return status == SGT_OK ? failed : status;
+}
+
+uint32_t sgt_shared_transact(sgt_shared *shared, sgt_body body, void *context, const sgt_transact_options *options,
+                             sgt_shared_outcome *outcome)
+{
+    static const sgt_transact_options plain = SGT_TRANSACT_OPTIONS;
+    if (!options) options = &plain;
+    if (!body || !outcome || outcome->size < sizeof *outcome || options->size < sizeof *options) return SGT_BAD_CALL;
+    struct deadline until = deadline_in(options->wait_ns);
+    sgt_transaction t = SGT_TRANSACTION;
+    uint32_t status = SGT_OK;
+    do {
+        status = next_try(shared, &t, options->tries, &until);
+        if (status == SGT_OK && t.is_live) status = end_as_told(&t, call(body, context, &t), &until);
+    } while (status == SGT_UNDONE);
+    outcome->tries = t.tries, outcome->waits = t.waits;
+    if (status == SGT_OK) outcome->ticket = t.ticket, outcome->reply = t.reply;
+    return status;
+}
+
 /* The rest */
 
 uint32_t sgt_shared_cut(sgt_shared *shared, int64_t wait_ns)
 {
     struct deadline until = deadline_in(wait_ns);
-    bool in_time = true;
+    bool in_time = true, is_self = false;
     uint32_t status = enter(shared);
     if (status != SGT_OK) return status;
     const uint64_t part = shared->part;
     shared->cutters++;
-    while (shared->part == part && is_busy(shared) && in_time) in_time = rest(shared, &shared->changed, &until);
+    while (shared->part == part && is_busy(shared) && in_time && !is_self) {
+        is_self = until.never && has_own(shared);
+        if (!is_self) in_time = rest(shared, &shared->changed, &until);
+    }
     shared->cutters--;
     announce(shared, &shared->changed);
-    if (shared->part == part) status = is_busy(shared) ? (uint32_t)SGT_TIMED_OUT : cut(shared);
+    if (shared->part == part && is_busy(shared)) status = is_self ? SGT_SELF_WAIT : SGT_TIMED_OUT;
+    else if (shared->part == part) status = cut(shared);
     return leave(shared, status);
 }
 

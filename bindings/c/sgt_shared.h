@@ -10,23 +10,27 @@
  *     uint32_t status = sgt_shared_run(bank, 1, args, 2, 0, &outcome);      -- from any thread
  *
  * Use sgt_shared_run if you have all arguments of a call at hand: it runs the procedure from its start to its commit in one hold of
- * the lock. Then nobody else is live, so it never conflicts and never waits. sgt_shared_start, _step and _commit are for callers that
- * interleave transactions on purpose. Both may be mixed.
+ * the lock. Then nobody else is live, so it never conflicts and never waits. Use sgt_shared_transact if your program decides the accesses:
+ * it calls a function of yours, and again after a conflict. sgt_shared_start, _step and _commit, and sgt_shared_begin, _read, _write and
+ * _remove, are for callers that interleave transactions on purpose. All may be mixed.
  *
  * STATUSES are those of sgt.h, and these:
  *
  *   SGT_BUSY       another thread is in a call, so the engine can't be closed
+ *   SGT_SELF_WAIT  the call would wait, without a deadline, for a transaction that its own thread has to end
  *   SGT_TIMED_OUT  the deadline came
  *   SGT_STALE      the ticket is of a part of the history that was cut off: its transaction has ended
  *   SGT_MISUSE     a call from inside a hook of the same engine, a ticket of another engine, or a call in a forked child
+ *   SGT_UNDONE     the transaction of an sgt_transaction was aborted by a conflict: leave the body, and it is tried again
  *
  * Unless a call says otherwise, it changes and writes nothing if its status is not SGT_OK. SGT_CLOSED is returned if the engine is a
  * null pointer, and SGT_BAD_CALL if another pointer is null that has to be there; a list of no items may be null.
  *
  * DEADLINES are nanoseconds from the begin of a call, by a clock that never jumps. 0 never waits for another transaction, and SGT_FOREVER
  * waits as long as it takes. The lock itself is waited for without a deadline, as nobody holds it for long unless a hook does.
- * A thread that has a live transaction and waits for ever in another call may wait for itself: give such a call a deadline. So may a
- * commit that waits for a transaction of its own thread.
+ * A thread that has a live transaction and waits for ever in another call may wait for itself, also through other threads: give such a call
+ * a deadline. SGT_SELF_WAIT tells where this is seen. A transaction counts as that of the thread that made the last call for it. So give
+ * the call a deadline, too, if another thread is to end that transaction. A commit sees also those for which it waits through others.
  *
  * CANCELLATION. No call is a cancellation point: a thread that is cancelled in a call goes on until it has returned. No call may be made
  * from a thread whose cancellation is asynchronous, from a signal handler, or by a hook that longjmp leaves.
@@ -58,8 +62,8 @@ typedef struct sgt_ticket {
 
 /*
  * A call that was committed or refused, with its answers or its code, as sgt_calls returns it. `sequence` counts these calls from 0
- * in reply order, over all parts. Run one after another in this order, from the opening database, they give the same answers and end
- * in the committed database.
+ * in reply order, over all parts. Run one after another in this order, from the opening database, each with the accesses that its caller
+ * decided, they give the same answers and end in the committed database. `call.accesses` is the number of these accesses.
  */
 typedef struct sgt_ended {
     uint64_t sequence;
@@ -79,8 +83,8 @@ typedef struct sgt_live {
  * The configuration of a shared engine. Begin with SGT_SHARED_CONFIG, which asks for nothing, and set the fields that you need.
  *
  * The hooks are called under the lock, so nothing else happens meanwhile. A call from a hook to the same engine is SGT_MISUSE, but for
- * sgt_shared_abandon. A hook may call another engine. If hooks of that one call back, so that each waits for the other, one of the calls
- * is SGT_MISUSE.
+ * sgt_shared_abandon and sgt_shared_accesses. A hook may call another engine. If hooks of that one call back, so that each waits for the
+ * other, one of the calls is SGT_MISUSE.
  *
  * A hook of another language may throw an exception, or end its thread: the lock is released, and the exception reaches whoever made the
  * call, which has been carried out. If the exception is that of `cutting`, there is no cut.
@@ -114,7 +118,10 @@ typedef struct sgt_shared_config {
 
 #define SGT_SHARED_CONFIG {.size = sizeof(sgt_shared_config)}
 
-/* How a call is run. Begin with SGT_RUN_OPTIONS: no deadline, and as many tries as it takes. */
+/*
+ * How a call is run. Begin with SGT_RUN_OPTIONS: no deadline, and as many tries as it takes. After 8 aborts by a conflict the next try is
+ * made alone, so that it is the last.
+ */
 typedef struct sgt_run_options {
     size_t size;        /* sizeof(sgt_run_options) */
     int64_t wait_ns;
@@ -124,7 +131,38 @@ typedef struct sgt_run_options {
 
 #define SGT_RUN_OPTIONS {.size = sizeof(sgt_run_options), .wait_ns = SGT_FOREVER}
 
-/* What became of a run. Begin with SGT_SHARED_OUTCOME. */
+/* How a transaction function is run. Begin with SGT_TRANSACT_OPTIONS: no deadline, and alone after 8 aborts. */
+typedef struct sgt_transact_options {
+    size_t size;        /* sizeof(sgt_transact_options) */
+    int64_t wait_ns;
+    uint32_t tries;     /* after so many aborts by a conflict, the next try is made alone; 0: the first one is */
+    uint32_t spare;
+} sgt_transact_options;
+
+#define SGT_TRANSACT_OPTIONS {.size = sizeof(sgt_transact_options), .wait_ns = SGT_FOREVER, .tries = 8}
+
+/*
+ * A transaction whose accesses you decide, with its tries. Begin with SGT_TRANSACTION. Only the library writes its fields. One call at a
+ * time may use it.
+ */
+typedef struct sgt_transaction {
+    size_t size;        /* sizeof(sgt_transaction) */
+    sgt_shared *shared;
+    sgt_ticket ticket;  /* the last try */
+    uint64_t ends;      /* how many transactions had ended when the last try was aborted */
+    uint32_t tries;     /* how many were started */
+    uint32_t waits;     /* how often they waited */
+    uint32_t status;    /* SGT_OK, or why the last try can't be committed: the status of its first access that failed */
+    uint32_t is_live;   /* 1 until the last try has ended */
+    sgt_reply reply;    /* the last reply */
+} sgt_transaction;
+
+#define SGT_TRANSACTION {.size = sizeof(sgt_transaction)}
+
+/* A transaction function. It returns SGT_COMMIT or SGT_QUIT. */
+typedef uint32_t (*sgt_body)(void *context, sgt_transaction *transaction);
+
+/* What became of a run or a transaction function. Begin with SGT_SHARED_OUTCOME. */
 typedef struct sgt_shared_outcome {
     size_t size;        /* sizeof(sgt_shared_outcome) */
     uint32_t tries;     /* how many transactions were started for it, the last one included */
@@ -164,21 +202,90 @@ uint32_t sgt_shared_close(sgt_shared **shared);
  * Runs a procedure from its start to its commit. `options` may be null.
  *
  * If nobody else is live it takes one hold of the lock. Otherwise it waits as often as it has to: at SGT_FULL and at SGT_WAITS for the
- * end of another transaction. After a cycle or a cascading abort it tries again. The reply is the last one: SGT_COMMITTED, SGT_REFUSED,
- * SGT_ABORTED with SGT_BY_CODE, or that to a start that is refused for good (SGT_NO_PROCEDURE, SGT_BAD_ARGS, SGT_SPENT). If the tries
- * are used up, it is the SGT_ABORTED or SGT_OVER of the last one; if another thread quit it, SGT_OVER with SGT_BY_QUIT.
+ * end of another transaction. After a cycle or a cascading abort it tries again: after 8 of them alone, as sgt_shared_transact does.
+ * The reply is the last one: SGT_COMMITTED, SGT_REFUSED, SGT_ABORTED with SGT_BY_CODE, or that to a start that is refused for good
+ * (SGT_NO_PROCEDURE, SGT_BAD_ARGS, SGT_SPENT). If the tries are used up, it is the SGT_ABORTED or SGT_OVER of the last one; if another
+ * thread quit it, SGT_OVER with SGT_BY_QUIT.
  *
  * SGT_TIMED_OUT if the deadline comes: nothing of it is left live. If a deadline other than 0 comes before its turn, nothing is started.
- * SGT_NO_MEMORY: nothing is left live either. SGT_BAD_CALL if there are over 4 arguments, if the procedure is over 65535, or if a size is
- * too small. With each of these the tries and the waits are written, and no more.
+ * SGT_NO_MEMORY, SGT_SELF_WAIT: nothing is left live either. SGT_BAD_CALL if there are over 4 arguments, if the procedure is over 65535,
+ * or if a size is too small. With each of these the tries and the waits are written, and no more.
  */
 uint32_t sgt_shared_run(sgt_shared *shared, uint64_t procedure, const int64_t *args, size_t count, const sgt_run_options *options,
                         sgt_shared_outcome *outcome);
 
 /*
- * Starts a transaction. At SGT_FULL, and while a cut is awaited, it waits. If the reply is SGT_STARTED the ticket is written.
+ * Runs a function of yours as a transaction: starts one, calls `body` with it and with `context`, and commits it if `body` returns
+ * SGT_COMMIT. `body` reads and writes by sgt_transaction_read, _write and _remove. The lock is not held meanwhile. `options` may be null.
  *
- * SGT_TIMED_OUT: nothing was started. SGT_NO_MEMORY; SGT_BAD_CALL as of sgt_shared_run.
+ *     static uint32_t takes_five(void *context, sgt_transaction *t)
+ *     {
+ *         int64_t *had = context;
+ *         if (sgt_transaction_read(t, 2, 101, had) != SGT_OK) return SGT_QUIT;
+ *         if (*had >= 5) sgt_transaction_write(t, 2, 101, *had - 5);      // else it is refused
+ *         return SGT_COMMIT;
+ *     }
+ *
+ * THE BODY IS RUN AGAIN after a cycle or a cascading abort. So it must have no effects but its accesses, and set what it returns in its
+ * context anew each time. What it reads may be uncommitted, and be undone afterwards. So act on it only after the commit: when this call
+ * returns SGT_OK with the reply SGT_COMMITTED. A body that quits on what it read may have quit on a value that is undone. To refuse
+ * truthfully, it notes the refusal in its context, writes nothing, and returns SGT_COMMIT: once that is committed, the refusal is true.
+ *
+ * After `tries` aborts the next try is made ALONE: transactions that start wait, as for a cut, until the live ones have ended and it has
+ * ended too. Then it is the only live one, so it is not aborted for a cycle and waits for nobody. A thread that has a live transaction may
+ * still start others before it, so that it can end its own; one that always has something live keeps the try waiting. No try is made alone
+ * while its own thread has another live transaction.
+ *
+ * The reply is the last one: SGT_COMMITTED; SGT_ABORTED with SGT_BY_QUIT if the body returned SGT_QUIT; SGT_SPENT, and the body was not
+ * called; or SGT_OVER with SGT_BY_QUIT if another thread quit the transaction. If the history has been cut off before this was noticed,
+ * the body is run again. What the body returns after a conflict does not matter.
+ *
+ * With each other status, nothing is left live, and the tries and waits are written, and no more: SGT_TIMED_OUT if the deadline comes,
+ * which does not interrupt the body; SGT_SELF_WAIT; SGT_NO_MEMORY; SGT_CLOSED; SGT_BAD_CALL if a size is too small, or the body returns
+ * another number. If an access of the body failed, nothing is committed, whatever it returns, and the status is that of this access.
+ *
+ * A body may be left by an exception, by the end of its thread, and, with glibc, by longjmp: then its transaction is aborted. With another
+ * C library, it stays live after a longjmp.
+ */
+uint32_t sgt_shared_transact(sgt_shared *shared, sgt_body body, void *context, const sgt_transact_options *options,
+                             sgt_shared_outcome *outcome);
+
+/* Reads a record. SGT_NONE if there is none; SGT_UNDONE; SGT_BAD_CALL if the table is over 7 or the number out of range; SGT_NO_MEMORY. */
+uint32_t sgt_transaction_read(sgt_transaction *transaction, uint64_t table, int64_t number, int64_t *value);
+
+/* Writes a record. SGT_UNDONE; SGT_BAD_CALL if the table is over 7, or the number or the value out of range; SGT_NO_MEMORY. */
+uint32_t sgt_transaction_write(sgt_transaction *transaction, uint64_t table, int64_t number, int64_t value);
+
+/* Removes a record, or does nothing if there is none. SGT_UNDONE; SGT_BAD_CALL as of sgt_transaction_read; SGT_NO_MEMORY. */
+uint32_t sgt_transaction_remove(sgt_transaction *transaction, uint64_t table, int64_t number);
+
+/*
+ * The same for a loop of your own, of which sgt_shared_transact is one: each try begins with sgt_shared_try, and ends with
+ * sgt_transaction_commit or _quit. If its status is SGT_UNDONE, make the next try with the same sgt_transaction.
+ *
+ * sgt_shared_try waits, after a cycle, until another transaction has ended, and starts the next one: alone after options->tries tries. If
+ * the last one is still live, it is quit. If the reply is not SGT_STARTED, it is SGT_SPENT.
+ *
+ * SGT_TIMED_OUT, SGT_SELF_WAIT, SGT_NO_MEMORY: nothing was started. SGT_BAD_CALL if a size is too small.
+ */
+uint32_t sgt_shared_try(sgt_shared *shared, sgt_transaction *transaction, const sgt_transact_options *options);
+
+/*
+ * Commits it. Where it has to wait for another one, it waits until that has ended. The reply is as of sgt_shared_transact.
+ *
+ * SGT_UNDONE; SGT_TIMED_OUT, SGT_SELF_WAIT, SGT_NO_MEMORY, and the status of an access that failed: it was quit. SGT_BAD_CALL if it was not
+ * started.
+ */
+uint32_t sgt_transaction_commit(sgt_transaction *transaction, int64_t wait_ns);
+
+/* Quits it. SGT_UNDONE if it had been aborted by a conflict before; SGT_BAD_CALL if it was not started. */
+uint32_t sgt_transaction_quit(sgt_transaction *transaction);
+
+/*
+ * Starts a transaction. At SGT_FULL, while a cut is awaited, and while another one is to run alone, it waits. If the reply is SGT_STARTED
+ * the ticket is written.
+ *
+ * SGT_TIMED_OUT, SGT_SELF_WAIT: nothing was started. SGT_NO_MEMORY; SGT_BAD_CALL as of sgt_shared_run.
  */
 uint32_t sgt_shared_start(sgt_shared *shared, uint64_t procedure, const int64_t *args, size_t count, int64_t wait_ns,
                           sgt_ticket *ticket, sgt_reply *reply);
@@ -186,19 +293,36 @@ uint32_t sgt_shared_start(sgt_shared *shared, uint64_t procedure, const int64_t 
 /* Lets a transaction make its next access. SGT_STALE; SGT_NO_MEMORY. */
 uint32_t sgt_shared_step(sgt_shared *shared, const sgt_ticket *ticket, sgt_reply *reply);
 
+/* Starts a transaction of no procedure, as sgt_begin does: its caller decides all its accesses. It waits as sgt_shared_start does. */
+uint32_t sgt_shared_begin(sgt_shared *shared, int64_t wait_ns, sgt_ticket *ticket, sgt_reply *reply);
+
+/*
+ * Accesses that the caller of a transaction decides, as by sgt_read, sgt_write and sgt_remove: after sgt_shared_begin, or at the end of its
+ * procedure. SGT_STALE; SGT_NO_MEMORY; SGT_BAD_CALL if the table is over 7 or the number out of range.
+ */
+uint32_t sgt_shared_read(sgt_shared *shared, const sgt_ticket *ticket, uint64_t table, int64_t number, sgt_reply *reply);
+uint32_t sgt_shared_write(sgt_shared *shared, const sgt_ticket *ticket, uint64_t table, int64_t number, int64_t value, sgt_reply *reply);
+uint32_t sgt_shared_remove(sgt_shared *shared, const sgt_ticket *ticket, uint64_t table, int64_t number, sgt_reply *reply);
+
+/*
+ * The accesses that the caller of a transaction decided, as by sgt_accesses, until the history is cut. A hook may call it, too: that of
+ * `ended`, for a journal. SGT_STALE; SGT_BAD_CALL.
+ */
+uint32_t sgt_shared_accesses(sgt_shared *shared, const sgt_ticket *ticket, sgt_access *accesses, size_t room, uint64_t *count);
+
 /* Quits a transaction: it is aborted. This never needs memory for a live one. SGT_STALE; SGT_NO_MEMORY. */
 uint32_t sgt_shared_quit(sgt_shared *shared, const sgt_ticket *ticket, sgt_reply *reply);
 
 /*
  * Aborts a transaction that nobody needs any more, for destructors: as sgt_shared_quit does, or, from inside a hook of the same engine,
- * as soon as the hook has returned. SGT_STALE; SGT_NO_MEMORY.
+ * as soon as the hook has returned. Nothing is done if it has ended. SGT_STALE.
  */
 uint32_t sgt_shared_abandon(sgt_shared *shared, const sgt_ticket *ticket);
 
 /*
  * Commits a transaction. Where it has to wait for another one, it waits until that has ended.
  *
- * SGT_TIMED_OUT if the deadline comes first: the transaction is still live, so commit it again later, or quit it. SGT_STALE;
+ * SGT_TIMED_OUT if the deadline comes first, SGT_SELF_WAIT: the transaction is still live, so commit it again later, or quit it. SGT_STALE;
  * SGT_NO_MEMORY.
  */
 uint32_t sgt_shared_commit(sgt_shared *shared, const sgt_ticket *ticket, int64_t wait_ns, sgt_reply *reply);
@@ -209,7 +333,7 @@ uint32_t sgt_shared_live(sgt_shared *shared, sgt_live *rows, size_t room, uint64
 /*
  * Cuts the history off, as sgt_cut does. New transactions wait meanwhile, until the live ones have ended.
  *
- * SGT_TIMED_OUT if the deadline comes before they have; SGT_NO_MEMORY.
+ * SGT_TIMED_OUT if the deadline comes before they have; SGT_SELF_WAIT; SGT_NO_MEMORY.
  */
 uint32_t sgt_shared_cut(sgt_shared *shared, int64_t wait_ns);
 

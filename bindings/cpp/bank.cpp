@@ -63,7 +63,7 @@ int main()
     }
     sgt::Engine bare = sgt::Engine::bare(8, 100);
     if (again.records() != 4 || again.part() != 1 || bare.records() != 0 || bare.procedure(R"([0,[["put",7,1,2]]])") != 0) return 1;
-    auto many = bare.run_many({{0, 0, 0, 0, 0, 0, {}, {}}, {0, 0, 9, 0, 0, 0, {}, {}}});
+    auto many = bare.run_many({{0, 0, 0, 0, 0, 0, {}, {}, 0}, {0, 0, 9, 0, 0, 0, {}, {}, 0}});
     if (many.size() != 2 || many[0].reply.kind != SGT_COMMITTED || many[1].reply.kind != SGT_NO_PROCEDURE) return 1;
     std::uint16_t number = again.procedure(R"([1,[["look",0,7,["arg",0],5],["answer",["reg",0]]]])");
     if (again.procedure_text(number) != R"([1,[["look",0,7,["arg",0],5],["answer",["reg",0]]]])" || again.procedure_text(99)) return 1;

@@ -16,6 +16,7 @@
 #include <stdexcept>
 #include <string>
 #include <string_view>
+#include <type_traits>
 #include <utility>
 #include <vector>
 
@@ -147,6 +148,30 @@ public:
     Stale() : std::runtime_error("sgt: the transaction is of a part of the history that was cut off") {}
 };
 
+// Thrown by `SharedEngine` if the call would wait, without a deadline, for a transaction that its own thread has to end.
+class SelfWait : public std::logic_error {
+public:
+    SelfWait() : std::logic_error("sgt: the call would wait for its own thread, without a deadline") {}
+};
+
+// Thrown by the calls of an `OwnTransaction` if it has been aborted: nothing of it is in the database. The reply says why. If that was by a
+// conflict, a cycle or a cascading abort, try it again; else somebody quit it.
+class Aborted : public std::runtime_error {
+public:
+    Aborted(const sgt_reply &reply, bool is_conflict) : std::runtime_error("sgt: " + text(reply)), reply(reply), is_conflict(is_conflict) {}
+
+    const sgt_reply reply;
+    const bool is_conflict;
+};
+
+// Thrown if a start is refused: no start is left.
+class NotStarted : public std::runtime_error {
+public:
+    explicit NotStarted(const sgt_reply &reply) : std::runtime_error("sgt: " + text(reply)), reply(reply) {}
+
+    const sgt_reply reply;
+};
+
 // The result of a run: the last reply, and the number of its transaction, if one was started.
 struct Ran {
     std::optional<std::uint32_t> tid;
@@ -238,6 +263,46 @@ public:
     sgt_reply step(std::uint32_t tid) { return ask(sgt_step, tid); }
     sgt_reply commit(std::uint32_t tid) { return ask(sgt_commit, tid); }
     sgt_reply quit(std::uint32_t tid) { return ask(sgt_quit, tid); }
+
+    // Starts a transaction of no procedure: its caller decides all its accesses, by `read`, `write` and `remove`.
+    sgt_reply begin()
+    {
+        sgt_reply reply{};
+        check(sgt_begin(&engine, &reply));
+        return reply;
+    }
+
+    // Accesses of a transaction whose procedure is at its end. A value out of range is SGT_BAD_ARGS. A removal is a write of no value.
+    sgt_reply read(std::uint32_t tid, std::uint64_t table, std::int64_t number)
+    {
+        sgt_reply reply{};
+        check(sgt_read(&engine, tid, table, number, &reply));
+        return reply;
+    }
+
+    sgt_reply write(std::uint32_t tid, std::uint64_t table, std::int64_t number, std::int64_t value)
+    {
+        sgt_reply reply{};
+        check(sgt_write(&engine, tid, table, number, value, &reply));
+        return reply;
+    }
+
+    sgt_reply remove(std::uint32_t tid, std::uint64_t table, std::int64_t number)
+    {
+        sgt_reply reply{};
+        check(sgt_remove(&engine, tid, table, number, &reply));
+        return reply;
+    }
+
+    // Returns the accesses that the caller of a transaction decided, in their order.
+    std::vector<sgt_access> accesses(std::uint32_t tid) const
+    {
+        std::uint64_t count = 0;
+        check(sgt_accesses(&engine, tid, nullptr, 0, &count));
+        std::vector<sgt_access> accesses(count);
+        if (count) check(sgt_accesses(&engine, tid, accesses.data(), accesses.size(), &count));
+        return accesses;
+    }
 
     // Returns the JSON text of a procedure, as `procedure` takes it, or none if there is no procedure of that number.
     std::optional<std::string> procedure_text(std::uint64_t number) const
@@ -379,7 +444,90 @@ struct Limits {
     std::uint32_t tries = 0;
 };
 
+// How long a transaction function may wait, and after how many aborts by a conflict it is run alone (0: at once). See sgt_transact_options.
+struct TransactLimits {
+    Wait wait = std::nullopt;
+    std::uint32_t tries = 8;
+};
+
 class SharedEngine;
+
+// A transaction whose accesses you decide, of `SharedEngine::begin` or `SharedEngine::transact`. Its destructor quits it, unless it has
+// ended before. It must not outlive the engine. What it reads may be uncommitted, and be undone afterwards: so act on it only after the
+// commit. Each call throws Aborted if it has been aborted, std::invalid_argument if a number is out of range, or std::bad_alloc.
+class [[nodiscard]] OwnTransaction {
+public:
+    OwnTransaction(OwnTransaction &&other) noexcept : shared(other.shared), told(other.told) { other.told.is_live = 0; }
+
+    OwnTransaction &operator=(OwnTransaction &&other) noexcept
+    {
+        std::swap(shared, other.shared);
+        std::swap(told, other.told);
+        return *this;
+    }
+
+    OwnTransaction(const OwnTransaction &) = delete;
+    OwnTransaction &operator=(const OwnTransaction &) = delete;
+
+    ~OwnTransaction()
+    {
+        if (told.is_live) sgt_shared_abandon(shared, &told.ticket); // also inside a hook of the engine
+    }
+
+    [[nodiscard]] const sgt_ticket &ticket() const { return told.ticket; }
+
+    // How many transactions were started for it, this one included.
+    [[nodiscard]] std::uint32_t tries() const { return told.tries; }
+
+    // Returns the value of a record, or none if there is no such record.
+    [[nodiscard]] std::optional<std::int64_t> read(std::uint64_t table, std::int64_t number)
+    {
+        std::int64_t value = 0;
+        auto status = sgt_transaction_read(&told, table, number, &value);
+        if (status == SGT_NONE) return std::nullopt;
+        check(status);
+        return value;
+    }
+
+    // Writes a record.
+    void write(std::uint64_t table, std::int64_t number, std::int64_t value) { check(sgt_transaction_write(&told, table, number, value)); }
+
+    // Removes a record. Does nothing if there is none.
+    void remove(std::uint64_t table, std::int64_t number) { check(sgt_transaction_remove(&told, table, number)); }
+
+    // Commits it, and waits for its predecessors. Throws TimedOut if the deadline comes first, or SelfWait; then it was quit.
+    void commit(Wait wait = std::nullopt)
+    {
+        if (!is_committed(wait)) throw aborted();
+    }
+
+    // Aborts it, unless it has ended.
+    void quit()
+    {
+        if (told.is_live) static_cast<void>(ends_undone());
+    }
+
+private:
+    friend class SharedEngine;
+
+    explicit OwnTransaction(sgt_shared *shared) : shared(shared) { told.size = sizeof told; }
+
+    void check(std::uint32_t status) const;
+
+    // Starts the next try: alone after so many.
+    void start(Wait wait, std::uint32_t tries);
+
+    // Commits it. False if it was aborted by a conflict.
+    bool is_committed(Wait wait);
+
+    // Quits it. Whether it was aborted by a conflict.
+    bool ends_undone() { return sgt_transaction_quit(&told) == SGT_UNDONE; }
+
+    [[nodiscard]] Aborted aborted() const { return Aborted(told.reply, told.status == SGT_UNDONE); }
+
+    sgt_shared *shared;
+    sgt_transaction told{};
+};
 
 // A transaction of a shared engine. Its destructor aborts it, unless it has ended before. It must not outlive the engine. After its end the
 // reply to each call is SGT_OVER, or the call throws Stale.
@@ -497,6 +645,52 @@ public:
         return start_with(procedure, std::data(args), std::size(args), wait);
     }
 
+    // Runs a function of yours as a transaction, `body(OwnTransaction &)`, commits it, and returns what it returned.
+    //
+    // The body is run again after a conflict, so it must have no effects but its accesses. What it reads may be uncommitted, and be undone
+    // afterwards: act on it after the commit, when this call has returned. What it throws quits the transaction and is thrown, unless it
+    // is a std::exception and a conflict had come first; it may rest on a value that is undone. To refuse truthfully, return the refusal
+    // without a write: once that is committed, it is true.
+    //
+    // After `tries` conflicts the next try is made alone: others wait until it has ended, and it has no conflicts.
+    //
+    // Throws TimedOut if the deadline comes first, which does not interrupt the body; Aborted if somebody quit the transaction; NotStarted;
+    // SelfWait; std::bad_alloc. Then nothing of it is left live.
+    template <typename Body> auto transact(Body body, TransactLimits limits = {}) -> decltype(body(std::declval<OwnTransaction &>()))
+    {
+        using Result = decltype(body(std::declval<OwnTransaction &>()));
+        const auto begin = std::chrono::steady_clock::now();
+        OwnTransaction own(shared);
+        if constexpr (std::is_void_v<Result>) {
+            while (!is_done(own, [&] { body(own); }, limits, begin)) {}
+        } else {
+            std::optional<Result> result;
+            while (!is_done(own, [&] { result.emplace(body(own)); }, limits, begin)) {}
+            return std::move(*result);
+        }
+    }
+
+    // Starts a transaction whose accesses you decide. Throws NotStarted, TimedOut, SelfWait or std::bad_alloc.
+    [[nodiscard]] OwnTransaction begin(Wait wait = std::nullopt)
+    {
+        OwnTransaction own(shared);
+        own.start(wait, UINT32_MAX); // it has one try, so it is never alone
+        return own;
+    }
+
+    // Returns the accesses that the caller of a transaction decided, in their order. Throws Stale once the history is cut. The hooks of the
+    // engine may call it.
+    [[nodiscard]] std::vector<sgt_access> accesses(const sgt_ticket &ticket)
+    {
+        std::vector<sgt_access> accesses;
+        std::uint64_t count = 0;
+        do {
+            accesses.resize(count);
+            check(sgt_shared_accesses(shared, &ticket, accesses.data(), accesses.size(), &count));
+        } while (count > accesses.size());
+        return accesses;
+    }
+
     // Aborts the transaction of a ticket, which `live` and the hooks return.
     sgt_reply quit(const sgt_ticket &ticket)
     {
@@ -570,6 +764,7 @@ public:
         if (status == SGT_NO_MEMORY) throw std::bad_alloc();
         if (status == SGT_TIMED_OUT) throw TimedOut();
         if (status == SGT_STALE) throw Stale();
+        if (status == SGT_SELF_WAIT) throw SelfWait();
         if (status == SGT_BAD_CALL) throw std::invalid_argument("sgt: an argument of the call is out of its range");
         throw std::logic_error(std::string("sgt: ") + sgt_status_text(status));
     }
@@ -577,6 +772,28 @@ public:
 private:
     std::unique_ptr<Configuration> hooks; // at a stable address, since the library keeps a pointer to it
     sgt_shared *shared = nullptr;
+
+    // What is left of the limits.
+    static Wait left(TransactLimits limits, std::chrono::steady_clock::time_point begin)
+    {
+        if (!limits.wait) return std::nullopt;
+        const auto left = *limits.wait - std::chrono::duration_cast<std::chrono::nanoseconds>(std::chrono::steady_clock::now() - begin);
+        return left.count() > 0 ? left : std::chrono::nanoseconds(0);
+    }
+
+    // Makes a try of a transaction function. Whether it is committed; else a conflict undid it.
+    template <typename Call>
+    static bool is_done(OwnTransaction &own, Call call, TransactLimits limits, std::chrono::steady_clock::time_point begin)
+    {
+        own.start(left(limits, begin), limits.tries);
+        try {
+            call();
+        } catch (const std::exception &) {
+            if (!own.ends_undone()) throw;
+            return false;
+        }
+        return own.is_committed(left(limits, begin));
+    }
 
     static void tell_ended(void *context, const sgt_ended *call) { static_cast<Configuration *>(context)->ended(*call); }
 
@@ -607,6 +824,31 @@ private:
         return {Transaction(shared, ticket), reply};
     }
 };
+
+inline void OwnTransaction::check(std::uint32_t status) const
+{
+    if (status == SGT_UNDONE) throw aborted();
+    SharedEngine::check(status);
+}
+
+inline void OwnTransaction::start(Wait wait, std::uint32_t tries)
+{
+    sgt_transact_options options{};
+    options.size = sizeof options;
+    options.wait_ns = SharedEngine::nanoseconds(wait);
+    options.tries = tries;
+    SharedEngine::check(sgt_shared_try(shared, &told, &options));
+    if (told.reply.kind != SGT_STARTED) throw NotStarted(told.reply);
+}
+
+inline bool OwnTransaction::is_committed(Wait wait)
+{
+    auto status = sgt_transaction_commit(&told, SharedEngine::nanoseconds(wait));
+    if (status == SGT_UNDONE) return false;
+    SharedEngine::check(status);
+    if (told.reply.kind != SGT_COMMITTED) throw aborted();
+    return true;
+}
 
 inline sgt_reply Transaction::commit(Wait wait)
 {

@@ -411,13 +411,16 @@ static void procedures_have_numbers_of_16_bits(void)
     uint16_t number = 77;
     uint32_t t = 0, added = 5;
     CHECK(opens(&engine, opening, &fault) == 0);
-    while (added < 65536 && adds(&engine, none, &number, &fault) == 0 && number == added) added++;
-    CHECK(added == 65536);
+    while (added < 65535 && adds(&engine, none, &number, &fault) == 0 && number == added) added++;
+    CHECK(added == 65535);
     CHECK(adds(&engine, none, &number, &fault) == 9);
     CHECK(adds(&engine, "nope", &number, &fault) == 9);
-    CHECK(number == 65535 && fault.kind == 0);
-    CHECK(sgt_run(&engine, 65535, deposit, 0, &t, &told) == 0);
+    CHECK(number == 65534 && fault.kind == 0);
+    CHECK(sgt_run(&engine, 65534, deposit, 0, &t, &told) == 0);
     CHECK(is_committed(&told, 7));
+    /* The last number is that of the empty procedure. */
+    CHECK(sgt_run(&engine, 65535, deposit, 0, &t, &told) == 0);
+    CHECK(told.kind == SGT_COMMITTED && told.answers == 0);
     sgt_close(&engine);
 }
 
@@ -612,6 +615,7 @@ static void fields_that_do_not_count_stay(void)
     fill(&told, &want);
     CHECK(sgt_step(&engine, 0, &told) == 0);
     set_record(&want, 9, 2, 101);
+    want.found = 1;
     want.value = 1100;
     CHECK(wrote_just(&told, &want));
     CHECK(sgt_commit(&engine, 0, &told) == 0);
@@ -883,8 +887,10 @@ static void wide_numbers_are_refused(void)
     CHECK(told.kind == 0 && t == 79);
     CHECK(sgt_entries(&engine, &count) == 0);
     CHECK(count == 0);
-    CHECK(sgt_start(&engine, 65535, deposit, 2, &told) == 0);
+    CHECK(sgt_start(&engine, 65534, deposit, 2, &told) == 0);
     CHECK(told.kind == 2);
+    CHECK(sgt_start(&engine, 65535, deposit, 2, &told) == 0);
+    CHECK(told.kind == 3);
     sgt_close(&engine);
     CHECK(sgt_start(&engine, 65536, deposit, 2, &told) == 5);
     CHECK(sgt_get(&engine, 8, 101, &value) == 5);

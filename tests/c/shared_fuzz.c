@@ -70,8 +70,9 @@ static void same(struct pair *pair, uint32_t plain, uint32_t shared, const sgt_r
 static void start(struct pair *pair, struct input *input)
 {
     const int64_t args[5] = {number(input), number(input), number(input), 0, 0};
-    const uint16_t procedure = byte(input) % 7;
-    const size_t count = byte(input) % 6;
+    const bool is_empty = byte(input) % 2;
+    const uint16_t procedure = is_empty ? SGT_EMPTY : byte(input) % 7;
+    const size_t count = is_empty ? 0 : byte(input) % 6;
     const uint64_t had = entries(pair);
     sgt_reply one = {0}, other = {0};
     sgt_ticket ticket = {0};
@@ -104,6 +105,111 @@ static void event(struct pair *pair, struct input *input, uint8_t which)
         }
     }
     same(pair, plain, shared, &one, &other, had);
+}
+
+/* An access that a caller decides. */
+static void access_by(struct pair *pair, struct input *input)
+{
+    const uint32_t tid = byte(input) % 64;
+    const uint8_t which = byte(input) % 3, table = byte(input) % 9;
+    const int64_t record = byte(input) % 2 ? 100 + byte(input) % 4 : number(input), value = number(input);
+    const uint64_t had = entries(pair);
+    const sgt_ticket ticket = {pair->engine, pair->part, tid, 0};
+    sgt_reply one = {0}, other = {0};
+    uint32_t plain, shared;
+    if (!pair->engine) return;
+    if (which == 0) {
+        plain = sgt_read(&pair->plain, tid, table, record, &one);
+        shared = sgt_shared_read(pair->shared, &ticket, table, record, &other);
+    } else if (which == 1) {
+        plain = sgt_write(&pair->plain, tid, table, record, value, &one);
+        shared = sgt_shared_write(pair->shared, &ticket, table, record, value, &other);
+    } else {
+        plain = sgt_remove(&pair->plain, tid, table, record, &one);
+        shared = sgt_shared_remove(pair->shared, &ticket, table, record, &other);
+    }
+    same(pair, plain, shared, &one, &other, had);
+}
+
+/* The accesses that the caller of a transaction decided. */
+static void accesses(struct pair *pair, struct input *input)
+{
+    const uint32_t tid = byte(input) % 64;
+    const size_t room = byte(input) % 4;
+    const sgt_ticket ticket = {pair->engine, pair->part, tid, 0};
+    sgt_access ones[3] = {{0}}, others[3] = {{0}};
+    uint64_t many = 77, count = 77;
+    if (!pair->engine) return;
+    must(sgt_accesses(&pair->plain, tid, ones, room, &many) == SGT_OK, "the accesses are not told");
+    must(sgt_shared_accesses(pair->shared, &ticket, others, room, &count) == SGT_OK && many == count, "the accesses differ");
+    must(memcmp(ones, others, sizeof ones) == 0, "the accesses differ");
+}
+
+/* A transaction function: what it is to do, and on which engine the same is done by single calls. */
+struct body {
+    struct pair *pair;
+    struct input *input;
+    uint32_t tid, told;
+    bool is_over;
+};
+
+/* What an access of a body answers where the same event of the other engine is answered so. */
+static uint32_t wanted(const sgt_reply *reply, uint32_t plain)
+{
+    if (plain != SGT_OK) return plain;
+    if (reply->kind == SGT_ABORTED || reply->kind == SGT_OVER) return SGT_UNDONE;
+    if (reply->kind == SGT_BAD_ARGS) return SGT_BAD_CALL;
+    return reply->kind == SGT_LOOKED && !reply->found ? SGT_NONE : SGT_OK;
+}
+
+static uint32_t acts(void *context, sgt_transaction *t)
+{
+    struct body *it = context;
+    sgt_reply reply = {0};
+    must(sgt_begin(&it->pair->plain, &reply) == SGT_OK && reply.kind == SGT_STARTED && reply.tid == t->ticket.tid, "a begin differs");
+    it->tid = reply.tid;
+    for (uint8_t left = byte(it->input) % 6; left > 0; left--) {
+        const uint8_t table = byte(it->input) % 9, which = byte(it->input) % 3;
+        const int64_t record = 100 + byte(it->input) % 4, value = number(it->input);
+        int64_t found = 77;
+        uint32_t plain, told;
+        if (which == 0) plain = sgt_read(&it->pair->plain, it->tid, table, record, &reply);
+        else if (which == 1) plain = sgt_write(&it->pair->plain, it->tid, table, record, value, &reply);
+        else plain = sgt_remove(&it->pair->plain, it->tid, table, record, &reply);
+        if (which == 0) told = sgt_transaction_read(t, table, record, &found);
+        else told = which == 1 ? sgt_transaction_write(t, table, record, value) : sgt_transaction_remove(t, table, record);
+        must(told == wanted(&reply, plain), "an access of a body differs");
+        must(told != SGT_OK || which != 0 || found == reply.value, "a value differs");
+        if (told != SGT_OK && told != SGT_NONE) it->told = told;
+        if (told == SGT_UNDONE) it->is_over = true;
+        if (told != SGT_OK && told != SGT_NONE) break;
+    }
+    return byte(it->input) % 4 ? SGT_COMMIT : SGT_QUIT;
+}
+
+/* A transaction function that never waits. The other engine makes the same events. */
+static void transacts(struct pair *pair, struct input *input)
+{
+    struct body it = {.pair = pair, .input = input, .tid = UINT32_MAX};
+    sgt_transact_options options = SGT_TRANSACT_OPTIONS;
+    sgt_shared_outcome outcome = SGT_SHARED_OUTCOME;
+    sgt_reply reply = {0};
+    sgt_live live[3];
+    uint64_t count = 0;
+    must(sgt_shared_live(pair->shared, live, 3, &count) == SGT_OK, "who is live is not told");
+    if (count > 0) return; /* else a conflict, or a full engine, would have it wait, and then quit */
+    options.wait_ns = 0, options.tries = byte(input) % 3;
+    const uint32_t told = sgt_shared_transact(pair->shared, acts, &it, &options, &outcome);
+    must(!it.is_over, "a body that is alone is aborted");
+    if (it.tid == UINT32_MAX) {
+        must(told == SGT_OK && outcome.reply.kind == SGT_SPENT && outcome.tries == 0, "a body is not called");
+        must(sgt_begin(&pair->plain, &reply) == SGT_OK && reply.kind == SGT_SPENT, "a begin differs");
+    } else if (told == SGT_OK && outcome.reply.kind == SGT_COMMITTED) {
+        must(sgt_commit(&pair->plain, it.tid, &reply) == SGT_OK && reply.kind == SGT_COMMITTED, "a commit differs");
+    } else {
+        must(told == it.told && sgt_quit(&pair->plain, it.tid, &reply) == SGT_OK, "a body ends otherwise");
+    }
+    entries(pair);
 }
 
 /* A run without a deadline to wait for. Where it would have to wait, the shared engine quits it, and so does this. */
@@ -215,8 +321,11 @@ static void opens(struct input *input)
 
 static void call(struct pair *pair, struct input *input)
 {
-    switch (byte(input) % 16) {
+    switch (byte(input) % 22) {
     case 0: case 1: start(pair, input); break;
+    case 16: case 17: case 18: case 19: access_by(pair, input); break;
+    case 20: accesses(pair, input); break;
+    case 21: transacts(pair, input); break;
     case 2: runs(pair, input); break;
     case 3: case 4: case 5: case 6: case 7: event(pair, input, 0); break;
     case 8: case 9: event(pair, input, 2); break;

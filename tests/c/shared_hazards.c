@@ -349,6 +349,27 @@ static uint32_t is_interrupted(void *context)
     return ++it->asked == it->after;
 }
 
+/* A writer of another thread: this one never waits for its own without a deadline. */
+struct other {
+    sgt_shared *shared;
+    sgt_ticket ticket;
+};
+
+static void *begins_writer(void *context)
+{
+    struct other *it = context;
+    it->ticket = begins(it->shared, WRITE, 1);
+    return 0;
+}
+
+static sgt_ticket begins_elsewhere(sgt_shared *shared)
+{
+    struct other it = {.shared = shared};
+    pthread_t thread;
+    CHECK(pthread_create(&thread, 0, begins_writer, &it) == 0 && pthread_join(thread, 0) == 0);
+    return it.ticket;
+}
+
 static void waiting_calls_are_interrupted(void)
 {
     sgt_shared_config config = SGT_SHARED_CONFIG;
@@ -359,16 +380,16 @@ static void waiting_calls_are_interrupted(void)
     uint64_t count = 77;
     config.keeps_ended = 1;
     struct watch it = {.shared = opened(&config), .after = 2};
-    const sgt_ticket writer = begins(it.shared, WRITE, 1), reader = begins(it.shared, READ, 2);
+    const sgt_ticket writer = begins_elsewhere(it.shared), reader = begins(it.shared, READ, 2);
     sgt_shared_watch(is_interrupted, &it);
     CHECK(sgt_shared_commit(it.shared, &reader, SGT_FOREVER, &reply) == SGT_TIMED_OUT && it.asked == 2 && it.close == SGT_BUSY);
     it.asked = 0;
     CHECK(sgt_shared_start(it.shared, READ, 0, 0, SGT_FOREVER, &third, &reply) == SGT_TIMED_OUT && it.asked == 2);
     it.asked = 0;
-    CHECK(sgt_shared_cut(it.shared, SGT_FOREVER) == SGT_TIMED_OUT && it.asked == 2);
-    it.asked = 0;
     CHECK(sgt_shared_drain(it.shared, SGT_FOREVER, &ended, 1, &count) == SGT_OK && it.asked == 2 && count == 0);
     quits(it.shared, &reader);
+    it.asked = 0;
+    CHECK(sgt_shared_cut(it.shared, SGT_FOREVER) == SGT_TIMED_OUT && it.asked == 2);
     it.asked = 0;
     CHECK(sgt_shared_run(it.shared, READ, 0, 0, 0, &outcome) == SGT_TIMED_OUT && it.asked == 2 && lives(it.shared) == 1);
     it.asked = 0;

@@ -70,6 +70,29 @@ static int steps(sgt_shared *shared, int64_t had)
     return stands(shared, had + 100, 0) ? refused : -1;
 }
 
+/* A deposit of a transaction function: it is tried again where an access was refused memory. */
+static uint32_t deposits(void *context, sgt_transaction *t)
+{
+    int64_t *value = context;
+    const uint32_t status = sgt_transaction_read(t, 2, 101, value);
+    if (status == SGT_OK) sgt_transaction_write(t, 2, 101, *value + 100);
+    return SGT_COMMIT;
+}
+
+/* The same for one. How many calls were refused, or -1. */
+static int transacts(sgt_shared *shared, int64_t had)
+{
+    int64_t value = 0;
+    int refused = 0;
+    for (;;) {
+        sgt_shared_outcome outcome = SGT_SHARED_OUTCOME;
+        const uint32_t status = sgt_shared_transact(shared, deposits, &value, 0, &outcome);
+        if (status == SGT_OK) return outcome.reply.kind == SGT_COMMITTED && stands(shared, had + 100, 0) ? refused : -1;
+        if (status != SGT_NO_MEMORY || outcome.reply.kind != 0 || !stands(shared, had, 0)) return -1;
+        refused++;
+    }
+}
+
 /* All that ended is drained, and the history is cut off. How many calls were refused, or -1. */
 static int ends(sgt_shared *shared)
 {
@@ -77,7 +100,8 @@ static int ends(sgt_shared *shared)
     uint64_t count = 0, entries = 0, part = 0;
     uint32_t status;
     int refused = 0;
-    if (sgt_shared_drain(shared, 0, calls, DEPOSITS + 9, &count) != SGT_OK || count != DEPOSITS + 1) return -1;
+    if (sgt_shared_drain(shared, 0, calls, DEPOSITS + 9, &count) != SGT_OK || count != DEPOSITS + 2) return -1;
+    if (calls[--count].call.accesses != 2) return -1;
     for (uint64_t i = 0; i < count; i++) {
         if (calls[i].sequence != i || calls[i].call.answer[0] != 1100 + 100 * (int64_t)i) return -1;
     }
@@ -97,15 +121,16 @@ static int run(void)
     sgt_fault fault = {0};
     sgt_shared_config config = SGT_SHARED_CONFIG;
     uint32_t status;
-    int refused = 0, ran, stepped, ended;
+    int refused = 0, ran, stepped, transacted, ended;
     config.keeps_ended = 1;
     while ((status = sgt_shared_open(&shared, (const uint8_t *)opening, strlen(opening), 0, 0, &config, &fault)) == SGT_NO_MEMORY) {
         if (shared) return -1;
         refused++;
     }
     if (status != SGT_OK || (ran = runs(shared)) < 0 || (stepped = steps(shared, 1000 + 100 * DEPOSITS)) < 0) return -1;
+    if ((transacted = transacts(shared, 1100 + 100 * DEPOSITS)) < 0) return -1;
     if ((ended = ends(shared)) < 0 || sgt_shared_close(&shared) != SGT_OK) return -1;
-    return refused + ran + stepped + ended;
+    return refused + ran + stepped + transacted + ended;
 }
 
 int main(void)

@@ -11,6 +11,8 @@
  *     drained    the same of the calls that were drained
  *     rows       the committed database at the end
  *
+ * Of the transactions that are made step by step, some have no procedure; after their steps, the thread may decide on more accesses.
+ * Others are made by a transaction function.
  * In all, CALLS calls are made by the threads. Of 100 transactions STEPPED are made step by step, 99 at most, and the others by one call.
  * It prints how many runs timed out, were tried again and so on, as `name count` lines.
  */
@@ -26,7 +28,7 @@
 
 #include "sgt_shared.h"
 
-enum { MOST_THREADS = 64, ACCOUNTS = 5, TEXT = 1024, ROWS = 64 };
+enum { MOST_THREADS = 64, ACCOUNTS = 5, TEXT = 1024, ROWS = 64, OWN_TABLE = 3, OWN_RECORDS = 3 };
 
 static const char opening[] = "{\"limits\":[8,4000000000,1],\"accounts\":[[0,100,100000,100000],[1,101,100000,100000],"
                               "[2,102,100000,100000],[3,103,100000,100000],[4,104,100000,100000]],\"procedures\":[]}";
@@ -40,9 +42,9 @@ static unsigned stepped;
 static atomic_bool over;
 static FILE *history, *ended, *drained;
 
-enum count { RUNS, AGAIN, WAITED, STEPPED, COMMITTED, TIMED_OUT, QUIT, STALE, ABANDONED, CUTS, LISTED, COUNTS };
-static const char *const names[] = {"runs",      "tried again", "waited", "stepped",   "committed", "timed out",
-                                    "quit",      "stale",       "abandoned", "cuts",   "listed"};
+enum count { RUNS, AGAIN, WAITED, STEPPED, DECIDED, TRANSACTED, COMMITTED, TIMED_OUT, QUIT, STALE, ABANDONED, CUTS, LISTED, COUNTS };
+static const char *const names[] = {"runs",      "tried again", "waited", "stepped", "decided",   "transacted", "committed",
+                                    "timed out", "quit",        "stale",  "abandoned", "cuts",    "listed"};
 static atomic_long counts[COUNTS];
 
 static void count(enum count which) { atomic_fetch_add(&counts[which], 1); }
@@ -87,6 +89,7 @@ static void write_ended(FILE *to, const sgt_ended *told)
     fprintf(to, "%" PRIu64 " %" PRIu64 " %" PRIu32 " ", told->sequence, told->ticket.part, call->tid);
     write_args(to, call->procedure, call->arg, call->args);
     if (call->kind == SGT_REFUSED) fprintf(to, "\tasked %" PRIu32 "\n", call->code);
+    else if (call->answers == 0) fprintf(to, "\tcommitted none\n");
     else fprintf(to, "\tcommitted %" PRId64 "\n", call->answer[0]);
 }
 
@@ -113,7 +116,7 @@ static void tell_ended(void *context, const sgt_ended *call)
 
 static void write_entries(void *context, sgt_engine *engine, uint64_t part)
 {
-    static const char *const asks[] = {"", "start", "step", "commit", "quit"};
+    static const char *const asks[] = {"", "start", "step", "commit", "quit", "read", "write", "remove"};
     sgt_event event = {0};
     sgt_reply reply = {0};
     (void)context;
@@ -122,6 +125,8 @@ static void write_entries(void *context, sgt_engine *engine, uint64_t part)
         fprintf(history, "[\"%s\",", asks[event.kind]);
         if (event.kind == SGT_START) write_args(history, event.procedure, event.arg, event.args);
         else fprintf(history, "%" PRIu32, event.tid);
+        if (event.kind >= SGT_READ) fprintf(history, ",%" PRIu32 ",%" PRId64, event.table, event.number);
+        if (event.kind == SGT_WRITE) fprintf(history, ",%" PRId64, event.value);
         fprintf(history, "]");
         write_reply(history, &reply);
     }
@@ -184,6 +189,26 @@ static void run_one(struct thread *it)
     log_reply(it, &outcome.ticket, "run", &outcome.reply);
 }
 
+/* Makes some accesses of one's own, after those of the procedure. The last reply, or the status of a call. */
+static uint32_t decide(struct thread *it, const sgt_ticket *ticket, sgt_reply *reply)
+{
+    uint32_t status = SGT_OK;
+    for (uint64_t left = draw(it, 4); left > 0; left--) {
+        const uint64_t kind = draw(it, 4);
+        const int64_t record = (int64_t)draw(it, OWN_RECORDS), value = (int64_t)draw(it, 1000);
+        if (kind < 2) status = sgt_shared_read(shared, ticket, OWN_TABLE, record, reply);
+        else if (kind == 2) status = sgt_shared_write(shared, ticket, OWN_TABLE, record, value, reply);
+        else status = sgt_shared_remove(shared, ticket, OWN_TABLE, record, reply);
+        if (status != SGT_OK) return status;
+        count(DECIDED);
+        log_reply(it, ticket, kind < 2 ? "read" : kind == 2 ? "write" : "remove", reply);
+        if (reply->kind == SGT_NOT_ENDED) break; /* the procedure has raised a code */
+        if (reply->kind != SGT_LOOKED && reply->kind != SGT_WROTE) return SGT_OK;
+    }
+    reply->kind = SGT_ENDED;
+    return SGT_OK;
+}
+
 /* Steps a transaction until it ends, is quit or left to another thread. Its last reply, or the status of a call. */
 static uint32_t step_on(struct thread *it, const sgt_ticket *ticket, sgt_reply *reply)
 {
@@ -198,6 +223,7 @@ static uint32_t step_on(struct thread *it, const sgt_ticket *ticket, sgt_reply *
         if ((status = sgt_shared_step(shared, ticket, reply)) != SGT_OK) return status;
         log_reply(it, ticket, "step", reply);
     } while (reply->kind == SGT_LOOKED || reply->kind == SGT_WROTE);
+    if (reply->kind == SGT_ENDED && (status = decide(it, ticket, reply)) != SGT_OK) return status;
     while (reply->kind == SGT_ENDED) {
         status = sgt_shared_commit(shared, ticket, drawn_wait(it), reply);
         if (status == SGT_OK) log_reply(it, ticket, "commit", reply);
@@ -217,7 +243,9 @@ static void step_one(struct thread *it)
     uint32_t procedure = draw_call(it, args);
     sgt_ticket ticket = {0};
     sgt_reply reply = {0};
-    uint32_t status = sgt_shared_start(shared, procedure, args, takes[procedure], drawn_wait(it), &ticket, &reply);
+    uint32_t status = SGT_OK;
+    if (draw(it, 4) == 0) status = sgt_shared_begin(shared, drawn_wait(it), &ticket, &reply);
+    else status = sgt_shared_start(shared, procedure, args, takes[procedure], drawn_wait(it), &ticket, &reply);
     count(STEPPED);
     if (status == SGT_TIMED_OUT) {
         count(TIMED_OUT);
@@ -229,6 +257,40 @@ static void step_one(struct thread *it)
     must(status == SGT_OK || status == SGT_STALE, "an event has another status");
     if (status == SGT_STALE) count(STALE);
     else if (reply.kind == SGT_COMMITTED) count(COMMITTED);
+}
+
+/* Moves an amount between two records, reads another one, and gives way now and then. */
+static uint32_t moves(void *context, sgt_transaction *t)
+{
+    struct thread *it = context;
+    const int64_t from = (int64_t)draw(it, OWN_RECORDS), to = (int64_t)draw(it, OWN_RECORDS);
+    int64_t had = 0, other = 0;
+    const uint32_t status = sgt_transaction_read(t, OWN_TABLE, from, &had);
+    if (status != SGT_OK && status != SGT_NONE) return SGT_QUIT;
+    if (draw(it, 4) == 0) sched_yield();
+    if (draw(it, 2) == 0) sgt_transaction_read(t, OWN_TABLE, to, &other);
+    if (had == 0) sgt_transaction_remove(t, OWN_TABLE, from);
+    else sgt_transaction_write(t, OWN_TABLE, to, (other + had) % 1000);
+    return SGT_COMMIT;
+}
+
+static void transact_one(struct thread *it)
+{
+    sgt_shared_outcome outcome = SGT_SHARED_OUTCOME;
+    sgt_transact_options options = SGT_TRANSACT_OPTIONS;
+    options.wait_ns = drawn_wait(it);
+    options.tries = (uint32_t)draw(it, 4);
+    const uint32_t status = sgt_shared_transact(shared, moves, it, &options, &outcome);
+    count(TRANSACTED);
+    if (outcome.tries > 1) count(AGAIN);
+    if (outcome.waits > 0) count(WAITED);
+    must(status == SGT_OK || status == SGT_TIMED_OUT, "a transaction function has another status");
+    if (status == SGT_TIMED_OUT) {
+        count(TIMED_OUT);
+        return;
+    }
+    if (outcome.reply.kind == SGT_COMMITTED) count(COMMITTED);
+    log_reply(it, &outcome.ticket, "run", &outcome.reply);
 }
 
 /* Quits whoever has been live for too long, as an operator would. */
@@ -253,6 +315,7 @@ static void *work(void *of)
     for (long made = 0; made < each; made++) {
         uint64_t choice = draw(it, 100);
         if (choice == 99) quit_oldest(it);
+        else if (choice < stepped && draw(it, 5) == 0) transact_one(it);
         else if (choice < stepped) step_one(it);
         else run_one(it);
         if (draw(it, 2000) == 0 && sgt_shared_cut(shared, (int64_t)draw(it, 2000000)) == SGT_OK) count(CUTS);

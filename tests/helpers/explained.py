@@ -8,7 +8,7 @@ import json
 import random
 import re
 
-from helpers.legal import IN_TWO_STEPS, Run, key_text
+from helpers.legal import EMPTY, IN_TWO_STEPS, REQUESTS, Run, key_text
 
 OPENING = '{{"limits":[8,100000{asks}],"accounts":[[1,101,500,1000],[2,102,300,200],[3,103,0,90]],"procedures":[' + IN_TWO_STEPS + "]}}\n"
 
@@ -28,13 +28,21 @@ def drawn(seed, events):
     while len(lines) < events:
         draw = dice.random()
         recent = range(max(0, started - 7), started + 1)
-        if draw < 0.15:
+        if draw < 0.05:
+            lines.append('["begin"]\n')
+            started += 1
+        elif draw < 0.15:
             procedure = dice.randrange(7)
             args = [dice.choice((1, 1, 2)), dice.choice((1, 2, 2, -60))][: ARGUMENTS[procedure]]
             lines.append(f'["start",{procedure},{json.dumps(args)}]\n')
             started += 1
-        elif draw < 0.8:
+        elif draw < 0.7:
             lines.append(f'["step",{dice.choice(recent)}]\n')
+        elif draw < 0.85:
+            key = dice.choice(((1, 101), (2, 101), (2, 102), (3, 7), (3, 8)))
+            kind = dice.choice(("read", "read", "write", "remove"))
+            last = [dice.choice((0, 100, 500))] if kind == "write" else []
+            lines.append(json.dumps([kind, dice.choice(recent), *key, *last]) + "\n")
         elif draw < 0.995:
             lines.append(f'["{dice.choice(("commit", "commit", "commit", "quit"))}",{dice.choice(recent)}]\n')
         else:
@@ -53,7 +61,7 @@ def explanation(script, replies):
         if reply.startswith("cut "):
             part = Part()
         elif reply != "still live":
-            told += [f"line {line}: {text}\n" for text in part.take(line, *json.loads(event), reply)]
+            told += [f"line {line}: {text}\n" for text in part.take(line, json.loads(event), reply)]
     if live := sorted(part.live):
         are = "transaction is" if len(live) == 1 else "transactions are"
         told.append(f"{len(live)} {are} live at the end: {', '.join(map(str, live))}\n")
@@ -69,20 +77,22 @@ class Part:
         self.gone = set()  # those that were aborted or fell
         self.accesses = []  # line, whose, "read" or "wrote", key, from whom a read was
 
-    def take(self, line, kind, first, *rest):
+    def take(self, line, event, reply):
         """The texts that tell of an abort."""
-        reply = rest[-1]
+        kind, *rest = event
+        first = rest[0] if rest else None
         if match := re.fullmatch("started ([0-9]+)", reply):
-            self.calls[int(match[1])] = first, rest[0]
+            self.calls[int(match[1])] = (EMPTY, []) if kind == "begin" else rest
             self.live.add(int(match[1]))
-        elif match := re.fullmatch("(read|wrote) ([0-9]+/-?[0-9]+) (.*)", reply):
-            self.accesses.append((line, first, match[1], match[2], match[3], self.source(match[2])))
+        elif match := re.fullmatch("(read|wrote|removed) ([0-9]+/-?[0-9]+)(?: (.*))?", reply):
+            done = "read" if match[1] == "read" else "wrote"
+            self.accesses.append((line, first, done, match[2], match[3], self.source(match[2])))
         elif reply.startswith("committed "):
             self.live.remove(first)
         elif match := re.fullmatch("(?:aborted|refused) (.*) fell (.*)", reply):
             walk = [int(t) for t in match[1].split()[1:]] if match[1].startswith("cycle ") else []
             fell = [] if match[2] == "none" else [int(t) for t in match[2].split()]
-            texts = [self.edge(t, u) for t, u in zip(walk, walk[1:])] + ([self.pending(walk[-1], walk[0])] if walk else [])
+            texts = [self.edge(t, u) for t, u in zip(walk, walk[1:])] + ([self.pending(walk[-1], walk[0], event)] if walk else [])
             texts += [self.fall(u, {first, *fell}) for u in fell]
             self.gone |= {first, *fell}
             self.live -= {first, *fell}
@@ -108,13 +118,16 @@ class Part:
                 return f"{u} {done} {key} at line {line}, which {t}{earlier}"
         raise AssertionError(f"no edge from {t} to {u}")
 
-    def pending(self, t, u):
-        """By the access that the second was about to make."""
-        run = Run(*self.calls[u])
-        for _, whose, done, _, value, _ in self.accesses:
-            if whose == u:
-                run.go(None if done == "wrote" or value == "none" else int(value))
-        kind, key, _ = run.access
+    def pending(self, t, u, event):
+        """By the access that the second was about to make: that of its caller's line, or that of its procedure."""
+        if event[0] in REQUESTS:
+            kind, key = REQUESTS[event[0]], tuple(event[2:4])
+        else:
+            run = Run(*self.calls[u])
+            for _, whose, done, _, value, _ in self.accesses:
+                if whose == u:
+                    run.go(None if done == "wrote" or value == "none" else int(value))
+            kind, key, _ = run.access
         would, done = ("read", "read") if kind == "look" else ("write", "wrote")
         return f"{u} would {would} {key_text(key)}, which {t}{self.conflicting(t, done, key_text(key), self.accesses)}"
 

@@ -8,6 +8,12 @@ import json
 
 MOST = 999_999_999_999_999
 
+# The number of the empty procedure, which every opening has.
+EMPTY = 65_535
+
+# What a caller's line does to a record. A removal is a store of none.
+REQUESTS = {"read": "look", "write": "store", "remove": "store"}
+
 
 class Illegal(Exception):
     """A reply that the definitions do not allow, or another end than that of the serial run."""
@@ -101,7 +107,12 @@ def find_all():
     return value
 
 
-# The trees of the last two, which an opening has to bring.
+def nothing():
+    """Accesses nothing, and has no answer. What such a transaction accesses its caller decides."""
+    yield from ()
+
+
+# The trees of the last two before it, which an opening has to bring.
 IN_TWO_STEPS = (
     '[0,[["put",3,7,0],["put",3,7,100]]],'
     '[0,[["look",0,3,7,6],["if",["less",["reg",0],100],[["ask",99]],[]],["answer",["reg",0]]]]'
@@ -119,12 +130,19 @@ PROCEDURES = (
 )
 
 
+def procedure_at(number):
+    """The procedure of a number, with how many arguments it takes."""
+    return (nothing, 0) if number == EMPTY else PROCEDURES[number]
+
+
 class Run:
-    """A procedure on its way: what it does next is an access, or the code that it asks, or its end with an answer."""
+    """A procedure on its way: what it does next is an access, or the code that it asks, or its end with an answer. After the end
+    its caller may decide on accesses."""
 
     def __init__(self, procedure, args):
         self.call = procedure, args
-        self.course = PROCEDURES[procedure][0](*args)
+        self.requests = []  # the accesses on which its caller decided: look or store, key, value
+        self.course = procedure_at(procedure)[0](*args)
         self.go(None)
 
     def go(self, value):
@@ -160,6 +178,20 @@ def key_text(key):
     return f"{key[0]}/{key[1]}"
 
 
+def access_text(kind, key, value):
+    """The reply to an access that was made."""
+    if kind == "store" and value is None:
+        return f"removed {key_text(key)}"
+    verb = "read" if kind == "look" else "wrote"
+    return f"{verb} {key_text(key)} {'none' if value is None else value}"
+
+
+def stored(rows, accesses):
+    """The rows after the stores of these accesses: kind, key, value."""
+    changed = rows | {key: value for kind, key, value in accesses if kind == "store"}
+    return {key: value for key, value in changed.items() if value is not None}
+
+
 def database_text(rows):
     return [f"{key_text(key)} {rows[key]}" for key in sorted(rows)]
 
@@ -176,7 +208,7 @@ class Checker:
         self.settled = dict(self.opened)
         self.runs = []  # of each transaction that was started
         self.fates = {}  # of each that has ended, as a reply behind `over`
-        self.told = []  # the calls that were committed or refused, in that order, with what each was answered
+        self.told = []  # the calls that were committed or refused, in that order, with what each was answered, and the accesses on which its caller decided
         self.accesses = []  # of those that are live, in their order: who, look or store, key, value
         self.pairs = set()  # among those that are live: of two accesses in conflict the first one's, the second one's
         self.reads = set()  # who read from whom, while both are live
@@ -187,15 +219,18 @@ class Checker:
 
     def take(self, event, reply):
         kind, *rest = json.loads(event)
-        wanted = self.start(*rest) if kind == "start" else self.of_one(kind, rest[0], reply)
+        if kind == "begin":
+            wanted = self.start(EMPTY, [])
+        else:
+            wanted = self.start(*rest) if kind == "start" else self.of_one(kind, *rest, reply=reply)
         if wanted != reply:
             raise Illegal(f"{event} was answered {reply}, in place of {wanted}")
         self.busiest = max(self.busiest, len(self.live()))
 
     def start(self, procedure, args):
-        if procedure >= self.procedures:
+        if procedure >= self.procedures and procedure != EMPTY:
             return "no procedure"
-        if len(args) != PROCEDURES[procedure][1] or any(abs(arg) > MOST for arg in args):
+        if len(args) != procedure_at(procedure)[1] or any(abs(arg) > MOST for arg in args):
             return "bad args"
         if len(self.runs) >= self.begins:
             return "spent"
@@ -204,13 +239,15 @@ class Checker:
         self.runs.append(Run(procedure, args))
         return f"started {len(self.runs) - 1}"
 
-    def of_one(self, kind, t, reply):
+    def of_one(self, kind, t, *request, reply):
         if t >= len(self.runs):
             return "unknown"
         if t in self.fates:
             return f"over {self.fates[t]}"
         if kind == "quit":
             return self.abort(t, "quit")
+        if kind in REQUESTS:
+            return self.request(t, REQUESTS[kind], request, reply)
         return self.step(t, reply) if kind == "step" else self.commit(t)
 
     def step(self, t, reply):
@@ -219,17 +256,34 @@ class Checker:
             return self.abort(t, f"asked {run.code}")
         if run.access is None:
             return "ended"
-        kind, key, value = run.access
+        answer, made = self.access(t, *run.access, reply)
+        if made:
+            run.go(made[2])
+        return answer
+
+    def request(self, t, kind, request, reply):
+        """An access on which the caller decides: a table, a number, and what is stored."""
+        run = self.runs[t]
+        if run.access is not None or run.code is not None:
+            return "not ended"
+        table, number, *value = request
+        if value and abs(value[0]) > MOST:
+            return "bad args"
+        answer, made = self.access(t, kind, (table, number), value[0] if value else None, reply)
+        if made:
+            run.requests.append(made)
+        return answer
+
+    def access(self, t, kind, key, value, reply):
+        """What an access is answered, and the access if it is made."""
         rivals = {u for u, other, at, _ in self.accesses if u != t and at == key and "store" in (kind, other)}
         if rivals & self.reached_from(t):
-            return self.abort(t, self.walk_in(t, rivals, reply))
+            return self.abort(t, self.walk_in(t, rivals, reply)), None
         self.pairs |= {(u, t) for u in rivals}
         if kind == "look":
             value = self.seen(t, key)
         self.accesses.append((t, kind, key, value))
-        run.go(value)
-        verb = "read" if kind == "look" else "wrote"
-        return f"{verb} {key_text(key)} {'none' if value is None else value}"
+        return access_text(kind, key, value), (kind, key, value)
 
     def seen(self, t, key):
         """What a read of t finds: the last write of a live one, or the committed value."""
@@ -280,11 +334,11 @@ class Checker:
         if before:
             return f"waits {min(before)}"
         if run.code is not None:
-            self.told.append((run.call, f"asked {run.code}"))
+            self.told.append((run.call, f"asked {run.code}", []))
             return f"refused {run.code} fell {self.undo(t, f'asked {run.code}')}"
-        self.settled |= {key: value for u, kind, key, value in self.accesses if u == t and kind == "store"}
+        self.settled = stored(self.settled, [access for u, *access in self.accesses if u == t])
         self.end(t, "committed")
-        self.told.append((run.call, run.told()))
+        self.told.append((run.call, run.told(), run.requests))
         return run.told()
 
     def end(self, t, fate):
@@ -294,9 +348,10 @@ class Checker:
         self.reads = {pair for pair in self.reads if t not in pair}
 
     def serial(self):
-        """What the committed and refused ones leave, run one after another. Each has to give what it was answered."""
+        """What the committed and refused ones leave, run one after another. Each has to give what it was answered, and what its
+        caller was told that it read."""
         rows = dict(self.opened)
-        for (procedure, args), told in self.told:
+        for (procedure, args), told, requests in self.told:
             run, own = Run(procedure, args), dict(rows)
             while run.access is not None:
                 kind, key, value = run.access
@@ -305,6 +360,10 @@ class Checker:
                 run.go(own.get(key))
             if run.told() != told:
                 raise Illegal(f"the serial run of {procedure} {args} gives {run.told()}, and not {told}")
+            for kind, key, value in requests:
+                if kind == "look" and own.get(key) != value:
+                    raise Illegal(f"in the serial run {key_text(key)} is {own.get(key)}, and not {value} as its caller was told")
+                own = stored(own, [(kind, key, value)])
             if run.code is None:
                 rows = own
         return rows

@@ -5,6 +5,13 @@
         if outcome.reply.kind is Kind.COMMITTED:
             print(outcome.reply.answers)              # (1100,)
 
+        def doubles(t):                               # a transaction function of your own: it is run again after a conflict
+            value = t.read(2, 101)
+            t.write(2, 101, 2 * value)
+            return value
+
+        print(bank.transact(doubles))                 # 1100
+
 `SharedEngine` is for many threads. `Engine` has a call for each event of a history, for one thread at a time. sgt_shared.h and sgt.h say
 what each call does.
 
@@ -14,6 +21,7 @@ The library is searched at the path in SGT_LIBRARY, then in this package, then i
 from ._engine import Engine
 from ._ended import Ended, Ticket
 from ._errors import (
+    Aborted,
     BadCall,
     Begun,
     Busy,
@@ -26,6 +34,7 @@ from ._errors import (
     OpeningRefused,
     ProcedureRefused,
     Refused,
+    SelfWait,
     Stale,
     StillLive,
     Taken,
@@ -33,7 +42,8 @@ from ._errors import (
     TooMany,
 )
 from ._library import LEAST, MOST, Row, pack_calls, unpack_calls, version
-from ._replies import Asked, BatchOutcome, Call, Cause, Event, Kind, Reply, unpack_outcomes, wrote
+from ._own import OwnTransaction
+from ._replies import Access, Asked, BatchOutcome, Call, Cause, Event, Kind, Reply, unpack_outcomes, wrote
 from ._shared import Live, Outcome, SharedEngine, Transaction
 
 __version__ = version()
@@ -41,6 +51,8 @@ __version__ = version()
 __all__ = [
     "LEAST",
     "MOST",
+    "Aborted",
+    "Access",
     "Asked",
     "BadCall",
     "BatchOutcome",
@@ -61,10 +73,12 @@ __all__ = [
     "NotStarted",
     "OpeningRefused",
     "Outcome",
+    "OwnTransaction",
     "ProcedureRefused",
     "Refused",
     "Reply",
     "Row",
+    "SelfWait",
     "SharedEngine",
     "Stale",
     "StillLive",

@@ -41,7 +41,20 @@ from ._library import (
     whole,
     written,
 )
-from ._replies import BatchOutcome, Call, Event, Reply, call_of, event_of, free_room, reply_of, room, unpack_outcomes
+from ._replies import (
+    Access,
+    BatchOutcome,
+    Call,
+    Event,
+    Reply,
+    all_accesses,
+    call_of,
+    event_of,
+    free_room,
+    reply_of,
+    room,
+    unpack_outcomes,
+)
 
 
 def _quick(name: str) -> Callable[..., int]:
@@ -50,12 +63,18 @@ def _quick(name: str) -> Callable[..., int]:
 
 
 _start, _run, _run_many, _step, _commit, _quit = map(_quick, ("sgt_start", "sgt_run", "sgt_run_many", "sgt_step", "sgt_commit", "sgt_quit"))
+_begin, _read, _write, _remove = map(_quick, ("sgt_begin", "sgt_read", "sgt_write", "sgt_remove"))
 _SIZES = [ctypes.c_size_t(count) for count in range(5)]
 
 
 def _tid(tid: int) -> int:
     """Returns a transaction's number. Raises BadCall if it is out of range."""
     return whole(tid, 0, 2**32 - 1)
+
+
+def _record(table: int, number: int) -> tuple[ctypes.c_uint64, ctypes.c_int64]:
+    """Returns a record for a call. Raises BadCall if it is out of range."""
+    return ctypes.c_uint64(whole(table, 0, 7)), ctypes.c_int64(whole(number, LEAST, MOST))
 
 
 class Engine(Uncopied):
@@ -215,6 +234,44 @@ class Engine(Uncopied):
         reply = reply_of(to.told, to.fields)
         free_room(to)
         return reply
+
+    def begin(self) -> Reply:
+        """Starts a transaction of no procedure: its caller decides all its accesses, by `read`, `write` and `remove`."""
+        to = room()
+        check(_begin(self._at, to.to))
+        reply = reply_of(to.told, to.fields)
+        free_room(to)
+        return reply
+
+    def read(self, tid: int, table: int, number: int) -> Reply:
+        """Reads a record for a transaction whose procedure is at its end. The value of the reply is None if there is no such record.
+        Like `write` and `remove`, raises BadCall if the record is out of range."""
+        to = room()
+        check(_read(self._at, _tid(tid), *_record(table, number), to.to))
+        reply = reply_of(to.told, to.fields)
+        free_room(to)
+        return reply
+
+    def write(self, tid: int, table: int, number: int, value: int) -> Reply:
+        """Writes a record in the same way. If the value is out of range, the reply is Kind.BAD_ARGS."""
+        to = room()
+        check(_write(self._at, _tid(tid), *_record(table, number), ctypes.c_int64(whole(value, -(2**63), 2**63 - 1)), to.to))
+        reply = reply_of(to.told, to.fields)
+        free_room(to)
+        return reply
+
+    def remove(self, tid: int, table: int, number: int) -> Reply:
+        """Removes a record in the same way. The reply is Kind.WROTE, and its value None."""
+        to = room()
+        check(_remove(self._at, _tid(tid), *_record(table, number), to.to))
+        reply = reply_of(to.told, to.fields)
+        free_room(to)
+        return reply
+
+    def accesses(self, tid: int) -> list[Access]:
+        """Returns the accesses that the caller of a transaction decided, in their order."""
+        tid = _tid(tid)
+        return all_accesses(lambda told, space, count: check(HELD.sgt_accesses(self._engine, tid, told, space, count)))
 
     def get(self, table: int, number: int) -> Optional[int]:
         """Returns the committed value of a record, or None if there is no such record."""

@@ -111,6 +111,13 @@ class TimedOut(Error, TimeoutError):
         super().__init__("sgt: the deadline came")
 
 
+class SelfWait(Error, RuntimeError):
+    """The call would wait, without a timeout, for a transaction that its own thread has to end."""
+
+    def __init__(self) -> None:
+        super().__init__("sgt: the call would wait for its own thread, without a timeout")
+
+
 class Stale(Error, RuntimeError):
     """The transaction belongs to a part of the history that was cut off. It has ended."""
 
@@ -123,6 +130,18 @@ class Misuse(Error, RuntimeError):
 
     def __init__(self) -> None:
         super().__init__("sgt: the call may not be made from here, or the ticket is of another engine")
+
+
+class Aborted(Error, RuntimeError):
+    """The transaction was aborted, and nothing of it is in the database. `reply` says why.
+
+    `is_conflict` says whether that was by a conflict, a cycle or a cascading abort: then try it again. Otherwise somebody quit it.
+    """
+
+    def __init__(self, reply: Reply, is_conflict: bool) -> None:
+        super().__init__(f"sgt: {reply.text()}")
+        self.reply = reply
+        self.is_conflict = is_conflict
 
 
 class NotStarted(Error, RuntimeError):

@@ -14,7 +14,21 @@ import struct
 import sys
 from typing import Callable, NamedTuple, Optional, Sequence, Tuple, Union
 
-from ._errors import BadCall, Begun, Busy, Closed, Error, Misuse, NoMemory, OpeningRefused, ProcedureRefused, Stale, TimedOut, TooMany
+from ._errors import (
+    BadCall,
+    Begun,
+    Busy,
+    Closed,
+    Error,
+    Misuse,
+    NoMemory,
+    OpeningRefused,
+    ProcedureRefused,
+    SelfWait,
+    Stale,
+    TimedOut,
+    TooMany,
+)
 
 # The version of the headers that this package is for.
 VERSION = "0.1.0"
@@ -23,8 +37,9 @@ VERSION = "0.1.0"
 LEAST, MOST = -999_999_999_999_999, 999_999_999_999_999
 
 OK, NO_MEMORY, CLOSED, NONE, BAD_CALL, STILL_LIVE, BEGUN, TAKEN, TOO_MANY = 0, 1, 2, 4, 5, 6, 7, 8, 9
-BUSY, TIMED_OUT, STALE, MISUSE, FIRST_FAULT, PROC_SHAPE = 10, 12, 13, 14, 16, 20
+BUSY, SELF_WAIT, TIMED_OUT, STALE, MISUSE, UNDONE, FIRST_FAULT, PROC_SHAPE = 10, 11, 12, 13, 14, 15, 16, 20
 NO_TID = 2**32 - 1  # no transaction ever has this number
+FOREVER = 2**63 - 1  # a deadline that never comes
 
 
 class Row(NamedTuple):
@@ -69,6 +84,8 @@ class CEvent(ctypes.Structure):
     _fields_ = [
         *((name, ctypes.c_uint32) for name in ("kind", "tid", "procedure", "args")),
         ("arg", ctypes.c_int64 * 4),
+        *((name, ctypes.c_uint32) for name in ("table", "spare")),
+        *((name, ctypes.c_int64) for name in ("number", "value")),
     ]
 
 
@@ -91,6 +108,15 @@ class CCall(ctypes.Structure):
         *((name, ctypes.c_uint32) for name in ("kind", "tid", "procedure", "code", "args", "answers")),
         ("arg", ctypes.c_int64 * 4),
         ("answer", ctypes.c_int64 * 8),
+        ("accesses", ctypes.c_uint64),
+    ]
+
+
+class CAccess(ctypes.Structure):
+    _fields_ = [
+        *((name, ctypes.c_uint32) for name in ("kind", "table")),
+        *((name, ctypes.c_int64) for name in ("number", "value")),
+        *((name, ctypes.c_uint32) for name in ("found", "spare")),
     ]
 
 
@@ -136,6 +162,21 @@ class CSharedOutcome(ctypes.Structure):
     ]
 
 
+class CTransactOptions(ctypes.Structure):
+    _fields_ = [("size", ctypes.c_size_t), ("wait_ns", ctypes.c_int64), ("tries", ctypes.c_uint32), ("spare", ctypes.c_uint32)]
+
+
+class CTransaction(ctypes.Structure):
+    _fields_ = [
+        ("size", ctypes.c_size_t),
+        ("shared", ctypes.c_void_p),
+        ("ticket", CTicket),
+        ("ends", ctypes.c_uint64),
+        *((name, ctypes.c_uint32) for name in ("tries", "waits", "status", "is_live")),
+        ("reply", CReply),
+    ]
+
+
 def _path() -> str:
     package = pathlib.Path(__file__).resolve().parent
     near = [package / "libsgt.so", package.parent.parent / "out" / "libsgt.so"]
@@ -149,7 +190,7 @@ def _path() -> str:
 _u32, _u64, _i64, _size = ctypes.c_uint32, ctypes.c_uint64, ctypes.c_int64, ctypes.c_size_t
 _text, _fault, _row = ctypes.c_char_p, ctypes.POINTER(CFault), ctypes.POINTER(CRow)
 _engine, _reply, _count = ctypes.POINTER(CEngine), ctypes.POINTER(CReply), ctypes.POINTER(ctypes.c_uint64)
-_shared, _ticket = ctypes.c_void_p, ctypes.POINTER(CTicket)
+_shared, _ticket, _transaction = ctypes.c_void_p, ctypes.POINTER(CTicket), ctypes.POINTER(CTransaction)
 
 _ENGINE_CALLS = {
     "sgt_open_with": [_engine, _text, _size, _row, _size, _fault],
@@ -164,6 +205,7 @@ _ENGINE_CALLS = {
     "sgt_entries": [_engine, _count],
     "sgt_entry": [_engine, _u64, ctypes.POINTER(CEvent), _reply],
     "sgt_calls": [_engine, _u64, ctypes.POINTER(CCall), _size, _count, _count],
+    "sgt_accesses": [_engine, _u32, ctypes.POINTER(CAccess), _size, _count],
     "sgt_reserve": [_engine, _u64],
     "sgt_cut": [_engine, _count],
     "sgt_reply_text": [_reply, _text, _size, _count],
@@ -181,6 +223,13 @@ _SHARED_CALLS = {
     "sgt_shared_quit": [_shared, _ticket, _reply],
     "sgt_shared_abandon": [_shared, _ticket],
     "sgt_shared_commit": [_shared, _ticket, _i64, _reply],
+    "sgt_shared_accesses": [_shared, _ticket, ctypes.POINTER(CAccess), _size, _count],
+    "sgt_shared_try": [_shared, _transaction, ctypes.POINTER(CTransactOptions)],
+    "sgt_transaction_read": [_transaction, _u64, _i64, ctypes.POINTER(_i64)],
+    "sgt_transaction_write": [_transaction, _u64, _i64, _i64],
+    "sgt_transaction_remove": [_transaction, _u64, _i64],
+    "sgt_transaction_commit": [_transaction, _i64],
+    "sgt_transaction_quit": [_transaction],
     "sgt_shared_live": [_shared, ctypes.POINTER(CLive), _size, _count],
     "sgt_shared_cut": [_shared, _i64],
     "sgt_shared_get": [_shared, _u64, _i64, ctypes.POINTER(_i64)],
@@ -272,6 +321,7 @@ _ERRORS: dict[int, type[Error]] = {
     BEGUN: Begun,
     TOO_MANY: TooMany,
     BUSY: Busy,
+    SELF_WAIT: SelfWait,
     TIMED_OUT: TimedOut,
     STALE: Stale,
     MISUSE: Misuse,
@@ -283,6 +333,11 @@ def check(status: int) -> None:
     if status:
         error = _ERRORS.get(status)
         raise error() if error else Error(f"sgt: status {status}")
+
+
+def nanoseconds(seconds: Optional[float]) -> int:
+    """Returns the deadline for a call. None: without a limit."""
+    return FOREVER if seconds is None else max(0, min(FOREVER - 1, int(seconds * 1e9)))
 
 
 def whole(number: int, least: int, most: int) -> int:
@@ -366,11 +421,11 @@ def pack_args(to: ctypes.Array[ctypes.c_int64], args: Sequence[int]) -> None:
 
 
 # The layout of a sgt_call with this many arguments: procedure, number of arguments, arguments.
-_pack_call = [struct.Struct(f"=8xI4xI4x{count}q{96 - 8 * count}x").pack for count in range(5)]
+_pack_call = [struct.Struct(f"=8xI4xI4x{count}q{104 - 8 * count}x").pack for count in range(5)]
 
 
 CALL_BYTES = ctypes.sizeof(CCall)
-_call_fields = struct.Struct("=8xI4xI4x4q64x").iter_unpack
+_call_fields = struct.Struct("=8xI4xI4x4q72x").iter_unpack
 
 
 def pack_calls(calls: Sequence[Sequence[int]]) -> bytes:

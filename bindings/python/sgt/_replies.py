@@ -5,10 +5,10 @@ from __future__ import annotations
 import ctypes
 import enum
 import struct
-from typing import NamedTuple, Optional, Union
+from typing import Callable, NamedTuple, Optional, Union
 
 from ._errors import BadCall, Error
-from ._library import HELD, CCall, CEvent, COutcome, CReply, written
+from ._library import HELD, CAccess, CCall, CEvent, COutcome, CReply, written
 
 
 class Kind(enum.IntEnum):
@@ -48,19 +48,27 @@ class Asked(enum.IntEnum):
     STEP = 2
     COMMIT = 3
     QUIT = 4
+    READ = 5
+    WRITE = 6
+    REMOVE = 7
 
 
 class Event(NamedTuple):
-    """An event. A start has a procedure and arguments, any other a transaction."""
+    """An event. A start has a procedure and arguments, any other a transaction; an access that its caller decided has a record, and a
+    write its value."""
 
     kind: Asked
     tid: Optional[int] = None
     procedure: Optional[int] = None
     args: tuple[int, ...] = ()
+    table: Optional[int] = None
+    number: Optional[int] = None
+    value: Optional[int] = None
 
 
 class Reply(NamedTuple):
-    """A reply. `kind` says which other fields have a meaning; all others are None or empty."""
+    """A reply. `kind` says which other fields have a meaning; all others are None or empty. If a read found no record, or a write
+    removed it, `value` is None."""
 
     kind: Kind
     tid: Optional[int] = None
@@ -129,7 +137,7 @@ def reply_of(told: CReply, fields: Union[CReply, memoryview]) -> Reply:
     if number == _LOOKED:
         return _made(Reply, (kind, None, table, key, value if found else None, (), None, None, (), ()))
     if number == _WROTE:
-        return _made(Reply, (kind, None, table, key, value, (), None, None, (), ()))
+        return _made(Reply, (kind, None, table, key, value if found else None, (), None, None, (), ()))
     if number == _STARTED or number == _WAITS:
         return _made(Reply, (kind, tid, None, None, None, (), None, None, (), ()))
     if number == _COMMITTED:
@@ -203,22 +211,52 @@ def event_of(asked: CEvent) -> Event:
     kind = Asked(asked.kind)
     if kind is Asked.START:
         return Event(kind, procedure=asked.procedure, args=tuple(asked.arg[: asked.args]))
+    if kind in (Asked.READ, Asked.WRITE, Asked.REMOVE):
+        value = asked.value if kind is Asked.WRITE else None
+        return Event(kind, asked.tid, table=asked.table, number=asked.number, value=value)
     return Event(kind, asked.tid)
 
 
+class Access(NamedTuple):
+    """An access that a transaction's caller decided. `kind` is READ, WRITE or REMOVE; `value` is what was read or written, or None."""
+
+    kind: Asked
+    table: int
+    number: int
+    value: Optional[int]
+
+
+def access_of(told: CAccess) -> Access:
+    return Access(Asked(told.kind), told.table, told.number, told.value if told.found else None)
+
+
+def all_accesses(ask: Callable[[ctypes.Array[CAccess], int, ctypes.c_uint64], None]) -> list[Access]:
+    """Returns the accesses that a call writes. It repeats the call until all fit."""
+    count, room = ctypes.c_uint64(), 16
+    while True:
+        told = (CAccess * room)()
+        ask(told, room, count)
+        if count.value <= room:
+            return [access_of(access) for access in told[: count.value]]
+        room = count.value
+
+
 class Call(NamedTuple):
-    """A call that was committed (`code` is None) or refused, with its answers or its code."""
+    """A call that was committed (`code` is None) or refused, with its answers or its code, and the number of accesses that its caller
+    decided."""
 
     tid: int
     procedure: int
     args: tuple[int, ...]
     answers: tuple[int, ...]
     code: Optional[int]
+    accesses: int = 0
 
 
 def call_of(told: CCall) -> Call:
     code = told.code if told.kind == Kind.REFUSED else None
-    return Call(told.tid, told.procedure, tuple(told.arg[: told.args]), tuple(told.answer[: told.answers]), code)
+    args, answers = tuple(told.arg[: told.args]), tuple(told.answer[: told.answers])
+    return Call(told.tid, told.procedure, args, answers, code, told.accesses)
 
 
 class Room:

@@ -4,8 +4,9 @@ from __future__ import annotations
 
 import ctypes
 import functools
+import time
 import weakref
-from typing import Callable, NamedTuple, Optional, Sequence
+from typing import Callable, NamedTuple, Optional, Sequence, TypeVar, Union, overload
 
 from ._errors import BadCall, Busy, Misuse, NotStarted
 from ._ended import Ended, Stored, Teller, Ticket, ended_of, ticket_of
@@ -31,6 +32,7 @@ from ._library import (
     Uncopied,
     all_rows,
     check,
+    nanoseconds,
     opening_of,
     opening_refused,
     pack_args,
@@ -38,10 +40,13 @@ from ._library import (
     rows_of,
     whole,
 )
-from ._replies import Kind, Reply, reply_of
+from ._own import OwnTransaction
+from ._replies import Access, Kind, Reply, all_accesses, reply_of
 
-FOREVER = 2**63 - 1
+_Result = TypeVar("_Result")
+
 MOST_LIVE = 32
+NEVER_ALONE = 2**32 - 1  # tries: it has but one
 
 
 class Live(NamedTuple):
@@ -60,11 +65,6 @@ class Outcome(NamedTuple):
     ticket: Optional[Ticket]
     tries: int
     waits: int
-
-
-def _ns(seconds: Optional[float]) -> int:
-    """Returns the deadline for a call. None: without a limit."""
-    return FOREVER if seconds is None else max(0, min(FOREVER - 1, int(seconds * 1e9)))
 
 
 class SharedEngine(Uncopied):
@@ -102,7 +102,7 @@ class SharedEngine(Uncopied):
             size=ctypes.sizeof(CSharedConfig),
             keeps_ended=self._keeps or self._teller is not None,
             cut_after=whole(cut_after, 0, 2**64 - 1),
-            cut_wait_ns=_ns(cut_wait),
+            cut_wait_ns=nanoseconds(cut_wait),
         )
         line, fault = opening_of(limits, accounts, procedures), CFault()
         status = FREE.sgt_shared_open(self._shared, line, len(line), rows_for(rows), len(rows), config, fault)
@@ -112,15 +112,18 @@ class SharedEngine(Uncopied):
 
     def _ask(self, function: Callable[..., int], *words: object) -> int:
         """Makes a call and returns its status."""
-        if self._teller and self._teller.is_here():
-            raise Misuse()
+        self._check_place()
         return function(self._shared, *words)
 
     def _wait(self, function: Callable[..., int], *words: object) -> int:
         """The same for a call that may wait."""
+        self._check_place()
+        return interruptible(function, self._shared, *words)
+
+    def _check_place(self) -> None:
+        """Raises Misuse in the hook of the engine."""
         if self._teller and self._teller.is_here():
             raise Misuse()
-        return interruptible(function, self._shared, *words)
 
     def _tell(self, ticket: CTicket) -> None:
         """Calls the hook, if there is one, after a call for this transaction."""
@@ -135,23 +138,71 @@ class SharedEngine(Uncopied):
         """
         given, outcome = (ctypes.c_int64 * 4)(), CSharedOutcome(size=ctypes.sizeof(CSharedOutcome))
         pack_args(given, args)
-        options = CRunOptions(ctypes.sizeof(CRunOptions), _ns(timeout), whole(tries, 0, 2**32 - 1))
+        options = CRunOptions(ctypes.sizeof(CRunOptions), nanoseconds(timeout), whole(tries, 0, 2**32 - 1))
         check(self._wait(FREE.sgt_shared_run, whole(procedure, 0, 65535), given, len(args), options, outcome))
         self._tell(outcome.ticket)
         ticket = ticket_of(outcome.ticket) if outcome.tries else None
         return Outcome(reply_of(outcome.reply, outcome.reply), ticket, outcome.tries, outcome.waits)
 
-    def transaction(self, procedure: int, *args: int, timeout: Optional[float] = None) -> Transaction:
-        """Starts a transaction, whose accesses are made one at a time. The end of a `with` block aborts it, unless it has ended; so does
+    def transact(self, body: Callable[[OwnTransaction], _Result], *, timeout: Optional[float] = None, tries: int = 8) -> _Result:
+        """Runs `body(t)` as a transaction, commits it, and returns what the body returned. The body reads and writes by `t.read`, `t.write`
+        and `t.remove`.
+
+        The body is run again after a conflict, so it must have no effects but these. What it reads may be uncommitted, and be undone
+        afterwards: act on it after the commit, when this call has returned. An exception of the body quits the transaction and is raised,
+        unless a conflict had come first; it may rest on a value that is undone. To refuse truthfully, return the refusal without a write:
+        once that is committed, it is true.
+
+        After `tries` conflicts the next try is made alone: others wait until it has ended, and it has no conflicts.
+
+        Raises TimedOut if the deadline comes first, which does not interrupt the body; Aborted if somebody quit the transaction; NotStarted
+        if no start is left; SelfWait; NoMemory, also if the body has caught that. Then nothing of it is left live. An interrupt ends the
+        call too, and may come when it has been carried out.
+        """
+        deadline = None if timeout is None else time.monotonic() + timeout
+        transaction, most = OwnTransaction(self), whole(tries, 0, 2**32 - 1)
+        try:
+            result = transaction._run(body, most, deadline)
+        except BaseException:
+            transaction._abandon()
+            raise
+        self._tell(transaction._ticket)
+        return result
+
+    @overload
+    def transaction(self, *, timeout: Optional[float] = None) -> OwnTransaction: ...
+
+    @overload
+    def transaction(self, procedure: int, *args: int, timeout: Optional[float] = None) -> Transaction: ...
+
+    def transaction(
+        self, procedure: Optional[int] = None, *args: int, timeout: Optional[float] = None
+    ) -> Union[OwnTransaction, Transaction]:
+        """Starts a transaction.
+
+        Without a procedure, you decide its accesses: see OwnTransaction. The end of a `with` block commits it, and an exception quits it.
+
+        With a procedure, its accesses are made one at a time, by `step`. The end of a `with` block aborts it, unless it has ended; so does
         the loss of the last reference to it.
 
         Raises NotStarted if the start is refused, TimedOut or NoMemory.
         """
+        if procedure is not None:
+            return self._transaction_of(procedure, args, timeout)
+        own = OwnTransaction(self)
+        try:
+            own._start(NEVER_ALONE, nanoseconds(timeout))
+            return own
+        except BaseException:
+            own._abandon()
+            raise
+
+    def _transaction_of(self, procedure: int, args: Sequence[int], timeout: Optional[float]) -> Transaction:
         given, told, transaction = (ctypes.c_int64 * 4)(), CReply(), Transaction(self, CTicket())
         pack_args(given, args)
         number = whole(procedure, 0, 65535)
         try:
-            check(self._wait(FREE.sgt_shared_start, number, given, len(args), _ns(timeout), transaction._ticket, told))
+            check(self._wait(FREE.sgt_shared_start, number, given, len(args), nanoseconds(timeout), transaction._ticket, told))
             reply = reply_of(told, told)
             if reply.kind is not Kind.STARTED:
                 raise NotStarted(reply)
@@ -166,6 +217,11 @@ class SharedEngine(Uncopied):
         check(self._ask(FREE.sgt_shared_quit, CTicket(ticket.engine, ticket.part, ticket.tid), told))
         return reply_of(told, told)
 
+    def accesses(self, ticket: Ticket) -> list[Access]:
+        """Returns the accesses that the caller of a transaction decided, in their order, until the history is cut. Raises Stale then."""
+        of = CTicket(ticket.engine, ticket.part, ticket.tid)
+        return all_accesses(lambda told, space, count: check(self._ask(FREE.sgt_shared_accesses, of, told, space, count)))
+
     def live(self) -> list[Live]:
         """Returns the live transactions."""
         rows, count = (CLive * MOST_LIVE)(), ctypes.c_uint64()
@@ -174,7 +230,7 @@ class SharedEngine(Uncopied):
 
     def cut(self, timeout: Optional[float] = None) -> None:
         """Cuts the history off once no transaction is live; new ones wait meanwhile. Raises TimedOut or NoMemory."""
-        check(self._wait(FREE.sgt_shared_cut, _ns(timeout)))
+        check(self._wait(FREE.sgt_shared_cut, nanoseconds(timeout)))
 
     def get(self, table: int, number: int) -> Optional[int]:
         """Returns the committed value of a record, or None if there is no such record."""
@@ -213,7 +269,7 @@ class SharedEngine(Uncopied):
                 self._stored.wait(timeout)
                 taken = self._stored.take(most)
             elif not taken:
-                check(self._wait(FREE.sgt_shared_drain, _ns(timeout), calls, most, count))
+                check(self._wait(FREE.sgt_shared_drain, nanoseconds(timeout), calls, most, count))
                 taken = calls[: count.value]
             return list(map(ended_of, taken))
         except BaseException:
@@ -265,7 +321,7 @@ class Transaction:
     def commit(self, timeout: Optional[float] = None) -> Reply:
         """Commits it, and waits for its predecessors. Raises TimedOut if the deadline comes first; it is still live then."""
         told = CReply()
-        check(self._engine._wait(FREE.sgt_shared_commit, self._ticket, _ns(timeout), told))
+        check(self._engine._wait(FREE.sgt_shared_commit, self._ticket, nanoseconds(timeout), told))
         reply = self._replied(told)
         self._engine._tell(self._ticket)
         return reply

@@ -5,7 +5,7 @@ fn show(reply: Reply) {
     match reply {
         Reply::Started(tid) => println!("started {tid}"),
         Reply::Looked { table, number, value: Some(value) } => println!("read {table}/{number} {value}"),
-        Reply::Wrote { table, number, value } => println!("wrote {table}/{number} {value}"),
+        Reply::Wrote { table, number, value: Some(value) } => println!("wrote {table}/{number} {value}"),
         Reply::Waits(tid) => println!("waits {tid}"),
         Reply::Committed(answers) => println!("committed {}", answers[0]),
         other => println!("{other:?}"),
@@ -87,7 +87,7 @@ fn main() -> Result<(), Error> {
     }
     let aborted = Reply::Aborted { cause: Cause::Cycle(vec![1, 2]), fell: vec![3] };
     assert_eq!(aborted.to_string(), "aborted cycle 1 2 fell 3");
-    let none = Reply::Wrote { table: 8, number: 0, value: 0 }; // there is no table 8, so the library has no text for it
+    let none = Reply::Wrote { table: 8, number: 0, value: Some(0) }; // there is no table 8, so the library has no text for it
     assert_eq!(none.to_string(), format!("{none:?}"));
     let refused = Engine::open(r#"{"limits":[99,1],"accounts":[],"procedures":[]}"#);
     assert!(matches!(refused.err(), Some(Error::Opening { fault: Fault::BadLimits, .. })));

@@ -1,5 +1,5 @@
 //! Conversions between the structs of C and the types of Rust.
-use crate::{BatchOutcome, Call, Cause, Error, Event, Fate, Fault, Reply, Row};
+use crate::{Access, AccessKind, BatchOutcome, Call, Cause, Error, Event, Fate, Fault, Reply, Row};
 use sgt_sys as c;
 
 pub(crate) fn no_fault() -> c::Fault {
@@ -113,7 +113,8 @@ pub(crate) fn fields_of(reply: &Reply) -> c::Reply {
             (fields.found, fields.value) = (u32::from(value.is_some()), value.unwrap_or(0));
         }
         Reply::Wrote { table, number, value } => {
-            (fields.kind, fields.table, fields.number, fields.value) = (9, u32::from(*table), *number, *value);
+            (fields.kind, fields.table, fields.number) = (9, u32::from(*table), *number);
+            (fields.found, fields.value) = (u32::from(value.is_some()), value.unwrap_or(0));
         }
         Reply::Ended => fields.kind = 10,
         Reply::NotEnded => fields.kind = 11,
@@ -141,6 +142,7 @@ pub(crate) fn done(status: u32) -> Result<(), Error> {
         c::BEGUN => Err(Error::Begun),
         c::TOO_MANY => Err(Error::TooMany),
         c::BUSY => Err(Error::Busy),
+        c::SELF_WAIT => Err(Error::SelfWait),
         c::TIMED_OUT => Err(Error::TimedOut),
         c::STALE => Err(Error::Stale),
         c::MISUSE => Err(Error::Misuse),
@@ -158,6 +160,9 @@ pub(crate) fn event_of(event: &c::Event) -> Event {
         2 => Event::Step(event.tid),
         3 => Event::Commit(event.tid),
         4 => Event::Quit(event.tid),
+        5 => Event::Read { tid: event.tid, table: event.table as u8, number: event.number },
+        6 => Event::Write { tid: event.tid, table: event.table as u8, number: event.number, value: event.value },
+        7 => Event::Remove { tid: event.tid, table: event.table as u8, number: event.number },
         kind => Event::Unrecognised(kind),
     }
 }
@@ -183,7 +188,32 @@ pub(crate) fn call_of(call: &c::Call) -> Call {
         procedure: call.procedure as u16,
         args: call.arg[..call.args as usize].to_vec(),
         told: if call.kind == 13 { Ok(answers()) } else { Err(call.code) },
+        accesses: call.accesses,
     }
+}
+
+/// The accesses that a call writes. It is called again until all fit.
+pub(crate) fn accesses_of(write: impl Fn(*mut c::Access, usize, &mut u64) -> u32) -> Result<Vec<Access>, Error> {
+    let (mut accesses, mut count) = (vec![c::Access::default(); 16], 0);
+    loop {
+        // The pointer is to as many structs as are said to be there.
+        done(write(accesses.as_mut_ptr(), accesses.len(), &mut count))?;
+        match accesses.get(..count as usize) {
+            Some(all) => return Ok(all.iter().map(access_of).collect()),
+            None => accesses.resize(count as usize, c::Access::default()),
+        }
+    }
+}
+
+fn access_of(access: &c::Access) -> Access {
+    let kind = match access.kind {
+        5 => AccessKind::Read,
+        6 => AccessKind::Write,
+        7 => AccessKind::Remove,
+        kind => AccessKind::Unrecognised(kind),
+    };
+    let value = (access.found == 1).then_some(access.value);
+    Access { kind, table: access.table as u8, number: access.number, value }
 }
 
 fn cause_of(reply: &c::Reply) -> Cause {
@@ -211,7 +241,7 @@ pub(crate) fn reply_of(reply: &c::Reply) -> Reply {
             _ => Fate::Aborted(cause_of(reply)),
         }),
         8 => Reply::Looked { table, number, value: (reply.found == 1).then_some(value) },
-        9 => Reply::Wrote { table, number, value },
+        9 => Reply::Wrote { table, number, value: (reply.found == 1).then_some(value) },
         10 => Reply::Ended,
         11 => Reply::NotEnded,
         12 => Reply::Waits(reply.tid),

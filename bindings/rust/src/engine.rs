@@ -1,8 +1,9 @@
 //! The engine for one thread at a time.
 use crate::convert::{
-    call_for, call_of, done, event_of, no_fault, opening_refused, outcome_of, procedure_refused, reply_of, row_for, row_of, told,
+    accesses_of, call_for, call_of, done, event_of, no_fault, opening_refused, outcome_of, procedure_refused, reply_of, row_for,
+    row_of, told,
 };
-use crate::{check_version, Call, Error, Event, Fault, Reply, Row};
+use crate::{check_version, Access, Call, Error, Event, Fault, Reply, Row};
 use sgt_sys as c;
 use std::cell::UnsafeCell;
 
@@ -144,6 +145,39 @@ impl Engine {
     /// Aborts a transaction.
     pub fn quit(&mut self, tid: u32) -> Result<Reply, Error> {
         self.ask(c::sgt_quit, tid)
+    }
+
+    /// Starts a transaction of no procedure: its caller decides all its accesses, by `read`, `write` and `remove`.
+    pub fn begin(&mut self) -> Result<Reply, Error> {
+        let mut reply = c::Reply::default();
+        let status = unsafe { c::sgt_begin(self.inner.get_mut(), &mut reply) };
+        told(status, &reply)
+    }
+
+    /// Reads a record for a transaction whose procedure is at its end.
+    pub fn read(&mut self, tid: u32, table: u8, number: i64) -> Result<Reply, Error> {
+        let mut reply = c::Reply::default();
+        let status = unsafe { c::sgt_read(self.inner.get_mut(), tid, table.into(), number, &mut reply) };
+        told(status, &reply)
+    }
+
+    /// Writes a record in the same way. If the value is out of range, the reply is `BadArgs`.
+    pub fn write(&mut self, tid: u32, table: u8, number: i64, value: i64) -> Result<Reply, Error> {
+        let mut reply = c::Reply::default();
+        let status = unsafe { c::sgt_write(self.inner.get_mut(), tid, table.into(), number, value, &mut reply) };
+        told(status, &reply)
+    }
+
+    /// Removes a record in the same way. The reply is that of a write of no value.
+    pub fn remove(&mut self, tid: u32, table: u8, number: i64) -> Result<Reply, Error> {
+        let mut reply = c::Reply::default();
+        let status = unsafe { c::sgt_remove(self.inner.get_mut(), tid, table.into(), number, &mut reply) };
+        told(status, &reply)
+    }
+
+    /// Returns the accesses that the caller of a transaction decided, in their order.
+    pub fn accesses(&self, tid: u32) -> Result<Vec<Access>, Error> {
+        accesses_of(|to, room, count| unsafe { c::sgt_accesses(self.inner.get(), tid, to, room, count) })
     }
 
     /// Returns the committed value of a record, or none if there is no such record.

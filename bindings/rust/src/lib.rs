@@ -5,15 +5,24 @@
 //! let bank = sgt::SharedEngine::open(r#"{"limits":[8,100],"accounts":[[1,101,500,1000]],"procedures":[]}"#)?;
 //! let outcome = bank.run(1, &[1, 100])?; // SmallBank's deposit, from any thread
 //! assert_eq!(outcome.reply, sgt::Reply::Committed(vec![1100]));
+//! let before = bank.transact(|t| {
+//!     // A transaction function of your own: it is run again after a conflict.
+//!     let value = t.read(2, 101)?.unwrap_or(0);
+//!     t.write(2, 101, 2 * value)?;
+//!     Ok(value)
+//! })?;
+//! assert_eq!((before, bank.get(2, 101)?), (1100, Some(2200)));
 //! # Ok::<(), sgt::Error>(())
 //! ```
 
 mod convert;
 mod engine;
+mod own;
 mod shared;
 
 use convert::{fault_fields, fields_of, text_of};
 pub use engine::{BatchOutcome, Engine, Ran};
+pub use own::{OwnTransaction, TransactLimits};
 pub use sgt_sys::Ticket;
 pub use shared::{Configuration, Ended, Limits, Live, Outcome, SharedEngine, Transaction};
 use sgt_sys as c;
@@ -55,7 +64,8 @@ pub enum Reply {
     Unknown,
     Over(Fate),
     Looked { table: u8, number: i64, value: Option<i64> },
-    Wrote { table: u8, number: i64, value: i64 },
+    /// No value: the record was removed.
+    Wrote { table: u8, number: i64, value: Option<i64> },
     Ended,
     NotEnded,
     /// The commit has to wait for this transaction. Try it again later.
@@ -75,8 +85,31 @@ pub enum Event {
     Step(u32),
     Commit(u32),
     Quit(u32),
+    Read { tid: u32, table: u8, number: i64 },
+    Write { tid: u32, table: u8, number: i64, value: i64 },
+    Remove { tid: u32, table: u8, number: i64 },
     /// A kind that this version of the crate does not know.
     Unrecognised(u32),
+}
+
+/// The kind of an access.
+#[derive(Clone, Copy, Debug, PartialEq, Eq)]
+#[non_exhaustive]
+pub enum AccessKind {
+    Read,
+    Write,
+    Remove,
+    /// A kind that this version of the crate does not know.
+    Unrecognised(u32),
+}
+
+/// An access that a transaction's caller decided, with the value that was read or written, if any.
+#[derive(Clone, Copy, Debug, PartialEq, Eq)]
+pub struct Access {
+    pub kind: AccessKind,
+    pub table: u8,
+    pub number: i64,
+    pub value: Option<i64>,
 }
 
 /// A record of the database, and its value.
@@ -96,6 +129,8 @@ pub struct Call {
     pub args: Vec<i64>,
     /// The answers, or the code that the procedure raised.
     pub told: Result<Vec<i64>, u32>,
+    /// The number of accesses that its caller decided.
+    pub accesses: u64,
 }
 
 /// The least value, argument and record number.
@@ -144,6 +179,13 @@ pub enum Error {
     Busy,
     /// The deadline came first.
     TimedOut,
+    /// The transaction was aborted, and nothing of it is in the database. If that was by a conflict, try it again; else somebody
+    /// quit it. The reply says why.
+    Aborted { reply: Reply, is_conflict: bool },
+    /// A start was refused: no start is left.
+    NotStarted(Reply),
+    /// The call would wait, without a deadline, for a transaction that its own thread has to end.
+    SelfWait,
     /// The transaction belongs to a part of the history that was cut off.
     Stale,
     /// A call from a hook of the same engine, or a ticket of another engine.
@@ -167,6 +209,8 @@ impl fmt::Display for Error {
             Error::TooMany => write!(f, "no number is left for a procedure"),
             Error::Busy => write!(f, "another call is in the engine"),
             Error::TimedOut => write!(f, "the deadline came"),
+            Error::Aborted { reply, .. } | Error::NotStarted(reply) => write!(f, "{reply}"),
+            Error::SelfWait => write!(f, "the call would wait for its own thread, without a deadline"),
             Error::Stale => write!(f, "the transaction is of a part of the history that was cut off"),
             Error::Misuse => write!(f, "the call may not be made from here, or the ticket is of another engine"),
             Error::Version(library) => {

@@ -1,6 +1,6 @@
 //! One engine for many threads.
-use crate::convert::{call_of, done, no_fault, opening_refused, reply_of, row_for, row_of};
-use crate::{check_version, Call, Error, Reply, Row};
+use crate::convert::{accesses_of, call_of, done, no_fault, opening_refused, reply_of, row_for, row_of};
+use crate::{check_version, Access, Call, Error, Reply, Row};
 use sgt_sys::{self as c, Ticket};
 use std::mem::size_of;
 use std::os::raw::c_void;
@@ -182,6 +182,12 @@ impl SharedEngine {
         done(unsafe { c::sgt_shared_quit(self.at(), &ticket, &mut reply) }).map(|()| reply_of(&reply))
     }
 
+    /// Returns the accesses that the caller of a transaction decided, in their order. `Stale` once the history is cut. The hook of the
+    /// engine may call it.
+    pub fn accesses(&self, ticket: Ticket) -> Result<Vec<Access>, Error> {
+        accesses_of(|to, room, count| unsafe { c::sgt_shared_accesses(self.at(), &ticket, to, room, count) })
+    }
+
     /// Returns the live transactions.
     pub fn live(&self) -> Result<Vec<Live>, Error> {
         let (mut rows, mut count) = ([c::Live::default(); 32], 0); // no more are ever live
@@ -231,7 +237,7 @@ impl SharedEngine {
         Ok(calls[..count as usize].iter().map(ended_of).collect())
     }
 
-    fn at(&self) -> *mut c::Shared {
+    pub(crate) fn at(&self) -> *mut c::Shared {
         self.0.shared
     }
 }
@@ -297,7 +303,7 @@ unsafe extern "C-unwind" fn tell(context: *mut c_void, call: *const c::Ended) {
 }
 
 /// Returns a deadline in the library's form. A duration that is too long for it has no limit.
-fn nanoseconds(wait: Option<Duration>) -> i64 {
+pub(crate) fn nanoseconds(wait: Option<Duration>) -> i64 {
     wait.map_or(c::FOREVER, |wait| i64::try_from(wait.as_nanos()).unwrap_or(c::FOREVER))
 }
 

@@ -35,6 +35,11 @@ them is an event and gets one line of reply. The committed database comes last.
   ["step",0]
   ["commit",0]
   ["quit",0]
+  ["begin"]
+  ["read",1,3,1]
+  ["write",1,3,1,8]
+  ["remove",1,3,1]
+  ["commit",1]
   ["cut"]
 
   limits      the most live transactions, from 1 to 32; the most starts, from 1 to 4000000000;
@@ -50,6 +55,11 @@ them is an event and gets one line of reply. The committed database comes last.
   step        makes the transaction's next access
   commit      commits it, if its procedure has ended
   quit        aborts it
+  begin       starts the empty procedure, 65535: the caller decides each access
+  read        a read on which the caller decides, once the procedure has ended: the transaction, a
+              table and a number in it
+  write       a write of the value that comes last
+  remove      a write that removes the record
   cut         ends this part of the history, if no transaction is live: transactions are numbered
               from 0 again, and the limit of starts counts anew
 
@@ -59,9 +69,14 @@ The replies to these lines:
   read 0/1 101
   not ended
   aborted quit fell none
-  cut 4
+  started 1
+  read 3/1 7
+  wrote 3/1 8
+  removed 3/1
+  committed none
+  cut 9
 
-Here 0/1 is record 1 of table 0, and 4 events were answered since line 1. A transaction is named by
+Here 0/1 is record 1 of table 0, and 9 events were answered since line 1. A transaction is named by
 the number in the reply to its start.
 
 With --explain, standard error says after each abort which accesses make the edges of the cycle, and

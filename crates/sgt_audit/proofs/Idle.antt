@@ -1,5 +1,5 @@
 -- An entry that starts and ends nothing leaves what is counted and the table.
-use Rattle.std.proofs.Common.{◌≡◌, ℕ, ◌+◌, false, cond, List, ◌∷◌, length, Option, None, Some, slice_get, refl, sym, ap, ap₂, inl, inr, ◌∙◌, arith}
+use Rattle.std.proofs.Common.{◌≡◌, ℕ, false, List, ◌∷◌, length, Option, None, Some, slice_get, refl, sym, ap, ap₂, inl, inr, ◌∙◌}
 use Rattle.std.specs.Option.{option_map}
 use Rattle.std.proofs.lemmas.Option.{none-some}
 use Rattle.sgt_model.specs.declared.reply.Reply.{Reply}

@@ -1,5 +1,5 @@
 -- Facts from rows: the job of a transaction, that it failed, and which of two came after the other.
-use Rattle.std.proofs.Common.{◌≡◌, ◌↔◌, ℕ, ◌<◌, ◌≤◌, true, false, inl, inr, arith, List, length, get_or, Some, None, refl, sym, subst, ◌∙◌, slice_get}
+use Rattle.std.proofs.Common.{◌≡◌, ◌↔◌, ℕ, ◌<◌, ◌≤◌, true, false, inl, inr, arith, List, [], length, get_or, Some, None, refl, sym, subst, ◌∙◌, slice_get}
 use Rattle.std.proofs.lemmas.Bool.{true≢false}
 use Rattle.std.proofs.lemmas.Option.{none-some, same_Some, slice_get_cases, slice_get_past, slice_get_read, slice_get_within}
 use Rattle.sgt_model.specs.declared.entry.Entry.{Entry}
@@ -47,7 +47,7 @@ module _ (past : List Entry) (lives : List Life) (are : AreLives past lives) (jo
       ]
 
   module _ (life : Life) (at : slice_get lives t ≡ Some life) where
-    pub is_of : IsOf past job t ↔ (call_for job ≡ record { procedure = life.procedure; args = life.args })
+    pub is_of : IsOf past job t ↔ (call_for job ≡ record { procedure = life.procedure; args = life.args; caller_accesses = [] })
     is_of = (
       (λ of. sym of.call ∙ (are.each t life at).call),
       λ same. record {
@@ -56,7 +56,7 @@ module _ (past : List Entry) (lives : List Life) (are : AreLives past lives) (jo
       },
     )
 
-    pub has_failed_of : life.failed ≡ true → IsFailed past job t ↔ (call_for job ≡ record { procedure = life.procedure; args = life.args })
+    pub has_failed_of : life.failed ≡ true → IsFailed past job t ↔ (call_for job ≡ record { procedure = life.procedure; args = life.args; caller_accesses = [] })
     has_failed_of it = (
       (λ failed. is_of.0 failed.is_of),
       λ same. record { is_of = is_of.1 same; failed = (are.each t life at).failed ∙ it },

@@ -139,12 +139,12 @@ lives_started s past e lives legal p args event_is reply_is are = record {
         ∙ ap (λ b. cond b (Some (length past)) (started_at past t)) (ne_eqb (start_count past) t other)
 
     call_is : (t : ℕ) → call_of (e ∷ past) t ≡ unwrap_or
-        (cond (nat_eq (start_count past) t) (Some (record { procedure = p; args = args })) None) (call_of past t)
+        (cond (nat_eq (start_count past) t) (Some (record { procedure = p; args = args; caller_accesses = [] })) None) (call_of past t)
     call_is t = ap₂ (λ v r. unwrap_or (call_in v r t) (call_of past t)) event_is reply_is
 
     earlier : (t : ℕ) (life : Life) → IsLife past t life → t < start_count past → IsLife (e ∷ past) t life
     earlier t life is less = record {
-      call = call_is t ∙ (ap (λ b. unwrap_or (cond b (Some (record { procedure = p; args = args })) None) (call_of past t))
+      call = call_is t ∙ (ap (λ b. unwrap_or (cond b (Some (record { procedure = p; args = args; caller_accesses = [] })) None) (call_of past t))
           (ne_eqb (start_count past) t (λ same. absurd (omega arith))) ∙ is.call);
       started = not_started t (λ same. absurd (omega arith)) ∙ is.started;
       ended = not_ended t ∙ is.ended;
@@ -153,7 +153,7 @@ lives_started s past e lives legal p args event_is reply_is are = record {
 
     own : IsLife (e ∷ past) (start_count past) new
     own = record {
-      call = call_is (start_count past) ∙ ap (λ b. unwrap_or (cond b (Some (record { procedure = p; args = args })) None)
+      call = call_is (start_count past) ∙ ap (λ b. unwrap_or (cond b (Some (record { procedure = p; args = args; caller_accesses = [] })) None)
           (call_of past (start_count past))) (eq-eqb (start_count past) (start_count past) refl);
       started = ap (λ r. cond (starts_as r (start_count past)) (Some (length past)) (started_at past (start_count past))) reply_is
           ∙ ap (λ b. cond b (Some (length past)) (started_at past (start_count past))) (eq-eqb (start_count past) (start_count past) refl);

@@ -1,7 +1,7 @@
 -- What a history says of each transaction, as one table by transaction number.
 use Rattle.std.specs.Prelude.{◌≡◌, ℕ, Bool, false, List, [], ◌∷◌, ◌++◌, length, Option, Some, None, slice_get}
 use Rattle.sgt_model.specs.declared.event.Event.{Event}
-use Rattle.sgt_model.specs.declared.event.Event.TheVariants.{Start, Step, Commit, Quit}
+use Rattle.sgt_model.specs.declared.event.Event.TheVariants.{Start, Step, Access, Commit, Quit}
 use Rattle.sgt_model.specs.declared.entry.Entry.{Entry}
 use Rattle.sgt_model.specs.declared.reply.Fate.{Fate}
 use Rattle.sgt_model.specs.Fates.{start_count, fate_of}
@@ -12,7 +12,7 @@ use Rattle.sgt_audit.specs.Outcomes.{has_failed}
 
 -- the row says what the history says of t
 pub record IsLife (past : List Entry) (t : ℕ) (life : Life) : Type 0 where
-  pub call : call_of past t ≡ record { procedure = life.procedure; args = life.args }
+  pub call : call_of past t ≡ record { procedure = life.procedure; args = life.args; caller_accesses = [] }
   pub started : started_at past t ≡ Some life.started
   pub ended : ended_at past t ≡ life.ended
   pub failed : has_failed (fate_of past t) ≡ life.failed
@@ -41,5 +41,6 @@ life_after number (Some f) life = ended_life number (has_failed (Some f)) life
 abbrev pub with_started : ℕ → Event → List Life → List Life
 with_started number (Start p args) lives = lives ++ record { procedure = p; args = args; started = number; ended = None; failed = false } ∷ []
 with_started number (Step t) lives = lives
+with_started number (Access t d) lives = lives
 with_started number (Commit t) lives = lives
 with_started number (Quit t) lives = lives

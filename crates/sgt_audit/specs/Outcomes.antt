@@ -1,6 +1,6 @@
 -- What each outcome says of the history. Here the history is listed oldest first, as in a report, so that entry n is
 -- the n-th of the list. Definitions that need it newest first take its reverse.
-use Rattle.std.specs.Prelude.{◌≡◌, ℕ, ◌+◌, ◌<◌, Bool, true, false, List, length, reverse, Option, Some, None, slice_get, slice_index}
+use Rattle.std.specs.Prelude.{◌≡◌, ℕ, ◌+◌, ◌<◌, Bool, true, false, List, [], length, reverse, Option, Some, None, slice_get, slice_index}
 use Rattle.std.specs.List.{All}
 use Rattle.sgt_model.specs.declared.reply.Reply.{Reply}
 use Rattle.sgt_model.specs.declared.reply.Cause.TheVariants as cause
@@ -19,7 +19,7 @@ use Rattle.sgt_audit.specs.Spans.{EndsBefore}
 
 -- what a job calls
 abbrev pub call_for : Job → Call
-call_for job = record { procedure = job.procedure; args = job.args }
+call_for job = record { procedure = job.procedure; args = job.args; caller_accesses = [] }
 
 -- t belongs to the job: it was started with the job's procedure and arguments
 pub record IsOf (past : List Entry) (job : Job) (t : ℕ) : Type 0 where

@@ -1,5 +1,5 @@
 //! Which transactions belong to a job, and how its failed attempts ended.
-ghost use Rattle.std.specs.Prelude.{◌≡◌, ◌↔◌, ℕ, ◌+◌, ◌<◌, true, IsTrue, List, length, slice_index};
+ghost use Rattle.std.specs.Prelude.{◌≡◌, ◌↔◌, ℕ, ◌+◌, ◌<◌, true, IsTrue, List, [], length, slice_index};
 ghost use Rattle.std.specs.List.{All};
 ghost use Rattle.sgt_model.specs.declared.entry.Entry.{Entry};
 ghost use Rattle.sgt_audit.specs.Lives.{AreLives};
@@ -12,7 +12,7 @@ use sgt_model::{Args, Tid};
 
 /// Whether the job has this procedure and these arguments.
 pub fn is_call(procedure: u16, args: &Args, job: &Job) -> bool
-    ensures { IsTrue result ↔ (call_for job.now ≡ record { procedure = procedure; args = args.now }) }
+    ensures { IsTrue result ↔ (call_for job.now ≡ record { procedure = procedure; args = args.now; caller_accesses = [] }) }
 {
     procedure == job.procedure && args.as_slice() == job.args.as_slice()
 }

@@ -8,7 +8,7 @@ use sgt_format::{Opening, append_numbered, append_reply};
 use sgt_graph::{BitGraph, Graph};
 use sgt_input::Reader;
 use sgt_log::History;
-use sgt_model::{Event, Tid};
+use sgt_model::{Event, Key, Request, Tid};
 use sgt_records::{Records, SlabRecords};
 use sgt_workers::{PoolError, Report, run};
 use std::alloc::{AllocError, Global};
@@ -106,6 +106,7 @@ fn append_event(text: &mut Vec<u8>, event: &Event) -> Result<(), AllocError> {
     match event {
         Event::Start { procedure, args } => append_start(text, *procedure, args.as_slice()),
         Event::Step(t) => append_call(text, "[\"step\",", *t),
+        Event::Access(t, request) => append_access(text, *t, request),
         Event::Commit(t) => append_call(text, "[\"commit\",", *t),
         Event::Quit(t) => append_call(text, "[\"quit\",", *t),
     }
@@ -115,6 +116,26 @@ fn append_event(text: &mut Vec<u8>, event: &Event) -> Result<(), AllocError> {
 fn append_call(text: &mut Vec<u8>, words: &str, t: Tid) -> Result<(), AllocError> {
     append_numbered(text, words.as_bytes(), t.0)?;
     text.extend_from_slice(b"]\n")
+}
+
+/// Adds the line of an access on which a caller decides.
+fn append_access(text: &mut Vec<u8>, t: Tid, request: &Request) -> Result<(), AllocError> {
+    match request {
+        Request::Read(key) => append_keyed(text, "[\"read\",", t, key)?,
+        Request::Write(key, None) => append_keyed(text, "[\"remove\",", t, key)?,
+        Request::Write(key, Some(value)) => {
+            append_keyed(text, "[\"write\",", t, key)?;
+            append_numbered(text, b",", *value)?;
+        }
+    }
+    text.extend_from_slice(b"]\n")
+}
+
+/// Adds the beginning of such a line: these words, the transaction and the record.
+fn append_keyed(text: &mut Vec<u8>, words: &str, t: Tid, key: &Key) -> Result<(), AllocError> {
+    append_numbered(text, words.as_bytes(), t.0)?;
+    append_numbered(text, b",", key.table())?;
+    append_numbered(text, b",", key.id())
 }
 
 /// Adds the line of a start. Commas separate its numbers.

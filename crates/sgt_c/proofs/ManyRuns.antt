@@ -70,4 +70,5 @@ no_call = record {
   answers = 0;
   arg = [];
   answer = [];
+  accesses = 0;
 }

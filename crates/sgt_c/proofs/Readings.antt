@@ -77,10 +77,10 @@ module _ (s : SgtReply) where
       reply_at 8 kind
       ∙ ap (option_and_then (λ key. option_map (reply.Looked key) (found_in s))) (key_reads table number of_table of_number key)
       ∙ ap (option_map (reply.Looked (table, number))) (found_reads value found)
-  reply_reads (reply.Wrote (table, number) value) ((kind, of_table, of_number, is), key) =
+  reply_reads (reply.Wrote (table, number) value) ((kind, of_table, of_number, found), key) =
       reply_at 9 kind
-      ∙ ap (option_map (λ key. reply.Wrote key s.value)) (key_reads table number of_table of_number key)
-      ∙ ap (λ v. Some (reply.Wrote (table, number) v)) is
+      ∙ ap (option_and_then (λ key. option_map (reply.Wrote key) (found_in s))) (key_reads table number of_table of_number key)
+      ∙ ap (option_map (reply.Wrote (table, number))) (found_reads value found)
   reply_reads reply.Ended told = reply_at 10 told.0
   reply_reads reply.NotEnded told = reply_at 11 told.0
   reply_reads (reply.Waits first) told = reply_at 12 told.0.0 ∙ ap (λ t. Some (reply.Waits t)) told.0.1

@@ -1,10 +1,11 @@
 -- Calls that are run again, one after another, on a new engine.
-use Rattle.std.specs.Prelude.{◌≡◌, ℕ, suc, ◌≤◌, ℤ, Bool, true, false, List, [], ◌∷◌, ◌++◌, length, map, take, drop, reverse, Option, Some, None}
+use Rattle.std.specs.Prelude.{◌≡◌, ℕ, suc, ◌≤◌, ℤ, Bool, true, false, List, [], ◌∷◌, ◌++◌, length, map, take, reverse, Option, Some, None}
 use Rattle.std.specs.List.{All}
 use Rattle.std.proofs.Common.{refl, sym, ap, ap₂, ◌∙◌, subst, inl, inr, arith, length-append}
 use Rattle.std.proofs.lemmas.Grind.{reverse_onto}
-use Rattle.std.proofs.lemmas.List.{append_assoc, append-nil, length-reverse, length-map, map-append, reverse-append, reverse-reverse, take-append-drop, take_all}
-use Rattle.std.proofs.lemmas.List.Elements.{All-head, All-tail}
+use Rattle.std.proofs.lemmas.List.{append_assoc, append-nil, length-reverse, length-map, map-append, reverse-append, reverse-reverse, take_all}
+use Rattle.std.proofs.lemmas.List.Elements.{All-append, All-head, All-tail}
+use Rattle.std.proofs.lemmas.Simd.{map-map}
 use Rattle.sgt_model.specs.declared.entry.Entry.{Entry}
 use Rattle.sgt_model.specs.declared.event.Event.{Event}
 use Rattle.sgt_model.specs.declared.event.Event.TheVariants.{Start, Step, Commit}
@@ -12,15 +13,16 @@ use Rattle.sgt_model.specs.declared.reply.Reply.{Reply}
 use Rattle.sgt_model.specs.declared.reply.Reply.TheVariants as reply
 use Rattle.sgt_model.specs.Fates.{ending_in, is_start}
 use Rattle.sgt_model.specs.Legality.{Legal, LegalReply}
-use Rattle.sgt_model.specs.Progress.{Call}
+use Rattle.sgt_model.specs.Progress.{caller_accesses, with_caller_accesses}
 use Rattle.sgt_model.specs.Questions.{is_ending}
 use Rattle.sgt_model.specs.Replay.{RunResult, GaveAnswers, AskedCode, told, told_calls, told_in}
+use Rattle.sgt_model.specs.Runs.{CallerAccess}
 use Rattle.sgt_model.specs.Settings.{Setting}
 use Rattle.sgt_model.specs.ShortReplies.{short_reply}
 use Rattle.sgt_model.proofs.Facts.{legal_older}
 use Rattle.sgt_engine.specs.EngineView.{EngineView, setting_of, with_entry}
 use Rattle.sgt_progress.specs.Alone.{IsAlone, NoneLive}
-use Rattle.sgt_progress.specs.GivenCalls.{GivenCallsAreTold, given_calls}
+use Rattle.sgt_progress.specs.GivenCalls.{GivenCall, GivenCallsAreTold, given_calls, given_of}
 use Rattle.sgt_progress.specs.Reruns.{IsOneByOne, TellTheSame}
 use Rattle.sgt_progress.proofs.Alone.{started_alone, stays_alone}
 use Rattle.sgt_progress.proofs.RunAlone.{StepsSo, commit_ends, none_after_end, none_at_first, none_stays, step_so}
@@ -28,22 +30,24 @@ use Rattle.sgt_c.specs.declared.call_struct.SgtCall.{SgtCall}
 use Rattle.sgt_c.specs.declared.held.Held.{Held}
 use Rattle.sgt_c.specs.declared.outcome_struct.SgtOutcome.{SgtOutcome}
 use Rattle.sgt_c.specs.declared.reply_struct.SgtReply.{SgtReply}
-use Rattle.sgt_c.specs.ManyRuns.{RanAll, args_in}
-use Rattle.sgt_c.specs.ReplayedCalls.{ArePassed, AreTold, call_in, past_at, result_in}
+use Rattle.sgt_c.specs.AccessStructs.{accesses_of}
+use Rattle.sgt_c.specs.ManyRuns.{IsAsked, RanAll, args_in}
+use Rattle.sgt_c.specs.ReplayedCalls.{ArePassed, AreTold, CountsAccesses, bare_call, call_in, past_at, result_in}
 use Rattle.sgt_c.specs.ReplyStructs.{HoldsReply}
-use Rattle.sgt_c.specs.Reruns.{CanBeRerun, HoldResults, HoldsResult, RerunTellsTheSame}
+use Rattle.sgt_c.specs.Reruns.{CanBeRerun, GivenTellTheSame, HoldResults, HoldsResult, RerunTellsTheSame, RunsTellTheSame, given_by}
 use Rattle.sgt_c.specs.Runs.{CommitsIf, IsAccess, Runs, RunsOn, is_access, is_end, with_entries}
+use Rattle.sgt_c.proofs.CallerAccesses.{legal_to}
 
 -- ---- one transaction, entry by entry
 
 -- nothing is live, and these calls were given one after another
-record Between (past : List Entry) (given : List Call) : Type 0 where
+record Between (past : List Entry) (given : List GivenCall) : Type 0 where
   by : IsOneByOne past
   none : NoneLive past
   calls : given_calls past ≡ given
 
 -- the same, but t is the only live transaction
-record Amid (past : List Entry) (t : ℕ) (given : List Call) : Type 0 where
+record Amid (past : List Entry) (t : ℕ) (given : List GivenCall) : Type 0 where
   by : IsOneByOne past
   alone : IsAlone past t
   calls : given_calls past ≡ given
@@ -67,20 +71,20 @@ end_is : (r : Reply) → is_end (short_reply r) ≡ true → r ≡ reply.Ended
 end_is reply.Ended a = refl
 end_is _ a = absurd cc
 
-step_goes : (past : List Entry) (t : ℕ) (given : List Call) (r : Reply) → IsPlain (Step t) t r → Amid past t given
+step_goes : (past : List Entry) (t : ℕ) (given : List GivenCall) (r : Reply) → IsPlain (Step t) t r → Amid past t given
     → Amid (record { event = Step t; reply = r } ∷ past) t given
 step_goes past t given r plain amid = record {
-  by = (amid.by, inr (t, amid.alone, inl refl));
+  by = (amid.by, inr (t, amid.alone, inl (inl refl)));
   alone = stays_alone past (record { event = Step t; reply = r }) t amid.alone plain.no_start plain.no_end;
   calls = amid.calls;
 }
 
 -- the accesses of the only live one
-record Went (past after : List Entry) (t : ℕ) (given : List Call) : Type 0 where
+record Went (past after : List Entry) (t : ℕ) (given : List GivenCall) : Type 0 where
   amid : Amid after t given
   told_same : told after ≡ told past
 
-accesses_go : (past : List Entry) (t : ℕ) (given : List Call) (steps : List Entry) → All (IsAccess t) steps → Amid past t given → Went past (steps ++ past) t given
+accesses_go : (past : List Entry) (t : ℕ) (given : List GivenCall) (steps : List Entry) → All (IsAccess t) steps → Amid past t given → Went past (steps ++ past) t given
 accesses_go past t given [] all amid = record { amid = amid; told_same = refl }
 accesses_go past t given (e ∷ steps) all amid =
     let one = All-head (IsAccess t) e steps all in
@@ -112,13 +116,13 @@ ends_else (reply.Refused code fell) a b so = so
 -- ---- one call
 
 -- a call was run from its start to its end, after which nothing is live; of it this reply was told
-record RanTo (s : Setting) (past after : List Entry) (given : List Call) (c : Call) (last : Reply) : Type 0 where
+record RanTo (s : Setting) (past after : List Entry) (given : List GivenCall) (c : GivenCall) (last : Reply) : Type 0 where
   between : Between after (c ∷ given)
   told_more : told after ≡ told_in last ++ told past
 
-module _ (s : Setting) (past : List Entry) (given : List Call) (so_far : Between past given) (p : ℕ) (args : List ℤ) where
-  abbrev own : Call
-  own = record { procedure = p; args = args }
+module _ (s : Setting) (past : List Entry) (given : List GivenCall) (so_far : Between past given) (p : ℕ) (args : List ℤ) where
+  abbrev own : GivenCall
+  own = record { procedure = p; args = args; requests = [] }
 
   refused : (last : Reply) → is_start last ≡ false → RanTo s past (record { event = Start p args; reply = last } ∷ past) given own last
   refused last no_start = record {
@@ -151,7 +155,7 @@ module _ (s : Setting) (past : List Entry) (given : List Call) (so_far : Between
     aborted legal no_end =
         let w = went (legal_older s steps begun legal.0) in record {
           between = record {
-            by = (w.amid.by, inr (t, w.amid.alone, inl refl));
+            by = (w.amid.by, inr (t, w.amid.alone, inl (inl refl)));
             none = none_after_end s walked (record { event = Step t; reply = r }) t legal w.amid.alone
                 (ends_else r last_step no_end (step_so s walked legal.0 t w.amid.alone r legal.1));
             calls = w.amid.calls;
@@ -171,7 +175,7 @@ module _ (s : Setting) (past : List Entry) (given : List Call) (so_far : Between
         (subst (λ (q : Reply). LegalReply s (record { event = Step t; reply = q } ∷ walked) (Commit t) last) (end_is r at_end) legal.1) in
         record {
           between = record {
-            by = (amid.by, inr (t, amid.alone, inr refl));
+            by = (amid.by, inr (t, amid.alone, inl (inr refl)));
             none = none_after_end s stepped (record { event = Commit t; reply = last }) t legal amid.alone ending;
             calls = amid.calls;
           };
@@ -181,14 +185,14 @@ module _ (s : Setting) (past : List Entry) (given : List Call) (so_far : Between
 -- ---- as the engine's view has it
 
 -- what is so of the engine before a call, if it is so of the engine after it
-record Follows (s : Setting) (e after : EngineView) (given : List Call) (c : Call) (last : Reply) : Type 0 where
+record Follows (s : Setting) (e after : EngineView) (given : List GivenCall) (c : GivenCall) (last : Reply) : Type 0 where
   legal : Legal s e.past
   same : setting_of after ≡ setting_of e
   ran : Between e.past given → RanTo s e.past after.past given c last
 
-module _ (s : Setting) (e : EngineView) (given : List Call) (p : ℕ) (args : List ℤ) where
-  abbrev requested : Call
-  requested = record { procedure = p; args = args }
+module _ (s : Setting) (e : EngineView) (given : List GivenCall) (p : ℕ) (args : List ℤ) where
+  abbrev requested : GivenCall
+  requested = record { procedure = p; args = args; requests = [] }
 
   runs_on : (t : ℕ) (wrote : Bool) (last : Reply) (after : EngineView) → RunsOn t wrote last (with_entry (Start p args) (reply.Started t) e) after
       → Legal s after.past → Follows s e after given requested last
@@ -228,6 +232,10 @@ module _ (s : Setting) (e : EngineView) (given : List Call) (p : ℕ) (args : Li
 
 -- ---- all calls
 
+-- what a run requests for a call: its procedure with its arguments, and no accesses
+abbrev started_by : SgtCall → GivenCall
+started_by c = given_of (bare_call c)
+
 -- the results that these replies report, the last one first
 abbrev results_of : List Reply → List RunResult
 results_of [] = []
@@ -256,24 +264,24 @@ same_before s (c ∷ calls) (o ∷ outcomes) e after (between, (started, wrote, 
     same_before s calls outcomes between after rest legal
     ∙ (runs s e [] c.procedure (args_in c) started wrote last between one (legal_before s calls outcomes between after rest legal)).same
 
-record RanAllTo (past after : List Entry) (given : List Call) (calls : List SgtCall) (outcomes : List SgtOutcome) : Type 0 where
+record RanAllTo (past after : List Entry) (given : List GivenCall) (calls : List SgtCall) (outcomes : List SgtOutcome) : Type 0 where
   replies : List Reply
   said : Said calls outcomes replies
-  between : Between after (reverse (map call_in calls) ++ given)
+  between : Between after (reverse (map started_by calls) ++ given)
   told_more : told after ≡ results_of replies ++ told past
 
-all_ran : (s : Setting) (calls : List SgtCall) (outcomes : List SgtOutcome) (e after : EngineView) (given : List Call) → RanAll calls outcomes e after
+all_ran : (s : Setting) (calls : List SgtCall) (outcomes : List SgtOutcome) (e after : EngineView) (given : List GivenCall) → RanAll calls outcomes e after
     → Legal s after.past → Between e.past given → RanAllTo e.past after.past given calls outcomes
 all_ran s [] outcomes e after given is legal so_far =
     subst (λ (v : EngineView). RanAllTo e.past v.past given [] outcomes) (sym is) (record { replies = []; said = tt; between = so_far; told_more = refl })
 all_ran s (c ∷ calls) [] e after given ran legal so_far = absurd ran
 all_ran s (c ∷ calls) (o ∷ outcomes) e after given (between, (started, wrote, last, one, _, _, holds), rest) legal so_far =
     let first = (runs s e given c.procedure (args_in c) started wrote last between one (legal_before s calls outcomes between after rest legal)).ran so_far in
-    let others = all_ran s calls outcomes between after (call_in c ∷ given) rest legal first.between in record {
+    let others = all_ran s calls outcomes between after (started_by c ∷ given) rest legal first.between in record {
       replies = last ∷ others.replies;
       said = (holds, others.said);
       between = subst (Between after.past)
-          (sym (ap (λ l. l ++ given) (reverse_onto (map call_in calls) (call_in c) []) ∙ append_assoc (reverse (map call_in calls)) (call_in c ∷ []) given))
+          (sym (ap (λ l. l ++ given) (reverse_onto (map started_by calls) (started_by c) []) ∙ append_assoc (reverse (map started_by calls)) (started_by c ∷ []) given))
           others.between;
       told_more = others.told_more ∙ ap (λ l. results_of others.replies ++ l) first.told_more
           ∙ sym (append_assoc (results_of others.replies) (told_in last) (told e.past));
@@ -368,10 +376,44 @@ same_results (c ∷ calls) (o ∷ outcomes) (r ∷ replies) said same =
 
 -- ---- the law
 
--- calls that were read from a history can be run again
-pub rerun_tells_the_same : GivenCallsAreTold → (s : Setting) (past : List Entry) (calls : List SgtCall) → Legal s past → told_calls past ≡ reverse (map call_in calls)
-    → told past ≡ reverse (map result_in calls) → RerunTellsTheSame s past calls
-rerun_tells_the_same law s past calls legal calls_are results_are fresh after outcomes (same, new) (ran, headline, _) = (
+-- a call without accesses
+module _ (now : List Entry) where
+  no_access : (t : ℕ) → 0 ≡ length (accesses_of now t) → caller_accesses now t ≡ []
+  no_access t e = empty (caller_accesses now t) (omega (arith, e, length-reverse (caller_accesses now t)))
+    where
+      empty : (xs : List CallerAccess) → length xs ≡ 0 → xs ≡ []
+      empty [] e = refl
+      empty (x ∷ xs) e = absurd (omega (arith, e))
+
+  bare_given : (c : SgtCall) → CountsAccesses now c → c.accesses ≡ 0 → given_by now c ≡ started_by c
+  bare_given c counts none = ap (λ xs. given_of (with_caller_accesses xs (bare_call c))) (no_access c.tid (sym none ∙ counts))
+
+  all_bare : (calls : List SgtCall) → All (CountsAccesses now) calls → All IsAsked calls → map (given_by now) calls ≡ map started_by calls
+  all_bare [] counts asked = refl
+  all_bare (c ∷ calls) counts asked =
+      ap₂ (λ g l. g ∷ l) (bare_given c (All-head (CountsAccesses now) c calls counts) (All-head IsAsked c calls asked).1)
+      (all_bare calls (All-tail (CountsAccesses now) c calls counts) (All-tail IsAsked c calls asked))
+
+reversed : {A B : Type 0} (f : A → B) (l : List A) → map f (reverse l) ≡ reverse (map f l)
+reversed f [] = refl
+reversed f (x ∷ l) =
+    ap (map f) (reverse_onto l x []) ∙ map-append f (reverse l) (x ∷ []) ∙ ap (λ m. m ++ f x ∷ []) (reversed f l)
+    ∙ sym (reverse_onto (map f l) (f x) [])
+
+-- calls that were requested again, each with its accesses
+given_tell_the_same : GivenCallsAreTold → (s : Setting) (past now : List Entry) (calls : List SgtCall) → Legal s past
+    → told_calls past ≡ reverse (map (call_in now) calls) → GivenTellTheSame s past (map (given_by now) calls)
+given_tell_the_same law s past now calls legal calls_are after same legal_then one_by_one none given =
+    law s past legal after.past legal_then one_by_one none (given ∙ sym were)
+  where
+    were : map given_of (told_calls past) ≡ reverse (map (given_by now) calls)
+    were = ap (map given_of) calls_are ∙ reversed given_of (map (call_in now) calls)
+        ∙ ap reverse (map-map given_of (call_in now) calls)
+
+-- calls without accesses that were run again
+runs_tell_the_same : (s : Setting) (past : List Entry) (calls : List SgtCall) → GivenTellTheSame s past (map started_by calls)
+    → told past ≡ reverse (map result_in calls) → RunsTellTheSame s past calls
+runs_tell_the_same s past calls law results_are fresh after outcomes (same, new) (ran, headline, _) = (
   same_results calls outcomes all.replies all.said (sym told_all ∙ agrees.1.told_same ∙ results_are),
   agrees.1,
 )
@@ -393,17 +435,25 @@ rerun_tells_the_same law s past calls legal calls_are results_are fresh after ou
     told_all = all.told_more ∙ ap (λ l. results_of all.replies ++ told l) new ∙ append-nil (results_of all.replies)
 
     agrees : (told_calls after.engine.past ≡ told_calls past) × TellTheSame s after.engine.past past
-    agrees = law s past legal after.engine.past legal_then all.between.by all.between.none
-        (all.between.calls ∙ append-nil (reverse (map call_in calls)) ∙ sym calls_are)
+    agrees = law after.engine same_then legal_then all.between.by all.between.none
+        (all.between.calls ∙ append-nil (reverse (map started_by calls)))
+
+-- calls that were read from a history can be requested and run again
+rerun_tells_the_same : GivenCallsAreTold → (s : Setting) (past now : List Entry) (calls : List SgtCall) → Legal s past
+    → told_calls past ≡ reverse (map (call_in now) calls) → told past ≡ reverse (map result_in calls) → All (CountsAccesses now) calls
+    → RerunTellsTheSame s past now calls
+rerun_tells_the_same law s past now calls legal calls_are results_are counts = record {
+  given = given;
+  runs = λ asked. runs_tell_the_same s past calls (subst (GivenTellTheSame s past) (all_bare now calls counts asked) given) results_are;
+}
+  where
+    given : GivenTellTheSame s past (map (given_by now) calls)
+    given = given_tell_the_same law s past now calls legal calls_are
 
 -- ---- the calls up to a position of a history
 
 legal_at : (s : Setting) (past : List Entry) (next : ℕ) → Legal s past → Legal s (past_at (reverse past) next)
-legal_at s past next legal = legal_older s (reverse (drop next (reverse past))) (past_at (reverse past) next) (subst (Legal s) parts legal)
-  where
-    parts : past ≡ reverse (drop next (reverse past)) ++ past_at (reverse past) next
-    parts = sym (reverse-reverse past) ∙ ap reverse (sym (take-append-drop next (reverse past)))
-        ∙ reverse-append (take next (reverse past)) (drop next (reverse past))
+legal_at s past next legal = legal_to s (reverse past) next (subst (Legal s) (sym (reverse-reverse past)) legal)
 
 -- what was read earlier, and then these
 module _ {X : Type 0} (read : List Entry → List X) (field : SgtCall → X) (entries : List Entry) (from next : ℕ) (earlier now : List SgtCall) where
@@ -417,10 +467,14 @@ module _ {X : Type 0} (read : List Entry → List X) (field : SgtCall → X) (en
 pub can_be_rerun : GivenCallsAreTold → (h : Held) (from : ℕ) (to : List SgtCall) (count next : ℕ) → Legal (setting_of h.engine) h.engine.past
     → AreTold (reverse h.engine.past) from to count next → CanBeRerun (Some h) from to count next
 can_be_rerun law h from to count next legal now earlier before =
-    rerun_tells_the_same law (setting_of h.engine) (past_at (reverse h.engine.past) next) (earlier ++ take count to)
+    rerun_tells_the_same law (setting_of h.engine) (past_at (reverse h.engine.past) next) h.engine.past (earlier ++ take count to)
     (legal_at (setting_of h.engine) h.engine.past next legal)
-    (joined told_calls call_in (reverse h.engine.past) from next earlier (take count to) refl before.calls now.calls)
+    (subst (λ l. told_calls (past_at (reverse h.engine.past) next) ≡ reverse (map (call_in l) (earlier ++ take count to))) (reverse-reverse h.engine.past)
+    (joined told_calls (call_in (reverse (reverse h.engine.past))) (reverse h.engine.past) from next earlier (take count to) refl before.calls now.calls))
     (joined told result_in (reverse h.engine.past) from next earlier (take count to) refl before.results now.results)
+    (subst (λ l. All (CountsAccesses l) (earlier ++ take count to)) (reverse-reverse h.engine.past)
+    (All-append (CountsAccesses (reverse (reverse h.engine.past))) earlier (take count to)
+    (subst (All (CountsAccesses (reverse (reverse h.engine.past)))) (take_all (length earlier) earlier (omega arith)) before.accesses) now.accesses))
 
 -- the same of the engine that a call has taken out of its handle
 pub taken_can_be_rerun : GivenCallsAreTold → (held : Option Held) (h lent : Held) (entries : List Entry) (from : ℕ) (to : List SgtCall) (count next : ℕ)

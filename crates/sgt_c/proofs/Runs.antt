@@ -15,6 +15,7 @@ use Rattle.sgt_model.specs.declared.short_reply.ShortReply.{ShortReply}
 use Rattle.sgt_model.specs.declared.short_reply.ShortReply.TheVariants as bare
 use Rattle.sgt_model.specs.Fates.{fate_of, is_start, live, live_ones, start_count}
 use Rattle.sgt_model.specs.Legality.{Legal, LegalReply}
+use Rattle.sgt_model.specs.Questions.{started_in}
 use Rattle.sgt_model.specs.Settings.{Setting, takes}
 use Rattle.sgt_model.specs.ShortReplies.{full_reply, reply_with, short_reply}
 use Rattle.sgt_model.specs.StartReply.{args_fit, room_reply, taken_reply}
@@ -39,6 +40,18 @@ module _ (limits : Limits) (begun living t : ℕ) where
   taken_number : (taken : Option ℕ) (args : List ℤ) → taken_reply limits begun living taken args ≡ reply.Started t → t ≡ begun
   taken_number None args e = absurd cc
   taken_number (Some count) args e = fit_number (args_fit count args) e
+
+-- the reply to a start, again: whatever the event is
+pub start_number : (s : Setting) (past : List Entry) (event : Event) (r : Reply) (t : ℕ) → LegalReply s past event r → started_in event r ≡ Some t
+    → t ≡ start_count past
+start_number s past (Start p args) (reply.Started u) t told is =
+    taken_number s.rules.limits (start_count past) (length (live_ones past)) t (takes s.rules p) args
+    (sym told ∙ ap reply.Started (one u t is))
+  where
+    one : (u t : ℕ) → Some u ≡ Some t → u ≡ t
+    one u t e = cc
+start_number s past (Start p args) _ t told is = absurd cc
+start_number s past _ r t told is = absurd cc
 
 both_true : (a b : Bool) → a ≡ true → b ≡ true → (a && b) ≡ true
 both_true a b p q = rw (p, q) refl

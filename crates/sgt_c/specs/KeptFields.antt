@@ -28,9 +28,9 @@ has_code s = nat_eq s.kind 15 || is_by s 2
 abbrev pub has_record : SgtReply → Bool
 has_record s = nat_eq s.kind 8 || nat_eq s.kind 9
 
--- the value that was written, or that a read found
+-- the value that was written, or that a read found; a removal writes none
 abbrev pub has_value : SgtReply → Bool
-has_value s = nat_eq s.kind 9 || nat_eq s.kind 8 && nat_eq s.found 1
+has_value s = has_record s && nat_eq s.found 1
 
 -- the answers of a commit
 abbrev pub has_answers : SgtReply → Bool
@@ -56,7 +56,7 @@ pub record KeepsOtherFields (old new : SgtReply) : Type 0 where
   pub tid : has_tid new ≡ false → new.tid ≡ old.tid
   pub code : has_code new ≡ false → new.code ≡ old.code
   pub table : has_record new ≡ false → new.table ≡ old.table
-  pub found : nat_eq new.kind 8 ≡ false → new.found ≡ old.found
+  pub found : has_record new ≡ false → new.found ≡ old.found
   pub number : has_record new ≡ false → new.number ≡ old.number
   pub value : has_value new ≡ false → new.value ≡ old.value
   pub answers : has_answers new ≡ false → new.answers ≡ old.answers
@@ -73,12 +73,20 @@ KeepOtherFields [] new = new ≡ []
 KeepOtherFields (o ∷ old) [] = ⊥
 KeepOtherFields (o ∷ old) (n ∷ new) = KeepsOtherFields o.reply n.reply × KeepOtherFields old new
 
+-- of an event, the record of an access that the caller decided on
+abbrev pub has_access : SgtEvent → Bool
+has_access s = nat_eq s.kind 5 || nat_eq s.kind 6 || nat_eq s.kind 7
+
 -- the same of an event
 pub record KeepsOtherEventFields (old new : SgtEvent) : Type 0 where
   pub tid : nat_eq new.kind 1 ≡ true → new.tid ≡ old.tid
   pub procedure : nat_eq new.kind 1 ≡ false → new.procedure ≡ old.procedure
   pub args : nat_eq new.kind 1 ≡ false → new.args ≡ old.args
   pub arg : KeepsAfter (nat_eq new.kind 1) new.args old.arg new.arg
+  pub table : has_access new ≡ false → new.table ≡ old.table
+  pub spare : new.spare ≡ old.spare
+  pub number : has_access new ≡ false → new.number ≡ old.number
+  pub value : nat_eq new.kind 6 ≡ false → new.value ≡ old.value
 
 -- the same of a fault
 pub record KeepsOtherFaultFields (old new : SgtFault) : Type 0 where
@@ -87,6 +95,36 @@ pub record KeepsOtherFaultFields (old new : SgtFault) : Type 0 where
   pub depth : nat_eq new.kind 20 ≡ false → new.depth ≡ old.depth
   pub spare : new.spare ≡ old.spare
   pub place : KeepsAfter (nat_eq new.kind 20) new.depth old.place new.place
+
+-- ---- an event in parts
+
+-- the event of this kind that names a transaction
+abbrev pub with_named : ℕ → ℕ → SgtEvent → SgtEvent
+with_named kind t s = record {
+  kind = kind;
+  tid = t;
+  procedure = s.procedure;
+  args = s.args;
+  arg = s.arg;
+  table = s.table;
+  spare = s.spare;
+  number = s.number;
+  value = s.value;
+}
+
+-- the event of this kind that names a transaction and a record
+abbrev pub with_key : ℕ → ℕ → Key → SgtEvent → SgtEvent
+with_key kind t key s = record {
+  kind = kind;
+  tid = t;
+  procedure = s.procedure;
+  args = s.args;
+  arg = s.arg;
+  table = key.0;
+  spare = s.spare;
+  number = key.1;
+  value = s.value;
+}
 
 -- ---- a reply in parts
 

@@ -3,6 +3,7 @@ pub mod ReplyStructs
 pub mod KeptFields
 pub mod ReplyReadings
 pub mod EventStructs
+pub mod AccessStructs
 pub mod FaultStructs
 pub mod BufferTexts
 -- the handle

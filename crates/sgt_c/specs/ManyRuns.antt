@@ -11,8 +11,12 @@ use Rattle.sgt_c.specs.ReplyStructs.{HoldsReply}
 use Rattle.sgt_c.specs.Runs.{Runs, GivesUp, IsNumberTold}
 
 -- the procedure number fits 16 bits, and there are at most 4 arguments
+abbrev pub IsStartable : SgtCall → Type 0
+IsStartable c = (c.procedure < 2 ^ 16) × (c.args ≤ 4)
+
+-- the same, and its caller decided on no access: such a call can be run from its start to its commit
 abbrev pub IsAsked : SgtCall → Type 0
-IsAsked c = (c.procedure < 2 ^ 16) × (c.args ≤ 4)
+IsAsked c = IsStartable c × (c.accesses ≡ 0)
 
 -- the arguments of a call
 abbrev pub args_in : SgtCall → List ℤ

@@ -1,5 +1,5 @@
 -- What is added to the engine in a handle before its first event.
-use Rattle.std.specs.Prelude.{◌≡◌, ◌≢◌, ◌≤◌, ◌<◌, ◌^◌, ℕ, List, [], length, map, take, Option, Some, None, slice_get}
+use Rattle.std.specs.Prelude.{◌≡◌, ◌≢◌, ◌≤◌, ◌<◌, ℕ, List, [], length, map, take, Option, Some, None, slice_get}
 use Rattle.std.specs.List.{All}
 use Rattle.sgt_model.specs.Databases.{contents_of}
 use Rattle.sgt_model.specs.Syntax.{ProcedureText}
@@ -46,6 +46,7 @@ pub record IsAdded (h : Held) (text : List ℕ) (h' : Held) (n : ℕ) : Type 0 w
   pub spelled : SpellsProcedure text procedure
   pub added : h'.engine ≡ with_procedure procedure h.engine
   pub number : n ≡ length h.engine.procedures
+  pub free : n < 65535
   pub part : h'.part ≡ h.part
 
 -- the same for the content of a handle
@@ -58,13 +59,13 @@ Added (Some h) text (Some h') number = IsAdded h text h' number
 -- failed
 abbrev pub IsRefusal : EngineView → List ℕ → Unadded → Type 0
 IsRefusal e text Begun = e.past ≢ []
-IsRefusal e text TooMany = (e.past ≡ []) × (2 ^ 16 ≤ length e.procedures)
-IsRefusal e text (Refused error) = (e.past ≡ []) × (length e.procedures < 2 ^ 16) × RefusesProcedure (length e.procedures) text error
+IsRefusal e text TooMany = (e.past ≡ []) × (65535 ≤ length e.procedures)
+IsRefusal e text (Refused error) = (e.past ≡ []) × (length e.procedures < 65535) × RefusesProcedure (length e.procedures) text error
 
 -- there is an engine without a history, and it has no number left for a procedure
 abbrev pub HasNoNumber : Option Held → Type 0
 HasNoNumber None = ⊥
-HasNoNumber (Some h) = (h.engine.past ≡ []) × (2 ^ 16 ≤ length h.engine.procedures)
+HasNoNumber (Some h) = (h.engine.past ≡ []) × (65535 ≤ length h.engine.procedures)
 
 -- the text spells no procedure, for the reason that is returned with the number that it was to get
 abbrev pub IsTextRefused : Option Held → List ℕ → SgtFault → Type 0

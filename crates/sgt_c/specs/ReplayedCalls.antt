@@ -6,22 +6,33 @@ use Rattle.sgt_model.specs.declared.event.Event.{Event}
 use Rattle.sgt_model.specs.declared.reply.Reply.{Reply}
 use Rattle.sgt_model.specs.declared.reply.Reply.TheVariants as reply
 use Rattle.sgt_model.specs.Fates.{subject}
-use Rattle.sgt_model.specs.Progress.{Call}
+use Rattle.sgt_model.specs.Legality.{Legal}
+use Rattle.sgt_model.specs.Progress.{Call, caller_accesses, with_caller_accesses}
 use Rattle.sgt_model.specs.Replay.{RunResult, GaveAnswers, AskedCode, told, told_calls}
+use Rattle.sgt_model.specs.Settings.{Setting}
 use Rattle.sgt_c.specs.declared.call_struct.SgtCall.{SgtCall}
 use Rattle.sgt_c.specs.declared.call_struct.Started.{Started}
 use Rattle.sgt_c.specs.declared.held.Held.{Held}
-use Rattle.sgt_c.specs.ManyRuns.{IsAsked}
+use Rattle.sgt_c.specs.AccessStructs.{accesses_of, listed}
+use Rattle.sgt_c.specs.ManyRuns.{IsStartable}
 
 -- ---- what a struct says
 
 -- what a transaction was started with
 abbrev pub called : Started → Call
-called s = record { procedure = s.procedure; args = s.args }
+called s = record { procedure = s.procedure; args = s.args; caller_accesses = [] }
 
 -- the procedure with its arguments
-abbrev pub call_in : SgtCall → Call
-call_in s = record { procedure = s.procedure; args = take s.args s.arg }
+abbrev pub bare_call : SgtCall → Call
+bare_call s = record { procedure = s.procedure; args = take s.args s.arg; caller_accesses = [] }
+
+-- the same, and the accesses of its transaction's caller, which sgt_accesses returns
+abbrev pub call_in : List Entry → SgtCall → Call
+call_in past s = with_caller_accesses (caller_accesses past s.tid) (bare_call s)
+
+-- its number of accesses is that of those
+abbrev pub CountsAccesses : List Entry → SgtCall → Type 0
+CountsAccesses past s = s.accesses ≡ length (accesses_of past s.tid)
 
 -- its result: the answers if the kind is a commit, else the code
 abbrev pub result_in : SgtCall → RunResult
@@ -32,6 +43,10 @@ abbrev pub ends_in : SgtCall → ℕ × ℕ
 ends_in s = (s.tid, s.kind)
 
 -- ---- of a history
+
+-- the entries, oldest first, are a legal history
+abbrev pub IsLegal : List Entry → Type 0
+IsLegal entries = (s : Setting) × Legal s (reverse entries)
 
 -- the transaction that an entry commits or refuses, if any, with 13 for a commit and 15 for a refusal
 abbrev pub ends_by : Event → Reply → List (ℕ × ℕ)
@@ -52,16 +67,18 @@ past_at entries place = reverse (take place entries)
 abbrev pub Adds : {X : Type 0} → (List Entry → List X) → (SgtCall → X) → List Entry → ℕ → List SgtCall → ℕ → ℕ → Type 0
 Adds read field entries from to count next = read (past_at entries next) ≡ reverse (map field (take count to)) ++ read (past_at entries from)
 
--- the first `count` structs are the calls between the two positions of the history, in reply order, with their results
+-- the first `count` structs are the calls between the two positions of the history, in reply order, with their results and with
+-- how many accesses their callers made
 pub record AreTold (entries : List Entry) (from : ℕ) (to : List SgtCall) (count next : ℕ) : Type 0 where
-  pub calls : Adds told_calls call_in entries from to count next
+  pub calls : Adds told_calls (call_in (reverse entries)) entries from to count next
   pub results : Adds told result_in entries from to count next
   pub ends : Adds told_ends ends_in entries from to count next
+  pub accesses : All (CountsAccesses (reverse entries)) (take count to)
 
--- the same; each can be asked for again; and no entry follows them unless all structs are filled
+-- the same; each can be started again; and no entry follows them unless all structs are filled
 pub record ArePassed (entries : List Entry) (from : ℕ) (to : List SgtCall) (count next : ℕ) : Type 0 where
   pub told : AreTold entries from to count next
-  pub asked : All IsAsked (take count to)
+  pub asked : All IsStartable (take count to)
   pub onward : from ≤ next
   pub within : next ≤ length entries
   pub room : count ≤ length to
@@ -72,13 +89,8 @@ abbrev pub ReturnsCalls : Option Held → ℕ → List SgtCall → ℕ → ℕ �
 ReturnsCalls None from to count next = ⊥
 ReturnsCalls (Some h) from to count next = ArePassed (reverse h.engine.past) from to count next
 
--- what a struct says, if there is one
-abbrev pub listed : {X : Type 0} → (SgtCall → X) → Option SgtCall → List X
-listed field None = []
-listed field (Some s) = field s ∷ []
-
 -- the struct is the call that the entry at a position ends; there is none if the entry ends none
 pub record IsToldAt (entries : List Entry) (place : ℕ) (told_call : Option SgtCall) : Type 0 where
-  pub calls : told_calls (past_at entries (place + 1)) ≡ listed call_in told_call ++ told_calls (past_at entries place)
+  pub calls : told_calls (past_at entries (place + 1)) ≡ listed (call_in (reverse entries)) told_call ++ told_calls (past_at entries place)
   pub results : told (past_at entries (place + 1)) ≡ listed result_in told_call ++ told (past_at entries place)
   pub ends : told_ends (past_at entries (place + 1)) ≡ listed ends_in told_call ++ told_ends (past_at entries place)

@@ -1,5 +1,6 @@
 -- What the fields of a reply say to C.
-use Rattle.std.specs.Prelude.{◌≡◌, ℤ, take, Option, Some, None}
+use Rattle.std.specs.Prelude.{◌≡◌, ℕ, ℤ, take, Option, Some, None}
+use Rattle.sgt_model.specs.Contents.{Key}
 use Rattle.sgt_model.specs.declared.reply.Reply.{Reply}
 use Rattle.sgt_model.specs.declared.reply.Reply.TheVariants as reply
 use Rattle.sgt_model.specs.declared.reply.Cause.{Cause}
@@ -20,10 +21,14 @@ HoldsFate s fate.Committed = s.cause ≡ 0
 HoldsFate s (fate.Aborted why) = HoldsCause s why
 HoldsFate s (fate.Fell first) = (s.cause ≡ 4) × (s.tid ≡ first)
 
--- what a read found: 1 with the value, or 0
+-- what a read found, or a write wrote: 1 with the value, or 0 for none
 abbrev pub HoldsFound : SgtReply → Option ℤ → Type 0
 HoldsFound s None = s.found ≡ 0
 HoldsFound s (Some value) = (s.found ≡ 1) × (s.value ≡ value)
+
+-- the kind of an access, its record, and what it found or wrote
+abbrev pub HoldsAccess : SgtReply → ℕ → Key → Option ℤ → Type 0
+HoldsAccess s kind key value = (s.kind ≡ kind) × (s.table ≡ key.0) × (s.number ≡ key.1) × HoldsFound s value
 
 -- the kind and the fields that belong to it
 abbrev pub HoldsReply : SgtReply → Reply → Type 0
@@ -34,8 +39,8 @@ HoldsReply s reply.Spent = s.kind ≡ 4
 HoldsReply s reply.Full = s.kind ≡ 5
 HoldsReply s reply.Unknown = s.kind ≡ 6
 HoldsReply s (reply.Over fate) = (s.kind ≡ 7) × HoldsFate s fate
-HoldsReply s (reply.Looked key value) = (s.kind ≡ 8) × (s.table ≡ key.0) × (s.number ≡ key.1) × HoldsFound s value
-HoldsReply s (reply.Wrote key value) = (s.kind ≡ 9) × (s.table ≡ key.0) × (s.number ≡ key.1) × (s.value ≡ value)
+HoldsReply s (reply.Looked key value) = HoldsAccess s 8 key value
+HoldsReply s (reply.Wrote key value) = HoldsAccess s 9 key value
 HoldsReply s reply.Ended = s.kind ≡ 10
 HoldsReply s reply.NotEnded = s.kind ≡ 11
 HoldsReply s (reply.Waits first) = (s.kind ≡ 12) × (s.tid ≡ first)

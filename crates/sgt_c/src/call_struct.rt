@@ -1,8 +1,8 @@
 //! The struct of a call for C: what ran, and its result.
 ghost use Rattle.std.specs.Prelude.{◌≡◌, ◌≤◌, length};
 ghost use Rattle.sgt_model.specs.Replay.{GaveAnswers, AskedCode};
-ghost use Rattle.sgt_c.specs.ManyRuns.{IsAsked};
-ghost use Rattle.sgt_c.specs.ReplayedCalls.{call_in, called, ends_in, result_in};
+ghost use Rattle.sgt_c.specs.ManyRuns.{IsStartable};
+ghost use Rattle.sgt_c.specs.ReplayedCalls.{bare_call, called, ends_in, result_in};
 
 use crate::event_struct::write_args;
 use crate::reply_struct::write_answers;
@@ -30,38 +30,43 @@ pub struct SgtCall {
     pub answers: u32,
     pub arg: [i64; 4],
     pub answer: [i64; 8],
+    /// How many accesses its caller decided on.
+    pub accesses: u64,
 }
 
 impl SgtCall {
     /// The call of a transaction that was committed with these answers.
-    pub fn committed(t: Tid, started: &Started, answers: &[i64]) -> SgtCall
+    pub fn committed(t: Tid, started: &Started, accesses: usize, answers: &[i64]) -> SgtCall
         requires { length answers.now ≤ 8 }
-        ensures asked { IsAsked result }
+        ensures asked { IsStartable result }
         ensures ends { ends_in result ≡ (t, 13) }
-        ensures call { call_in result ≡ called started.now }
+        ensures call { bare_call result ≡ called started.now }
+        ensures accesses { result.accesses ≡ accesses }
         ensures told { result_in result ≡ GaveAnswers answers.now }
     {
-        let mut call = SgtCall::untold(13, t, started);
+        let mut call = SgtCall::untold(13, t, started, accesses);
         call.answers = write_answers(&mut call.answer, answers);
         call
     }
 
     /// The call of a transaction that was refused with this code.
-    pub fn refused(t: Tid, started: &Started, code: u16) -> SgtCall
-        ensures asked { IsAsked result }
+    pub fn refused(t: Tid, started: &Started, accesses: usize, code: u16) -> SgtCall
+        ensures asked { IsStartable result }
         ensures ends { ends_in result ≡ (t, 15) }
-        ensures call { call_in result ≡ called started.now }
+        ensures call { bare_call result ≡ called started.now }
+        ensures accesses { result.accesses ≡ accesses }
         ensures told { result_in result ≡ AskedCode code }
     {
-        let mut call = SgtCall::untold(15, t, started);
+        let mut call = SgtCall::untold(15, t, started, accesses);
         call.code = u32::from(code);
         call
     }
 
-    fn untold(kind: u32, t: Tid, started: &Started) -> SgtCall
-        ensures asked { IsAsked result }
+    fn untold(kind: u32, t: Tid, started: &Started, accesses: usize) -> SgtCall
+        ensures asked { IsStartable result }
         ensures ends { ends_in result ≡ (t, kind) }
-        ensures call { call_in result ≡ called started.now }
+        ensures call { bare_call result ≡ called started.now }
+        ensures accesses { result.accesses ≡ accesses }
     {
         let mut call = SgtCall {
             kind,
@@ -72,6 +77,7 @@ impl SgtCall {
             answers: 0,
             arg: [0; 4],
             answer: [0; 8],
+            accesses: accesses as u64,
         };
         call.args = write_args(&mut call.arg, &started.args);
         call

@@ -2,9 +2,9 @@
 ghost use Rattle.std.specs.Prelude.{◌≡◌, ◌≤◌, drop, take};
 ghost use Rattle.sgt_model.specs.declared.event.Event.TheVariants as event;
 ghost use Rattle.sgt_c.specs.EventStructs.{HoldsEvent};
-ghost use Rattle.sgt_c.specs.KeptFields.{KeepsOtherEventFields};
+ghost use Rattle.sgt_c.specs.KeptFields.{KeepsOtherEventFields, with_key, with_named};
 
-use sgt_model::{Args, Event};
+use sgt_model::{Args, Event, Key, Request};
 
 /// An event of the engine, for C. `kind` says which of the other fields belong to it.
 #[repr(C)]
@@ -17,6 +17,12 @@ pub struct SgtEvent {
     pub procedure: u32,
     pub args: u32,
     pub arg: [i64; 4],
+    /// Of an access that the caller decided on: its record. `spare` is unused.
+    pub table: u32,
+    pub spare: u32,
+    pub number: i64,
+    /// Of a write: its value.
+    pub value: i64,
 }
 
 /// Writes an event for C. The fields that do not count for its kind keep their values.
@@ -31,19 +37,40 @@ pub fn write_event(into: &mut SgtEvent, event: &Event)
             into.args = write_args(&mut into.arg, args);
         }
         Event::Step(t) => write_named(into, 2, t.0),
+        Event::Access(t, request) => write_request(into, t.0, request),
         Event::Commit(t) => write_named(into, 3, t.0),
         Event::Quit(t) => write_named(into, 4, t.0),
     }
 }
 
 fn write_named(into: &mut SgtEvent, kind: u32, t: u32)
-    ensures kind { into.new.kind ≡ kind }
-    ensures tid { into.new.tid ≡ t }
-    ensures procedure { into.new.procedure ≡ into.old.procedure }
-    ensures args { (into.new.args ≡ into.old.args) × (into.new.arg ≡ into.old.arg) }
+    ensures { into.new ≡ with_named kind t into.old }
 {
     into.kind = kind;
     into.tid = t;
+}
+
+fn write_request(into: &mut SgtEvent, t: u32, request: &Request)
+    ensures event { HoldsEvent into.new (event.Access t request.now) }
+    ensures kept { KeepsOtherEventFields into.old into.new }
+{
+    match request {
+        Request::Read(key) => write_key(into, 5, t, *key),
+        Request::Write(key, Some(value)) => {
+            write_key(into, 6, t, *key);
+            into.value = *value;
+        }
+        Request::Write(key, None) => write_key(into, 7, t, *key),
+    }
+}
+
+fn write_key(into: &mut SgtEvent, kind: u32, t: u32, key: Key)
+    ensures { into.new ≡ with_key kind t key into.old }
+{
+    into.kind = kind;
+    into.tid = t;
+    into.table = key.table() as u32;
+    into.number = key.id();
 }
 
 /// Writes arguments, and returns how many there are. The items after them stay.

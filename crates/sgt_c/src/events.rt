@@ -115,7 +115,7 @@ pub extern "C" fn sgt_quit(alloc: Global, engine: &mut Handle, t: u32, reply: &m
 
 /// Runs an event on the engine in a handle, and writes the reply.
 #[inline(always)]
-fn ask(alloc: Global, engine: &mut Handle, event: Event, reply: &mut SgtReply) -> u32
+pub fn ask(alloc: Global, engine: &mut Handle, event: Event, reply: &mut SgtReply) -> u32
     ensures ok { result ≡ 0 → Answered event engine.old.slot.held engine.new.slot.held reply.new }
     ensures unchanged { result ≢ 0 → engine.new.slot.held ≡ engine.old.slot.held }
     ensures unwritten { result ≢ 0 → reply.new ≡ reply.old }

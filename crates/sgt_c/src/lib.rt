@@ -18,6 +18,7 @@
 #![tactic(auto)]
 
 // The structs of C, and how they are written and read.
+mod access_struct;
 mod buffer_text;
 mod call_struct;
 mod event_struct;
@@ -34,6 +35,7 @@ mod held;
 mod slot;
 
 // The calls.
+mod access_list;
 mod asked;
 mod cutting;
 mod events;
@@ -42,6 +44,7 @@ mod history;
 mod opening;
 mod opening_bare;
 mod opening_with;
+mod own_accesses;
 mod procedure_text;
 mod procedures;
 mod putting;
@@ -52,6 +55,7 @@ mod run;
 mod run_many;
 mod texts;
 
+pub use access_struct::SgtAccess;
 pub use call_struct::SgtCall;
 pub use event_struct::SgtEvent;
 pub use fault_struct::SgtFault;

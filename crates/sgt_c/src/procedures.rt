@@ -18,7 +18,7 @@ use std::alloc::Global;
 ///
 /// - `BUSY`; `CLOSED`.
 /// - `BEGUN`: there is a history.
-/// - `TOO_MANY`: all 65536 numbers are used.
+/// - `TOO_MANY`: all 65535 numbers are used; number 65535 is that of the empty procedure.
 /// - From 16 on: a fault of the text, which is written to `fault` with the number that the procedure was to get.
 /// - `NO_MEMORY`: an allocation failed.
 #[unsafe(no_mangle)]

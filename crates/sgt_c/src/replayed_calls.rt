@@ -1,13 +1,15 @@
 //! The calls of the committed and refused transactions, in the order of their replies.
-ghost use Rattle.std.specs.Prelude.{◌≡◌, ◌≢◌, ◌≤◌, ◌<◌, ◌↔◌, IsNone, IfSome, IfNone, ◌++◌, drop, length, take};
+ghost use Rattle.std.specs.Prelude.{◌≡◌, ◌≢◌, ◌≤◌, ◌<◌, ◌↔◌, IsNone, IfSome, IfNone, List, ◌++◌, cond, drop, length, reverse, take};
 ghost use Rattle.std.specs.List.{All};
 ghost use Rattle.std.specs.Option.{option_map};
+ghost use Rattle.sgt_model.specs.declared.entry.Entry.{Entry};
 ghost use Rattle.sgt_model.specs.Fates.{subject};
-ghost use Rattle.sgt_model.specs.Progress.{call_in as started_in, call_of};
+ghost use Rattle.sgt_model.specs.Progress.{call_in as started_in, call_of, caller_access_in, caller_accesses};
 ghost use Rattle.sgt_model.specs.Replay.{told_call_in, told_in};
+ghost use Rattle.sgt_c.specs.AccessStructs.{listed};
 ghost use Rattle.sgt_c.specs.Entries.{HasNoPlace};
-ghost use Rattle.sgt_c.specs.ManyRuns.{IsAsked};
-ghost use Rattle.sgt_c.specs.ReplayedCalls.{ArePassed, IsToldAt, ReturnsCalls, call_in, called, ends_by, ends_in, listed, past_at, result_in};
+ghost use Rattle.sgt_c.specs.ManyRuns.{IsStartable};
+ghost use Rattle.sgt_c.specs.ReplayedCalls.{ArePassed, CountsAccesses, IsLegal, IsToldAt, ReturnsCalls, call_in, called, ends_by, ends_in, past_at, result_in};
 ghost use Rattle.sgt_c.specs.Reruns.{CanBeRerun};
 ghost use Rattle.sgt_c.specs.Handles.{IsBusy, IsClosed};
 
@@ -20,7 +22,8 @@ use sgt_progress::reruns_agree;
 use std::alloc::Global;
 
 /// The calls of the committed and refused transactions from a position of the history on, in the order of their
-/// replies, each with its result. The headline runs this list one after another. At most as many calls are written as
+/// replies, each with its result and with the number of accesses on which its caller decided: `sgt_accesses` returns
+/// these. The headline runs this list one after another. At most as many calls are written as
 /// `calls` holds. `count` is their number, and `next` the position from which the next call continues.
 ///
 /// It reads the entries from `from` to `next`, and for each call that it finds the entries back to the transaction's
@@ -80,6 +83,7 @@ struct Passed {
 
 /// Writes the calls from a position on, at most as many as fit. None if the history has fewer entries than the position.
 fn pass(history: &History, from: u64, to: &mut [SgtCall]) -> Option<Passed>
+    requires { IsLegal history.now.entries }
     ensures passed { IfSome result (λ p. ArePassed history.now.entries from to.new p.count p.next) }
     ensures rest { IfSome result (λ p. drop p.count to.new ≡ drop p.count to.old) }
     ensures none { IsNone result ↔ (length history.now.entries < from) }
@@ -94,7 +98,8 @@ fn pass(history: &History, from: u64, to: &mut [SgtCall]) -> Option<Passed>
 
 /// The same from a position within the history.
 fn pass_from(history: &History, from: usize, to: &mut [SgtCall]) -> Passed
-    requires { from ≤ length history.now.entries }
+    requires within { from ≤ length history.now.entries }
+    requires legal { IsLegal history.now.entries }
     ensures passed { ArePassed history.now.entries from to.new result.count result.next }
     ensures rest { drop result.count to.new ≡ drop result.count to.old }
     ensures room { length to.new ≡ length to.old }
@@ -112,7 +117,9 @@ fn pass_from(history: &History, from: usize, to: &mut [SgtCall]) -> Passed
 fn put(to: &mut [SgtCall], count: usize, call: Option<SgtCall>) -> usize
     requires { count < length to.old }
     ensures put { take result to.new ≡ take count to.old ++ listed (λ call. call) call }
-    ensures asked { All IsAsked (take count to.old) → IfSome call IsAsked → All IsAsked (take result to.new) }
+    ensures asked { All IsStartable (take count to.old) → IfSome call IsStartable → All IsStartable (take result to.new) }
+    ensures accesses { (past : List Entry) → All (CountsAccesses past) (take count to.old) → IfSome call (CountsAccesses past)
+        → All (CountsAccesses past) (take result to.new) }
     ensures rest { drop result to.new ≡ drop result to.old }
     ensures room { length to.new ≡ length to.old }
     ensures within { (count ≤ result) × (result ≤ length to.new) }
@@ -128,9 +135,11 @@ fn put(to: &mut [SgtCall], count: usize, call: Option<SgtCall>) -> usize
 
 /// The call of the transaction that the entry at a position commits or refuses, if any.
 fn told_at(history: &History, place: usize) -> Option<SgtCall>
-    requires { place < length history.now.entries }
+    requires within { place < length history.now.entries }
+    requires legal { IsLegal history.now.entries }
     ensures told { IsToldAt history.now.entries place result }
-    ensures asked { IfSome result IsAsked }
+    ensures accesses { IfSome result (CountsAccesses (reverse history.now.entries)) }
+    ensures asked { IfSome result IsStartable }
 {
     let entry = history.entry(place);
     told_by(history, place, &entry)
@@ -139,21 +148,24 @@ fn told_at(history: &History, place: usize) -> Option<SgtCall>
 /// The call of the transaction that an entry commits or refuses, if any. The entry follows those before a position.
 #[tactic(auto, using(crate::proofs::Replies::whole))]
 fn told_by(history: &History, place: usize, entry: &EntryRef<'_>) -> Option<SgtCall>
-    requires { place ≤ length history.now.entries }
-    ensures calls { told_call_in (past_at history.now.entries place) entry.now.event entry.now.reply ≡ listed call_in result }
+    requires within { place ≤ length history.now.entries }
+    requires legal { IsLegal history.now.entries }
+    ensures calls { told_call_in (past_at history.now.entries place) entry.now.event entry.now.reply
+        ≡ listed (call_in (past_at history.now.entries place)) result }
     ensures results { told_in entry.now.reply ≡ listed result_in result }
     ensures ends { ends_by entry.now.event entry.now.reply ≡ listed ends_in result }
-    ensures asked { IfSome result IsAsked }
+    ensures accesses { IfSome result (CountsAccesses (past_at history.now.entries place)) }
+    ensures asked { IfSome result IsStartable }
 {
     let t = subject(entry);
     match entry.short() {
         ShortReply::Committed => {
-            let started = started(history, place, t);
-            Some(SgtCall::committed(t, &started, entry.answers()))
+            let (started, accesses) = started(history, place, t);
+            Some(SgtCall::committed(t, &started, accesses, entry.answers()))
         }
         ShortReply::Refused(code) => {
-            let started = started(history, place, t);
-            Some(SgtCall::refused(t, &started, code))
+            let (started, accesses) = started(history, place, t);
+            Some(SgtCall::refused(t, &started, accesses, code))
         }
         _ => None,
     }
@@ -165,26 +177,35 @@ fn subject(entry: &EntryRef<'_>) -> Tid
 {
     match entry.event() {
         Event::Start { .. } => Tid(0),
-        Event::Step(t) | Event::Commit(t) | Event::Quit(t) => t,
+        Event::Step(t) | Event::Access(t, _) | Event::Commit(t) | Event::Quit(t) => t,
     }
 }
 
-/// What a transaction was started with in the entries before a position. It reads them from the newest to the start.
-fn started(history: &History, place: usize, t: Tid) -> Started
-    requires { place ≤ length history.now.entries }
-    ensures { call_of (past_at history.now.entries place) t ≡ called result }
+/// What a transaction was started with in the entries before a position, and how many accesses its caller decided on
+/// there. It reads them from the newest to the start.
+fn started(history: &History, place: usize, t: Tid) -> (Started, usize)
+    requires within { place ≤ length history.now.entries }
+    requires legal { IsLegal history.now.entries }
+    ensures call { call_of (past_at history.now.entries place) t ≡ called result.0 }
+    ensures accesses { length (caller_accesses (past_at history.now.entries place) t) ≡ result.1 }
 {
+    let mut accesses = 0;
     let mut at = place;
     while 0 < at {
         at -= 1;
-        if let Some(started) = started_by(&history.entry(at), t) {
-            return started;
+        let entry = history.entry(at);
+        if let Some(started) = started_by(&entry, t) {
+            return (started, accesses);
+        }
+        if is_access_by(&entry, t) {
+            accesses += 1;
         }
     }
-    Started {
+    let none = Started {
         procedure: 0,
         args: Args::new(),
-    }
+    };
+    (none, accesses)
 }
 
 /// What an entry starts the transaction with, if it does.
@@ -197,5 +218,21 @@ fn started_by(entry: &EntryRef<'_>, t: Tid) -> Option<Started>
     match entry.event() {
         Event::Start { procedure, args } => Some(Started { procedure, args }),
         _ => None,
+    }
+}
+
+/// Whether an entry makes an access for a transaction's caller.
+fn is_access_by(entry: &EntryRef<'_>, t: Tid) -> bool
+    ensures { length (caller_access_in entry.now.event entry.now.reply t) ≡ cond result 1 0 }
+{
+    match entry.event() {
+        Event::Access(u, _) => {
+            u == t
+                && matches!(
+                    entry.short(),
+                    ShortReply::Looked { .. } | ShortReply::Wrote { .. }
+                )
+        }
+        _ => false,
     }
 }

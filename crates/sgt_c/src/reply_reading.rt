@@ -2,7 +2,7 @@
 ghost use Rattle.std.specs.Prelude.{◌≡◌, ◌≤◌, take, Some, IfSome};
 ghost use Rattle.sgt_model.specs.declared.reply.Reply.{Reply};
 ghost use Rattle.sgt_c.specs.ReplyStructs.{HoldsCause, HoldsFate, HoldsFound};
-ghost use Rattle.sgt_c.specs.ReplyReadings.{HoldsValidReply, IsCause, IsFate, code_in, key_in, found_in, cause_in, fate_in, looked_in, reply_in};
+ghost use Rattle.sgt_c.specs.ReplyReadings.{HoldsValidReply, IsCause, IsFate, code_in, key_in, found_in, cause_in, fate_in, looked_in, reply_in, wrote_in};
 
 use crate::reply_struct::SgtReply;
 use sgt_model::{Answers, Cause, Fate, Key, Reply, Tid, Tids};
@@ -29,10 +29,7 @@ fn read_reply(fields: &SgtReply) -> Option<Reply>
         6 => Some(Reply::Unknown),
         7 => Some(Reply::Over(read_fate(fields)?)),
         8 => read_looked(fields),
-        9 => Some(Reply::Wrote {
-            key: read_key(fields)?,
-            value: fields.value,
-        }),
+        9 => read_wrote(fields),
         10 => Some(Reply::Ended),
         11 => Some(Reply::NotEnded),
         12 => Some(Reply::Waits(Tid(fields.tid))),
@@ -56,6 +53,15 @@ fn read_looked(fields: &SgtReply) -> Option<Reply>
     let key = read_key(fields)?;
     let value = read_found(fields)?;
     Some(Reply::Looked { key, value })
+}
+
+fn read_wrote(fields: &SgtReply) -> Option<Reply>
+    ensures value { result ≡ wrote_in fields.now }
+    ensures valid { fields.now.kind ≡ 9 → IfSome result (HoldsValidReply fields.now) }
+{
+    let key = read_key(fields)?;
+    let value = read_found(fields)?;
+    Some(Reply::Wrote { key, value })
 }
 
 fn read_key(fields: &SgtReply) -> Option<Key>

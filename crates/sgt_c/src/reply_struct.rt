@@ -1,9 +1,9 @@
 //! The struct of a reply for C, and how it is written.
-ghost use Rattle.std.specs.Prelude.{◌≡◌, ◌≤◌, drop, length, take};
+ghost use Rattle.std.specs.Prelude.{◌≡◌, ◌≤◌, ◌||◌, true, nat_eq, drop, length, take};
 ghost use Rattle.sgt_model.specs.declared.reply.Reply.TheVariants as reply;
 ghost use Rattle.sgt_model.specs.ShortReplies.{full_cause, full_fate, reply_with};
 ghost use Rattle.sgt_c.specs.KeptFields.{KeepsOtherFields, WritesCause, with_record};
-ghost use Rattle.sgt_c.specs.ReplyStructs.{HoldsReply, HoldsCause};
+ghost use Rattle.sgt_c.specs.ReplyStructs.{HoldsAccess, HoldsCause, HoldsReply};
 
 use sgt_model::{Answers, Key, ReplyLists, ShortCause, ShortFate, ShortReply, Tids};
 
@@ -19,7 +19,7 @@ pub struct SgtReply {
     pub tid: u32,
     pub code: u32,
     pub table: u32,
-    /// Whether a read found a value: 1 or 0.
+    /// Whether a read found a value, or a write wrote one: 1 or 0. A removal writes none.
     pub found: u32,
     pub number: i64,
     pub value: i64,
@@ -76,11 +76,8 @@ pub fn write_reply(into: &mut SgtReply, reply: &ShortReply, lists: &ReplyLists)
         ShortReply::Full => into.kind = 5,
         ShortReply::Unknown => into.kind = 6,
         ShortReply::Over(fate) => write_over(into, *fate, &lists.walk),
-        ShortReply::Looked { key, value } => write_looked(into, *key, *value),
-        ShortReply::Wrote { key, value } => {
-            write_record(into, 9, *key);
-            into.value = *value;
-        }
+        ShortReply::Looked { key, value } => write_access(into, 8, *key, *value),
+        ShortReply::Wrote { key, value } => write_access(into, 9, *key, *value),
         ShortReply::Ended => into.kind = 10,
         ShortReply::NotEnded => into.kind = 11,
         ShortReply::Waits(first) => {
@@ -101,11 +98,13 @@ fn write_record(into: &mut SgtReply, kind: u32, key: Key)
     into.number = key.id();
 }
 
-fn write_looked(into: &mut SgtReply, key: Key, value: Option<i64>)
-    ensures reply { HoldsReply into.new (reply.Looked key value) }
+/// Writes the reply to an access: 8 for a read, 9 for a write.
+fn write_access(into: &mut SgtReply, kind: u32, key: Key, value: Option<i64>)
+    requires { (nat_eq kind 8 || nat_eq kind 9) ≡ true }
+    ensures reply { HoldsAccess into.new kind key value }
     ensures kept { KeepsOtherFields into.old into.new }
 {
-    write_record(into, 8, key);
+    write_record(into, kind, key);
     match value {
         Some(value) => {
             into.found = 1;

@@ -21,8 +21,8 @@ use std::alloc::Global;
 /// arguments of a call count. Each outcome is written at its call's index in `outcomes`. The number of calls that ran
 /// is written to `done`.
 ///
-/// - `BAD_CALL`, tested first: a procedure number is over 65535, a call has over 4 arguments, or there are fewer
-///   outcomes than calls.
+/// - `BAD_CALL`, tested first: a procedure number is over 65535, a call has over 4 arguments, its caller decided on
+///   accesses, or there are fewer outcomes than calls.
 /// - `BUSY`; `CLOSED`.
 /// - `NO_MEMORY`: the calls before number `done` ran. Of that call nothing has changed, or its transaction is aborted.
 #[unsafe(no_mangle)]
@@ -75,7 +75,7 @@ pub extern "C" fn sgt_run_many(
     }
 }
 
-/// Whether each call is valid: its procedure number and its number of arguments.
+/// Whether each call can be run: its procedure number and its number of arguments are in range, and it has no accesses.
 fn are_asked(calls: &[SgtCall]) -> bool
     ensures { IsTrue result ↔ All IsAsked calls.now }
 {
@@ -90,7 +90,7 @@ fn are_asked(calls: &[SgtCall]) -> bool
 fn is_asked(call: &SgtCall) -> bool
     ensures { IsTrue result ↔ IsAsked call.now }
 {
-    call.procedure <= 65_535 && call.args <= 4
+    call.procedure <= 65_535 && call.args <= 4 && call.accesses == 0
 }
 
 /// Runs calls one after another. If an allocation fails, the index of that call is the error.

@@ -1,6 +1,6 @@
 //! Which transaction a commit waits for, and what a commit and an abort do in the layers.
 ghost use Rattle.std.specs.Prelude.{◌≡◌, ℕ, false, not, ◌&&◌, nat_eq, IfSome, IsNone};
-ghost use Rattle.std.specs.Option.{option_or};
+ghost use Rattle.std.specs.Option.{unwrap_or};
 ghost use Rattle.sgt_model.specs.Contents.{Key};
 ghost use Rattle.sgt_model.specs.AccessList.{forgotten};
 ghost use Rattle.sgt_model.specs.Chains.{chain_without, value_in};
@@ -22,8 +22,8 @@ pub fn decide<G: Graph>(graph: &G, t: Tid) -> Option<Tid>
     graph.least_pred(t)
 }
 
-/// Commits t in the layers. Each of its values, the first of its chain, becomes the committed one, and t leaves the chains,
-/// the access list and the graph. It allocates nothing.
+/// Commits t in the layers. Each of its values, the first of its chain, becomes the committed one, or none where it removed
+/// the record, and t leaves the chains, the access list and the graph. It allocates nothing.
 pub fn finish<R: Records, A: Accesses, G: Graph>(
     records: &mut R,
     accesses: &mut A,
@@ -33,7 +33,7 @@ pub fn finish<R: Records, A: Accesses, G: Graph>(
     requires first { (k : Key) → IsFirstIn t (R.chain records.old k) }
     ensures chain { (k : Key) → R.chain records.new k ≡ chain_without t (R.chain records.old k) }
     ensures settled { (k : Key) → R.settled records.new k
-        ≡ option_or (value_in t (R.chain records.old k)) (R.settled records.old k) }
+        ≡ unwrap_or (value_in t (R.chain records.old k)) (R.settled records.old k) }
     ensures accesses { A.list accesses.new ≡ forgotten t (A.list accesses.old) }
     ensures nodes { (u : ℕ) → G.nodes graph.new u ≡ (G.nodes graph.old u && not (nat_eq t u)) }
     ensures pairs { (u v : ℕ) → G.pairs graph.new u v

@@ -1,5 +1,5 @@
 -- The only live transaction is not hindered, whichever lists its reply has.
-use Rattle.std.specs.Prelude.{◌≡◌, ℕ, Bool, true, false, List, reverse}
+use Rattle.std.specs.Prelude.{◌≡◌, ℕ, Bool, true, false, List}
 use Rattle.std.proofs.Common.{refl, sym, ap, ◌∙◌, subst}
 use Rattle.sgt_model.specs.declared.entry.Entry.{Entry}
 use Rattle.sgt_model.specs.declared.event.Event.{Event}
@@ -12,7 +12,7 @@ use Rattle.sgt_model.specs.declared.short_reply.ShortCause.TheVariants as short_
 use Rattle.sgt_model.specs.Legality.{Legal, LegalReply}
 use Rattle.sgt_model.specs.Settings.{Setting}
 use Rattle.sgt_model.specs.ShortReplies.{short_reply}
-use Rattle.sgt_progress.specs.Alone.{IsAlone, IsStepOrCommitOf, is_hindered}
+use Rattle.sgt_progress.specs.Alone.{IsAlone, IsNoQuitOf, is_hindered}
 use Rattle.sgt_progress.proofs.Alone.{alone_is_not_aborted}
 use Rattle.sgt_engine.specs.EngineView.{EngineView, setting_of}
 
@@ -41,7 +41,7 @@ hinders_alike (reply.Aborted (cause.Asked code) fell) = refl
 hinders_alike (reply.Aborted cause.Quit fell) = refl
 hinders_alike (reply.Refused code fell) = refl
 
-pub undisturbed : (s : Setting) (past : List Entry) → Legal s past → (t : ℕ) → IsAlone past t → (event : Event) → IsStepOrCommitOf event t
+pub undisturbed : (s : Setting) (past : List Entry) → Legal s past → (t : ℕ) → IsAlone past t → (event : Event) → IsNoQuitOf event t
     → (told r : Reply) → short_reply told ≡ short_reply r → LegalReply s past event told → is_hindered r ≡ false
 undisturbed s past legal t alone event of_t told r same h = hinders_alike r ∙ ap hinders (sym same) ∙ sym (hinders_alike told)
     ∙ alone_is_not_aborted s past legal t alone event of_t told h

@@ -6,7 +6,8 @@ use Rattle.sgt_model.specs.declared.limits.Asks.TheVariants.{AtStep, AtCommit}
 use Rattle.sgt_model.specs.declared.limits.Asks.{Asks}
 use Rattle.sgt_model.specs.declared.entry.Entry.{Entry}
 use Rattle.sgt_model.specs.declared.event.Event.{Event}
-use Rattle.sgt_model.specs.declared.event.Event.TheVariants.{Start, Step, Commit, Quit}
+use Rattle.sgt_model.specs.declared.event.Event.TheVariants.{Start, Step, Access, Commit, Quit}
+use Rattle.sgt_model.specs.declared.event.Request.{Request}
 use Rattle.sgt_model.specs.declared.kind.Kind.TheVariants.{Look, Store}
 use Rattle.sgt_model.specs.declared.limits.Limits.{Limits}
 use Rattle.sgt_model.specs.declared.reply.Fate.{Fate}
@@ -15,9 +16,9 @@ use Rattle.sgt_model.specs.declared.reply.Reply.TheVariants as reply
 use Rattle.sgt_model.specs.Traces.{Next, Looks, Puts, Ends, Raises}
 use Rattle.sgt_model.specs.Fates.{start_count, fate_of, live, live_ones}
 use Rattle.sgt_model.specs.Settings.{Setting, takes}
-use Rattle.sgt_model.specs.Progress.{next_of}
+use Rattle.sgt_model.specs.Progress.{next_of, requested, is_fit}
 use Rattle.sgt_model.specs.Left.{next_left}
-use Rattle.sgt_model.specs.Legality.{Legal, LegalReply, StepReply, CommitReply, OfStarted, RaisedStep, RaisedCommit, HasNoLivePredecessor}
+use Rattle.sgt_model.specs.Legality.{Legal, LegalReply, StepReply, OfFit, RequestReply, CommitReply, OfStarted, RaisedStep, RaisedCommit, HasNoLivePredecessor}
 use Rattle.sgt_model.specs.StartReply.{args_fit, room_reply, taken_reply}
 use Rattle.sgt_model.specs.State.{State}
 use Rattle.sgt_model.specs.StateAfter.{IsStateAfter}
@@ -26,7 +27,7 @@ use Rattle.sgt_model.specs.Refinement.{NextsAgree, StatesAreSound, VerdictsAgree
 use Rattle.sgt_model.specs.Walks.{Member}
 use Rattle.sgt_sched.specs.Steps.{IsUnended}
 use Rattle.sgt_model.specs.Questions.{is_ending}
-use Rattle.sgt_sched.specs.Endings.{StepEnds, CommitEnds, EndsOne, RepliesEndWhere, CallsCount, AtItsStep, AtItsCommit, IsFirst}
+use Rattle.sgt_sched.specs.Endings.{StepEnds, RequestEnds, CommitEnds, EndsOne, RepliesEndWhere, CallsCount, AtItsStep, AtItsCommit, IsFirst}
 use Rattle.sgt_engine.specs.EngineView.{EngineView, setting_of}
 
 -- what is true of a state that belongs to a legal history, and of calls on it
@@ -116,6 +117,19 @@ module _ (laws : StateLaws) (s : Setting) (past : List Entry) (legal : Legal s p
   step_ends t (Ends answers) r l x e = absurd (quiet r _ x refl e)
   step_ends t (Raises code) r l x e = asked_step_ends s.rules.limits.asks t code r x e
 
+  fit_ends : (t : ℕ) (d : Request) (fit : Bool) (r : Reply) → is_fit d ≡ fit → live past t ≡ true
+      → OfFit fit r (StepReply s past t (requested d) r) → is_ending r ≡ true
+      → (is_fit d ≡ true) × StepEnds s.rules.limits.asks t (requested d) c
+  fit_ends t d true r is l x e = (is, step_ends t (requested d) r l x e)
+  fit_ends t d false r is l x e = absurd (quiet r _ x refl e)
+
+  request_ends : (t : ℕ) (d : Request) (n : Next) (r : Reply) → live past t ≡ true → RequestReply s past t d n r → is_ending r ≡ true
+      → RequestEnds s.rules.limits.asks t d n c
+  request_ends t d (Ends answers) r l x e = fit_ends t d (is_fit d) r refl l x e
+  request_ends t d (Looks k) r l x e = absurd (quiet r _ x refl e)
+  request_ends t d (Puts k v) r l x e = absurd (quiet r _ x refl e)
+  request_ends t d (Raises code) r l x e = absurd (quiet r _ x refl e)
+
   -- a transaction without a live predecessor has none in the graph
   first_in : (t : ℕ) → HasNoLivePredecessor past t → IsFirst t c
   first_in t none u p = let pair = (i.pairs u t).0 p in none u (record { is_live = pair.first_live; pair = pair.pair })
@@ -144,6 +158,13 @@ module _ (laws : StateLaws) (s : Setting) (past : List Entry) (legal : Legal s p
       let o = opened r _ (nat_lt t (start_count past)) (fate_of past t) x e in
       let l = live_from past t o.0 o.1 in
       (live_unended t l, subst (λ n. StepEnds s.rules.limits.asks t n c) (next_same t l) (step_ends t (next_of s past t) r l o.2 e))
+  legal_ends (Access t d) r x e =
+      let o = opened r _ (nat_lt t (start_count past)) (fate_of past t) x e in
+      let l = live_from past t o.0 o.1 in (
+        live_unended t l,
+        subst (λ n. RequestEnds s.rules.limits.asks t d n c) (next_same t l)
+            (request_ends t d (next_of s past t) r l o.2 e),
+      )
   legal_ends (Commit t) r x e =
       let o = opened r _ (nat_lt t (start_count past)) (fate_of past t) x e in
       let l = live_from past t o.0 o.1 in

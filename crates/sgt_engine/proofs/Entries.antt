@@ -1,6 +1,6 @@
 -- One more entry.
 use Rattle.std.proofs.Common.{◌≡◌, ℕ, ◌<◌, ◌+◌, length, map, take, get_or, List, [], ◌∷◌, ◌++◌, reverse, refl, sym, ap, ap₂, ◌∙◌, subst, subst₂}
-use Rattle.std.proofs.lemmas.List.{reverse-append, reverse-reverse, map-append, take_more}
+use Rattle.std.proofs.lemmas.List.{reverse-append, map-append, take_more}
 use Rattle.std.specs.Prelude.{IfSome}
 use Rattle.std.proofs.lemmas.Grind.{reverse_onto}
 use Rattle.sgt_model.specs.declared.entry.Entry.{Entry}

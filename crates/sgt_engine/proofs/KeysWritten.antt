@@ -1,24 +1,25 @@
 -- What the writes of a history say of the committed values: a key of which it has none has its old value.
-use Rattle.std.proofs.Common.{◌≡◌, ℕ, zero, suc, ◌+◌, ℤ, Bool, true, false, ◌||◌, ◌&&◌, cond, List, [], ◌∷◌, ◌++◌, take, reverse, slice_get, Option, Some, None, IfSome, refl, sym, ap, ◌∙◌, subst, add-one}
+use Rattle.std.proofs.Common.{◌≡◌, ◌≢◌, ℕ, zero, suc, ◌+◌, ℤ, Bool, true, false, ◌||◌, ◌&&◌, cond, List, [], ◌∷◌, ◌++◌, take, reverse, slice_get, Option, Some, None, IfSome, refl, sym, ap, ◌∙◌, subst, add-one}
 use Rattle.std.proofs.lemmas.Bool.{true≢false}
 use Rattle.std.proofs.lemmas.Grind.{reverse_onto}
 use Rattle.std.proofs.lemmas.Option.{same_Some}
 use Rattle.std.specs.BTreeMap.{BTreeMap, get}
-use Rattle.std.specs.Option.{is_some, option_or, option_map, option_and_then}
+use Rattle.std.specs.Option.{is_some, option_or, option_map, option_flatten}
 use Rattle.sgt_model.specs.declared.entry.Entry.{Entry}
 use Rattle.sgt_model.specs.declared.event.Event.{Event}
 use Rattle.sgt_model.specs.declared.event.Event.TheVariants.{Start, Step, Commit, Quit}
-use Rattle.sgt_model.specs.declared.kind.Kind.TheVariants.{Look, Store}
+use Rattle.sgt_model.specs.declared.event.Event.TheVariants as event
+use Rattle.sgt_model.specs.declared.kind.Kind.TheVariants.{Store}
 use Rattle.sgt_model.specs.declared.reply.Reply.{Reply}
 use Rattle.sgt_model.specs.declared.reply.Reply.TheVariants as reply
 use Rattle.sgt_model.specs.Accesses.{Access, access_in, access_of}
-use Rattle.sgt_model.specs.Contents.{Key, key_eq, Contents}
+use Rattle.sgt_model.specs.Contents.{Key, key_eq, Contents, put_in}
 use Rattle.sgt_model.specs.Numbers.{IsValue}
 use Rattle.sgt_model.specs.Fates.{committed}
 use Rattle.sgt_model.specs.Values.{stores, newest_store, value_or, settled}
 use Rattle.sgt_model.proofs.Stores.{key_eq-true}
-use Rattle.sgt_model.specs.Databases.{key_cmp}
-use Rattle.sgt_records.proofs.EntriesRead.{given_so_far, all_given}
+use Rattle.sgt_model.specs.Databases.{Row, key_cmp, contents_of, IsByKey}
+use Rattle.sgt_model.proofs.Merges.{row_more}
 use Rattle.sgt_engine.specs.Writes.{tells_write, is_written}
 
 -- the next entry
@@ -55,11 +56,14 @@ neither false b no_one = (refl, no_one)
 module _ (counts : ℕ → Bool) (k : Key) where
   unstored : (event : Event) (r : Reply) → tells_write k r ≡ false → stores counts k (access_in event r) ≡ None
   unstored (Step t) (reply.Wrote j v) other =
-      ap (λ b. cond (b && counts t) (Some (record { by = t; key = j; kind = Store; value = Some v })) None) other
+      ap (λ b. cond (b && counts t) (Some (record { by = t; key = j; kind = Store; value = v })) None) other
+  unstored (event.Access t d) (reply.Wrote j v) other =
+      ap (λ b. cond (b && counts t) (Some (record { by = t; key = j; kind = Store; value = v })) None) other
   unstored (Start p args) (reply.Wrote j v) other = refl
   unstored (Commit t) (reply.Wrote j v) other = refl
   unstored (Quit t) (reply.Wrote j v) other = refl
   unstored (Step t) (reply.Looked j v) other = refl
+  unstored (event.Access t d) (reply.Looked j v) other = refl
   unstored (Start p args) (reply.Looked j v) other = refl
   unstored (Commit t) (reply.Looked j v) other = refl
   unstored (Quit t) (reply.Looked j v) other = refl
@@ -77,34 +81,6 @@ module _ (counts : ℕ → Bool) (k : Key) where
   unstored event (reply.Aborted cause fell) other = refl
   unstored event (reply.Refused code fell) other = refl
 
-  -- what an entry stores is a value
-  stored : (event : Event) (r : Reply) (a : Access) → stores counts k (access_in event r) ≡ Some a → is_some a.value ≡ true
-  stored (Step t) (reply.Wrote j v) a is = go (key_eq j k && counts t) is
-    where
-      go : (b : Bool) → cond b (Some (record { by = t; key = j; kind = Store; value = Some v })) None ≡ Some a → is_some a.value ≡ true
-      go true is = ap (λ (x : Access). is_some x.value) (sym (same_Some _ a is))
-      go false is = absurd (cc)
-  stored (Start p args) (reply.Wrote j v) a is = absurd (cc)
-  stored (Commit t) (reply.Wrote j v) a is = absurd (cc)
-  stored (Quit t) (reply.Wrote j v) a is = absurd (cc)
-  stored (Step t) (reply.Looked j v) a is = absurd (cc)
-  stored (Start p args) (reply.Looked j v) a is = absurd (cc)
-  stored (Commit t) (reply.Looked j v) a is = absurd (cc)
-  stored (Quit t) (reply.Looked j v) a is = absurd (cc)
-  stored event (reply.Started t) a is = absurd (cc)
-  stored event reply.NoProcedure a is = absurd (cc)
-  stored event reply.BadArgs a is = absurd (cc)
-  stored event reply.Spent a is = absurd (cc)
-  stored event reply.Full a is = absurd (cc)
-  stored event reply.Unknown a is = absurd (cc)
-  stored event (reply.Over fate) a is = absurd (cc)
-  stored event reply.Ended a is = absurd (cc)
-  stored event reply.NotEnded a is = absurd (cc)
-  stored event (reply.Waits t) a is = absurd (cc)
-  stored event (reply.Committed answers) a is = absurd (cc)
-  stored event (reply.Aborted cause fell) a is = absurd (cc)
-  stored event (reply.Refused code fell) a is = absurd (cc)
-
   -- an older entry that stores nothing there
   none_behind : (past : List Entry) (e : Entry) → newest_store counts k past ≡ None → stores counts k (access_of e) ≡ None
       → newest_store counts k (past ++ e ∷ []) ≡ None
@@ -121,44 +97,19 @@ module _ (counts : ℕ → Bool) (k : Key) where
       ap (newest_store counts k) (reverse_onto entries e [])
       ∙ none_behind (reverse entries) e (unwritten entries both.0) (unstored e.event e.reply both.1)
 
-  -- the newest store is of a value
-  newest_stored : (past : List Entry) (a : Access) → newest_store counts k past ≡ Some a → is_some a.value ≡ true
-  newest_stored [] a is = absurd (cc)
-  newest_stored (e ∷ past) a is = go (newest_stored past a) (stores counts k (access_of e)) refl is
-    where
-      go : (newest_store counts k past ≡ Some a → is_some a.value ≡ true) → (o : Option Access) → stores counts k (access_of e) ≡ o
-          → option_or o (newest_store counts k past) ≡ Some a → is_some a.value ≡ true
-      go rest None at is = rest is
-      go rest (Some b) at is = stored e.event e.reply a (at ∙ is)
-
--- a key without a committed value had none before
-settled_none : (opening : Contents) (past : List Entry) (k : Key) → settled opening past k ≡ None → opening k ≡ None
-settled_none opening past k none = go (newest_store (committed past) k past) refl none
-  where
-    go : (o : Option Access) → newest_store (committed past) k past ≡ o → value_or o (opening k) ≡ None → opening k ≡ None
-    go None at is = is
-    go (Some a) at is = absurd (true≢false (sym (newest_stored (committed past) k past a at) ∙ ap is_some is))
-
 -- the committed values of the written keys, and else what was opened with: these are the committed values
 pub changed : (opening : Contents) (entries : List Entry) (k : Key) (value : Option ℤ) → value ≡ settled opening (reverse entries) k
-    → option_or (cond (is_written k entries) value None) (opening k) ≡ settled opening (reverse entries) k
+    → cond (is_written k entries) value (opening k) ≡ settled opening (reverse entries) k
 changed opening entries k value same = go (is_written k entries) refl
   where
-    past : List Entry
-    past = reverse entries
-
-    here : (o : Option ℤ) → value ≡ o → option_or value (opening k) ≡ settled opening past k
-    here (Some v) is = ap (λ o. option_or o (opening k)) is ∙ (sym is ∙ same)
-    here None is = ap (λ o. option_or o (opening k)) is ∙ (settled_none opening past k (sym same ∙ is) ∙ (sym is ∙ same))
-
-    go : (b : Bool) → is_written k entries ≡ b → option_or (cond b value None) (opening k) ≡ settled opening past k
-    go true e = here value refl
-    go false e = ap (λ o. value_or o (opening k)) (sym (unwritten (committed past) k entries e))
+    go : (b : Bool) → is_written k entries ≡ b → cond b value (opening k) ≡ settled opening (reverse entries) k
+    go true e = same
+    go false e = ap (λ o. value_or o (opening k)) (sym (unwritten (committed (reverse entries)) k entries e))
 
 -- the map of the values of the written keys, where so many were written before
 
 -- a reply that is no write
-pub no_write : (k : Key) (r : Reply) → ((j : Key) (v : ℤ) → r ≡ reply.Wrote j v → ⊥) → tells_write k r ≡ false
+pub no_write : (k : Key) (r : Reply) → ((j : Key) (v : Option ℤ) → r ≡ reply.Wrote j v → ⊥) → tells_write k r ≡ false
 no_write k (reply.Wrote j v) other = absurd (other j v refl)
 no_write k (reply.Looked j v) other = refl
 no_write k (reply.Started t) other = refl
@@ -175,41 +126,72 @@ no_write k (reply.Committed answers) other = refl
 no_write k (reply.Aborted cause fell) other = refl
 no_write k (reply.Refused code fell) other = refl
 
--- a value that is put is in range
-pub range_put : (b : Bool) (v : ℤ) (o : Option ℤ) → IsValue v → IfSome o IsValue → IfSome (cond b (Some v) o) IsValue
+-- a value that is put is in range, and so is none
+pub range_put : (b : Bool) (v : Option ℤ) (o : Option (Option ℤ)) → IfSome v IsValue → IfSome (option_flatten o) IsValue
+    → IfSome (option_flatten (cond b (Some v) o)) IsValue
 range_put true v o here rest = here
 range_put false v o here rest = rest
 
+-- where no key is put without a value, each has one
+pub value_put : (b : Bool) (v : Option ℤ) (o : Option (Option ℤ)) → is_some v ≡ true → o ≢ Some None → cond b (Some v) o ≢ Some None
+value_put true None o some rest = absurd (true≢false (sym some))
+value_put true (Some v) o some rest = λ is. absurd (cc)
+value_put false v o some rest = rest
+
 -- with an entry that writes nothing
-pub value_kept : (written : Bool) (value : Option ℤ) → cond written value None ≡ cond (written || false) value None
+pub value_kept : (written : Bool) (value : Option (Option ℤ)) → cond written value None ≡ cond (written || false) value None
 value_kept true value = refl
 value_kept false value = refl
 
--- with one that writes a key without a value
-pub value_none : (k key : Key) (written : Bool) (values : Contents) → values key ≡ None
-    → cond written (values k) None ≡ cond (written || key_eq key k) (values k) None
-value_none k key written values none = go written (key_eq key k) refl
+-- with one that writes a key
+pub value_more : (k key : Key) (written : Bool) (values : Contents)
+    → cond (key_eq key k) (Some (values key)) (cond written (Some (values k)) None) ≡ cond (written || key_eq key k) (Some (values k)) None
+value_more k key written values = go written (key_eq key k) refl
   where
-    go : (a b : Bool) → key_eq key k ≡ b → cond a (values k) None ≡ cond (a || b) (values k) None
-    go true b e = refl
-    go false true e = sym (sym (ap values (key_eq-true key k e)) ∙ none)
-    go false false e = refl
-
--- with one that writes a key that has one
-pub value_some : (k key : Key) (written : Bool) (value : ℤ) (values : Contents) → values key ≡ Some value
-    → cond (key_eq key k) (Some value) (cond written (values k) None) ≡ cond (written || key_eq key k) (values k) None
-value_some k key written value values is = go written (key_eq key k) refl
-  where
-    go : (a b : Bool) → key_eq key k ≡ b → cond b (Some value) (cond a (values k) None) ≡ cond (a || b) (values k) None
-    go true true e = sym is ∙ ap values (key_eq-true key k e)
+    go : (a b : Bool) → key_eq key k ≡ b
+        → cond b (Some (values key)) (cond a (Some (values k)) None) ≡ cond (a || b) (Some (values k)) None
+    go true true e = ap (λ j. Some (values j)) (key_eq-true key k e)
     go true false e = refl
-    go false true e = sym is ∙ ap values (key_eq-true key k e)
+    go false true e = ap (λ j. Some (values j)) (key_eq-true key k e)
     go false false e = refl
 
--- the entries of a map of values give its values
-pub all_values : (m : BTreeMap Key ℤ) (k : Key) → given_so_far (λ (v : ℤ). Some v) m m.entries k ≡ get key_cmp m k
-all_values m k = all_given (λ (v : ℤ). Some v) m k ∙ same (get key_cmp m k)
+-- ---- the rows of a database, with the values of the written keys
+
+-- where each of these has one, it comes before what the database had
+pub newer_first : (values opening : Contents) (k : Key) (written : Bool) (o : Option (Option ℤ)) → o ≡ cond written (Some (values k)) None
+    → o ≢ Some None → option_or (option_flatten o) (opening k) ≡ cond written (values k) (opening k)
+newer_first values opening k written o is some =
+    ap (λ x. option_or (option_flatten x) (opening k)) is ∙ go written (values k) refl refl
   where
-    same : (o : Option ℤ) → option_and_then (λ (v : ℤ). Some v) o ≡ o
-    same None = refl
-    same (Some v) = refl
+    go : (b : Bool) (v : Option ℤ) → written ≡ b → values k ≡ v
+        → option_or (option_flatten (cond b (Some v) None)) (opening k) ≡ cond b v (opening k)
+    go true None w n = absurd (some (is ∙ (ap (λ b. cond b (Some (values k)) None) w ∙ ap Some n)))
+    go true (Some v) w n = refl
+    go false v w n = refl
+
+-- a row more, whose key was not written
+module _ (m : BTreeMap Key (Option ℤ)) (rows : List Row) (i : ℕ) (r : Row) (ordered : IsByKey rows) (at : slice_get rows i ≡ Some r) where
+  pub row_kept : (k : Key) → is_some (get key_cmp m r.0) ≡ false
+      → put_in (λ j. cond (is_some (get key_cmp m j)) None (contents_of (take i rows) j)) r.0 r.1 k
+      ≡ cond (is_some (get key_cmp m k)) None (contents_of (take (i + 1) rows) k)
+  row_kept k not_there = go (key_eq r.0 k) refl ∙ ap (λ o. cond (is_some (get key_cmp m k)) None o) (sym (row_more rows i r ordered at k))
+    where
+      go : (b : Bool) → key_eq r.0 k ≡ b
+          → cond b (Some r.1) (cond (is_some (get key_cmp m k)) None (contents_of (take i rows) k))
+          ≡ cond (is_some (get key_cmp m k)) None (cond b (Some r.1) (contents_of (take i rows) k))
+      go true e = ap (λ c. cond c None (Some r.1)) (sym (ap (λ j. is_some (get key_cmp m j)) (sym (key_eq-true r.0 k e)) ∙ not_there))
+      go false e = refl
+
+  -- one whose key was
+  pub row_left : (k : Key) → is_some (get key_cmp m r.0) ≡ true
+      → cond (is_some (get key_cmp m k)) None (contents_of (take i rows) k)
+      ≡ cond (is_some (get key_cmp m k)) None (contents_of (take (i + 1) rows) k)
+  row_left k there = go (key_eq r.0 k) refl ∙ ap (λ o. cond (is_some (get key_cmp m k)) None o) (sym (row_more rows i r ordered at k))
+    where
+      go : (b : Bool) → key_eq r.0 k ≡ b
+          → cond (is_some (get key_cmp m k)) None (contents_of (take i rows) k)
+          ≡ cond (is_some (get key_cmp m k)) None (cond b (Some r.1) (contents_of (take i rows) k))
+      go true e =
+          let here : is_some (get key_cmp m k) ≡ true = ap (λ j. is_some (get key_cmp m j)) (sym (key_eq-true r.0 k e)) ∙ there in
+          ap (λ c. cond c None (contents_of (take i rows) k)) here ∙ sym (ap (λ c. cond c None (Some r.1)) here)
+      go false e = refl

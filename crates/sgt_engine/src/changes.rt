@@ -1,59 +1,105 @@
 //! What a history has changed in the database that it began with.
-ghost use Rattle.std.specs.Prelude.{◌≡◌, None, cond, IfOk, IfSome};
+ghost use Rattle.std.specs.Prelude.{◌≡◌, ◌≢◌, false, Some, None, cond, IfOk, IfSome};
 ghost use Rattle.std.specs.BTreeMap.{get};
+ghost use Rattle.std.specs.Option.{is_some, option_flatten};
 ghost use Rattle.sgt_model.specs.Contents.{Key};
-ghost use Rattle.sgt_model.specs.Databases.{contents_of, key_cmp};
+ghost use Rattle.sgt_model.specs.Databases.{contents_of, key_cmp, IsByKey};
 ghost use Rattle.sgt_model.specs.Numbers.{IsValue};
 ghost use Rattle.sgt_engine.specs.Writes.{is_written};
 
 use sgt_log::History;
-use sgt_model::{Database, Key, NoMemory, Reply};
+use sgt_model::{Database, Key, NoMemory, Reply, ShortReply};
 use sgt_records::Records;
 use std::alloc::Global;
 use std::collections::BTreeMap;
 
-/// The committed values of the keys that the history has writes of, by key.
-pub fn changes<R: Records>(
+/// The database with what the history has changed in it: a key that the history has writes of has its committed value, and a
+/// record that was removed is dropped. If no record was removed, it goes through the database once.
+pub fn changed<R: Records>(
     alloc: Global,
+    opening: &Database,
     history: &History,
     records: &R,
 ) -> Result<Database, NoMemory>
-    ensures { IfOk result (λ d. (k : Key) → contents_of d k
-        ≡ cond (is_written k history.now.entries) (R.settled records.now k) None) }
+    ensures values { IfOk result (λ d. (k : Key) → contents_of d k
+        ≡ cond (is_written k history.now.entries) (R.settled records.now k) (contents_of opening.now k)) }
+    ensures by_key { IfOk result IsByKey }
 {
-    let values = written_values(alloc, history, records)?;
-    rows_of(alloc, &values)
+    let written = written_values(alloc, history, records)?;
+    let newer = rows_of(alloc, &written.values)?;
+    if written.removes {
+        let others = unwritten_rows(alloc, opening, &written.values)?;
+        return others.updated(alloc, &newer);
+    }
+    opening.updated(alloc, &newer)
 }
 
-// The same as a map.
+/// Whether there was a removal, before or with this reply.
+#[inline(always)]
+pub fn removes_with(before: bool, reply: &ShortReply) -> bool {
+    before || matches!(reply, ShortReply::Wrote { value: None, .. })
+}
+
+// What a history has written.
+#[derive(Drop)]
+struct Written {
+    // The committed value of each key that it has writes of, or none where there is none.
+    values: BTreeMap<Key, Option<i64>>,
+    // Whether there is none at one of these keys.
+    removes: bool,
+}
+
+// What the history has written.
 fn written_values<R: Records>(
     alloc: Global,
     history: &History,
     records: &R,
-) -> Result<BTreeMap<Key, i64>, NoMemory>
-    ensures values { IfOk result (λ m. (k : Key) → get key_cmp m k
-        ≡ cond (is_written k history.now.entries) (R.settled records.now k) None) }
-    ensures in_range { IfOk result (λ m. (k : Key) → IfSome (get key_cmp m k) IsValue) }
+) -> Result<Written, NoMemory>
+    ensures values { IfOk result (λ w. (k : Key) → get key_cmp w.values k
+        ≡ cond (is_written k history.now.entries) (Some (R.settled records.now k)) None) }
+    ensures in_range { IfOk result (λ w. (k : Key) → IfSome (option_flatten (get key_cmp w.values k)) IsValue) }
+    ensures removes { IfOk result (λ w. w.removes ≡ false → (k : Key) → get key_cmp w.values k ≢ Some None) }
 {
     let mut values = BTreeMap::new(alloc);
+    let mut removes = false;
     for place in 0..history.len() {
         if let Reply::Wrote { key, .. } = history.reply_at(place) {
-            if let Some(value) = records.committed(key) {
-                values.insert(key, value)?;
-            }
+            let value = records.committed(key);
+            removes = removes || value.is_none();
+            values.insert(key, value)?;
         }
     }
-    Ok(values)
+    Ok(Written { values, removes })
 }
 
-// The entries of a map as rows.
-fn rows_of(alloc: Global, values: &BTreeMap<Key, i64>) -> Result<Database, NoMemory>
-    requires in_range { (k : Key) → IfSome (get key_cmp values.now k) IsValue }
-    ensures { IfOk result (λ d. (k : Key) → contents_of d k ≡ get key_cmp values.now k) }
+// The keys with a value as rows.
+fn rows_of(alloc: Global, values: &BTreeMap<Key, Option<i64>>) -> Result<Database, NoMemory>
+    requires in_range { (k : Key) → IfSome (option_flatten (get key_cmp values.now k)) IsValue }
+    ensures { IfOk result (λ d. (k : Key) → contents_of d k ≡ option_flatten (get key_cmp values.now k)) }
 {
     let mut rows = Database::empty(alloc);
     for (key, value) in values {
-        rows.put(*key, *value)?;
+        if let Some(value) = value {
+            rows.put(*key, *value)?;
+        }
     }
     Ok(rows)
+}
+
+// The rows of a database whose keys are not among these.
+fn unwritten_rows(
+    alloc: Global,
+    database: &Database,
+    written: &BTreeMap<Key, Option<i64>>,
+) -> Result<Database, NoMemory>
+    ensures { IfOk result (λ d. (k : Key) → contents_of d k
+        ≡ cond (is_some (get key_cmp written.now k)) None (contents_of database.now k)) }
+{
+    let mut others = Database::empty(alloc);
+    for (key, value) in database.rows() {
+        if written.get(key).is_none() {
+            others.put(*key, *value)?;
+        }
+    }
+    Ok(others)
 }

@@ -17,7 +17,7 @@ ghost use Rattle.sgt_model.specs.StateAfter.{IsStateAfter};
 ghost use Rattle.sgt_model.specs.Values.{settled};
 ghost use Rattle.sgt_model.specs.Walks.{Acyclic};
 ghost use Rattle.sgt_model.specs.Questions.{is_ending};
-ghost use Rattle.sgt_progress.specs.Alone.{IsAlone, IsStepOrCommitOf, is_hindered};
+ghost use Rattle.sgt_progress.specs.Alone.{IsAlone, IsNoQuitOf, is_hindered};
 ghost use Rattle.sgt_progress.specs.Progress.{MakesProgress};
 ghost use Rattle.sgt_progress.specs.RealTime.{KeepsRealTime};
 ghost use Rattle.sgt_sched.specs.Scheduler.{parts, state};
@@ -27,7 +27,7 @@ mod cut;
 mod procedures;
 mod put;
 
-use crate::changes::changes;
+use crate::changes::{changed, removes_with};
 use crate::past::Past;
 use crate::room::make_room;
 pub use cut::CutError;
@@ -50,14 +50,14 @@ use std::marker::Model;
 
 /// An in-memory transaction engine that schedules by serialization graph testing, with the history of all events and replies.
 ///
-/// For every list of events, run the procedures of the committed transactions serially, in commit order, on the initial
-/// database as a plain map. This gives each transaction the answers that were reported, and ends in the engine's
-/// committed database. If codes are reported at commit, the serial run includes the refused transactions, in reply order;
-/// each gets its answers or its code.
+/// For every list of events, run the committed transactions serially, in commit order, on the initial database as a plain
+/// map: of each its procedure, and then the accesses on which its caller decided. This gives each transaction the answers and
+/// the values that were reported, and ends in the engine's committed database. If codes are reported at commit, the serial run
+/// includes the refused transactions, in reply order; each gets its answers or its code.
 ///
 /// A transaction is aborted only for one of these reasons:
 ///
-/// - its step would close a conflict cycle;
+/// - its access would close a conflict cycle;
 /// - it read from an aborted transaction;
 /// - its procedure raised a code;
 /// - its caller quit it.
@@ -72,6 +72,8 @@ pub struct Engine<R: Records, A: Accesses, G: Graph> {
     history: History,
     // The lists of the newest entry's reply, if there is one.
     lists: ReplyLists,
+    // Whether there was a removal in the history, committed or not. The records may keep memory for what was removed.
+    removes: bool,
 }
 
 impl<R: Records, A: Accesses, G: Graph> Model for Engine<R, A, G> {
@@ -126,6 +128,7 @@ impl<R: Records, A: Accesses, G: Graph> Engine<R, A, G> {
             sched,
             history: History::new(alloc),
             lists: ReplyLists::new(),
+            removes: false,
         })
     }
 
@@ -147,7 +150,7 @@ impl<R: Records, A: Accesses, G: Graph> Engine<R, A, G> {
     /// Durner and Neumann (ICDE 2019).
     ///
     /// No transaction waits for itself, also through others. The only live transaction neither waits nor is aborted for a
-    /// cycle. The serial order keeps real time.
+    /// cycle, whatever its caller asks for. The serial order keeps real time.
     ///
     /// `NoMemory` if an allocation failed; then nothing has changed. A quit of a live transaction allocates nothing, nor does
     /// any event whose reply ends a live transaction: the capacity for that entry was allocated at the start. The cost of an
@@ -162,7 +165,7 @@ impl<R: Records, A: Accesses, G: Graph> Engine<R, A, G> {
         ensures order { CommitsInOrder self.new.past }
         ensures real_time { KeepsRealTime (setting_of self.new) self.new.past }
         ensures progress { MakesProgress (setting_of self.new) self.new.past }
-        ensures alone { IfOk result (λ r. (t : ℕ) → IsAlone self.old.past t → IsStepOrCommitOf event t → is_hindered r ≡ false) }
+        ensures alone { IfOk result (λ r. (t : ℕ) → IsAlone self.old.past t → IsNoQuitOf event t → is_hindered r ≡ false) }
         ensures unchanged { OnErr result (self.new ≡ self.old) }
         ensures no_memory { (r : Reply) → LegalReply (setting_of self.old) self.old.past event r
             → is_ending r ≡ true
@@ -185,7 +188,7 @@ impl<R: Records, A: Accesses, G: Graph> Engine<R, A, G> {
         ensures order { CommitsInOrder self.new.past }
         ensures real_time { KeepsRealTime (setting_of self.new) self.new.past }
         ensures progress { MakesProgress (setting_of self.new) self.new.past }
-        ensures alone { OnOk result ((t : ℕ) → IsAlone self.old.past t → IsStepOrCommitOf event.now t → (r : Reply)
+        ensures alone { OnOk result ((t : ℕ) → IsAlone self.old.past t → IsNoQuitOf event.now t → (r : Reply)
             → short_reply r ≡ reply.new → is_hindered r ≡ false) }
         ensures unchanged { OnErr result (self.new ≡ self.old) }
         ensures no_memory { (r : Reply) → LegalReply (setting_of self.old) self.old.past event.now r
@@ -204,6 +207,7 @@ impl<R: Records, A: Accesses, G: Graph> Engine<R, A, G> {
         make_room(&mut self.history, &self.sched, event)?;
         self.sched.answer(event, &mut self.lists, reply)?;
         self.history.push(event, reply, &self.lists);
+        self.removes = removes_with(self.removes, reply);
         Ok(())
     }
 
@@ -282,7 +286,8 @@ impl<R: Records, A: Accesses, G: Graph> Engine<R, A, G> {
         self.committed_rows(alloc, is_short)
     }
 
-    // The same: where the history is short, by the opening and what has changed in it, else by the records.
+    // The same: where the history is short, by the opening and what has changed in it, else by the records. A record that was
+    // removed has no row.
     fn committed_rows(&self, alloc: Global, is_short: bool) -> Result<Database, NoMemory>
         ensures values { IfOk result (λ d. (k : Key) →
             contents_of d k ≡ settled (contents_of self.now.opening) self.now.past k) }
@@ -300,8 +305,7 @@ impl<R: Records, A: Accesses, G: Graph> Engine<R, A, G> {
             contents_of d k ≡ settled (contents_of self.now.opening) self.now.past k) }
         ensures by_key { IfOk result IsByKey }
     {
-        let changes = changes(alloc, &self.history, self.sched.records())?;
-        self.opening.updated(alloc, &changes)
+        changed(alloc, &self.opening, &self.history, self.sched.records())
     }
 
     /// The initial database and the history, of an engine that takes no more events. It allocates nothing.
@@ -324,6 +328,7 @@ impl<R: Records, A: Accesses, G: Graph> Engine<R, A, G> {
             sched: _,
             history,
             lists: _,
+            removes: _,
         } = self;
         Past { opening, history }
     }

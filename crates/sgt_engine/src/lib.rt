@@ -9,6 +9,7 @@
 //! let mut engine: Engine<ListRecords, OneList, PairGraph> = Engine::new(alloc, opening, procedures, limits)?;
 //! engine.apply(Event::Start { procedure: 0, args })?; // Started(0)
 //! engine.apply(Event::Step(Tid(0)))?;                 // Looked, Wrote or Aborted; Ended at the procedure's end
+//! engine.apply(Event::Access(Tid(0), Request::Write(key, None)))?; // and then what its caller decides, as this removal
 //! engine.apply(Event::Commit(Tid(0)))?;               // Committed with its answers
 //! let database = engine.database(alloc)?;
 //! ```

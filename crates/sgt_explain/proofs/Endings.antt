@@ -4,7 +4,7 @@ use Rattle.std.specs.List.{list_any}
 use Rattle.std.specs.Option.{option_map}
 use Rattle.std.proofs.lemmas.Bool.{eqb-true, false_from_ne_true}
 use Rattle.sgt_model.specs.declared.event.Event.{Event}
-use Rattle.sgt_model.specs.declared.event.Event.TheVariants.{Start, Step, Commit, Quit}
+use Rattle.sgt_model.specs.declared.event.Event.TheVariants.{Start, Step, Access, Commit, Quit}
 use Rattle.sgt_model.specs.declared.reply.Reply.{Reply}
 use Rattle.sgt_model.specs.declared.reply.Reply.TheVariants as reply
 use Rattle.sgt_model.specs.declared.reply.Cause.{Cause}
@@ -39,6 +39,7 @@ ends_fallen event _ t m = absurd m
 not_named : (event : Event) (t : ℕ) → (named_by event ≡ Some t → ⊥) → concerns event t ≡ false
 not_named (Start p args) t h = refl
 not_named (Step u) t h = false_from_ne_true _ (λ e. h (ap Some (eqb-true u t e)))
+not_named (Access u d) t h = false_from_ne_true _ (λ e. h (ap Some (eqb-true u t e)))
 not_named (Commit u) t h = false_from_ne_true _ (λ e. h (ap Some (eqb-true u t e)))
 not_named (Quit u) t h = false_from_ne_true _ (λ e. h (ap Some (eqb-true u t e)))
 

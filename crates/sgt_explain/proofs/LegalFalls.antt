@@ -4,7 +4,7 @@ use Rattle.std.proofs.Common.{◌≡◌, ◌≢◌, ℕ, zero, suc, ◌<◌, tru
 use Rattle.std.specs.Option.{option_and_then}
 use Rattle.std.proofs.lemmas.Bool.{cases_eq, both_ways}
 use Rattle.sgt_model.specs.declared.event.Event.{Event}
-use Rattle.sgt_model.specs.declared.event.Event.TheVariants.{Start, Step, Commit, Quit}
+use Rattle.sgt_model.specs.declared.event.Event.TheVariants.{Start, Step, Access, Commit, Quit}
 use Rattle.sgt_model.specs.declared.reply.Reply.{Reply}
 use Rattle.sgt_model.specs.declared.reply.Reply.TheVariants as reply
 use Rattle.sgt_model.specs.declared.entry.Entry.{Entry}
@@ -79,6 +79,7 @@ falls_by s past event _ h n t is = absurd (cc)
 named_subject : (event : Event) (t : ℕ) → named_by event ≡ Some t → subject event ≡ t
 named_subject (Start p args) t h = absurd (cc)
 named_subject (Step u) t h = some_is u t h
+named_subject (Access u d) t h = some_is u t h
 named_subject (Commit u) t h = some_is u t h
 named_subject (Quit u) t h = some_is u t h
 

@@ -1,9 +1,8 @@
 -- In a legal history each edge of the cycle of an abort exists, and is a conflict.
 use Rattle.std.proofs.Common.{◌≡◌, ◌≢◌, ℕ, zero, suc, ◌+◌, ◌<◌, true, false, List, [], ◌∷◌, reverse, Option, Some, None, IfSome, IsSome, length, refl, sym, ap, subst, ◌∙◌, arith, slice_get}
-use Rattle.std.specs.Option.{option_and_then}
 use Rattle.std.proofs.lemmas.Option.{slice_get_within}
 use Rattle.sgt_model.specs.declared.event.Event.{Event}
-use Rattle.sgt_model.specs.declared.event.Event.TheVariants.{Start, Step, Commit, Quit}
+use Rattle.sgt_model.specs.declared.event.Event.TheVariants.{Start, Step, Access, Commit, Quit}
 use Rattle.sgt_model.specs.declared.reply.Reply.{Reply}
 use Rattle.sgt_model.specs.declared.reply.Reply.TheVariants as reply
 use Rattle.sgt_model.specs.declared.reply.Cause.TheVariants as cause
@@ -17,7 +16,6 @@ use Rattle.sgt_model.specs.Questions.{named_by}
 use Rattle.sgt_model.specs.Pairs.{has_conflicting, Pair}
 use Rattle.sgt_model.specs.Closes.{Closes}
 use Rattle.sgt_model.specs.Settings.{Setting}
-use Rattle.sgt_model.specs.Progress.{next_of}
 use Rattle.sgt_model.specs.Legality.{Legal}
 use Rattle.sgt_model.specs.Aborts.{Wants, ClosesCycle, ReplyIsJustified}
 use Rattle.sgt_model.proofs.Aborts.{aborts_have_cause}
@@ -26,7 +24,7 @@ use Rattle.sgt_model.proofs.NoOrder.{pair_made}
 use Rattle.sgt_model.proofs.Paths.{last_is_member}
 use Rattle.sgt_explain.specs.declared.edge.Edge.{Edge}
 use Rattle.sgt_explain.specs.Places.{entries_before, cycle_in, listed_by, placed_cycle}
-use Rattle.sgt_explain.specs.WalkEdges.{TellsFrom, TellsEdge, HasEdgeFrom, HasEdge, WasAbout, IsPairAt}
+use Rattle.sgt_explain.specs.WalkEdges.{TellsFrom, TellsEdge, HasEdgeFrom, HasEdge, wanted_by, WasAbout, IsPairAt}
 use Rattle.sgt_explain.proofs.Prefixes.{entry_there, legal_there}
 
 -- along a path
@@ -102,12 +100,13 @@ pair_from entries end t k kind edge (Some a) None (Some u) is along told =
 record ByCycle (s : Setting) (past : List Entry) (event : Event) (walk : List ℕ) : Type 0 where
   t : ℕ
   named : named_by event ≡ Some t
-  closes : ClosesCycle s past t walk
+  closes : ClosesCycle past t (wanted_by s past t event) walk
 
 by_cycle : (s : Setting) (past : List Entry) (event : Event) (r : Reply) → ReplyIsJustified s past event r → (n : ℕ)
     → n < length (cycle_in r)
     → ByCycle s past event (cycle_in r)
 by_cycle s past (Step t) (reply.Aborted (cause.Cycle walk) fell) h n below = record { t = t; named = refl; closes = h.0 }
+by_cycle s past (Access t d) (reply.Aborted (cause.Cycle walk) fell) h n below = record { t = t; named = refl; closes = h.0 }
 by_cycle s past (Start p args) (reply.Aborted (cause.Cycle walk) fell) h n below = absurd h.0
 by_cycle s past (Commit t) (reply.Aborted (cause.Cycle walk) fell) h n below = absurd h.0
 by_cycle s past (Quit t) (reply.Aborted (cause.Cycle walk) fell) h n below = absurd h.0
@@ -136,9 +135,11 @@ walk_at s entries place n k kind within legal about below =
     let walk_is : placed_cycle entries place ≡ cycle_in e.reply = ap (listed_by (λ (x : Entry). cycle_in x.reply)) is in
     let why = by_cycle s (entries_before entries place) e.event e.reply
     (aborts_have_cause s (e ∷ entries_before entries place) legal_here).1 n (rw (sym walk_is) below) in
-    let named : about.by ≡ why.t = some_is _ _ (sym about.named ∙ ap (option_and_then (λ (x : Entry). named_by x.event)) is ∙ why.named) in
-    let wants : Wants (next_of s (entries_before entries place) why.t) k kind =
-    subst (λ u. Wants (next_of s (entries_before entries place) u) k kind) named about.wants in
+    let same_entry : about.entry ≡ e = some_is _ _ (sym about.there ∙ is) in
+    let named : about.by ≡ why.t = some_is _ _ (sym about.named ∙ ap (λ (x : Entry). named_by x.event) same_entry ∙ why.named) in
+    let wants : Wants (wanted_by s (entries_before entries place) why.t e.event) k kind =
+    subst (λ u. Wants (wanted_by s (entries_before entries place) u e.event) k kind) named
+    (subst (λ (x : Entry). Wants (wanted_by s (entries_before entries place) about.by x.event) k kind) same_entry about.wants) in
     let same = wanted _ _ _ _ _ wants why.closes.wants in
     record { t = why.t; rest = why.closes.rest; walk = walk_is ∙ why.closes.is; closes = rw (same.0, same.1) why.closes.closes }
 

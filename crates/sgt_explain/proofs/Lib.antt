@@ -3,6 +3,7 @@ pub mod Conflicts
 pub mod LegalWalks
 pub mod LegalFalls
 pub mod Steps
+pub mod Requests
 pub mod Endings
 pub mod NewestStores
 pub mod FirstSources

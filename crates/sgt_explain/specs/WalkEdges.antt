@@ -2,14 +2,21 @@
 use Rattle.std.specs.Prelude.{◌≡◌, ◌+◌, ℕ, true, List, ◌∷◌, Option, Some, None, slice_get}
 use Rattle.sgt_model.specs.declared.entry.Entry.{Entry}
 use Rattle.sgt_model.specs.declared.kind.Kind.{Kind}
+use Rattle.sgt_model.specs.declared.kind.Kind.TheVariants.{Look, Store}
 use Rattle.sgt_model.specs.Contents.{Key}
 use Rattle.sgt_model.specs.Accesses.{access_of}
 use Rattle.sgt_model.specs.Pairs.{has_conflicting, Precedes, Pair}
 use Rattle.sgt_model.specs.Aborts.{Wants, IsAccessBy}
 use Rattle.sgt_model.specs.Settings.{Setting}
-use Rattle.sgt_model.specs.Progress.{next_of}
+use Rattle.sgt_model.specs.Progress.{next_of, requested}
+use Rattle.sgt_model.specs.Traces.{Next}
+use Rattle.sgt_model.specs.Questions.{named_by}
+use Rattle.sgt_model.specs.declared.event.Event.{Event}
+use Rattle.sgt_model.specs.declared.event.Event.TheVariants as event
+use Rattle.sgt_model.specs.declared.event.Request.TheVariants.{Read, Write}
 use Rattle.sgt_explain.specs.declared.edge.Edge.{Edge}
-use Rattle.sgt_explain.specs.Places.{entries_before, placed_named}
+use Rattle.sgt_explain.specs.declared.explanation.Pending.{Pending}
+use Rattle.sgt_explain.specs.Places.{entries_before}
 use Rattle.sgt_explain.specs.Edges.{TellsPair, TellsPending}
 
 -- an edge of a cycle leads from one to the next, and from the last, which has no next, to the first. That last edge
@@ -35,11 +42,24 @@ HasEdgeFrom entries end key kind (Some t) None = has_conflicting (entries_before
 abbrev pub HasEdge : List Entry → (end : ℕ) → Key → Kind → List ℕ → (n : ℕ) → Type 0
 HasEdge entries end key kind walk n = HasEdgeFrom entries end key kind (slice_get walk n) (slice_get walk (n + 1))
 
+-- the access that an event requests for a caller, if it does
+abbrev pub requested_access : Event → Option Pending
+requested_access (event.Access t (Read k)) = Some (record { key = k; kind = Look })
+requested_access (event.Access t (Write k v)) = Some (record { key = k; kind = Store })
+requested_access _ = None
+
+-- what t would do by an event: the access that its caller requests, or else what its procedure does next
+abbrev pub wanted_by : Setting → List Entry → ℕ → Event → Next
+wanted_by s past t (event.Access u d) = requested d
+wanted_by s past t _ = next_of s past t
+
 -- the transaction of the entry at this position was about to make an access of that kind of the key
 pub record WasAbout (s : Setting) (entries : List Entry) (place : ℕ) (key : Key) (kind : Kind) : Type 0 where
+  pub entry : Entry
+  pub there : slice_get entries place ≡ Some entry
   pub by : ℕ
-  pub named : placed_named entries place ≡ Some by
-  pub wants : Wants (next_of s (entries_before entries place) by) key kind
+  pub named : named_by entry.event ≡ Some by
+  pub wants : Wants (wanted_by s (entries_before entries place) by entry.event) key kind
 
 -- the two of an edge conflict in a history; if its later access was about to be made, they would conflict with that
 -- access added as an entry

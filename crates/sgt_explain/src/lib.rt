@@ -13,7 +13,8 @@
 //! both as lines of text.
 //!
 //! The crate runs nothing and knows no procedures. So the caller says which access the aborted transaction was about
-//! to make; [`call_before`] and [`progress_before`] return what a procedure needs for that.
+//! to make. If the transaction's caller had decided on it, [`requested_at`] returns it. Else it is the next access of
+//! its procedure; [`call_before`] and [`progress_before`] return what the procedure needs for that.
 //!
 //! ```
 //! // The next access of the transaction that is aborted at a position.
@@ -30,6 +31,7 @@ mod edge;
 mod explanation;
 mod made;
 mod progress;
+mod requested;
 mod search;
 mod source;
 mod text;
@@ -38,5 +40,6 @@ mod writers;
 pub use edge::{Earlier, Edge, cycle_edge};
 pub use explanation::{Pending, append_explanation};
 pub use progress::{Call, Progress, call_before, progress_before};
+pub use requested::requested_at;
 pub use source::{Source, fall_source};
 pub use text::{append_edge, append_source};

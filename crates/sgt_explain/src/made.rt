@@ -7,7 +7,7 @@ use sgt_log::{EntryRef, History};
 use sgt_model::{Event, Key, Kind, Reply, Tid};
 use std::marker::Model;
 
-/// An access in a history: its transaction, its key, whether it is a read or a write, and the value read or written.
+/// An access in a history: its transaction, its key, whether it is a read or a write, and the value read or written, if any.
 #[derive(Clone, Copy)]
 pub(crate) struct Made {
     pub(crate) by: Tid,
@@ -43,17 +43,17 @@ fn made_in(entry: &EntryRef<'_>) -> Option<Made>
     }
     match entry.reply() {
         Reply::Looked { key, value } => made_by(&entry.event(), key, Kind::Look, value),
-        Reply::Wrote { key, value } => made_by(&entry.event(), key, Kind::Store, Some(value)),
+        Reply::Wrote { key, value } => made_by(&entry.event(), key, Kind::Store, value),
         _ => None,
     }
 }
 
-// A step is an access by its transaction.
+// A step, or a request of a caller, is an access by its transaction.
 fn made_by(event: &Event, key: Key, kind: Kind, value: Option<i64>) -> Option<Made>
     ensures { result ≡ access_at event.now key kind value }
 {
     match event {
-        Event::Step(by) => Some(Made {
+        Event::Step(by) | Event::Access(by, _) => Some(Made {
             by: *by,
             key,
             kind,

@@ -13,4 +13,5 @@ pub mod EventsAhead
 pub mod PlainCalls
 pub mod PlainRecords
 pub mod WrittenRecords
+pub mod PlainAccesses
 pub mod ReadAccounts

@@ -1,5 +1,8 @@
 -- What the tokens of a line spell, if they are plain.
 use Rattle.std.proofs.Common.{
+  Bool,
+  true,
+  false,
   ◌≡◌,
   ◌≤◌,
   ◌<◌,
@@ -22,7 +25,8 @@ use Rattle.std.proofs.Common.{
   arith,
   le-leb,
 }
-use Rattle.std.specs.Prelude.{map, IfSome, IsUtf8, Ok, Err, option_and_then, option_map}
+use Rattle.std.specs.Prelude.{cond, map, codes, IfSome, IsUtf8, Ok, Err, option_and_then, option_map}
+use Rattle.std.specs.Str.{bytes_eq}
 use Rattle.std.specs.Option.{ok_or, option_map_or}
 use Rattle.json.specs.Token.{Token, begin_array, end_array, string, number}
 use Rattle.json.specs.Json.{items, value}
@@ -30,17 +34,19 @@ use Rattle.json.specs.Json as json
 use Rattle.json.specs.Lex.{tokens}
 use Rattle.serde_json.specs.Data.{Num, Data, Items, no_items, item}
 use Rattle.serde_json.specs.Data as tree
-use Rattle.serde_json.specs.Find.{as_i64}
+use Rattle.serde_json.specs.Find.{as_i64, as_str}
 use Rattle.serde_json.specs.Read.{number_of, of_items, of_json, read}
 use Rattle.sgt_model.specs.declared.event.Event.{Event}
 use Rattle.sgt_proc_json.specs.Trees.{whole, natural}
 use Rattle.sgt_format.specs.Trees.{tree_of, list, listed, each}
-use Rattle.sgt_format.specs.EventLines.{arguments, procedure, of_transaction, of_procedure, event_from, event_in, event_of}
+use Rattle.sgt_format.specs.EventLines as EventLines
+use Rattle.sgt_format.specs.EventLines.{arguments, procedure, begin, of_transaction, of_procedure, event_from, event_in, event_of}
 use Rattle.sgt_format.specs.JobLines.{job_call, job_in, job_of}
 use Rattle.sgt_format.specs.LineTokens.{whole_number, whole_numbers, tree_at, event_at, job_at}
+use Rattle.sgt_format.specs.ScriptLines as ScriptLines
 use Rattle.sgt_format.specs.ScriptLines.{script_line_from, script_line_in, script_line_of}
 use Rattle.sgt_format.specs.declared.call.JobCall.{JobCall}
-use Rattle.sgt_format.specs.declared.script_line.ScriptLine.TheVariants as ScriptLine
+use Rattle.sgt_format.specs.declared.script_line.ScriptLine.{ScriptLine}
 use Rattle.sgt_format.specs.declared.errors.LineError.TheVariants.{NotJson, BadLine}
 use Rattle.sgt_format.proofs.Views.{tree_of_read}
 use Rattle.sgt_format.proofs.Numerals.{one_number_more}
@@ -256,15 +262,27 @@ pub job_found : (line text : List ℕ) (ts : List Token) (found : Option JobCall
     → IfSome found (λ call. job_at ts ≡ Some call) → IfSome found (λ call. job_of line ≡ Ok call)
 job_found = line_means job_in
 
+-- a word that is an event alone is that event whatever else it may be
+by_test : (b : Bool) (other : Option ScriptLine) (event : Event) → cond b (Some begin) None ≡ Some event
+    → cond b (Some (ScriptLine.Event begin)) other ≡ Some (ScriptLine.Event event)
+by_test true other event is = ap (option_map ScriptLine.Event) is
+by_test false other event is = absurd (cc)
+
 -- a line that spells an event spells it as a script line
 pub asked_event : (line : List ℕ) (event : Event) → event_of line ≡ Ok event → script_line_of line ≡ Ok (ScriptLine.Event event)
 asked_event line event is = by_tree (tree_of line) refl
   where
+    by_word : (w : Option (List ℕ)) → option_and_then EventLines.of_word w ≡ Some event
+        → option_and_then ScriptLines.of_word w ≡ Some (ScriptLine.Event event)
+    by_word None found = absurd (cc)
+    by_word (Some w) found = by_test (bytes_eq w (codes "begin")) (cond (bytes_eq w (codes "cut")) (Some ScriptLine.Cut) None) event found
+
     by_items : (tree : Data) (trees : Option (List Data)) → list tree ≡ trees → event_in tree ≡ Some event
         → script_line_in tree ≡ Some (ScriptLine.Event event)
     by_items tree None e found = absurd (cc)
     by_items tree (Some []) e found = absurd (cc)
-    by_items tree (Some (word ∷ [])) e found = absurd (cc)
+    by_items tree (Some (word ∷ [])) e found =
+        ap (option_and_then script_line_from) e ∙ by_word (as_str word) (sym (ap (option_and_then event_from) e) ∙ found)
     by_items tree (Some (word ∷ t ∷ rest)) e found =
         ap (option_and_then script_line_from) e ∙ ap (option_map ScriptLine.Event) (sym (ap (option_and_then event_from) e) ∙ found)
 

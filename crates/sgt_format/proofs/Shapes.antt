@@ -6,7 +6,7 @@ use Rattle.serde_json.specs.Data.{Data, Members}
 use Rattle.serde_json.specs.Find.{get, as_object}
 use Rattle.serde_json.specs.View.{view, members_view}
 use Rattle.serde_json.specs.declared.value.Value.{Value}
-use Rattle.sgt_format.specs.EventLines.{arguments_from, arguments, event_from}
+use Rattle.sgt_format.specs.EventLines.{arguments_from, arguments}
 use Rattle.sgt_format.specs.JobLines.{job_from}
 use Rattle.sgt_format.specs.Trees.{tree_of, list, each}
 use Rattle.sgt_proc_json.specs.Trees.{whole}
@@ -47,22 +47,6 @@ three_values (x ∷ []) a b c least most at_a at_b at_c = absurd (omega arith)
 three_values (x ∷ y ∷ []) a b c least most at_a at_b at_c = absurd (omega arith)
 three_values (x ∷ y ∷ z ∷ []) a b c least most at_a at_b at_c = rw (at_a, at_b, at_c) refl
 three_values (x ∷ y ∷ z ∷ u ∷ rest) a b c least most at_a at_b at_c = absurd (omega arith)
-
--- the same with two
-pub two_values : (values : List Value) (a b : Value) → 2 ≤ length values → length values < 3 → a ≡ get_or values 0 a
-    → b ≡ get_or values 1 b → values ≡ a ∷ b ∷ []
-two_values [] a b least most at_a at_b = absurd (omega arith)
-two_values (x ∷ []) a b least most at_a at_b = absurd (omega arith)
-two_values (x ∷ y ∷ []) a b least most at_a at_b = rw (at_a, at_b) refl
-two_values (x ∷ y ∷ z ∷ rest) a b least most at_a at_b = absurd (omega arith)
-
--- a list of more than three or fewer than two is no event
-pub no_event : (values : List Value) → length values ≢ 2 → length values ≢ 3 → event_from (map view values) ≡ None
-no_event [] two three = refl
-no_event (a ∷ []) two three = refl
-no_event (a ∷ b ∷ []) two three = absurd (two refl)
-no_event (a ∷ b ∷ c ∷ []) two three = absurd (three refl)
-no_event (a ∷ b ∷ c ∷ d ∷ rest) two three = refl
 
 -- a list of more or fewer than three is no job
 pub no_job : (values : List Value) → length values ≢ 3 → job_from (map view values) ≡ None

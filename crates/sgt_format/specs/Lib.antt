@@ -4,6 +4,7 @@ pub mod CutText
 pub mod DatabaseText
 pub mod RecordText
 pub mod Trees
+pub mod AccessLines
 pub mod EventLines
 pub mod Calls
 pub mod ScriptLines

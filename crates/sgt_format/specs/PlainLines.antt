@@ -1,4 +1,4 @@
--- The calls of lines in plain form.
+-- The calls and the accesses of lines in plain form.
 use Rattle.std.specs.Prelude.{◌≡◌, ◌<◌, ◌≤◌, ℕ, ℤ, Bool, false, ◌||◌, nat_eq, List, [], ◌∷◌, ◌++◌, length, map, ⊤}
 use Rattle.std.specs.Fmt.{decimal, signed_decimal}
 use lib.Signed.{mag}
@@ -42,3 +42,12 @@ pub record IsCall (text : List ℕ) (call : JobCall) : Type 0 where
   pub procedure : call.procedure < 65_536
   pub small : AreSmall call.args
   pub few : length call.args ≤ 4
+
+-- three numbers, separated by commas, and what follows them
+pub record AreNumbers (text rest : List ℕ) (a b c : ℤ) : Type 0 where
+  pub before : List ℕ
+  pub between : List ℕ
+  pub is_gap : IsGap before
+  pub is_gap_too : IsGap between
+  pub is : text ≡ signed_decimal a ++ (44 ∷ (before ++ (signed_decimal b ++ (44 ∷ (between ++ (signed_decimal c ++ rest))))))
+  pub small : AreSmall (a ∷ b ∷ c ∷ [])

@@ -27,6 +27,11 @@ abbrev pub looked_text : Key → Option ℤ → List ℕ
 looked_text key (Some value) = codes "read " ++ record_text key value
 looked_text key None = codes "read " ++ key_text key ++ codes " none"
 
+-- what a write wrote, or that it removed the record
+abbrev pub wrote_text : Key → Option ℤ → List ℕ
+wrote_text key (Some value) = codes "wrote " ++ record_text key value
+wrote_text key None = codes "removed " ++ key_text key
+
 -- the answers of a transaction that is committed
 abbrev pub committed_text : List ℤ → List ℕ
 committed_text answers = codes "committed" ++ items_or_none signed_decimal answers
@@ -53,7 +58,7 @@ reply_text reply.Full = codes "full"
 reply_text reply.Unknown = codes "unknown"
 reply_text (reply.Over fate) = over_text fate
 reply_text (reply.Looked key value) = looked_text key value
-reply_text (reply.Wrote key value) = codes "wrote " ++ record_text key value
+reply_text (reply.Wrote key value) = wrote_text key value
 reply_text reply.Ended = codes "ended"
 reply_text reply.NotEnded = codes "not ended"
 reply_text (reply.Waits first) = codes "waits " ++ decimal first

@@ -5,7 +5,7 @@ use Rattle.std.specs.Str.{bytes_eq}
 use Rattle.serde_json.specs.Data.{Data}
 use Rattle.serde_json.specs.Find.{as_str}
 use Rattle.sgt_format.specs.Trees.{tree_of, list}
-use Rattle.sgt_format.specs.EventLines.{event_from}
+use Rattle.sgt_format.specs.EventLines.{begin, event_from}
 use Rattle.sgt_model.specs.declared.event.Event as model
 use Rattle.sgt_format.specs.declared.script_line.LineKind.{LineKind}
 use Rattle.sgt_format.specs.declared.script_line.LineKind.TheVariants as kind
@@ -21,9 +21,9 @@ line_of kind.Cut event = Cut
 
 -- a word alone
 abbrev pub of_word : List ℕ → Option ScriptLine
-of_word word = cond (bytes_eq word (codes "cut")) (Some Cut) None
+of_word word = cond (bytes_eq word (codes "begin")) (Some (Event begin)) (cond (bytes_eq word (codes "cut")) (Some Cut) None)
 
--- `["cut"]`, or an event, which is never one word
+-- `["cut"]`, or an event
 abbrev pub script_line_from : List Data → Option ScriptLine
 script_line_from (word ∷ []) = option_and_then of_word (as_str word)
 script_line_from trees = option_map Event (event_from trees)

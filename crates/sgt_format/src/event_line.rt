@@ -4,22 +4,27 @@ ghost use Rattle.std.specs.Option.{option_map};
 ghost use Rattle.serde_json.specs.Find.{as_str};
 ghost use Rattle.serde_json.specs.View.{view};
 ghost use Rattle.sgt_format.specs.Calls.{of_two, of_three};
-ghost use Rattle.sgt_format.specs.EventLines.{tid, procedure, arguments, of_transaction, of_procedure, event_from, event_in, event_of};
+ghost use Rattle.sgt_format.specs.EventLines.{tid, procedure, arguments, begin, of_word, of_transaction, of_procedure, accessed, event_from, event_in, event_of};
+ghost use Rattle.sgt_format.specs.AccessLines.{keyed, valued};
 ghost use Rattle.sgt_format.specs.declared.errors.LineError.TheVariants.{NoMemory};
 
+use crate::access_line::{keyed, valued};
 use crate::errors::LineError;
 use crate::line_tokens::quick_event;
+use crate::plain_access::plain_access;
 use crate::plain_line::plain_event;
 use crate::tree::{items, read_tree};
 use json::Scratch;
 use serde_json::Value;
-use sgt_model::{Args, Event, Tid};
+use sgt_model::{Args, EMPTY_PROCEDURE, Event, Request, Tid};
 use std::alloc::Global;
 
-/// The event that a line spells, without its end: `["start", procedure, [arg, ..]]`, `["step", t]`, `["commit", t]` or
-/// `["quit", t]`.
+/// The event that a line spells, without its end: `["begin"]`, `["start", procedure, [arg, ..]]`, `["step", t]`,
+/// `["read", t, table, number]`, `["write", t, table, number, value]`, `["remove", t, table, number]`, `["commit", t]` or
+/// `["quit", t]`. `begin` is a start of the empty procedure.
 ///
-/// An argument may be any whole number of 64 bits. `scratch` is memory of the reader; pass the same one for each line.
+/// An argument, and the value of a write, may be any whole number of 64 bits. The table is from 0 to 7, and the number there a
+/// value. `scratch` is memory of the reader; pass the same one for each line.
 ///
 /// # Errors
 ///
@@ -32,6 +37,9 @@ pub fn read_event(alloc: Global, scratch: &mut Scratch, line: &[u8]) -> Result<E
 {
     let mut event = Event::Step(Tid(0));
     if plain_event(line, &mut event).is_some() {
+        return Ok(event);
+    }
+    if let Some(event) = plain_access(line) {
         return Ok(event);
     }
     if let Some(event) = quick_event(line, scratch)? {
@@ -53,8 +61,11 @@ pub(crate) fn event_from(trees: &[Value]) -> Option<Event>
     ensures { result ≡ event_from (map view trees.now) }
 {
     match trees {
+        [word] => of_word(word.as_str()?),
         [word, number] => of_two(word, number),
         [word, number, list] => of_three(word, number, list),
+        [word, number, table, id] => accessed(tid(number), keyed(word, table, id)),
+        [word, number, table, id, value] => accessed(tid(number), valued(word, table, id, value)),
         _ => None,
     }
 }
@@ -71,6 +82,33 @@ fn of_three(word: &Value, number: &Value, list: &Value) -> Option<Event>
     ensures { result ≡ of_three of_procedure (as_str (view word.now)) (procedure (view number.now)) (arguments (view list.now)) }
 {
     of_procedure(word.as_str()?, procedure(number)?, arguments(list)?)
+}
+
+/// The access of a transaction, if both are there.
+fn accessed(t: Option<Tid>, request: Option<Request>) -> Option<Event>
+    ensures { result ≡ accessed t request }
+{
+    Some(Event::Access(t?, request?))
+}
+
+/// The event of a word alone.
+fn of_word(word: &str) -> Option<Event>
+    ensures { result ≡ of_word word.now }
+{
+    match word {
+        "begin" => Some(begin()),
+        _ => None,
+    }
+}
+
+/// The start of the empty procedure.
+pub(crate) fn begin() -> Event
+    ensures { result ≡ begin }
+{
+    Event::Start {
+        procedure: EMPTY_PROCEDURE,
+        args: Args::new(),
+    }
 }
 
 pub(crate) fn of_transaction(word: &str, t: Tid) -> Option<Event>

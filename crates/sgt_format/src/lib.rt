@@ -2,7 +2,7 @@
 //! reply or a database becomes its text.
 //!
 //! `specs/` defines what a line spells and which text a reply has: `ReplyText`, `DatabaseText`, `RecordText`,
-//! `EventLines`, `JobLines`, `RecordLines`, `Openings` and `ProcedureLines`, over `Decimals`, `Trees` and `Procedures`.
+//! `EventLines`, `AccessLines`, `JobLines`, `RecordLines`, `Openings` and `ProcedureLines`, over `Decimals`, `Trees` and `Procedures`.
 //! The contracts promise exactly these, and each error exactly where it applies. [`written_records_are_read`] says that
 //! the record lines written of a database are read as its records.
 //!
@@ -19,6 +19,7 @@
 //! ```
 #![tactic(auto)]
 
+mod access_line;
 mod call;
 mod cut_text;
 mod database_text;
@@ -29,6 +30,7 @@ mod job_line;
 mod laws;
 mod line_tokens;
 mod opening;
+mod plain_access;
 mod plain_line;
 mod procedure_line;
 mod procedures;

@@ -92,7 +92,7 @@ fn take_last_arguments(reader: &mut Reader<'_>) -> Option<Args>
     Some(args)
 }
 
-fn tid_of(n: i64) -> Option<Tid>
+pub(crate) fn tid_of(n: i64) -> Option<Tid>
     ensures { result ≡ natural 32 n }
 {
     Some(Tid(u32::try_from(n).ok()?))

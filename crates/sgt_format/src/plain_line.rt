@@ -128,7 +128,7 @@ pub(crate) fn plain_record(line: &[u8]) -> Option<RecordLine>
 /// Whether a text is the bracket that closes a line.
 #[tactic(auto, using(crate::proofs::PlainLines::one_bracket))]
 #[inline(always)]
-fn is_bracket(text: &[u8]) -> bool
+pub(crate) fn is_bracket(text: &[u8]) -> bool
     ensures { IsTrue result → text.now ≡ codes "]" }
 {
     text.len() == 1 && text[0] == b']'
@@ -137,7 +137,7 @@ fn is_bracket(text: &[u8]) -> bool
 /// The text after these bytes, if it begins with them.
 #[tactic(auto, using(crate::proofs::PlainLines::split_behind))]
 #[inline(always)]
-fn behind<'a>(text: &'a [u8], words: &[u8]) -> Option<&'a [u8]>
+pub(crate) fn behind<'a>(text: &'a [u8], words: &[u8]) -> Option<&'a [u8]>
     ensures { IfSome result (λ rest. text.now ≡ words.now ++ rest.now) }
 {
     if text.len() < words.len() {
@@ -198,7 +198,7 @@ fn is_same_word(text: &[u8], words: &[u8]) -> bool
 
 /// The items after a comma that ends these bytes, if the text begins with them. One space before the items is skipped.
 #[inline(always)]
-fn item_behind<'a>(text: &'a [u8], words: &[u8]) -> Option<&'a [u8]>
+pub(crate) fn item_behind<'a>(text: &'a [u8], words: &[u8]) -> Option<&'a [u8]>
     ensures { IfSome result (λ rest. (gap : List ℕ) × IsGap gap × (text.now ≡ words.now ++ (gap ++ rest.now))) }
 {
     let rest = behind(text, words)?;
@@ -319,7 +319,7 @@ fn next_argument<'a>(text: &'a [u8], args: &Args) -> Option<(i64, &'a [u8])>
 
 /// The number at the front of a text, and the rest of the text. `-0` is none.
 #[inline(always)]
-fn leading_number(text: &[u8]) -> Option<(i64, &[u8])>
+pub(crate) fn leading_number(text: &[u8]) -> Option<(i64, &[u8])>
     ensures text { IfSome result (λ found. text.now ≡ signed_decimal found.0 ++ found.1.now) }
     ensures small { IfSome result (λ found. mag found.0 < 1_000_000_000_000_000_000) }
 {

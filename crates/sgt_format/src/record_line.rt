@@ -98,7 +98,7 @@ fn of_numbers(word: &str, table: i64, number: i64, value: i64) -> Option<RecordL
 }
 
 /// The key of a table and a number, if both are in their ranges.
-fn key_of(table: i64, number: i64) -> Option<Key>
+pub(crate) fn key_of(table: i64, number: i64) -> Option<Key>
     ensures { result ≡ key_of table number }
 {
     Key::new(u8::try_from(table).ok()?, number)

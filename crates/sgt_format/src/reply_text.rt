@@ -2,8 +2,7 @@
 ghost use Rattle.std.specs.Prelude.{◌≡◌, ◌++◌, take, Some, None, IfOk, OnOk, OnErr, vec_len, codes};
 ghost use Rattle.std.specs.Fmt.{signed_decimal};
 ghost use Rattle.sgt_model.specs.ShortReplies.{full_cause, full_fate, reply_with};
-ghost use Rattle.sgt_format.specs.Decimals.{record_text};
-ghost use Rattle.sgt_format.specs.ReplyText.{cause_text, over_text, looked_text, committed_text, fell_text, aborted_text, refused_text, reply_text, text};
+ghost use Rattle.sgt_format.specs.ReplyText.{cause_text, over_text, looked_text, wrote_text, committed_text, fell_text, aborted_text, refused_text, reply_text, text};
 
 use crate::decimal_text::{
     LINE_AND_CHUNK, LONGEST_LINE, append_answers, append_number_line, append_numbered, append_tids,
@@ -139,16 +138,43 @@ fn append_nothing(lines: &mut Vec<u8>, key: Key) -> Result<(), AllocError>
     append_written(lines, &line, start)
 }
 
-#[inline(never)]
-fn append_wrote(lines: &mut Vec<u8>, key: Key, value: i64) -> Result<(), AllocError>
+#[inline(always)]
+fn append_wrote(lines: &mut Vec<u8>, key: Key, value: Option<i64>) -> Result<(), AllocError>
     ensures ok { OnOk result
-        (lines.new.items ≡ lines.old.items ++ codes "wrote " ++ record_text key value ++ codes "\n") }
+        (lines.new.items ≡ lines.old.items ++ wrote_text key value ++ codes "\n") }
+    ensures err { OnErr result (lines.new.items ≡ lines.old.items) }
+{
+    match value {
+        Some(value) => append_put(lines, key, value),
+        None => append_removed(lines, key),
+    }
+}
+
+/// Appends the line of a write of a value.
+#[inline(never)]
+fn append_put(lines: &mut Vec<u8>, key: Key, value: i64) -> Result<(), AllocError>
+    ensures ok { OnOk result
+        (lines.new.items ≡ lines.old.items ++ wrote_text key (Some value) ++ codes "\n") }
     ensures err { OnErr result (lines.new.items ≡ lines.old.items) }
 {
     let mut line = [0; LINE_AND_CHUNK];
     let start = write_byte(b'\n', &mut line, LONGEST_LINE);
     let start = write_record(&key, value, &mut line, start);
     let start = write_words(b"wrote ", &mut line, start);
+    append_written(lines, &line, start)
+}
+
+/// Appends the line of a removal.
+#[inline(never)]
+fn append_removed(lines: &mut Vec<u8>, key: Key) -> Result<(), AllocError>
+    ensures ok { OnOk result
+        (lines.new.items ≡ lines.old.items ++ wrote_text key None ++ codes "\n") }
+    ensures err { OnErr result (lines.new.items ≡ lines.old.items) }
+{
+    let mut line = [0; LINE_AND_CHUNK];
+    let start = write_byte(b'\n', &mut line, LONGEST_LINE);
+    let start = write_key(&key, &mut line, start);
+    let start = write_words(b"removed ", &mut line, start);
     append_written(lines, &line, start)
 }
 

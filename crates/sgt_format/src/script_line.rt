@@ -5,8 +5,9 @@ ghost use Rattle.sgt_format.specs.ScriptLines.{line_of, of_word, script_line_in,
 ghost use Rattle.sgt_format.specs.declared.errors.LineError.TheVariants.{NoMemory};
 
 use crate::errors::LineError;
-use crate::event_line::event_from;
+use crate::event_line::{begin, event_from};
 use crate::line_tokens::quick_event;
+use crate::plain_access::plain_access;
 use crate::plain_line::plain_event;
 use crate::tree::{items, read_tree};
 use json::Scratch;
@@ -35,7 +36,7 @@ pub enum LineKind {
 /// Reads what a line of a script spells, without its end: an event as [`crate::read_event`] reads it, or `["cut"]`. An
 /// event is put into `event`, and a cut leaves any event there.
 ///
-/// An argument may be any whole number of 64 bits.
+/// An argument, and the value of a write, may be any whole number of 64 bits.
 ///
 /// # Errors
 ///
@@ -71,6 +72,10 @@ fn read_other_line(
     ensures line { IfOk result (λ kind. script_line_of line.now ≡ Ok (line_of kind event.new)) }
     ensures error { IfErr result (λ error. error ≢ NoMemory → script_line_of line.now ≡ Err error) }
 {
+    if let Some(found) = plain_access(line) {
+        *event = found;
+        return Ok(LineKind::Event);
+    }
     if let Some(found) = quick_event(line, scratch)? {
         *event = found;
         return Ok(LineKind::Event);
@@ -101,6 +106,7 @@ fn of_word(word: &str) -> Option<ScriptLine>
     ensures { result ≡ of_word word.now }
 {
     match word {
+        "begin" => Some(ScriptLine::Event(begin())),
         "cut" => Some(ScriptLine::Cut),
         _ => None,
     }

@@ -4,7 +4,7 @@ use crate::record::numbers;
 use crate::tree::{first_not_whole, word_of};
 use serde_json::Value;
 use sgt_format::items;
-use sgt_model::NoMemory;
+use sgt_model::{LAST_TABLE, NoMemory, is_value};
 use sgt_proc::MOST_ARGUMENTS;
 use std::alloc::Global;
 
@@ -17,10 +17,17 @@ const JOB: &str = "[\"job\",procedure,[argument,..]]";
 /// The form of a record.
 const RECORD: &str = "[\"record\",table,number,value]";
 
+/// The form of a write.
+const WRITE: &str = "[\"write\",transaction,table,number,value]";
+
 /// Why a tree is no event of a script.
 pub(crate) fn event_fault(alloc: Global, tree: &Value) -> Result<Option<String>, NoMemory> {
     match word_in(tree) {
         Some("start") => call_fault(alloc, START, tree),
+        Some("begin") => unexpected(alloc, "[\"begin\"]", tree),
+        Some("read") => key_fault(alloc, "[\"read\",transaction,table,number]", tree),
+        Some("remove") => key_fault(alloc, "[\"remove\",transaction,table,number]", tree),
+        Some("write") => write_fault(alloc, tree),
         Some("step") => transaction_fault(alloc, "[\"step\",transaction]", tree),
         Some("commit") => transaction_fault(alloc, "[\"commit\",transaction]", tree),
         Some("quit") => transaction_fault(alloc, "[\"quit\",transaction]", tree),
@@ -41,7 +48,9 @@ pub(crate) fn job_fault(alloc: Global, tree: &Value) -> Result<Option<String>, N
     match word_in(tree) {
         Some("job") => call_fault(alloc, JOB, tree),
         Some("record") => misplaced_record(alloc, "job", tree),
-        Some("start" | "step" | "commit" | "quit" | "cut") => misplaced_request(
+        Some(
+            "begin" | "start" | "step" | "read" | "write" | "remove" | "commit" | "quit" | "cut",
+        ) => misplaced_request(
             alloc,
             "an event stands in the input of \"sgt bank\", which takes jobs: ",
             JOB,
@@ -89,6 +98,53 @@ fn transaction_fault(alloc: Global, form: &str, tree: &Value) -> Result<Option<S
             range_fault(alloc, "a transaction", number, u32::MAX)
         },
         _ => unexpected(alloc, form, tree),
+    }
+}
+
+// The error of a list that must be a word, a transaction and the key of a record, in this form.
+fn key_fault(alloc: Global, form: &str, tree: &Value) -> Result<Option<String>, NoMemory> {
+    match items(tree) {
+        Some([_, number, table, id]) => access_fault(alloc, number, table, id),
+        _ => unexpected(alloc, form, tree),
+    }
+}
+
+// The error of a list that must be a write.
+fn write_fault(alloc: Global, tree: &Value) -> Result<Option<String>, NoMemory> {
+    match items(tree) {
+        Some([_, number, table, id, value]) => match access_fault(alloc, number, table, id)? {
+            Some(text) => Ok(Some(text)),
+            None => value_fault(alloc, value),
+        },
+        _ => unexpected(alloc, WRITE, tree),
+    }
+}
+
+// The error in a transaction, or in the table or the number of a record. A number is a value.
+fn access_fault(
+    alloc: Global,
+    number: &Value,
+    table: &Value,
+    id: &Value,
+) -> Result<Option<String>, NoMemory> {
+    let last = u32::from(LAST_TABLE);
+    if !is_from_zero(number, u32::MAX) {
+        return range_fault(alloc, "a transaction", number, u32::MAX);
+    }
+    if !is_from_zero(table, last) {
+        return range_fault(alloc, "a table", table, last);
+    }
+    match id.as_i64() {
+        Some(found) if is_value(found) => Ok(None),
+        _ => unexpected(alloc, "a number of at most 15 digits", id),
+    }
+}
+
+// The error in the value of a write. What is out of a value's range is answered, as an argument is.
+fn value_fault(alloc: Global, value: &Value) -> Result<Option<String>, NoMemory> {
+    match value.as_i64() {
+        Some(_) => Ok(None),
+        None => unexpected(alloc, "a whole number as the value", value),
     }
 }
 

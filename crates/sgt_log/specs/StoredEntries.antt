@@ -1,5 +1,5 @@
 -- The entries of stored ones, by the lists of transactions and of values.
-use Rattle.std.specs.Prelude.{◌≡◌, ◌≤◌, ℕ, ℤ, List, [], ◌∷◌, Some, None}
+use Rattle.std.specs.Prelude.{◌≡◌, ◌≤◌, ℕ, ℤ, List, [], ◌∷◌, length, Some, None}
 use Rattle.sgt_model.specs.Numbers.{IsValue}
 use Rattle.sgt_model.specs.declared.entry.Entry.{Entry}
 use Rattle.sgt_model.specs.declared.event.Event.{Event}
@@ -15,7 +15,7 @@ use Rattle.sgt_log.specs.declared.stored_event.StoredEvent.{StoredEvent}
 use Rattle.sgt_log.specs.declared.stored_event.StoredEvent.TheVariants as event
 use Rattle.sgt_log.specs.declared.stored_entry.StoredEntry.{StoredEntry}
 use Rattle.sgt_log.specs.declared.span.Span.{Span}
-use Rattle.sgt_log.specs.EntryParts.{full_event}
+use Rattle.sgt_log.specs.EntryParts.{full_event, arg_count, HasArgs}
 use Rattle.sgt_log.specs.Spans.{no_items, part_of, IsWithin}
 
 -- an event: without its arguments, where its arguments are, and in full
@@ -23,11 +23,13 @@ use Rattle.sgt_log.specs.Spans.{no_items, part_of, IsWithin}
 abbrev pub bare_of : StoredEvent → BareEvent
 bare_of (event.Start procedure count from) = bare.Start procedure
 bare_of (event.Step t) = bare.Step t
+bare_of (event.Access k table t from) = bare.Access k table t
 bare_of (event.Commit t) = bare.Commit t
 bare_of (event.Quit t) = bare.Quit t
 
 abbrev pub args_at : StoredEvent → Span
 args_at (event.Start procedure count from) = record { from = from; count = count }
+args_at (event.Access k table t from) = record { from = from; count = arg_count k }
 args_at _ = no_items
 
 abbrev pub event_of : List ℤ → StoredEvent → Event
@@ -45,7 +47,8 @@ short_of reply.Unknown = short.Unknown
 short_of (reply.Over f count from) = short.Over f
 short_of (reply.Looked table id v) = short.Looked (table, id) (Some v)
 short_of (reply.Missed table id) = short.Looked (table, id) None
-short_of (reply.Wrote table id v) = short.Wrote (table, id) v
+short_of (reply.Wrote table id v) = short.Wrote (table, id) (Some v)
+short_of (reply.Removed table id) = short.Wrote (table, id) None
 short_of reply.Ended = short.Ended
 short_of reply.NotEnded = short.NotEnded
 short_of (reply.Waits t) = short.Waits t
@@ -79,14 +82,16 @@ abbrev pub HasKey : StoredReply → Type 0
 HasKey (reply.Looked table id v) = (table ≤ 7) × IsValue id
 HasKey (reply.Missed table id) = (table ≤ 7) × IsValue id
 HasKey (reply.Wrote table id v) = (table ≤ 7) × IsValue id
+HasKey (reply.Removed table id) = (table ≤ 7) × IsValue id
 HasKey _ = Unit {0}
 
--- the parts that it names are within lists of these lengths: n transactions, v values
-
-pub record IsEvent (v : ℕ) (e : StoredEvent) : Type 0 where
-  pub args : IsWithin v (args_at e)
+-- the arguments that it names are within the list of values, and are those of such an event
+pub record IsEvent (values : List ℤ) (e : StoredEvent) : Type 0 where
+  pub args : IsWithin (length values) (args_at e)
   pub few : (args_at e).count ≤ 4
+  pub own : HasArgs (bare_of e) (part_of values (args_at e))
 
+-- the parts that it names are within lists of these lengths: n transactions, v values
 pub record IsReply (n v : ℕ) (r : StoredReply) : Type 0 where
   pub answers : IsWithin v (answers_at r)
   pub few : (answers_at r).count ≤ 8
@@ -94,13 +99,13 @@ pub record IsReply (n v : ℕ) (r : StoredReply) : Type 0 where
   pub fell : IsWithin n (fell_at r)
   pub key : HasKey r
 
-abbrev pub IsEntry : ℕ → ℕ → StoredEntry → Type 0
-IsEntry n v e = IsEvent v e.event × IsReply n v e.reply
+abbrev pub IsEntry : ℕ → List ℤ → StoredEntry → Type 0
+IsEntry n values e = IsEvent values e.event × IsReply n (length values) e.reply
 
 -- each of them is within the lists
-abbrev pub AreEntries : ℕ → ℕ → List StoredEntry → Type 0
-AreEntries n v [] = Unit {0}
-AreEntries n v (e ∷ es) = IsEntry n v e × AreEntries n v es
+abbrev pub AreEntries : ℕ → List ℤ → List StoredEntry → Type 0
+AreEntries n values [] = Unit {0}
+AreEntries n values (e ∷ es) = IsEntry n values e × AreEntries n values es
 
 -- it has no list, whatever the lists of the history hold
 abbrev pub HasNoArgs : StoredEvent → Type 0

@@ -1,14 +1,17 @@
-//! Events without their arguments.
-ghost use Rattle.std.specs.Prelude.{◌≡◌, ◌≤◌, ◌↔◌, length, IsTrue};
-ghost use Rattle.sgt_log.specs.EntryParts.{bare_event, args_in};
+//! Events without their arguments, and the arguments.
+ghost use Rattle.std.specs.Prelude.{◌≡◌, ◌↔◌, IsTrue};
+ghost use Rattle.sgt_model.specs.declared.event.Event.TheVariants.{Access};
+ghost use Rattle.sgt_log.specs.EntryParts.{bare_event, args_in, HasArgs};
 
-use sgt_model::{Event, Tid};
+use crate::access_kind::{AccessKind, key_in, request_args};
+use sgt_model::{Args, Event, Request, Tid};
 
 /// An event without its arguments.
 #[derive(Clone, Copy, PartialEq, Eq)]
 pub enum BareEvent {
     Start(u16),
     Step(Tid),
+    Access { kind: AccessKind, table: u8, t: Tid },
     Commit(Tid),
     Quit(Tid),
 }
@@ -21,8 +24,20 @@ impl BareEvent {
         match event {
             Event::Start { procedure, .. } => BareEvent::Start(*procedure),
             Event::Step(t) => BareEvent::Step(*t),
+            Event::Access(t, request) => BareEvent::of_request(*t, request),
             Event::Commit(t) => BareEvent::Commit(*t),
             Event::Quit(t) => BareEvent::Quit(*t),
+        }
+    }
+
+    /// That of an access on which the caller of a transaction decided.
+    pub fn of_request(t: Tid, request: &Request) -> Self
+        ensures { result ≡ bare_event (Access t request.now) }
+    {
+        BareEvent::Access {
+            kind: AccessKind::of(request),
+            table: key_in(request).table(),
+            t,
         }
     }
 
@@ -34,16 +49,14 @@ impl BareEvent {
     }
 }
 
-/// The arguments of an event. An event of another kind than a start has none.
-pub fn args_of(event: &Event) -> &[i64]
-    ensures args { result.now ≡ args_in event.now }
-    ensures few { length result.now ≤ 4 }
+/// The arguments of an event: those of a start, or of the access on which a caller decided. Other events have none.
+pub fn args_of(event: &Event) -> Args
+    ensures args { result ≡ args_in event.now }
+    ensures own { HasArgs (bare_event event.now) result }
 {
     match event {
-        Event::Start { args, .. } => {
-            let _count = args.len();
-            args.as_slice()
-        }
-        _ => &[],
+        Event::Start { args, .. } => args.copied(),
+        Event::Access(_, request) => request_args(request),
+        Event::Step(_) | Event::Commit(_) | Event::Quit(_) => Args::new(),
     }
 }

@@ -4,7 +4,7 @@ ghost use Rattle.sgt_model.specs.Fates.{is_start};
 ghost use Rattle.sgt_model.specs.Questions.{named_by, started_in, over_in};
 ghost use Rattle.sgt_model.specs.Questions.{refuses_start, is_wait, is_commit, is_ask, is_quit, is_ending, tells_end};
 ghost use Rattle.sgt_model.specs.ShortReplies.{short_reply, walk_in, fell_in, answers_in};
-ghost use Rattle.sgt_log.specs.EntryParts.{args_in, bare_event, full_entry, committed_in, is_by_cycle, tells_fall, is_access, is_at_end, AreFew};
+ghost use Rattle.sgt_log.specs.EntryParts.{args_in, bare_event, full_entry, committed_in, is_by_cycle, tells_fall, is_access, is_at_end, AreFew, HasArgs};
 
 use crate::bare::BareEvent;
 use crate::entry_lists::EntryLists;
@@ -36,7 +36,7 @@ impl<'a> Model for EntryRef<'a> {
 
     ghost view = { λ e. entry_of e.tids.now e.values.now e.stored.now };
 
-    ghost invariant = { λ e. IsEntry (length e.tids.now) (length e.values.now) e.stored.now };
+    ghost invariant = { λ e. IsEntry (length e.tids.now) e.values.now e.stored.now };
 }
 
 impl<'a> EntryRef<'a> {
@@ -112,6 +112,20 @@ impl<'a> EntryRef<'a> {
                     ..
                 },
             ) => procedure == another && are_same_values(self.args(), other.args()),
+            (
+                StoredEvent::Access { kind, table, t, .. },
+                StoredEvent::Access {
+                    kind: other_kind,
+                    table: other_table,
+                    t: u,
+                    ..
+                },
+            ) => {
+                kind == other_kind
+                    && table == other_table
+                    && t == u
+                    && are_same_values(self.args(), other.args())
+            }
             _ => false,
         }
     }
@@ -178,7 +192,10 @@ impl<'a> EntryRef<'a> {
     {
         match self.stored.event {
             StoredEvent::Start { .. } => None,
-            StoredEvent::Step(t) | StoredEvent::Commit(t) | StoredEvent::Quit(t) => Some(t),
+            StoredEvent::Step(t)
+            | StoredEvent::Access { t, .. }
+            | StoredEvent::Commit(t)
+            | StoredEvent::Quit(t) => Some(t),
         }
     }
 
@@ -199,7 +216,9 @@ impl<'a> EntryRef<'a> {
     {
         match self.stored.event {
             StoredEvent::Start { .. } => None,
-            StoredEvent::Step(t) | StoredEvent::Commit(t) => self.tells_end().then_some(t),
+            StoredEvent::Step(t) | StoredEvent::Access { t, .. } | StoredEvent::Commit(t) => {
+                self.tells_end().then_some(t)
+            }
             StoredEvent::Quit(t) => Some(t),
         }
     }
@@ -240,7 +259,10 @@ impl<'a> EntryRef<'a> {
     {
         matches!(
             self.stored.reply,
-            StoredReply::Looked { .. } | StoredReply::Missed { .. } | StoredReply::Wrote { .. }
+            StoredReply::Looked { .. }
+                | StoredReply::Missed { .. }
+                | StoredReply::Wrote { .. }
+                | StoredReply::Removed { .. }
         )
     }
 
@@ -258,21 +280,24 @@ impl<'a> EntryRef<'a> {
         matches!(self.stored.reply, StoredReply::Waits(_))
     }
 
-    /// Whether it is a step that read, wrote or came to its procedure's end. Such a step starts and ends no transaction,
-    /// and reports no end.
+    /// Whether it is a step, or an access on which a caller decided, that read, wrote or came to the procedure's end. Such an
+    /// entry starts and ends no transaction, and reports no end.
     #[inline]
     pub fn is_progress(&self) -> bool
         ensures { IsTrue result → (started_in self.now.event self.now.reply ≡ None)
             × (over_in self.now.event self.now.reply ≡ None) × (is_ending self.now.reply ≡ false) }
     {
-        matches!(self.stored.event, StoredEvent::Step(_))
-            && matches!(
-                self.stored.reply,
-                StoredReply::Looked { .. }
-                    | StoredReply::Missed { .. }
-                    | StoredReply::Wrote { .. }
-                    | StoredReply::Ended
-            )
+        matches!(
+            self.stored.event,
+            StoredEvent::Step(_) | StoredEvent::Access { .. }
+        ) && matches!(
+            self.stored.reply,
+            StoredReply::Looked { .. }
+                | StoredReply::Missed { .. }
+                | StoredReply::Wrote { .. }
+                | StoredReply::Removed { .. }
+                | StoredReply::Ended
+        )
     }
 
     /// Whether it commits a transaction.
@@ -371,9 +396,10 @@ impl<'a> EntryRef<'a> {
         }
     }
 
-    // The arguments of its start. No values if it is none.
+    // The arguments of its event.
     pub(crate) fn args(&self) -> &'a [i64]
         ensures args { result.now ≡ args_in self.now.event }
+        ensures own { HasArgs (bare_event self.now.event) result.now }
         ensures few { length result.now ≤ 4 }
     {
         self.stored.event.args(self.values)
@@ -389,6 +415,7 @@ impl<'a> EntryRef<'a> {
     // Its lists.
     pub(crate) fn lists(&self) -> EntryLists<'a>
         ensures lists { full_entry (bare_event self.now.event) (short_reply self.now.reply) result ≡ self.now }
+        ensures args { HasArgs (bare_event self.now.event) result.args.now }
         ensures few { AreFew result }
     {
         EntryLists {

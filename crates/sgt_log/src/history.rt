@@ -4,12 +4,13 @@ ghost use Rattle.std.specs.Prelude.{IsTrue, Some, OnOk, OnErr, ◌*◌, ◌^◌,
 ghost use Rattle.std.specs.Result.{IsOk};
 ghost use Rattle.std.specs.Option.{option_map};
 ghost use Rattle.sgt_model.specs.declared.entry.Entry.{Entry};
-ghost use Rattle.sgt_model.specs.declared.event.Event.TheVariants.{Start, Commit};
+ghost use Rattle.sgt_model.specs.declared.event.Event.TheVariants.{Start, Access, Commit};
 ghost use Rattle.sgt_model.specs.declared.reply.Reply.TheVariants.{Started, Committed};
 ghost use Rattle.sgt_model.specs.ShortReplies.{full_reply, reply_with};
 ghost use Rattle.sgt_log.specs.StoredEntries.{bare_of, short_of, HasNoArgs, HasNoLists, HasKey};
-ghost use Rattle.sgt_log.specs.EntryParts.{full_event, full_entry, AreFew};
+ghost use Rattle.sgt_log.specs.EntryParts.{full_event, full_entry, AreFew, HasArgs};
 
+use crate::access_kind::request_args;
 use crate::bare::{BareEvent, args_of};
 use crate::entry_lists::EntryLists;
 use crate::entry_ref::EntryRef;
@@ -18,7 +19,7 @@ use crate::stored_entry::StoredEntry;
 use crate::stored_event::StoredEvent;
 use crate::stored_reply::StoredReply;
 use crate::touch::touch_ahead;
-use sgt_model::{Entry, Event, NoMemory, Reply, ReplyLists, ShortReply, Tid};
+use sgt_model::{Entry, Event, NoMemory, Reply, ReplyLists, Request, ShortReply, Tid};
 use std::alloc::Global;
 use std::marker::Model;
 
@@ -66,7 +67,7 @@ impl Model for History {
     } };
 
     ghost invariant = { λ h.
-        AreEntries (length h.tids.items) (length h.values.items) h.entries.items
+        AreEntries (length h.tids.items) h.values.items h.entries.items
         × (vec_len h.entries + h.room ≤ vec_capacity h.entries)
         × (vec_len h.tids + h.room * 64 ≤ vec_capacity h.tids)
         × (vec_len h.values + h.room * 12 ≤ vec_capacity h.values) };
@@ -219,7 +220,13 @@ impl History {
                     value: *value,
                 },
             ),
-            (Event::Step(t), ShortReply::Wrote { key, value }) => self.push_plain(
+            (
+                Event::Step(t),
+                ShortReply::Wrote {
+                    key,
+                    value: Some(value),
+                },
+            ) => self.push_plain(
                 StoredEvent::Step(*t),
                 StoredReply::Wrote {
                     table: key.table(),
@@ -238,6 +245,12 @@ impl History {
                 let _count = lists.answers.len();
                 self.push_commit(*t, lists.answers.as_slice())
             }
+            (Event::Access(t, request), ShortReply::Looked { key, value }) => {
+                self.push_access(*t, request, StoredReply::looked(key, value))
+            }
+            (Event::Access(t, request), ShortReply::Wrote { key, value }) => {
+                self.push_access(*t, request, StoredReply::wrote(key, value))
+            }
             _ => self.push_any(event, reply, lists),
         }
     }
@@ -252,8 +265,10 @@ impl History {
         ensures capacities { self.new.capacities ≡ self.old.capacities }
     {
         let (_answers, _walk, _fell) = (lists.answers.len(), lists.walk.len(), lists.fell.len());
+        let args = args_of(event);
+        let _args = args.len();
         let lists = EntryLists {
-            args: args_of(event),
+            args: args.as_slice(),
             answers: lists.answers.as_slice(),
             walk: lists.walk.as_slice(),
             fell: lists.fell.as_slice(),
@@ -266,6 +281,7 @@ impl History {
     fn push_parts(&mut self, event: BareEvent, reply: &ShortReply, lists: &EntryLists<'_>)
         requires room { 0 < self.old.room }
         requires few { AreFew lists.now }
+        requires args { HasArgs event lists.now.args.now }
         ensures entries { self.new.entries ≡ self.old.entries ++ full_entry event reply.now lists.now ∷ [] }
         ensures room { self.new.room + 1 ≡ self.old.room }
         ensures capacities { self.new.capacities ≡ self.old.capacities }
@@ -321,6 +337,25 @@ impl History {
                 from: part.from,
             },
         });
+        self.room -= 1;
+    }
+
+    // Adds an access on which a caller decided, with a reply that has no lists.
+    #[inline(never)]
+    fn push_access(&mut self, t: Tid, request: &Request, reply: StoredReply)
+        requires room { 0 < self.old.room }
+        requires reply { HasNoLists reply }
+        requires key { HasKey reply }
+        ensures entries { self.new.entries
+            ≡ self.old.entries ++ record { event = Access t request.now; reply = full_reply (short_of reply) [] [] [] } ∷ [] }
+        ensures room { self.new.room + 1 ≡ self.old.room }
+        ensures capacities { self.new.capacities ≡ self.old.capacities }
+    {
+        let args = request_args(request);
+        let _count = args.len();
+        let event = BareEvent::of_request(t, request);
+        let event = StoredEvent::of(event, args.as_slice(), &mut self.values);
+        self.entries.push_reserved(StoredEntry { event, reply });
         self.room -= 1;
     }
 

@@ -11,7 +11,7 @@
 //! let mut history = History::new(alloc);
 //! history.reserve(1)?;
 //! let lists = ReplyLists::new();
-//! history.push(&Event::Step(Tid(0)), &ShortReply::Wrote { key, value: 50 }, &lists);   // allocates nothing
+//! history.push(&Event::Step(Tid(0)), &ShortReply::Wrote { key, value: Some(50) }, &lists);   // allocates nothing
 //! for place in 0..history.len() {
 //!     let entry = history.entry(place);
 //!     if entry.is_commit() {
@@ -21,10 +21,12 @@
 //! ```
 #![tactic(auto)]
 
+mod access_kind;
 mod bare;
 mod entry_lists;
 mod entry_ref;
 mod history;
+mod key_of;
 mod span;
 mod stored_entry;
 mod stored_event;

@@ -2,7 +2,7 @@
 ghost use Rattle.std.specs.Prelude.{◌≡◌, ◌+◌, ◌≤◌, IsTrue, length, vec_len, vec_capacity};
 ghost use Rattle.sgt_log.specs.Spans.{HasMore};
 ghost use Rattle.sgt_log.specs.StoredEntries.{entry_of, IsEntry, HasNoArgs, HasNoLists};
-ghost use Rattle.sgt_log.specs.EntryParts.{full_entry, AreFew};
+ghost use Rattle.sgt_log.specs.EntryParts.{full_entry, AreFew, HasArgs};
 
 use crate::bare::BareEvent;
 use crate::entry_lists::EntryLists;
@@ -31,10 +31,11 @@ impl StoredEntry {
         values: &mut Vec<i64>,
     ) -> Self
         requires few { AreFew lists.now }
+        requires args { HasArgs event lists.now.args.now }
         requires tids { vec_len tids.old + 64 ≤ vec_capacity tids.old }
         requires values { vec_len values.old + 12 ≤ vec_capacity values.old }
         ensures entry { entry_of tids.new.items values.new.items result ≡ full_entry event reply.now lists.now }
-        ensures within { IsEntry (length tids.new.items) (length values.new.items) result }
+        ensures within { IsEntry (length tids.new.items) values.new.items result }
         ensures more_tids { HasMore tids.old.items tids.new.items }
         ensures more_values { HasMore values.old.items values.new.items }
         ensures len_tids { vec_len tids.new ≤ vec_len tids.old + 64 }

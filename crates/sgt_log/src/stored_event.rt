@@ -2,13 +2,15 @@
 ghost use Rattle.std.specs.Prelude.{◌≡◌, ◌+◌, ◌≤◌, length, vec_len, vec_capacity};
 ghost use Rattle.sgt_log.specs.Spans.{part_of, HasMore};
 ghost use Rattle.sgt_log.specs.StoredEntries.{bare_of, args_at, event_of, IsEvent};
-ghost use Rattle.sgt_log.specs.EntryParts.{full_event};
+ghost use Rattle.sgt_log.specs.EntryParts.{full_event, HasArgs};
 
+use crate::access_kind::AccessKind;
 use crate::bare::BareEvent;
 use crate::span::Span;
 use sgt_model::{Event, Tid};
 
-/// An event. Its arguments are in the list of values: as many as `count`, from the index `from`.
+/// An event. Its arguments are in the list of values, from the index `from`: as many as `count` of a start, and as many as its
+/// kind has of an access.
 #[derive(Clone, Copy)]
 pub enum StoredEvent {
     Start {
@@ -17,6 +19,12 @@ pub enum StoredEvent {
         from: usize,
     },
     Step(Tid),
+    Access {
+        kind: AccessKind,
+        table: u8,
+        t: Tid,
+        from: usize,
+    },
     Commit(Tid),
     Quit(Tid),
 }
@@ -28,9 +36,10 @@ impl StoredEvent {
     /// The stored form of an event with these arguments. They are appended to the list of values, which has capacity for them.
     pub fn of(event: BareEvent, args: &[i64], values: &mut Vec<i64>) -> Self
         requires few { length args.now ≤ 4 }
+        requires args { HasArgs event args.now }
         requires room { vec_len values.old + 4 ≤ vec_capacity values.old }
         ensures event { event_of values.new.items result ≡ full_event event args.now }
-        ensures within { IsEvent (length values.new.items) result }
+        ensures within { IsEvent values.new.items result }
         ensures more { HasMore values.old.items values.new.items }
         ensures len { vec_len values.new ≤ vec_len values.old + 4 }
         ensures capacity { vec_capacity values.new ≡ vec_capacity values.old }
@@ -45,6 +54,15 @@ impl StoredEvent {
                 }
             }
             BareEvent::Step(t) => StoredEvent::Step(t),
+            BareEvent::Access { kind, table, t } => {
+                let Span { from, .. } = Span::append(values, args);
+                StoredEvent::Access {
+                    kind,
+                    table,
+                    t,
+                    from,
+                }
+            }
             BareEvent::Commit(t) => StoredEvent::Commit(t),
             BareEvent::Quit(t) => StoredEvent::Quit(t),
         }
@@ -57,6 +75,11 @@ impl StoredEvent {
         match self {
             StoredEvent::Start { procedure, .. } => BareEvent::Start(*procedure),
             StoredEvent::Step(t) => BareEvent::Step(*t),
+            StoredEvent::Access { kind, table, t, .. } => BareEvent::Access {
+                kind: *kind,
+                table: *table,
+                t: *t,
+            },
             StoredEvent::Commit(t) => BareEvent::Commit(*t),
             StoredEvent::Quit(t) => BareEvent::Quit(*t),
         }
@@ -64,19 +87,22 @@ impl StoredEvent {
 
     /// Its arguments. An event of another kind has none.
     pub fn args<'a>(&self, values: &'a [i64]) -> &'a [i64]
-        requires { IsEvent (length values.now) self.now }
+        requires { IsEvent values.now self.now }
         ensures args { result.now ≡ part_of values.now (args_at self.now) }
         ensures few { length result.now ≤ 4 }
     {
         match self {
             StoredEvent::Start { count, from, .. } => Span::new(*from, *count).items(values),
-            _ => &[],
+            StoredEvent::Access { kind, from, .. } => {
+                Span::new(*from, kind.arg_count()).items(values)
+            }
+            StoredEvent::Step(_) | StoredEvent::Commit(_) | StoredEvent::Quit(_) => &[],
         }
     }
 
     /// The event in full.
     pub fn in_full(&self, values: &[i64]) -> Event
-        requires { IsEvent (length values.now) self.now }
+        requires { IsEvent values.now self.now }
         ensures { result ≡ event_of values.now self.now }
     {
         match self {
@@ -89,6 +115,9 @@ impl StoredEvent {
                 args: Span::new(*from, *count).values(values),
             },
             StoredEvent::Step(t) => Event::Step(*t),
+            StoredEvent::Access { kind, table, t, .. } => {
+                Event::Access(*t, kind.request(*table, self.args(values)))
+            }
             StoredEvent::Commit(t) => Event::Commit(*t),
             StoredEvent::Quit(t) => Event::Quit(*t),
         }

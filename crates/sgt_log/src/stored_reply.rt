@@ -2,13 +2,14 @@
 ghost use Rattle.std.specs.Prelude.{◌≡◌, ◌+◌, ◌≤◌, ◌↔◌, ℕ, ℤ, List, IsTrue, length, vec_len, vec_capacity};
 ghost use Rattle.sgt_model.specs.Numbers.{IsValue};
 ghost use Rattle.sgt_model.specs.declared.reply.Reply.TheVariants.{Over, Aborted};
-ghost use Rattle.sgt_model.specs.declared.short_reply.ShortReply.TheVariants.{Looked};
+ghost use Rattle.sgt_model.specs.declared.short_reply.ShortReply.TheVariants.{Looked, Wrote};
 ghost use Rattle.sgt_model.specs.ShortReplies.{full_cause, full_fate, full_reply, cause_walk, fate_walk, answers_in, walk_in, fell_in};
 ghost use Rattle.sgt_log.specs.Spans.{part_of, HasMore, IsWithin};
 ghost use Rattle.sgt_log.specs.StoredEntries.{short_of, reply_of, answers_at, walk_at, fell_at, IsReply, HasKey, HasNoLists};
 ghost use Rattle.sgt_log.specs.EntryParts.{AreFew};
 
 use crate::entry_lists::EntryLists;
+use crate::key_of::key_of;
 use crate::span::Span;
 use sgt_model::{Key, Reply, ShortCause, ShortFate, ShortReply, Tid};
 
@@ -41,6 +42,11 @@ pub enum StoredReply {
         table: u8,
         id: i64,
         value: i64,
+    },
+    /// A write of no value: the record was removed.
+    Removed {
+        table: u8,
+        id: i64,
     },
     Ended,
     NotEnded,
@@ -96,11 +102,7 @@ impl StoredReply {
             ShortReply::Unknown => StoredReply::Unknown,
             ShortReply::Over(fate) => StoredReply::over(fate, lists.walk, tids),
             ShortReply::Looked { key, value } => StoredReply::looked(key, value),
-            ShortReply::Wrote { key, value } => StoredReply::Wrote {
-                table: key.table(),
-                id: key.id(),
-                value: *value,
-            },
+            ShortReply::Wrote { key, value } => StoredReply::wrote(key, value),
             ShortReply::Ended => StoredReply::Ended,
             ShortReply::NotEnded => StoredReply::NotEnded,
             ShortReply::Waits(first) => StoredReply::Waits(*first),
@@ -125,9 +127,9 @@ impl StoredReply {
         }
     }
 
-    // A read, with its value if it found one.
+    /// A read, with its value if it found one.
     #[inline]
-    fn looked(key: &Key, value: &Option<i64>) -> Self
+    pub fn looked(key: &Key, value: &Option<i64>) -> Self
         ensures short { short_of result ≡ Looked key.now value.now }
         ensures plain { HasNoLists result }
         ensures key { HasKey result }
@@ -141,6 +143,25 @@ impl StoredReply {
                 value: *value,
             },
             None => StoredReply::Missed { table, id },
+        }
+    }
+
+    /// A write, with its value if it did not remove the record.
+    #[inline]
+    pub fn wrote(key: &Key, value: &Option<i64>) -> Self
+        ensures short { short_of result ≡ Wrote key.now value.now }
+        ensures plain { HasNoLists result }
+        ensures key { HasKey result }
+    {
+        let table = key.table();
+        let id = key.id();
+        match value {
+            Some(value) => StoredReply::Wrote {
+                table,
+                id,
+                value: *value,
+            },
+            None => StoredReply::Removed { table, id },
         }
     }
 
@@ -263,7 +284,11 @@ impl StoredReply {
             },
             StoredReply::Wrote { table, id, value } => ShortReply::Wrote {
                 key: key_of(*table, *id),
-                value: *value,
+                value: Some(*value),
+            },
+            StoredReply::Removed { table, id } => ShortReply::Wrote {
+                key: key_of(*table, *id),
+                value: None,
             },
             StoredReply::Ended => ShortReply::Ended,
             StoredReply::NotEnded => ShortReply::NotEnded,
@@ -333,17 +358,6 @@ impl StoredReply {
     {
         self.short()
             .in_full(self.answers(values), self.walk(tids), self.fell(tids))
-    }
-}
-
-// The key of a table and a number that are a key's.
-fn key_of(table: u8, id: i64) -> Key
-    requires { (table ≤ 7) × IsValue id }
-    ensures { result ≡ (table, id) }
-{
-    match Key::new(table, id) {
-        Some(key) => key,
-        None => unreachable!(),
     }
 }
 

@@ -1,11 +1,13 @@
 -- A transaction's accesses, newest first, against a run: definitions that the proof of the replay speaks of.
-use Rattle.std.specs.Prelude.{◌≡◌, ℕ, ℤ, ◌&&◌, cond, List, [], ◌∷◌, length, Option}
-use Rattle.sgt_model.specs.declared.kind.Kind.TheVariants.{Look}
+use Rattle.std.specs.Prelude.{◌≡◌, ℕ, ℤ, true, ◌&&◌, cond, ◌⊎◌, List, [], ◌∷◌, ◌++◌, length, map, Option}
+use Rattle.sgt_model.specs.declared.event.Request.{Request}
+use Rattle.sgt_model.specs.declared.kind.Kind.{Kind}
+use Rattle.sgt_model.specs.declared.kind.Kind.TheVariants.{Look, Store}
 use Rattle.sgt_model.specs.Contents.{Key, key_eq, Contents}
-use Rattle.sgt_model.specs.Runs.{Run, Outcome, Done, Asked, serial}
+use Rattle.sgt_model.specs.Runs.{Run, Outcome, Done, Asked, serial, CallerAccess, told, wrote}
 use Rattle.sgt_model.specs.Traces.{trace, Next, Ends, Raises, next_at}
 use Rattle.sgt_model.specs.Accesses.{Access, is_store}
-use Rattle.sgt_model.specs.Progress.{values_read, made}
+use Rattle.sgt_model.specs.Progress.{values_read, made, requested, is_fit}
 use Rattle.sgt_model.proofs.Effects.{Fits}
 
 -- what the run wants next, by the values read and the number of accesses made
@@ -40,3 +42,32 @@ pub record ActsLaw (r : Run) : Type 0 where
       → asks_of r (values_read all) (length all) ≡ Ends answers → DoneWith (serial r m) answers (over m all)
   pub asked : (m : Contents) (all : List Access) (code : ℕ) → AsAsked (asks_of r) all → FindsIn m all → asks_of r (values_read all)
       (length all) ≡ Raises code → serial r m ≡ Asked code
+
+-- ---- after the end
+
+-- an access, as one that its caller requested
+abbrev pub caller_access_by : Kind → Key → Option ℤ → CallerAccess
+caller_access_by Look k v = told k v
+caller_access_by Store k v = wrote k v
+
+abbrev pub caller_access_of : Access → CallerAccess
+caller_access_of a = caller_access_by a.kind a.key a.value
+
+-- the run is at its end after these accesses
+abbrev pub AtEnd : Run → List Access → Type 0
+AtEnd r own = (answers : List ℤ) × (asks_of r (values_read own) (length own) ≡ Ends answers)
+
+-- each is a read, or a write of a value or of none
+abbrev pub AllFit : List Access → Type 0
+AllFit [] = Unit {0}
+AllFit (a ∷ before) = AllFit before × ((d : Request) × (is_fit d ≡ true) × Fits (requested d) a)
+
+-- the accesses are what the run wanted, and then, if it came to its end, what the caller requested
+pub record PlayedOn (r : Run) (xs : List CallerAccess) (all : List Access) : Type 0 where
+  pub own : List Access
+  pub more : List Access
+  pub all_are : all ≡ more ++ own
+  pub caller_accesses_are : xs ≡ map caller_access_of more
+  pub as_asked : AsAsked (asks_of r) own
+  pub fit : AllFit more
+  pub at_end : (more ≡ []) ⊎ AtEnd r own

@@ -11,7 +11,8 @@ use Rattle.sgt_model.specs.declared.entry.Entry.{Entry}
 use Rattle.sgt_model.specs.Numbers.{IsValue, is_value}
 use Rattle.sgt_model.specs.Fates.{is_start, start_count, subject}
 use Rattle.sgt_model.specs.Settings.{Setting}
-use Rattle.sgt_model.specs.Progress.{Call, call_at, call_in, call_of}
+use Rattle.sgt_model.specs.Progress.{Call, call_at, call_in, call_of, caller_accesses, with_caller_accesses}
+use Rattle.sgt_model.specs.Runs.{CallerAccess}
 use Rattle.sgt_model.specs.Legality.{Legal}
 use Rattle.sgt_model.specs.Replay.{told_call_in, told_calls}
 use Rattle.sgt_model.specs.Admissions.{IsAdmitted, AreAdmitted}
@@ -29,7 +30,7 @@ at_start : (s : Setting) (past : List Entry) (event : Event) (r : Reply) → Beg
     → IsAdmitted s (unwrap_or (call_in event r (start_count past)) before)
 at_start s past event r b before =
     let parts = and_parts (nat_eq (length b.args) b.count) (list_all is_value b.args) b.fit in
-    let call : Call = record { procedure = b.procedure; args = b.args } in
+    let call : Call = record { procedure = b.procedure; args = b.args; caller_accesses = [] } in
     let is : call_in event r (start_count past) ≡ Some call = ap (λ x. call_in event x (start_count past)) b.reply_is
     ∙ ap (λ x. cond x (call_at event) None) (eq-eqb (start_count past) (start_count past) refl) ∙ ap call_at b.event_is in
     subst (λ o. IsAdmitted s (unwrap_or o before)) (sym is)
@@ -55,6 +56,10 @@ started_admitted s (e ∷ past) t h started = by_age (started_admitted s past t 
     by_age before (inl earlier) = subst (IsAdmitted s) (sym (call-kept s past e t h.1 earlier)) (before earlier)
     by_age before (inr new) = by_start new (starts_or_not (effect s past e.event e.reply h.1))
 
+-- whatever its caller requested after its end
+asked_too : {s : Setting} {c : Call} {xs : List CallerAccess} → IsAdmitted s c → IsAdmitted s (with_caller_accesses xs c)
+asked_too a = record { known = a.known; values = a.values }
+
 -- so was each that committed or was refused
 pub committed_admitted : (s : Setting) (past : List Entry) → Legal s past → AreAdmitted s (told_calls past)
 committed_admitted s [] h = tt
@@ -67,10 +72,10 @@ committed_admitted s (e ∷ past) h = by_end (committed_admitted s past h.0) (co
         let who : subject e.event ≡ c.t = ap subject c.event_is in
         let admitted = started_admitted s past c.t h.0 (live-started past c.t c.is_live) in
         subst (λ r. AreAdmitted s (told_call_in past e.event r ++ told_calls past)) (sym c.reply_is)
-        (before, subst (λ u. IsAdmitted s (call_of past u)) (sym who) admitted)
+        (before, subst (λ u. IsAdmitted s (with_caller_accesses (caller_accesses past u) (call_of past u))) (sym who) (asked_too admitted))
     by_end before (inr (inl x)) =
         let who : subject e.event ≡ x.undoing.t = ap subject x.event_is in
         let admitted = started_admitted s past x.undoing.t h.0 (live-started past x.undoing.t x.undoing.is_live) in
         subst (λ r. AreAdmitted s (told_call_in past e.event r ++ told_calls past)) (sym x.reply_is)
-        (before, subst (λ u. IsAdmitted s (call_of past u)) (sym who) admitted)
+        (before, subst (λ u. IsAdmitted s (with_caller_accesses (caller_accesses past u) (call_of past u))) (sym who) (asked_too admitted))
     by_end before (inr (inr quiet)) = subst (λ l. AreAdmitted s (l ++ told_calls past)) (sym quiet.no_call) before

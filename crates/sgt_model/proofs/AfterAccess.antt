@@ -1,23 +1,25 @@
 -- The state after a read or a write is the state after the longer history.
-use Rattle.std.proofs.Common.{◌≡◌, ◌≢◌, ℕ, suc, ℤ, Bool, true, false, cond, ◌&&◌, ◌⊎◌, List, [], ◌∷◌, ◌++◌, Option, Some, None, refl, sym, ap, ap₂, inl, inr, ◌∙◌}
+use Rattle.std.proofs.Common.{◌≡◌, ◌≢◌, ℕ, suc, ℤ, Bool, true, false, cond, ◌&&◌, ◌⊎◌, List, [], ◌∷◌, ◌++◌, Option, Some, None, refl, sym, ap, ap₂, subst, inl, inr, ◌∙◌}
 use Rattle.std.specs.Prelude.{◌↔◌}
 use Rattle.std.proofs.lemmas.Bool.{cases_eq}
 use Rattle.std.proofs.lemmas.List.{append-nil}
 use Rattle.std.specs.Option.{option_or}
 use Rattle.sgt_model.specs.declared.event.Event.TheVariants.{Step}
+use Rattle.sgt_model.specs.declared.event.Event.TheVariants as event
+use Rattle.sgt_model.specs.declared.event.Request.{Request}
 use Rattle.sgt_model.specs.declared.reply.Reply.TheVariants as reply
 use Rattle.sgt_model.specs.declared.entry.Entry.{Entry}
 use Rattle.sgt_model.specs.declared.kind.Kind.{Kind}
 use Rattle.sgt_model.specs.declared.kind.Kind.TheVariants.{Look, Store}
 use Rattle.sgt_model.specs.Contents.{Key, key_eq}
-use Rattle.sgt_model.specs.Traces.{Looks, Puts}
+use Rattle.sgt_model.specs.Left.{left_after}
 use Rattle.sgt_model.specs.Left as left
 use Rattle.sgt_model.specs.Accesses.{Access, access_of, act_in, acts}
 use Rattle.sgt_model.specs.Fates.{aborted, committed, has_committed, live}
 use Rattle.sgt_model.specs.Values.{newest_store, value_or}
 use Rattle.sgt_model.specs.Pairs.{FollowsIn, Precedes, has_conflicting}
 use Rattle.sgt_model.specs.Settings.{Setting}
-use Rattle.sgt_model.specs.Progress.{call_of, next_of, reads, made}
+use Rattle.sgt_model.specs.Progress.{call_of, reads, made}
 use Rattle.sgt_model.specs.Legality.{Legal}
 use Rattle.sgt_model.specs.AccessList.{listed_in, access_list}
 use Rattle.sgt_model.specs.Chains.{chain_of, store_into, write_last}
@@ -29,7 +31,7 @@ use Rattle.sgt_model.specs.Found.{found}
 use Rattle.sgt_model.specs.Changes.{LooksAt, Notes, StoresInto}
 use Rattle.sgt_model.proofs.Facts.{live-no_fate, live-stands}
 use Rattle.sgt_model.proofs.Plays.{act_own, act_other}
-use Rattle.sgt_model.proofs.LiveLeft.{left_by, left_looked, left_stored}
+use Rattle.sgt_model.proofs.LiveLeft.{left_by}
 use Rattle.sgt_model.proofs.Verdict.{source_from, source_live, source_to, listed_in-state, listed_live}
 
 -- the entry of a read that was made
@@ -37,7 +39,7 @@ abbrev pub look_entry : ℕ → Key → Option ℤ → Entry
 look_entry t k v = record { event = Step t; reply = reply.Looked k v }
 
 -- the entry of a write that was made
-abbrev pub store_entry : ℕ → Key → ℤ → Entry
+abbrev pub store_entry : ℕ → Key → Option ℤ → Entry
 store_entry t k v = record { event = Step t; reply = reply.Wrote k v }
 
 -- the accesses of another, and of t
@@ -117,8 +119,16 @@ module _ (s : Setting) (past : List Entry) (h : Legal s past) (before after : St
   not_committed : committed past t ≡ false
   not_committed = ap has_committed (live-no_fate past t alive)
 
-  pub after_look : next_of s past t ≡ Looks k → LooksAt t k before after → IsStateAfter s (look_entry t k (found before k) ∷ past) after
-  after_look next l = record {
+  -- how the remainder goes on: after the read or write that is next, or after one that the caller requests at the end
+  abbrev pub LookGoes : Type 0
+  LookGoes = (v : Option ℤ) → left_after (left_of_call s.rules (call_of past t)) (reads past t ++ v ∷ []) (suc (made past t))
+      ≡ left.after_look v (left_of s.rules past t)
+
+  abbrev pub StoreGoes : Type 0
+  StoreGoes = left_after (left_of_call s.rules (call_of past t)) (reads past t) (suc (made past t)) ≡ left.after_store (left_of s.rules past t)
+
+  pub after_look : LookGoes → LooksAt t k before after → IsStateAfter s (look_entry t k (found before k) ∷ past) after
+  after_look goes l = record {
     lives = l.notes.live ∙ i.lives;
     nodes = λ u. l.notes.nodes u ∙ i.nodes u;
     pairs = pairs_after Look (look_entry t k (found before k)) (λ u. refl) (λ u. refl) (λ u v. ((λ x. x), (λ x. x))) l.notes;
@@ -166,12 +176,15 @@ module _ (s : Setting) (past : List Entry) (h : Legal s past) (before after : St
       own u e u_live =
           let more = sym (acts_own a u (acts past u) e) in
           let was : before.left t ≡ left_of s.rules past u = ap before.left (sym e) ∙ i.left u u_live in
+          let on : left_after (left_of_call s.rules (call_of past u)) (reads past u ++ found before k ∷ []) (suc (made past u))
+          ≡ left.after_look (found before k) (left_of s.rules past u) = subst (λ w. left_after (left_of_call s.rules (call_of past w))
+          (reads past w ++ found before k ∷ []) (suc (made past w)) ≡ left.after_look (found before k) (left_of s.rules past w)) (sym e)
+          (goes (found before k)) in
           ap after.left e
-          ∙ (l.own_left ∙ (ap (left.after_look (found before k)) was
-          ∙ (sym (left_looked s past h u k (found before k) (ap (next_of s past) e ∙ next)) ∙ ap (left_by s (call_of past u)) more)))
+          ∙ (l.own_left ∙ (ap (left.after_look (found before k)) was ∙ (sym on ∙ ap (left_by s (call_of past u)) more)))
 
-  stored_chain : (b : Bool) (v : ℤ) (c : List (ℕ × ℤ)) → cond b (write_last t v c) c ≡ store_into
-      (cond (b && true) (Some (record { by = t; key = k; kind = Store; value = Some v })) None) c
+  stored_chain : (b : Bool) (v : Option ℤ) (c : List (ℕ × Option ℤ)) → cond b (write_last t v c) c ≡ store_into
+      (cond (b && true) (Some (record { by = t; key = k; kind = Store; value = v })) None) c
   stored_chain true v c = refl
   stored_chain false v c = refl
 
@@ -179,21 +192,21 @@ module _ (s : Setting) (past : List Entry) (h : Legal s past) (before after : St
   not_settled true a n = refl
   not_settled false a n = refl
 
-  pub after_store : (v : ℤ) → next_of s past t ≡ Puts k v → StoresInto t k v before after → IsStateAfter s (store_entry t k v ∷ past) after
-  after_store w next l = record {
+  pub after_store : (v : Option ℤ) → StoreGoes → StoresInto t k v before after → IsStateAfter s (store_entry t k v ∷ past) after
+  after_store w goes l = record {
     lives = l.notes.live ∙ i.lives;
     nodes = λ u. l.notes.nodes u ∙ i.nodes u;
     pairs = pairs_after Store (store_entry t k w) (λ u. refl) (λ u. refl) (λ u v. ((λ x. x), (λ x. x))) l.notes;
-    accesses = accesses_after Store (Some w) l.notes;
+    accesses = accesses_after Store w l.notes;
     chain = λ j. l.chain j ∙ (ap (λ c. cond (key_eq k j) (write_last t w c) c) (i.chain j)
         ∙ (stored_chain (key_eq k j) w (chain_of (live past) j past)
-        ∙ ap (λ b. store_into (cond (key_eq k j && b) (Some (record { by = t; key = k; kind = Store; value = Some w })) None)
+        ∙ ap (λ b. store_into (cond (key_eq k j && b) (Some (record { by = t; key = k; kind = Store; value = w })) None)
         (chain_of (live past) j past)) (sym alive)));
     settled = λ j. l.notes.settled j
         ∙ (i.settled j ∙ ap (λ o. value_or o (s.opening j))
-        (sym (ap (λ b. option_or (cond (key_eq k j && b) (Some (record { by = t; key = k; kind = Store; value = Some w })) None)
+        (sym (ap (λ b. option_or (cond (key_eq k j && b) (Some (record { by = t; key = k; kind = Store; value = w })) None)
         (newest_store (committed past) j past)) not_committed ∙ not_settled (key_eq k j)
-        (record { by = t; key = k; kind = Store; value = Some w }) (newest_store (committed past) j past))));
+        (record { by = t; key = k; kind = Store; value = w }) (newest_store (committed past) j past))));
     read_from = λ u v. (to u v, from u v);
     fates = λ u. l.notes.fates u ∙ i.fates u;
     start_count = l.notes.start_count ∙ i.start_count;
@@ -201,7 +214,7 @@ module _ (s : Setting) (past : List Entry) (h : Legal s past) (before after : St
   }
     where
       a : Access
-      a = record { by = t; key = k; kind = Store; value = Some w }
+      a = record { by = t; key = k; kind = Store; value = w }
 
       to : (u v : ℕ) → Has after.read_from u v → LiveRead (store_entry t k w ∷ past) v u
       to u v q = let p = (i.read_from u v).0 ((l.read_from u v).0 q) in
@@ -226,7 +239,70 @@ module _ (s : Setting) (past : List Entry) (h : Legal s past) (before after : St
       own u e u_live =
           let more = sym (acts_own a u (acts past u) e) in
           let was : before.left t ≡ left_of s.rules past u = ap before.left (sym e) ∙ i.left u u_live in
+          let on : left_after (left_of_call s.rules (call_of past u)) (reads past u) (suc (made past u)) ≡ left.after_store
+          (left_of s.rules past u) = subst (λ v. left_after (left_of_call s.rules (call_of past v)) (reads past v) (suc (made past v))
+          ≡ left.after_store (left_of s.rules past v)) (sym e) goes in
           ap after.left e
-          ∙ (l.own_left ∙ (ap left.after_store was ∙ (sym (left_stored s past h u k w (ap (next_of s past) e ∙ next))
+          ∙ (l.own_left ∙ (ap left.after_store was ∙ (sym on
           ∙ (ap (λ values. left.left_after (left_of_call s.rules (call_of past u)) values (suc (made past u)))
           (sym (append-nil (reads past u))) ∙ ap (left_by s (call_of past u)) more))))
+
+-- the state knows only the access, and not whether the procedure wanted it or the caller requested it
+
+pub look_asked : (s : Setting) (past : List Entry) (t : ℕ) (d : Request) (k : Key) (v : Option ℤ) (c : State)
+    → IsStateAfter s (look_entry t k v ∷ past) c → IsStateAfter s (record { event = event.Access t d; reply = reply.Looked k v } ∷ past) c
+look_asked s past t d k v c x = record {
+  lives = x.lives;
+  nodes = x.nodes;
+  pairs = λ a b. let p = x.pairs a b in (
+    (λ q. let r = p.0 q in record {
+      first_live = r.first_live;
+      second_live = r.second_live;
+      pair = record { apart = r.pair.apart; first_stands = r.pair.first_stands; second_stands = r.pair.second_stands; precedes = r.pair.precedes };
+    }),
+    (λ r. p.1 (record {
+      first_live = r.first_live;
+      second_live = r.second_live;
+      pair = record { apart = r.pair.apart; first_stands = r.pair.first_stands; second_stands = r.pair.second_stands; precedes = r.pair.precedes };
+    })),
+  );
+  accesses = x.accesses;
+  chain = x.chain;
+  settled = x.settled;
+  read_from = λ a b. let p = x.read_from a b in (
+    (λ q. let r = p.0 q in record { reader_live = r.reader_live; source_live = r.source_live; read = r.read }),
+    (λ r. p.1 (record { reader_live = r.reader_live; source_live = r.source_live; read = r.read })),
+  );
+  fates = x.fates;
+  start_count = x.start_count;
+  left = x.left;
+}
+
+pub store_asked : (s : Setting) (past : List Entry) (t : ℕ) (d : Request) (k : Key) (v : Option ℤ) (c : State)
+    → IsStateAfter s (store_entry t k v ∷ past) c → IsStateAfter s (record { event = event.Access t d; reply = reply.Wrote k v } ∷ past) c
+store_asked s past t d k v c x = record {
+  lives = x.lives;
+  nodes = x.nodes;
+  pairs = λ a b. let p = x.pairs a b in (
+    (λ q. let r = p.0 q in record {
+      first_live = r.first_live;
+      second_live = r.second_live;
+      pair = record { apart = r.pair.apart; first_stands = r.pair.first_stands; second_stands = r.pair.second_stands; precedes = r.pair.precedes };
+    }),
+    (λ r. p.1 (record {
+      first_live = r.first_live;
+      second_live = r.second_live;
+      pair = record { apart = r.pair.apart; first_stands = r.pair.first_stands; second_stands = r.pair.second_stands; precedes = r.pair.precedes };
+    })),
+  );
+  accesses = x.accesses;
+  chain = x.chain;
+  settled = x.settled;
+  read_from = λ a b. let p = x.read_from a b in (
+    (λ q. let r = p.0 q in record { reader_live = r.reader_live; source_live = r.source_live; read = r.read }),
+    (λ r. p.1 (record { reader_live = r.reader_live; source_live = r.source_live; read = r.read })),
+  );
+  fates = x.fates;
+  start_count = x.start_count;
+  left = x.left;
+}

@@ -9,6 +9,8 @@ use Rattle.sgt_model.specs.declared.reply.Cause.TheVariants as cause
 use Rattle.sgt_model.specs.declared.reply.Reply.{Reply}
 use Rattle.sgt_model.specs.declared.event.Event.{Event}
 use Rattle.sgt_model.specs.declared.event.Event.TheVariants.{Step, Commit, Quit}
+use Rattle.sgt_model.specs.declared.event.Event.TheVariants as event
+use Rattle.sgt_model.specs.declared.event.Request.{Request}
 use Rattle.sgt_model.specs.declared.reply.Reply.TheVariants as reply
 use Rattle.sgt_model.specs.declared.reply.Cause.{Cause}
 use Rattle.sgt_model.specs.declared.reply.Fate.{Fate}
@@ -33,7 +35,7 @@ use Rattle.sgt_model.proofs.Facts.{follows-access, live-no_fate, live-stands}
 use Rattle.sgt_model.proofs.Sources.{looks-access}
 use Rattle.sgt_model.proofs.Plays.{act_none}
 use Rattle.sgt_model.proofs.Counted.{chain-removed, filter-both, filter-same, access_list-removed}
-use Rattle.sgt_model.proofs.Chains.{chain-value, newest-split, newest-value, stored_value}
+use Rattle.sgt_model.proofs.Chains.{chain-value, newest-split, stored_value}
 use Rattle.sgt_model.proofs.Verdict.{live_before_committed}
 use Rattle.sgt_model.proofs.LiveLeft.{left_by}
 
@@ -239,10 +241,10 @@ after_commit s past h t answers before after alive i x = after_end s past (λ u.
     (commit_ends t answers past) before after i x.removes settles
     (λ u. x.fates u ∙ (ap (cond (nat_eq t u) (Some fate.Committed)) (i.fates u) ∙ fate_now (nat_eq t u) fate.Committed (fate_of past u)))
   where
-    value_split : (k : Key) (np nq : Option Access) → newest_store (λ u. nat_eq t u) k past ≡ np → option_or (stored_value np)
+    value_split : (k : Key) (np nq : Option Access) → newest_store (λ u. nat_eq t u) k past ≡ np → unwrap_or (stored_value np)
         (value_or nq (s.opening k)) ≡ value_or (option_or np nq) (s.opening k)
     value_split k None nq e = refl
-    value_split k (Some a) nq e = sym (newest-value (λ u. nat_eq t u) k past a e)
+    value_split k (Some a) nq e = refl
 
     settles : (k : Key) → after.settled k ≡ settled s.opening (commit_entry t answers ∷ past) k
     settles k =
@@ -250,7 +252,7 @@ after_commit s past h t answers before after alive i x = after_end s past (λ u.
         let split = newest-split (λ u. nat_eq t u) (committed past) k past (λ a u is c p. live_before_committed s past h t u alive c
         (subst (λ v. Precedes past v u) (sym (eqb-true t a is)) p)) in
         x.settled k
-        ∙ (ap₂ option_or own (i.settled k)
+        ∙ (ap₂ unwrap_or own (i.settled k)
         ∙ (value_split k (newest_store (λ u. nat_eq t u) k past) (newest_store (committed past) k past) refl
         ∙ (ap (λ o. value_or o (s.opening k)) (sym split) ∙ ap (λ q. value_or (newest_store q k past) (s.opening k))
         (fun_ext (λ u. sym (committed_now (nat_eq t u) (fate_of past u)))))))
@@ -262,6 +264,9 @@ pub record Of (event : Event) (t : ℕ) : Type 0 where
 
 pub of_step : (t : ℕ) → Of (Step t) t
 of_step t = record { concerns = λ u. refl; subject = refl }
+
+pub of_request : (t : ℕ) (d : Request) → Of (event.Access t d) t
+of_request t d = record { concerns = λ u. refl; subject = refl }
 
 pub of_quit : (t : ℕ) → Of (Quit t) t
 of_quit t = record { concerns = λ u. refl; subject = refl }

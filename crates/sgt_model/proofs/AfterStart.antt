@@ -77,7 +77,7 @@ module _ (s : Setting) (past : List Entry) (h : Legal s past) (p : ℕ) (args : 
   was_live u lt l = sym (started_same u lt) ∙ l
 
   pub after_start : (before after : State) → IsStateAfter s past before
-      → Starts (left_of_call s.rules (record { procedure = p; args = args })) before after
+      → Starts (left_of_call s.rules (record { procedure = p; args = args; caller_accesses = [] })) before after
       → IsStateAfter s (start_entry p args (start_count past) ∷ past) after
   after_start before after i x = record {
     lives = x.live ∙ (ap₂ (λ l n. l ++ n ∷ []) i.lives i.start_count ∙ live_ones_after);
@@ -158,17 +158,17 @@ module _ (s : Setting) (past : List Entry) (h : Legal s past) (p : ℕ) (args : 
           → after.left u ≡ left_of s.rules (start_entry p args (start_count past) ∷ past) u
       still_left u l (inl lt) =
           let call : call_of (start_entry p args (start_count past) ∷ past) u ≡ call_of past u =
-          other_call (nat_eq (start_count past) u) (record { procedure = p; args = args }) (call_of past u)
+          other_call (nat_eq (start_count past) u) (record { procedure = p; args = args; caller_accesses = [] }) (call_of past u)
           (ne_eqb (start_count past) u (λ e. absurd (omega (arith, e)))) in
           x.left u (λ e. absurd (omega (arith, e, i.start_count))) ∙ (i.left u (was_live u lt l) ∙ ap (λ c. left_by s c (acts past u))
           (sym call))
       still_left u l (inr le) =
           let is : u ≡ start_count past = at_end (live-started (start_entry p args (start_count past) ∷ past) u l) le in
-          let call : call_of (start_entry p args (start_count past) ∷ past) u ≡ record { procedure = p; args = args } =
-          own_call (nat_eq (start_count past) u) (record { procedure = p; args = args }) (call_of past u)
+          let call : call_of (start_entry p args (start_count past) ∷ past) u ≡ record { procedure = p; args = args; caller_accesses = [] } =
+          own_call (nat_eq (start_count past) u) (record { procedure = p; args = args; caller_accesses = [] }) (call_of past u)
           (eq-eqb (start_count past) u (sym is)) in
           let unused = acts_unstarted s past u h le in
-          ap after.left (is ∙ sym i.start_count) ∙ (x.own_left ∙ (ap (left_by s (record { procedure = p; args = args })) (sym unused)
+          ap after.left (is ∙ sym i.start_count) ∙ (x.own_left ∙ (ap (left_by s (record { procedure = p; args = args; caller_accesses = [] })) (sym unused)
           ∙ ap (λ c. left_by s c (acts past u)) (sym call)))
         where
           at_end : u < start_count past + 1 → start_count past ≤ u → u ≡ start_count past

@@ -1,10 +1,8 @@
 -- A chain is in the order of the edges: a transaction whose value is before another's precedes that one.
 use Rattle.std.proofs.Common.{◌≡◌, ◌≢◌, ℕ, ℤ, Bool, true, false, cond, not, ◌⊎◌, List, [], ◌∷◌, ◌++◌, Option, Some, None, nat_eq, refl, sym, ap, subst, inl, inr, ◌∙◌}
-use Rattle.std.specs.Prelude.{pos}
 use Rattle.std.proofs.lemmas.Bool.{or_cases, eqb-true, eq-eqb, both_ways, cases_eq, or_left, or_right}
 use Rattle.std.proofs.lemmas.List.Folds.{list_any-append}
 use Rattle.std.specs.List.{filter, last_or}
-use Rattle.std.specs.Option.{unwrap_or}
 use Rattle.sgt_model.specs.declared.entry.Entry.{Entry}
 use Rattle.sgt_model.specs.declared.kind.Kind.{Kind}
 use Rattle.sgt_model.specs.declared.kind.Kind.TheVariants.{Look, Store}
@@ -17,15 +15,15 @@ use Rattle.sgt_model.specs.ChainOrder.{EachAfter, InOrder, IsFirstIn, IsLastIn}
 use Rattle.sgt_model.proofs.Facts.{some_is}
 use Rattle.sgt_model.proofs.Stores.{Stored, key_eq-true, stores-some, stored-conflicts, stored-has_conflicting}
 
-pub each-map : (R S : ℕ → ℕ → Type 0) → ((a b : ℕ) → R a b → S a b) → (t : ℕ) (c : List (ℕ × ℤ)) → EachAfter R t c → EachAfter S t c
+pub each-map : (R S : ℕ → ℕ → Type 0) → ((a b : ℕ) → R a b → S a b) → (t : ℕ) (c : List (ℕ × Option ℤ)) → EachAfter R t c → EachAfter S t c
 each-map R S f t [] h = tt
 each-map R S f t (w ∷ c) h = (f t w.0 h.0, each-map R S f t c h.1)
 
-pub in_order-map : (R S : ℕ → ℕ → Type 0) → ((a b : ℕ) → R a b → S a b) → (c : List (ℕ × ℤ)) → InOrder R c → InOrder S c
+pub in_order-map : (R S : ℕ → ℕ → Type 0) → ((a b : ℕ) → R a b → S a b) → (c : List (ℕ × Option ℤ)) → InOrder R c → InOrder S c
 in_order-map R S f [] h = tt
 in_order-map R S f (w ∷ c) h = (each-map R S f w.0 c h.0, in_order-map R S f c h.1)
 
-pub each-filter : (R : ℕ → ℕ → Type 0) (t : ℕ) (f : ℕ × ℤ → Bool) (c : List (ℕ × ℤ)) → EachAfter R t c → EachAfter R t (filter f c)
+pub each-filter : (R : ℕ → ℕ → Type 0) (t : ℕ) (f : ℕ × Option ℤ → Bool) (c : List (ℕ × Option ℤ)) → EachAfter R t c → EachAfter R t (filter f c)
 each-filter R t f [] h = tt
 each-filter R t f (w ∷ c) h = go (f w) (each-filter R t f c h.1)
   where
@@ -33,7 +31,7 @@ each-filter R t f (w ∷ c) h = go (f w) (each-filter R t f c h.1)
     go true r = (h.0, r)
     go false r = r
 
-pub in_order-filter : (R : ℕ → ℕ → Type 0) (f : ℕ × ℤ → Bool) (c : List (ℕ × ℤ)) → InOrder R c → InOrder R (filter f c)
+pub in_order-filter : (R : ℕ → ℕ → Type 0) (f : ℕ × Option ℤ → Bool) (c : List (ℕ × Option ℤ)) → InOrder R c → InOrder R (filter f c)
 in_order-filter R f [] h = tt
 in_order-filter R f (w ∷ c) h = go (f w) (in_order-filter R f c h.1)
   where
@@ -41,11 +39,11 @@ in_order-filter R f (w ∷ c) h = go (f w) (in_order-filter R f c h.1)
     go true r = (each-filter R w.0 f c h.0, r)
     go false r = r
 
-pub each-add : (R : ℕ → ℕ → Type 0) (t u : ℕ) (v : ℤ) (c : List (ℕ × ℤ)) → EachAfter R t c → R t u → EachAfter R t (c ++ (u, v) ∷ [])
+pub each-add : (R : ℕ → ℕ → Type 0) (t u : ℕ) (v : Option ℤ) (c : List (ℕ × Option ℤ)) → EachAfter R t c → R t u → EachAfter R t (c ++ (u, v) ∷ [])
 each-add R t u v [] h r = (r, tt)
 each-add R t u v (w ∷ c) h r = (h.0, each-add R t u v c h.1 r)
 
-pub in_order-add : (R : ℕ → ℕ → Type 0) (u : ℕ) (v : ℤ) (c : List (ℕ × ℤ)) → InOrder R c → ((t : ℕ) → writes_in t c ≡ true → R t u)
+pub in_order-add : (R : ℕ → ℕ → Type 0) (u : ℕ) (v : Option ℤ) (c : List (ℕ × Option ℤ)) → InOrder R c → ((t : ℕ) → writes_in t c ≡ true → R t u)
     → InOrder R (c ++ (u, v) ∷ [])
 in_order-add R u v [] h r = (tt, tt)
 in_order-add R u v (w ∷ c) h r = (
@@ -56,7 +54,7 @@ in_order-add R u v (w ∷ c) h r = (
 
 -- along a larger relation, for those that a test keeps, or for the writers of the chain alone
 
-pub each-within : (R S : ℕ → ℕ → Type 0) (f : ℕ → Bool) (t : ℕ) → ((b : ℕ) → f b ≡ true → R t b → S t b) → (c : List (ℕ × ℤ))
+pub each-within : (R S : ℕ → ℕ → Type 0) (f : ℕ → Bool) (t : ℕ) → ((b : ℕ) → f b ≡ true → R t b → S t b) → (c : List (ℕ × Option ℤ))
     → EachAfter R t c → EachAfter S t (filter (λ w. f w.0) c)
 each-within R S f t g [] h = tt
 each-within R S f t g (w ∷ c) h = go (f w.0) refl (each-within R S f t g c h.1)
@@ -67,7 +65,7 @@ each-within R S f t g (w ∷ c) h = go (f w.0) refl (each-within R S f t g c h.1
     go false e ih = ih
 
 pub in_order-within : (R S : ℕ → ℕ → Type 0) (f : ℕ → Bool) → ((a b : ℕ) → f a ≡ true → f b ≡ true → R a b → S a b)
-    → (c : List (ℕ × ℤ)) → InOrder R c → InOrder S (filter (λ w. f w.0) c)
+    → (c : List (ℕ × Option ℤ)) → InOrder R c → InOrder S (filter (λ w. f w.0) c)
 in_order-within R S f g [] h = tt
 in_order-within R S f g (w ∷ c) h = go (f w.0) refl (in_order-within R S f g c h.1)
   where
@@ -75,7 +73,7 @@ in_order-within R S f g (w ∷ c) h = go (f w.0) refl (in_order-within R S f g c
     go true e ih = (each-within R S f w.0 (λ b. g w.0 b e) c h.0, ih)
     go false e ih = ih
 
-pub each-among : (R S : ℕ → ℕ → Type 0) (t : ℕ) (d : List (ℕ × ℤ)) → ((b : ℕ) → writes_in b d ≡ true → R t b → S t b)
+pub each-among : (R S : ℕ → ℕ → Type 0) (t : ℕ) (d : List (ℕ × Option ℤ)) → ((b : ℕ) → writes_in b d ≡ true → R t b → S t b)
     → EachAfter R t d → EachAfter S t d
 each-among R S t [] g r = tt
 each-among R S t (x ∷ d) g r = (
@@ -83,7 +81,7 @@ each-among R S t (x ∷ d) g r = (
   each-among R S t d (λ b m q. g b (or_right (nat_eq x.0 b) (writes_in b d) m) q) r.1,
 )
 
-pub in_order-among : (R S : ℕ → ℕ → Type 0) (c : List (ℕ × ℤ)) → ((a b : ℕ) → writes_in a c ≡ true → writes_in b c ≡ true → R a b
+pub in_order-among : (R S : ℕ → ℕ → Type 0) (c : List (ℕ × Option ℤ)) → ((a b : ℕ) → writes_in a c ≡ true → writes_in b c ≡ true → R a b
     → S a b) → InOrder R c → InOrder S c
 in_order-among R S [] f h = tt
 in_order-among R S (w ∷ c) f h = (
@@ -95,7 +93,7 @@ in_order-among R S (w ∷ c) f h = (
 
 -- members
 
-pub any-filter : (t : ℕ) (f : ℕ × ℤ → Bool) (c : List (ℕ × ℤ)) → writes_in t (filter f c) ≡ true → writes_in t c ≡ true
+pub any-filter : (t : ℕ) (f : ℕ × Option ℤ → Bool) (c : List (ℕ × Option ℤ)) → writes_in t (filter f c) ≡ true → writes_in t c ≡ true
 any-filter t f [] h = h
 any-filter t f (w ∷ c) h = go (f w) (any-filter t f c) h
   where
@@ -108,7 +106,7 @@ any-filter t f (w ∷ c) h = go (f w) (any-filter t f c) h
     ]
     go false ih h = or_right (nat_eq w.0 t) (writes_in t c) (ih h)
 
-pub written-cases : (t u : ℕ) (v : ℤ) (c : List (ℕ × ℤ)) → writes_in t (write_last u v c) ≡ true → (writes_in t c ≡ true) ⊎ (u ≡ t)
+pub written-cases : (t u : ℕ) (v : Option ℤ) (c : List (ℕ × Option ℤ)) → writes_in t (write_last u v c) ≡ true → (writes_in t c ≡ true) ⊎ (u ≡ t)
 written-cases t u v c h =
     elim (or_cases (writes_in t (chain_without u c)) (writes_in t ((u, v) ∷ []))
     (sym (list_any-append (λ w. nat_eq w.0 t) (chain_without u c) ((u, v) ∷ [])) ∙ h)) [
@@ -116,7 +114,7 @@ written-cases t u v c h =
       | inr now ↦ elim (or_cases (nat_eq u t) false now) [ inl e ↦ inr (eqb-true u t e) | inr none ↦ absurd (cc) ]
     ]
 
-pub chain_without-apart : (t u : ℕ) (c : List (ℕ × ℤ)) → writes_in t (chain_without u c) ≡ true → t ≢ u
+pub chain_without-apart : (t u : ℕ) (c : List (ℕ × Option ℤ)) → writes_in t (chain_without u c) ≡ true → t ≢ u
 chain_without-apart t u [] h = absurd (cc)
 chain_without-apart t u (w ∷ c) h = go (nat_eq w.0 u) refl (chain_without-apart t u c) h
   where
@@ -139,7 +137,7 @@ pub record Wrote (p : ℕ → Bool) (k : Key) (past : List Entry) (t : ℕ) : Ty
 pub record Written (p : ℕ → Bool) (k : Key) (e : Entry) (past : List Entry) : Type 0 where
   pub access : Access
   pub stored : Stored p k (access_of e) access
-  pub is : chain_of p k (e ∷ past) ≡ write_last access.by (unwrap_or access.value (pos 0)) (chain_of p k past)
+  pub is : chain_of p k (e ∷ past) ≡ write_last access.by access.value (chain_of p k past)
 
 pub chain-case : (p : ℕ → Bool) (k : Key) (e : Entry) (past : List Entry)
     → (chain_of p k (e ∷ past) ≡ chain_of p k past) ⊎ Written p k e past
@@ -183,7 +181,7 @@ chain-ordered p k (e ∷ past) =
         → InOrder (Before (e ∷ past)) (chain_of p k (e ∷ past))
     go ih (inl same) = subst (λ c. InOrder (Before (e ∷ past)) c) (sym same) ih
     go ih (inr w) = subst (λ c. InOrder (Before (e ∷ past)) c) (sym w.is) (in_order-add (Before (e ∷ past)) w.access.by
-        (unwrap_or w.access.value (pos 0)) (chain_without w.access.by (chain_of p k past)) (in_order-filter (Before (e ∷ past)) _ _ ih)
+        w.access.value (chain_without w.access.by (chain_of p k past)) (in_order-filter (Before (e ∷ past)) _ _ ih)
         (λ t m. (
           chain_without-apart t w.access.by (chain_of p k past) m,
           inl (follows t (chain-wrote p k past t (any-filter t (λ x. not (nat_eq x.0 w.access.by)) (chain_of p k past) m))),
@@ -202,43 +200,43 @@ chain-ordered p k (e ∷ past) =
 
 -- the conditions of write and settle, for any chain in order
 
-each-last : (R : ℕ → ℕ → Type 0) (t : ℕ) (w : ℕ × ℤ) (c : List (ℕ × ℤ)) → EachAfter R t c
-    → last_or (Some w) c ≡ Some w ⊎ ((z : ℕ × ℤ) × (last_or (Some w) c ≡ Some z) × R t z.0)
+each-last : (R : ℕ → ℕ → Type 0) (t : ℕ) (w : ℕ × Option ℤ) (c : List (ℕ × Option ℤ)) → EachAfter R t c
+    → last_or (Some w) c ≡ Some w ⊎ ((z : ℕ × Option ℤ) × (last_or (Some w) c ≡ Some z) × R t z.0)
 each-last R t w [] h = inl refl
 each-last R t w (x ∷ c) h = inr (go x c h.0 h.1)
   where
-    go : (x : ℕ × ℤ) (c : List (ℕ × ℤ)) → R t x.0 → EachAfter R t c → (z : ℕ × ℤ) × (last_or (Some x) c ≡ Some z) × R t z.0
+    go : (x : ℕ × Option ℤ) (c : List (ℕ × Option ℤ)) → R t x.0 → EachAfter R t c → (z : ℕ × Option ℤ) × (last_or (Some x) c ≡ Some z) × R t z.0
     go x [] r h = (x, refl, r)
     go x (y ∷ c) r h = go y c h.0 h.1
 
-last_from : (R : ℕ → ℕ → Type 0) (t : ℕ) (o : Option (ℕ × ℤ)) (c : List (ℕ × ℤ)) → InOrder R c → writes_in t c ≡ true
-    → (z : ℕ × ℤ) × (last_or o c ≡ Some z) × ((z.0 ≡ t) ⊎ R t z.0)
+last_from : (R : ℕ → ℕ → Type 0) (t : ℕ) (o : Option (ℕ × Option ℤ)) (c : List (ℕ × Option ℤ)) → InOrder R c → writes_in t c ≡ true
+    → (z : ℕ × Option ℤ) × (last_or o c ≡ Some z) × ((z.0 ≡ t) ⊎ R t z.0)
 last_from R t o [] h m = absurd (cc)
 last_from R t o (w ∷ c) h m = elim (or_cases _ _ m) [ inl here ↦ at (eqb-true w.0 t here) | inr later ↦ last_from R t (Some w) c h.1 later ]
   where
-    at : w.0 ≡ t → (z : ℕ × ℤ) × (last_or (Some w) c ≡ Some z) × ((z.0 ≡ t) ⊎ R t z.0)
+    at : w.0 ≡ t → (z : ℕ × Option ℤ) × (last_or (Some w) c ≡ Some z) × ((z.0 ≡ t) ⊎ R t z.0)
     at e = elim (each-last R w.0 w c h.0) [ inl same ↦ (w, same, inl e) | inr x ↦ (x.0, x.1, inr (subst (λ u. R u x.0.0) e x.2)) ]
 
-pub last_in : (o : Option (ℕ × ℤ)) (c : List (ℕ × ℤ)) (z : ℕ × ℤ) → last_or o c ≡ Some z → (o ≡ Some z) ⊎ (writes_in z.0 c ≡ true)
+pub last_in : (o : Option (ℕ × Option ℤ)) (c : List (ℕ × Option ℤ)) (z : ℕ × Option ℤ) → last_or o c ≡ Some z → (o ≡ Some z) ⊎ (writes_in z.0 c ≡ true)
 last_in o [] z e = inl e
 last_in o (w ∷ c) z e =
     elim (last_in (Some w) c z e) [
-      | inl s ↦ inr (or_left _ _ (eq-eqb w.0 z.0 (ap (λ (x : ℕ × ℤ). x.0) (some_is w z s))))
+      | inl s ↦ inr (or_left _ _ (eq-eqb w.0 z.0 (ap (λ (x : ℕ × Option ℤ). x.0) (some_is w z s))))
       | inr m ↦ inr (or_right _ _ m)
     ]
 
 -- the last of a chain has a value in it
-pub last_writes : (c : List (ℕ × ℤ)) (z : ℕ × ℤ) → last_or None c ≡ Some z → writes_in z.0 c ≡ true
+pub last_writes : (c : List (ℕ × Option ℤ)) (z : ℕ × Option ℤ) → last_or None c ≡ Some z → writes_in z.0 c ≡ true
 last_writes c z e = elim (last_in None c z e) [ inl s ↦ absurd (cc) | inr m ↦ m ]
 
-pub is_last : (R : ℕ → ℕ → Type 0) (t : ℕ) (c : List (ℕ × ℤ)) → InOrder R c → ((u : ℕ) → u ≢ t → writes_in u c ≡ true → R t u → ⊥)
+pub is_last : (R : ℕ → ℕ → Type 0) (t : ℕ) (c : List (ℕ × Option ℤ)) → InOrder R c → ((u : ℕ) → u ≢ t → writes_in u c ≡ true → R t u → ⊥)
     → IsLastIn t c
 is_last R t c h none m = let l = last_from R t None c h m in (l.0, l.1, elim l.2 [ inl e ↦ e | inr r ↦ is_t l.0 (last_writes c l.0 l.1) r ])
   where
-    is_t : (z : ℕ × ℤ) → writes_in z.0 c ≡ true → R t z.0 → z.0 ≡ t
+    is_t : (z : ℕ × Option ℤ) → writes_in z.0 c ≡ true → R t z.0 → z.0 ≡ t
     is_t z m r = elim (cases_eq z.0 t) [ inl e ↦ e | inr n ↦ absurd (none z.0 n m r) ]
 
-pub is_first : (R : ℕ → ℕ → Type 0) (t : ℕ) (c : List (ℕ × ℤ)) → InOrder R c → ((u : ℕ) → u ≢ t → writes_in u c ≡ true → R u t → ⊥)
+pub is_first : (R : ℕ → ℕ → Type 0) (t : ℕ) (c : List (ℕ × Option ℤ)) → InOrder R c → ((u : ℕ) → u ≢ t → writes_in u c ≡ true → R u t → ⊥)
     → IsFirstIn t c
 is_first R t [] h none = tt
 is_first R t (w ∷ c) h none =
@@ -248,6 +246,6 @@ is_first R t (w ∷ c) h none =
           (later c h.0 (elim (or_cases _ _ m) [ inl here ↦ absurd (n (eqb-true w.0 t here)) | inr l ↦ l ])))
     ]
   where
-    later : (c : List (ℕ × ℤ)) → EachAfter R w.0 c → writes_in t c ≡ true → R w.0 t
+    later : (c : List (ℕ × Option ℤ)) → EachAfter R w.0 c → writes_in t c ≡ true → R w.0 t
     later [] h m = absurd (cc)
     later (x ∷ c) h m = elim (or_cases _ _ m) [ inl here ↦ subst (λ u. R w.0 u) (eqb-true x.0 t here) h.0 | inr l ↦ later c h.1 l ]

@@ -1,22 +1,17 @@
 -- The chains of a history against its newest writes.
 use Rattle.std.proofs.Common.{◌≡◌, ◌≢◌, ℕ, ℤ, Bool, true, false, cond, not, ◌&&◌, ◌||◌, ◌⊎◌, List, [], ◌∷◌, ◌++◌, Option, Some, None, nat_eq, refl, sym, ap, ap₂, subst, inl, inr, ◌∙◌}
-use Rattle.std.specs.Prelude.{pos}
 use Rattle.std.proofs.lemmas.Bool.{eqb-true, eq-eqb, ne_eqb, cases_eq}
 use Rattle.std.specs.List.{last_or}
-use Rattle.std.specs.Option.{option_or, unwrap_or}
-use Rattle.sgt_model.specs.declared.event.Event.{Event}
-use Rattle.sgt_model.specs.declared.event.Event.TheVariants.{Step}
-use Rattle.sgt_model.specs.declared.reply.Reply.{Reply}
-use Rattle.sgt_model.specs.declared.reply.Reply.TheVariants as reply
+use Rattle.std.specs.Option.{option_or}
 use Rattle.sgt_model.specs.declared.entry.Entry.{Entry}
 use Rattle.sgt_model.specs.declared.kind.Kind.{Kind}
 use Rattle.sgt_model.specs.declared.kind.Kind.TheVariants.{Look, Store}
 use Rattle.sgt_model.specs.Contents.{Key, key_eq}
-use Rattle.sgt_model.specs.Accesses.{Access, access_in, access_of, is_store}
+use Rattle.sgt_model.specs.Accesses.{Access, access_of, is_store}
 use Rattle.sgt_model.specs.Values.{newest_store, stores}
 use Rattle.sgt_model.specs.Pairs.{FollowsIn, Precedes, has_conflicting}
 use Rattle.sgt_model.specs.Chains.{chain_of, store_into, value_in, chain_without, write_last}
-use Rattle.sgt_model.proofs.Facts.{none_unless, option_or-cases, some_is}
+use Rattle.sgt_model.proofs.Facts.{none_unless}
 use Rattle.sgt_model.proofs.Stores.{key_eq-true, Stored, stores-some, newest-counts, found}
 
 -- the newest write of two kinds of transactions, where none of the first kind precedes one of the second
@@ -54,46 +49,26 @@ newest-split p q k (e ∷ past) h = split-step p q k (access_of e) _ _ _ (newest
 -- the last of a chain is the newest write
 
 -- a write as it stands in a chain
-abbrev pub entry_of : Option Access → Option (ℕ × ℤ)
+abbrev pub entry_of : Option Access → Option (ℕ × Option ℤ)
 entry_of None = None
-entry_of (Some a) = Some (a.by, unwrap_or a.value (pos 0))
+entry_of (Some a) = Some (a.by, a.value)
 
 last_or-added : {X : Type 0} (o : Option X) (xs : List X) (x : X) → last_or o (xs ++ x ∷ []) ≡ Some x
 last_or-added o [] x = refl
 last_or-added o (y ∷ xs) x = last_or-added (Some y) xs x
 
-last-step : (o : Option Access) (c : List (ℕ × ℤ)) (n : Option Access) → last_or None c ≡ entry_of n
+last-step : (o : Option Access) (c : List (ℕ × Option ℤ)) (n : Option Access) → last_or None c ≡ entry_of n
     → last_or None (store_into o c) ≡ entry_of (option_or o n)
 last-step None c n h = h
-last-step (Some a) c n h = last_or-added None (chain_without a.by c) (a.by, unwrap_or a.value (pos 0))
+last-step (Some a) c n h = last_or-added None (chain_without a.by c) (a.by, a.value)
 
 pub chain-last : (p : ℕ → Bool) (k : Key) (past : List Entry) → last_or None (chain_of p k past) ≡ entry_of (newest_store p k past)
 chain-last p k [] = refl
 chain-last p k (e ∷ past) = last-step (stores p k (access_of e)) (chain_of p k past) (newest_store p k past) (chain-last p k past)
 
--- a write has a value
-
-pub access-value : (event : Event) (r : Reply) (a : Access) → access_in event r ≡ Some a → is_store a.kind ≡ true
-    → a.value ≡ Some (unwrap_or a.value (pos 0))
-access-value (Step t) (reply.Looked k v) a is h = absurd (cc (ap (λ (x : Access). is_store x.kind) (some_is _ a is) ∙ h))
-access-value (Step t) (reply.Wrote k v) a is h = subst (λ (x : Access). x.value ≡ Some (unwrap_or x.value (pos 0))) (some_is _ a is) refl
-access-value _ (reply.Looked k v) a is h = absurd (cc)
-access-value _ (reply.Wrote k v) a is h = absurd (cc)
-access-value _ _ a is h = absurd (cc)
-
-pub newest-value : (p : ℕ → Bool) (k : Key) (past : List Entry) (a : Access) → newest_store p k past ≡ Some a
-    → a.value ≡ Some (unwrap_or a.value (pos 0))
-newest-value p k [] a h = absurd (cc)
-newest-value p k (e ∷ past) a h =
-    elim (option_or-cases (stores p k (access_of e)) (newest_store p k past) a h) [
-      | inl now ↦ let st = stores-some p k
-          (access_of e) a now in access-value e.event e.reply a st.is st.stores
-      | inr before ↦ newest-value p k past a before.1
-    ]
-
 -- t's value in a chain is its newest write
 
-value_in-append : (t : ℕ) (xs ys : List (ℕ × ℤ)) → value_in t (xs ++ ys) ≡ option_or (value_in t xs) (value_in t ys)
+value_in-append : (t : ℕ) (xs ys : List (ℕ × Option ℤ)) → value_in t (xs ++ ys) ≡ option_or (value_in t xs) (value_in t ys)
 value_in-append t [] ys = refl
 value_in-append t (w ∷ xs) ys = go (nat_eq w.0 t) (value_in-append t xs ys)
   where
@@ -102,7 +77,7 @@ value_in-append t (w ∷ xs) ys = go (nat_eq w.0 t) (value_in-append t xs ys)
     go true h = refl
     go false h = h
 
-pub value_in-without : (t : ℕ) (c : List (ℕ × ℤ)) → value_in t (chain_without t c) ≡ None
+pub value_in-without : (t : ℕ) (c : List (ℕ × Option ℤ)) → value_in t (chain_without t c) ≡ None
 value_in-without t [] = refl
 value_in-without t (w ∷ c) = go (nat_eq w.0 t) refl (value_in-without t c)
   where
@@ -111,7 +86,7 @@ value_in-without t (w ∷ c) = go (nat_eq w.0 t) refl (value_in-without t c)
     go true e h = h
     go false e h = ap (λ b. cond b (Some w.1) (value_in t (chain_without t c))) e ∙ h
 
-value_in-other : (t u : ℕ) (c : List (ℕ × ℤ)) → u ≢ t → value_in t (chain_without u c) ≡ value_in t c
+value_in-other : (t u : ℕ) (c : List (ℕ × Option ℤ)) → u ≢ t → value_in t (chain_without u c) ≡ value_in t c
 value_in-other t u [] n = refl
 value_in-other t u (w ∷ c) n = go (nat_eq w.0 u) refl (value_in-other t u c n)
   where
@@ -121,23 +96,23 @@ value_in-other t u (w ∷ c) n = go (nat_eq w.0 u) refl (value_in-other t u c n)
     go false e h = ap (λ z. cond (nat_eq w.0 t) (Some w.1) z) h
 
 -- the value that is stored, if there is a write
-abbrev pub stored_value : Option Access → Option ℤ
+abbrev pub stored_value : Option Access → Option (Option ℤ)
 stored_value None = None
-stored_value (Some a) = Some (unwrap_or a.value (pos 0))
+stored_value (Some a) = Some a.value
 
-written-own : (t : ℕ) (v : ℤ) (c : List (ℕ × ℤ)) → value_in t (write_last t v c) ≡ Some v
+written-own : (t : ℕ) (v : Option ℤ) (c : List (ℕ × Option ℤ)) → value_in t (write_last t v c) ≡ Some v
 written-own t v c = value_in-append t (chain_without t c) ((t, v) ∷ [])
     ∙ (ap₂ (λ x b. option_or x (cond b (Some v) None)) (value_in-without t c) (eq-eqb t t refl))
 
-written-other : (t u : ℕ) (v : ℤ) (c : List (ℕ × ℤ)) → u ≢ t → value_in t (write_last u v c) ≡ value_in t c
+written-other : (t u : ℕ) (v : Option ℤ) (c : List (ℕ × Option ℤ)) → u ≢ t → value_in t (write_last u v c) ≡ value_in t c
 written-other t u v c n = value_in-append t (chain_without u c) ((u, v) ∷ [])
     ∙ (ap₂ (λ x b. option_or x (cond b (Some v) None)) (value_in-other t u c n) (ne_eqb u t n) ∙ or_none (value_in t c))
   where
-    or_none : (x : Option ℤ) → option_or x None ≡ x
+    or_none : (x : Option (Option ℤ)) → option_or x None ≡ x
     or_none None = refl
     or_none (Some y) = refl
 
-value-step : (p : ℕ → Bool) (t : ℕ) (k : Key) (o : Option Access) (c : List (ℕ × ℤ)) (n : Option Access) → p t ≡ true
+value-step : (p : ℕ → Bool) (t : ℕ) (k : Key) (o : Option Access) (c : List (ℕ × Option ℤ)) (n : Option Access) → p t ≡ true
     → value_in t c ≡ stored_value n → value_in t (store_into (stores p k o) c) ≡ stored_value (option_or (stores (λ u. nat_eq t u) k o) n)
 value-step p t k None c n pt h = h
 value-step p t k (Some a) c n pt h = by (is_store a.kind) (key_eq a.key k) (cases_eq a.by t)
@@ -147,14 +122,14 @@ value-step p t k (Some a) c n pt h = by (is_store a.kind) (key_eq a.key k) (case
     by false y z = h
     by true false z = h
     by true true (inl e) = ap₂ (λ u b. value_in t (store_into (cond b (Some a) None) c)) e (ap p e ∙ pt)
-        ∙ (subst (λ u. value_in t (write_last u (unwrap_or a.value (pos 0)) c) ≡ Some (unwrap_or a.value (pos 0))) (sym e)
-        (written-own t (unwrap_or a.value (pos 0)) c) ∙ sym (ap (λ b. stored_value (option_or (cond b (Some a) None) n))
+        ∙ (subst (λ u. value_in t (write_last u a.value c) ≡ Some a.value) (sym e)
+        (written-own t a.value c) ∙ sym (ap (λ b. stored_value (option_or (cond b (Some a) None) n))
         (eq-eqb t a.by (sym e))))
     by true true (inr d) =
         other (p a.by) ∙ (h ∙ sym (ap (λ b. stored_value (option_or (cond b (Some a) None) n)) (ne_eqb t a.by (λ z. d (sym z)))))
       where
         other : (b : Bool) → value_in t (store_into (cond b (Some a) None) c) ≡ value_in t c
-        other true = written-other t a.by (unwrap_or a.value (pos 0)) c d
+        other true = written-other t a.by a.value c d
         other false = refl
 
 pub chain-value : (p : ℕ → Bool) (t : ℕ) (k : Key) (past : List Entry) → p t ≡ true → value_in t (chain_of p k past) ≡ stored_value

@@ -1,5 +1,5 @@
 -- The conditions of the layers' calls, from what holds of the state at every moment.
-use Rattle.std.proofs.Common.{◌≡◌, ◌≢◌, ℕ, suc, ◌<◌, ◌≤◌, ℤ, true, false, List, [], ◌∷◌, nat_eq, refl, sym, ap, subst, inl, inr, ◌∙◌, arith}
+use Rattle.std.proofs.Common.{◌≡◌, ◌≢◌, ℕ, suc, ◌<◌, ◌≤◌, ℤ, true, false, List, [], ◌∷◌, nat_eq, refl, sym, ap, subst, inl, inr, ◌∙◌, arith, Option}
 use Rattle.std.specs.Prelude.{length}
 use Rattle.std.proofs.lemmas.Bool.{or_cases, eqb-true, eq-eqb, both_ways, or_left, or_right}
 use Rattle.sgt_model.specs.declared.kind.Kind.TheVariants.{Store}
@@ -49,7 +49,7 @@ distinct_fits (x ∷ xs) ys d w =
     omega arith
 
 -- a chain in order, of an order that relates none to itself, is no longer than a list that has all its writers
-chain_fits : (R : ℕ → ℕ → Type 0) → ((a b : ℕ) → R a b → a ≢ b) → (c : List (ℕ × ℤ)) (ys : List ℕ) → InOrder R c
+chain_fits : (R : ℕ → ℕ → Type 0) → ((a b : ℕ) → R a b → a ≢ b) → (c : List (ℕ × Option ℤ)) (ys : List ℕ) → InOrder R c
     → ((t : ℕ) → writes_in t c ≡ true → Member t ys) → length c ≤ length ys
 chain_fits R apart [] ys h w = omega arith
 chain_fits R apart (x ∷ c) ys h w =
@@ -58,7 +58,7 @@ chain_fits R apart (x ∷ c) ys h w =
     (after c h.0 t m)) in
     omega arith
   where
-    after : (d : List (ℕ × ℤ)) → EachAfter R x.0 d → (t : ℕ) → writes_in t d ≡ true → t ≢ x.0
+    after : (d : List (ℕ × Option ℤ)) → EachAfter R x.0 d → (t : ℕ) → writes_in t d ≡ true → t ≢ x.0
     after [] h t m = absurd (cc)
     after (y ∷ d) h t m =
         elim (or_cases (nat_eq y.0 t) (writes_in t d) m) [

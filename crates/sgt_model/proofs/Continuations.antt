@@ -4,8 +4,8 @@ use Rattle.std.specs.Prelude.{map}
 use Rattle.std.specs.Option.{option_or}
 use Rattle.std.proofs.lemmas.List.{reverse-append}
 use Rattle.sgt_model.specs.declared.entry.Entry.{Entry}
-use Rattle.sgt_model.specs.Contents.{Key, key_eq, Contents, put_in}
-use Rattle.sgt_model.specs.Databases.{Row, contents_of, key_lt, IsRowIndex, IsByKey}
+use Rattle.sgt_model.specs.Contents.{Key, key_eq, Contents, set_in, put_in}
+use Rattle.sgt_model.specs.Databases.{Row, contents_of, key_lt, IsRowIndex, IsByKey, IsBelow}
 use Rattle.sgt_model.specs.Accesses.{Access, is_store, access_of}
 use Rattle.sgt_model.specs.Fates.{committed}
 use Rattle.sgt_model.specs.Values.{stores, newest_store, value_or}
@@ -14,7 +14,6 @@ use Rattle.sgt_model.specs.Histories.{events_of}
 use Rattle.sgt_model.specs.Continuations.{HistoriesGoOn, SettledAreRows}
 use Rattle.sgt_model.proofs.Rows.{set_contents, insert_contents, set_by_key, insert_by_key}
 use Rattle.sgt_model.proofs.Stores.{key_eq-true}
-use Rattle.sgt_model.proofs.Chains.{access-value}
 use Rattle.std.proofs.lemmas.Option.{same_Some}
 use Rattle.sgt_model.proofs.SomeReply.{some_reply_is_legal}
 
@@ -76,6 +75,52 @@ put_rows k v rows rising = at (slice_get rows n) refl where
   at None is = inserted (λ q h. absurd (cc (sym is ∙ h)))
   at (Some r) is = row r is (key_eq r.0 k) refl
 
+-- rows without a key's
+abbrev removed : Key → List Row → List Row
+removed k [] = []
+removed k (r ∷ rows) = cond (key_eq r.0 k) (removed k rows) (r ∷ removed k rows)
+
+below_removed : (i k : Key) (rows : List Row) → IsBelow i rows → IsBelow i (removed k rows)
+below_removed i k [] below = tt
+below_removed i k (r ∷ rows) below = both (key_eq r.0 k) (below_removed i k rows below.1) where
+  both : (t : Bool) → IsBelow i (removed k rows) → IsBelow i (cond t (removed k rows) (r ∷ removed k rows))
+  both true rest = rest
+  both false rest = (below.0, rest)
+
+by_key_removed : (k : Key) (rows : List Row) → IsByKey rows → IsByKey (removed k rows)
+by_key_removed k [] rising = tt
+by_key_removed k (r ∷ rows) rising = both (key_eq r.0 k) (by_key_removed k rows rising.1) where
+  both : (t : Bool) → IsByKey (removed k rows) → IsByKey (cond t (removed k rows) (r ∷ removed k rows))
+  both true rest = rest
+  both false rest = (below_removed r.0 k rows rising.0, rest)
+
+either : (t : Bool) (x : Option ℤ) → x ≡ cond t x x
+either true x = refl
+either false x = refl
+
+contents_removed : (k : Key) (rows : List Row) (j : Key) → contents_of (removed k rows) j ≡ set_in (contents_of rows) k None j
+contents_removed k [] j = either (key_eq k j) None
+contents_removed k (r ∷ rows) j = both (key_eq r.0 k) (key_eq k j) (key_eq r.0 j) refl refl refl (contents_removed k rows j) where
+  both : (a b c : Bool) → key_eq r.0 k ≡ a → key_eq k j ≡ b → key_eq r.0 j ≡ c → contents_of (removed k rows) j ≡ cond (key_eq k j) None (contents_of rows j)
+      → contents_of (cond a (removed k rows) (r ∷ removed k rows)) j ≡ cond (key_eq k j) None (cond (key_eq r.0 j) (Some r.1) (contents_of rows j))
+  both true true c ea eb ec rest = rest ∙ (ap (λ t. cond t None (contents_of rows j)) eb
+      ∙ sym (ap (λ t. cond t None (cond (key_eq r.0 j) (Some r.1) (contents_of rows j))) eb))
+  both true false c ea eb ec rest =
+      let other : key_eq r.0 j ≡ false = ap (λ x. key_eq x j) (key_eq-true r.0 k ea) ∙ eb in
+      rest ∙ ap (λ t. cond (key_eq k j) None (cond t (Some r.1) (contents_of rows j))) (sym other)
+  both false true true ea eb ec rest = absurd (cc (sym ec ∙ (sym (ap (λ x. key_eq r.0 x) (key_eq-true k j eb)) ∙ ea)))
+  both false false true ea eb ec rest = rw (ec, eb) refl
+  both false b false ea eb ec rest = rw ec rest
+
+-- a key removed from rows
+remove_rows : (k : Key) (rows : List Row) → IsByKey rows → HasRows (set_in (contents_of rows) k None)
+remove_rows k rows rising = (removed k rows, by_key_removed k rows rising, contents_removed k rows)
+
+-- rows with a key's value set
+set_rows : (k : Key) (v : Option ℤ) (rows : List Row) → IsByKey rows → HasRows (set_in (contents_of rows) k v)
+set_rows k None rows rising = remove_rows k rows rising
+set_rows k (Some v) rows rising = put_rows k v rows rising
+
 -- the contents of any rows are those of rows by key
 by_key : (rows : List Row) → HasRows (contents_of rows)
 by_key [] = ([], tt, λ k. refl)
@@ -114,16 +159,16 @@ left-more counts rows past e (Some a) is (before, rising, same) = by_kind (is_st
         (contents_of rows k)) (sym (none k)) ∙ seen k,
   )
 
-  stored : is_store a.kind ≡ true → counts a.by ≡ true → (v : ℤ) → a.value ≡ Some v → HasRows (Left counts rows (e ∷ past))
-  stored kind by v value =
-      let put = put_rows a.key v before rising in
+  stored : is_store a.kind ≡ true → counts a.by ≡ true → HasRows (Left counts rows (e ∷ past))
+  stored kind by =
+      let put = set_rows a.key a.value before rising in
       (put.0, put.1, λ k. put.2 k ∙ at k (key_eq a.key k) refl ∙ seen k) where
-        at : (k : Key) (t : Bool) → key_eq a.key k ≡ t → put_in (contents_of before) a.key v k ≡ next k
-        at k true h = rw (h, kind, by) (sym value)
+        at : (k : Key) (t : Bool) → key_eq a.key k ≡ t → set_in (contents_of before) a.key a.value k ≡ next k
+        at k true h = rw (h, kind, by) refl
         at k false h = rw (h, kind) (same k)
 
   by_kind : (t : Bool) → is_store a.kind ≡ t → (c : Bool) → counts a.by ≡ c → HasRows (Left counts rows (e ∷ past))
-  by_kind true kind true by = stored kind by _ (access-value e.event e.reply a is kind)
+  by_kind true kind true by = stored kind by
   by_kind false kind c by = as_before (λ k. rw kind refl)
   by_kind true kind false by = as_before (λ k. none k (key_eq a.key k) refl) where
     none : (k : Key) (t : Bool) → key_eq a.key k ≡ t → stores counts k (Some a) ≡ None

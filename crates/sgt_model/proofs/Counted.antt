@@ -1,13 +1,11 @@
 -- The access list and the chains of a history: they rest on those alone that count, and to remove some is to filter.
 use Rattle.std.proofs.Common.{◌≡◌, ◌≢◌, ℕ, ◌<◌, ℤ, Bool, true, false, cond, not, ◌&&◌, ◌||◌, ◌⊎◌, List, [], ◌∷◌, ◌++◌, Option, Some, None, nat_eq, refl, sym, ap, ap₂, inl, inr, ◌∙◌, lt_of_lt_of_le}
-use Rattle.std.specs.Prelude.{pos}
 use Rattle.std.proofs.Math.Path.{fun_ext}
 use Rattle.std.proofs.lemmas.Bool.{and_parts, or_cases, eqb-true, eq-eqb, ne_eqb, cases_eq}
 use Rattle.std.proofs.lemmas.List.Elements.{filter-append}
 use Rattle.std.proofs.lemmas.List.Folds.{list_any-append}
 use Rattle.std.proofs.lemmas.List.{append-nil}
 use Rattle.std.specs.List.{list_any, filter}
-use Rattle.std.specs.Option.{unwrap_or}
 use Rattle.sgt_model.specs.declared.entry.Entry.{Entry}
 use Rattle.sgt_model.specs.declared.kind.Kind.{Kind}
 use Rattle.sgt_model.specs.Contents.{Key, key_eq}
@@ -103,36 +101,36 @@ access_list-removed p gone (e ∷ past) = ap₂ (λ l m. l ++ m) (access_list-re
 
 module _ (gone : ℕ → Bool) where
   -- the value is not of one that is gone
-  abbrev pub stays_in : ℕ × ℤ → Bool
+  abbrev pub stays_in : ℕ × Option ℤ → Bool
   stays_in w = not (gone w.0)
 
-  chain_without-gone : (t : ℕ) (c : List (ℕ × ℤ)) → gone t ≡ true → filter stays_in (chain_without t c) ≡ filter stays_in c
+  chain_without-gone : (t : ℕ) (c : List (ℕ × Option ℤ)) → gone t ≡ true → filter stays_in (chain_without t c) ≡ filter stays_in c
   chain_without-gone t c h = filter-both stays_in (λ w. not (nat_eq w.0 t)) c ∙ filter-same _ _ c (λ w. at w.0 (cases_eq w.0 t))
     where
       at : (u : ℕ) → (u ≡ t) ⊎ (u ≢ t) → (not (nat_eq u t) && not (gone u)) ≡ not (gone u)
       at u (inl e) = rw (e, eq-eqb t t refl, h) refl
       at u (inr n) = rw (ne_eqb u t n) refl
 
-  written-stays : (t : ℕ) (v : ℤ) (c : List (ℕ × ℤ)) → gone t ≡ false → write_last t v (filter stays_in c) ≡ filter stays_in
+  written-stays : (t : ℕ) (v : Option ℤ) (c : List (ℕ × Option ℤ)) → gone t ≡ false → write_last t v (filter stays_in c) ≡ filter stays_in
       (write_last t v c)
   written-stays t v c h = ap₂ (λ l m. l ++ m) (filter-swap (λ w. not (nat_eq w.0 t)) stays_in c)
       (sym (ap (λ b. cond (not b) ((t, v) ∷ []) []) h)) ∙ sym (filter-append stays_in (chain_without t c) ((t, v) ∷ []))
 
-  written-gone : (t : ℕ) (v : ℤ) (c : List (ℕ × ℤ)) → gone t ≡ true → filter stays_in c ≡ filter stays_in (write_last t v c)
+  written-gone : (t : ℕ) (v : Option ℤ) (c : List (ℕ × Option ℤ)) → gone t ≡ true → filter stays_in c ≡ filter stays_in (write_last t v c)
   written-gone t v c h =
       sym (filter-append stays_in (chain_without t c) ((t, v) ∷ [])
       ∙ (ap₂ (λ l m. l ++ m) (chain_without-gone t c h) (ap (λ b. cond (not b) ((t, v) ∷ []) []) h) ∙ append-nil (filter stays_in c)))
 
-  store-removed : (a : Access) (c : List (ℕ × ℤ)) (x y p g : Bool) → gone a.by ≡ g
+  store-removed : (a : Access) (c : List (ℕ × Option ℤ)) (x y p g : Bool) → gone a.by ≡ g
       → store_into (cond (x && (y && (p && not g))) (Some a) None) (filter stays_in c) ≡ filter stays_in
       (store_into (cond (x && (y && p)) (Some a) None) c)
   store-removed a c false y p g h = refl
   store-removed a c true false p g h = refl
   store-removed a c true true false g h = refl
-  store-removed a c true true true true h = written-gone a.by (unwrap_or a.value (pos 0)) c h
-  store-removed a c true true true false h = written-stays a.by (unwrap_or a.value (pos 0)) c h
+  store-removed a c true true true true h = written-gone a.by a.value c h
+  store-removed a c true true true false h = written-stays a.by a.value c h
 
-  chain-step : (p : ℕ → Bool) (k : Key) (o : Option Access) (c : List (ℕ × ℤ)) → store_into (stores (λ t. p t && not (gone t)) k o)
+  chain-step : (p : ℕ → Bool) (k : Key) (o : Option Access) (c : List (ℕ × Option ℤ)) → store_into (stores (λ t. p t && not (gone t)) k o)
       (filter stays_in c) ≡ filter stays_in (store_into (stores p k o) c)
   chain-step p k None c = refl
   chain-step p k (Some a) c = store-removed a c (is_store a.kind) (key_eq a.key k) (p a.by) (gone a.by) refl

@@ -1,10 +1,13 @@
 -- What an entry of a legal history can be. The later proofs split on this, and never on an event with its reply.
 -- the reply ends no transaction
-use Rattle.std.proofs.Common.{◌≡◌, ℕ, ℤ, Bool, true, false, cond, List, [], ◌∷◌, length, Option, Some, None, is_none, nat_eq, nat_lt, refl, sym, ap, subst, inl, inr}
+use Rattle.std.proofs.Common.{◌≡◌, ℕ, ℤ, Bool, true, false, cond, List, [], ◌∷◌, length, Option, Some, None, is_none, nat_eq, nat_lt, refl, sym, ap, ap₂, subst, inl, inr, ◌⊎◌}
 use Rattle.std.proofs.lemmas.Bool.{and_from}
 use Rattle.std.specs.List.{list_any}
 use Rattle.sgt_model.specs.declared.event.Event.{Event}
 use Rattle.sgt_model.specs.declared.event.Event.TheVariants.{Start, Step, Commit, Quit}
+use Rattle.sgt_model.specs.declared.event.Event.TheVariants as event
+use Rattle.sgt_model.specs.declared.event.Request.{Request}
+use Rattle.sgt_model.specs.declared.event.Request.TheVariants.{Read, Write}
 use Rattle.sgt_model.specs.declared.reply.Reply.{Reply}
 use Rattle.sgt_model.specs.declared.reply.Reply.TheVariants as reply
 use Rattle.sgt_model.specs.declared.reply.Cause.{Cause}
@@ -18,17 +21,17 @@ use Rattle.sgt_model.specs.declared.limits.Asks.{Asks}
 use Rattle.sgt_model.specs.declared.limits.Asks.TheVariants.{AtStep, AtCommit}
 use Rattle.sgt_model.specs.Contents.{Key}
 use Rattle.sgt_model.specs.Traces.{Next, Looks, Puts, Ends, Raises}
-use Rattle.sgt_model.specs.Accesses.{Access, access_in}
-use Rattle.sgt_model.specs.Fates.{is_start, start_count, subject, ending_in, fate_of, live, live_ones}
+use Rattle.sgt_model.specs.Accesses.{Access, access_at, access_in}
+use Rattle.sgt_model.specs.Fates.{is_start, start_count, concerns, subject, ending_in, fate_of, live, live_ones}
 use Rattle.sgt_model.specs.Values.{visible}
 use Rattle.sgt_model.specs.Falls.{Falls}
 use Rattle.sgt_model.specs.Closes.{Closes}
 use Rattle.sgt_model.specs.Settings.{Setting, takes}
-use Rattle.sgt_model.specs.Progress.{call_in, next_of}
+use Rattle.sgt_model.specs.Progress.{call_in, next_of, requested, is_fit}
 use Rattle.sgt_model.specs.StartReply.{args_fit, taken_reply}
-use Rattle.sgt_model.specs.Legality.{AbortReply, CycleAbortReply, RaisedStep, RaisedCommit, StepReply, HasNoLivePredecessor, CommitReply, OfStarted, OfLive, LegalReply}
+use Rattle.sgt_model.specs.Legality.{AbortReply, CycleAbortReply, RaisedStep, RaisedCommit, Makes, StepReply, OfFit, RequestReply, HasNoLivePredecessor, CommitReply, OfStarted, OfLive, LegalReply}
 use Rattle.sgt_model.specs.Replay.{told_call_in, told_in}
-use Rattle.sgt_model.specs.Aborts.{Wants, CauseHolds, ReplyIsJustified}
+use Rattle.sgt_model.specs.Aborts.{Wants, ClosesCycle, CauseHolds, ReplyIsJustified}
 use Rattle.sgt_model.specs.Laws.{CommitAgrees}
 use Rattle.sgt_model.proofs.NoOrder.{refused_has_no_order}
 
@@ -90,20 +93,37 @@ pub record Begins (s : Setting) (past : List Entry) (event : Event) (r : Reply) 
 -- this access is what comes next
 abbrev pub Fits : Next → Access → Type 0
 Fits (Looks k) a = (a.key ≡ k) × (a.kind ≡ Look)
-Fits (Puts k v) a = (a.key ≡ k) × (a.kind ≡ Store) × (a.value ≡ Some v)
+Fits (Puts k v) a = (a.key ≡ k) × (a.kind ≡ Store) × (a.value ≡ v)
 Fits (Ends answers) a = ⊥
 Fits (Raises code) a = ⊥
+
+-- this access is what comes next; or its caller requests it, and the end comes next
+abbrev pub Made : Next → Event → Access → Type 0
+Made n (Step t) a = Fits n a
+Made n (event.Access t d) a = (answers : List ℤ) × (n ≡ Ends answers) × (is_fit d ≡ true) × Fits (requested d) a
+Made n _ a = ⊥
+
+-- an event of t that can make an access
+pub record About (event : Event) (t : ℕ) : Type 0 where
+  pub concerns : (u : ℕ) → concerns event u ≡ nat_eq t u
+  pub subject : subject event ≡ t
+  pub access : (k : Key) (kind : Kind) (v : Option ℤ) → access_at event k kind v ≡ Some (record { by = t; key = k; kind = kind; value = v })
+
+pub about_step : (t : ℕ) → About (Step t) t
+about_step t = record { concerns = λ u. refl; subject = refl; access = λ k kind v. refl }
+
+pub about_request : (t : ℕ) (d : Request) → About (event.Access t d) t
+about_request t d = record { concerns = λ u. refl; subject = refl; access = λ k kind v. refl }
 
 -- a live transaction made its next access, which closes no cycle; a read returned what was visible
 pub record Accesses (s : Setting) (past : List Entry) (event : Event) (r : Reply) : Type 0 where
   pub access : Access
-  pub event_is : event ≡ Step access.by
   pub access_is : access_in event r ≡ Some access
   pub no_start : is_start r ≡ false
   pub ends_none : EndsNone r
   pub is_live : live past access.by ≡ true
   pub free : (rest : List ℕ) → Closes past access.by access.key access.kind rest → ⊥
-  pub fits : Fits (next_of s past access.by) access
+  pub made : Made (next_of s past access.by) event access
   pub found : access.kind ≡ Look → access.value ≡ visible s.opening past access.key
 
 -- a live transaction committed
@@ -200,12 +220,20 @@ of_live s past event t r P rest h = of_live-at s past event t r P (nat_lt t (sta
 
 -- an abort
 
-abort_at : (s : Setting) (past : List Entry) (t : ℕ) (why : Cause) (r : Reply) → live past t ≡ true → CauseHolds s past (Step t) why
-    → AbortReply past t why r → Effect s past (Step t) r
-abort_at s past t why r alive due a = subst (λ x. Effect s past (Step t) x) (sym a.is)
+abort_at : (s : Setting) (past : List Entry) (event : Event) (t : ℕ) (why : Cause) (r : Reply) → About event t → live past t ≡ true
+    → CauseHolds s past event why → AbortReply past t why r → Effect s past event r
+abort_at s past event t why r about alive due a = subst (λ x. Effect s past event x) (sym a.is)
     (undoes (record {
-      undoing = record { t = t; why = why; fell = a.fell; is_live = alive; falls = a.falls; ends = λ u. refl };
-      subject_is = refl;
+      undoing = record {
+        t = t;
+        why = why;
+        fell = a.fell;
+        is_live = alive;
+        falls = a.falls;
+        ends = λ u. ap₂ (λ b v. cond b (Some (fate.Aborted why)) (cond (list_any (λ w. nat_eq w u) a.fell) (Some (fate.Fell v)) None))
+            (about.concerns u) about.subject;
+      };
+      subject_is = about.subject;
       reply_is = refl;
       has_cause = due;
     }))
@@ -227,10 +255,11 @@ quit_at s past t r alive a = subst (λ x. Effect s past (Quit t) x) (sym a.is)
       has_cause = tt;
     }))
 
-refuse_at : (s : Setting) (past : List Entry) (t : ℕ) (k : Key) (kind : Kind) (r : Reply) → live past t ≡ true
-    → Wants (next_of s past t) k kind → CycleAbortReply past t k kind r → Effect s past (Step t) r
-refuse_at s past t k kind r alive wants h = abort_at s past t (cause.Cycle (t ∷ h.rest)) r alive
-    (record {
+refuse_at : (s : Setting) (past : List Entry) (event : Event) (t : ℕ) (n : Next) (k : Key) (kind : Kind) (r : Reply) → About event t
+    → ((walk : List ℕ) → ClosesCycle past t n walk → CauseHolds s past event (cause.Cycle walk)) → live past t ≡ true
+    → Wants n k kind → CycleAbortReply past t k kind r → Effect s past event r
+refuse_at s past event t n k kind r about due alive wants h = abort_at s past event t (cause.Cycle (t ∷ h.rest)) r about alive
+    (due (t ∷ h.rest) (record {
       rest = h.rest;
       is = refl;
       key = k;
@@ -238,13 +267,13 @@ refuse_at s past t k kind r alive wants h = abort_at s past t (cause.Cycle (t �
       wants = wants;
       closes = h.closes;
       no_order = refused_has_no_order past t k kind h.rest h.closes;
-    }) h.aborts
+    })) h.aborts
 
 -- a code that is raised
 
 asked_step : (s : Setting) (past : List Entry) (t code : ℕ) (r : Reply) → next_of s past t ≡ Raises code → live past t ≡ true
     → (asks : Asks) → RaisedStep asks past t code r → Effect s past (Step t) r
-asked_step s past t code r e alive AtStep h = abort_at s past t (cause.Asked code) r alive e h
+asked_step s past t code r e alive AtStep h = abort_at s past (Step t) t (cause.Asked code) r (about_step t) alive e h
 asked_step s past t code r e alive AtCommit h = idle_at h (record { no_start = refl; no_access = refl; ends_none = tt })
 
 asked_commit : (s : Setting) (past : List Entry) (t code : ℕ) (r : Reply) → next_of s past t ≡ Raises code → live past t ≡ true
@@ -270,36 +299,76 @@ asked_commit s past t code r e alive AtCommit (inr h) = subst (λ x. Effect s pa
 
 -- a step
 
-access_at : (s : Setting) (past : List Entry) (access : Access) {r given : Reply} → r ≡ given
-    → access_in (Step access.by) given ≡ Some access → is_start given ≡ false → EndsNone given → live past access.by ≡ true
-    → ((rest : List ℕ) → Closes past access.by access.key access.kind rest → ⊥) → Fits (next_of s past access.by) access
-    → (access.kind ≡ Look → access.value ≡ visible s.opening past access.key) → Effect s past (Step access.by) r
-access_at s past access is access_is no_start ends_none alive free fits found =
-    subst (λ x. Effect s past (Step access.by) x) (sym is) (accesses (record {
+make_at : (s : Setting) (past : List Entry) (event : Event) (access : Access) {r given : Reply} → r ≡ given
+    → access_in event given ≡ Some access → is_start given ≡ false → EndsNone given → live past access.by ≡ true
+    → ((rest : List ℕ) → Closes past access.by access.key access.kind rest → ⊥) → Made (next_of s past access.by) event access
+    → (access.kind ≡ Look → access.value ≡ visible s.opening past access.key) → Effect s past event r
+make_at s past event access is access_is no_start ends_none alive free made found =
+    subst (λ x. Effect s past event x) (sym is) (accesses (record {
       access = access;
-      event_is = refl;
       access_is = access_is;
       no_start = no_start;
       ends_none = ends_none;
       is_live = alive;
       free = free;
-      fits = fits;
+      made = made;
       found = found;
     }))
 
+abbrev looking : Setting → List Entry → ℕ → Key → Access
+looking s past t k = record { by = t; key = k; kind = Look; value = visible s.opening past k }
+
+abbrev storing : ℕ → Key → Option ℤ → Access
+storing t k v = record { by = t; key = k; kind = Store; value = v }
+
+-- a read and a write, of either kind of event
+
+look_at : (s : Setting) (past : List Entry) (event : Event) (t : ℕ) (r : Reply) (n : Next) (k : Key) → About event t
+    → ((walk : List ℕ) → ClosesCycle past t n walk → CauseHolds s past event (cause.Cycle walk)) → Wants n k Look
+    → Made (next_of s past t) event (looking s past t k) → live past t ≡ true → CycleAbortReply past t k Look r ⊎ Makes past t k Look
+    (reply.Looked k (visible s.opening past k)) r → Effect s past event r
+look_at s past event t r n k about due wants made alive (inl h) = refuse_at s past event t n k Look r about due alive wants h
+look_at s past event t r n k about due wants made alive (inr h) =
+    make_at s past event (looking s past t k) h.is (about.access k Look (visible s.opening past k)) refl tt alive h.free made (λ look. refl)
+
+store_at : (s : Setting) (past : List Entry) (event : Event) (t : ℕ) (r : Reply) (n : Next) (k : Key) (v : Option ℤ) → About event t
+    → ((walk : List ℕ) → ClosesCycle past t n walk → CauseHolds s past event (cause.Cycle walk)) → Wants n k Store
+    → Made (next_of s past t) event (storing t k v) → live past t ≡ true → CycleAbortReply past t k Store r ⊎ Makes past t k Store
+    (reply.Wrote k v) r → Effect s past event r
+store_at s past event t r n k v about due wants made alive (inl h) = refuse_at s past event t n k Store r about due alive wants h
+store_at s past event t r n k v about due wants made alive (inr h) =
+    make_at s past event (storing t k v) h.is (about.access k Store v) refl tt alive h.free made
+    (λ (look : Store ≡ Look). absurd (cc))
+
 step_at : (s : Setting) (past : List Entry) (t : ℕ) (r : Reply) (n : Next) → next_of s past t ≡ n → live past t ≡ true
     → StepReply s past t n r → Effect s past (Step t) r
-step_at s past t r (Looks k) e alive (inl h) = refuse_at s past t k Look r alive (subst (λ n. Wants n k Look) (sym e) (refl, refl)) h
-step_at s past t r (Looks k) e alive (inr h) =
-    let access : Access = record { by = t; key = k; kind = Look; value = visible s.opening past k } in
-    access_at s past access h.is refl refl tt alive h.free (subst (λ n. Fits n access) (sym e) (refl, refl)) (λ look. refl)
-step_at s past t r (Puts k v) e alive (inl h) = refuse_at s past t k Store r alive (subst (λ n. Wants n k Store) (sym e) (refl, refl)) h
-step_at s past t r (Puts k v) e alive (inr h) =
-    let access : Access = record { by = t; key = k; kind = Store; value = Some v } in
-    access_at s past access h.is refl refl tt alive h.free (subst (λ n. Fits n access) (sym e) (refl, refl, refl))
-    (λ (look : Store ≡ Look). absurd (cc))
+step_at s past t r (Looks k) e alive h = look_at s past (Step t) t r (next_of s past t) k (about_step t) (λ walk c. c)
+    (subst (λ n. Wants n k Look) (sym e) (refl, refl)) (subst (λ n. Fits n (looking s past t k)) (sym e) (refl, refl)) alive h
+step_at s past t r (Puts k v) e alive h = store_at s past (Step t) t r (next_of s past t) k v (about_step t) (λ walk c. c)
+    (subst (λ n. Wants n k Store) (sym e) (refl, refl)) (subst (λ n. Fits n (storing t k v)) (sym e) (refl, refl, refl)) alive h
 step_at s past t r (Ends answers) e alive h = idle_at h (record { no_start = refl; no_access = refl; ends_none = tt })
 step_at s past t r (Raises code) e alive h = asked_step s past t code r e alive s.rules.limits.asks h
+
+-- an access that the caller requests
+
+requested_at : (s : Setting) (past : List Entry) (t : ℕ) (r : Reply) (d : Request) (answers : List ℤ) → next_of s past t ≡ Ends answers
+    → live past t ≡ true → is_fit d ≡ true → StepReply s past t (requested d) r → Effect s past (event.Access t d) r
+requested_at s past t r (Read k) answers e alive fit h = look_at s past (event.Access t (Read k)) t r (Looks k) k (about_request t (Read k))
+    (λ walk c. c) (refl, refl) (answers, e, fit, (refl, refl)) alive h
+requested_at s past t r (Write k v) answers e alive fit h = store_at s past (event.Access t (Write k v)) t r (Puts k v) k v
+    (about_request t (Write k v)) (λ walk c. c) (refl, refl) (answers, e, fit, (refl, refl, refl)) alive h
+
+fit_at : (s : Setting) (past : List Entry) (t : ℕ) (r : Reply) (d : Request) (answers : List ℤ) → next_of s past t ≡ Ends answers
+    → live past t ≡ true → (fit : Bool) → is_fit d ≡ fit → OfFit fit r (StepReply s past t (requested d) r) → Effect s past (event.Access t d) r
+fit_at s past t r d answers e alive true fit h = requested_at s past t r d answers e alive fit h
+fit_at s past t r d answers e alive false fit h = idle_at h (record { no_start = refl; no_access = refl; ends_none = tt })
+
+request_at : (s : Setting) (past : List Entry) (t : ℕ) (r : Reply) (d : Request) (n : Next) → next_of s past t ≡ n → live past t ≡ true
+    → RequestReply s past t d n r → Effect s past (event.Access t d) r
+request_at s past t r d (Ends answers) e alive h = fit_at s past t r d answers e alive (is_fit d) refl h
+request_at s past t r d (Looks k) e alive h = idle_at h (record { no_start = refl; no_access = refl; ends_none = tt })
+request_at s past t r d (Puts k v) e alive h = idle_at h (record { no_start = refl; no_access = refl; ends_none = tt })
+request_at s past t r d (Raises code) e alive h = idle_at h (record { no_start = refl; no_access = refl; ends_none = tt })
 
 -- a commit
 
@@ -317,6 +386,8 @@ pub effect : (s : Setting) (past : List Entry) (event : Event) (r : Reply) → L
 effect s past (Start p args) r h = subst (λ x. Effect s past (Start p args) x) (sym h) (start_at s past p args (takes s.rules p) refl)
 effect s past (Step t) r h = of_live s past (Step t) t r (StepReply s past t (next_of s past t) r)
     (step_at s past t r (next_of s past t) refl) h
+effect s past (event.Access t d) r h = of_live s past (event.Access t d) t r (RequestReply s past t d (next_of s past t) r)
+    (request_at s past t r d (next_of s past t) refl) h
 effect s past (Commit t) r h = of_live s past (Commit t) t r (CommitReply s past t (next_of s past t) r)
     (commit_at s past t r (next_of s past t) refl) h
 effect s past (Quit t) r h = of_live s past (Quit t) t r (AbortReply past t cause.Quit r) (quit_at s past t r) h

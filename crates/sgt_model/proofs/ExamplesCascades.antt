@@ -18,16 +18,16 @@ two_levels =
     ∷ entry (Step 2) (reply.Looked (1, pos 102) (Some (pos 0)))
     ∷ entry (Step 2) (reply.Looked (0, pos 2) (Some (pos 102)))
     ∷ entry (Start 0 (pos 2 ∷ [])) (reply.Started 2)
-    ∷ entry (Step 1) (reply.Wrote (2, pos 102) (pos 1710))
+    ∷ entry (Step 1) (reply.Wrote (2, pos 102) (Some (pos 1710)))
     ∷ entry (Step 1) (reply.Looked (2, pos 102) (Some (pos 200)))
-    ∷ entry (Step 1) (reply.Wrote (2, pos 101) (pos 0))
-    ∷ entry (Step 1) (reply.Wrote (1, pos 101) (pos 0))
+    ∷ entry (Step 1) (reply.Wrote (2, pos 101) (Some (pos 0)))
+    ∷ entry (Step 1) (reply.Wrote (1, pos 101) (Some (pos 0)))
     ∷ entry (Step 1) (reply.Looked (2, pos 101) (Some (pos 1010)))
     ∷ entry (Step 1) (reply.Looked (1, pos 101) (Some (pos 500)))
     ∷ entry (Step 1) (reply.Looked (0, pos 2) (Some (pos 102)))
     ∷ entry (Step 1) (reply.Looked (0, pos 1) (Some (pos 101)))
     ∷ entry (Start 3 (pos 1 ∷ pos 2 ∷ [])) (reply.Started 1)
-    ∷ entry (Step 0) (reply.Wrote (2, pos 101) (pos 1010))
+    ∷ entry (Step 0) (reply.Wrote (2, pos 101) (Some (pos 1010)))
     ∷ entry (Step 0) (reply.Looked (2, pos 101) (Some (pos 1000)))
     ∷ entry (Step 0) (reply.Looked (0, pos 1) (Some (pos 101)))
     ∷ entry (Start 1 (pos 1 ∷ pos 10 ∷ [])) (reply.Started 0)
@@ -56,8 +56,8 @@ two_level_cascade-checking = refl
 -- each of three has read a record. 0 and 1 have written what 1 and 2 have read
 abbrev pub ring : List Entry
 ring =
-    entry (Step 1) (reply.Wrote (2, pos 103) (pos 200))
-    ∷ entry (Step 0) (reply.Wrote (2, pos 102) (pos 1000))
+    entry (Step 1) (reply.Wrote (2, pos 103) (Some (pos 200)))
+    ∷ entry (Step 0) (reply.Wrote (2, pos 102) (Some (pos 1000)))
     ∷ entry (Step 2) (reply.Looked (2, pos 103) (Some (pos 300)))
     ∷ entry (Step 1) (reply.Looked (2, pos 102) (Some (pos 200)))
     ∷ entry (Step 0) (reply.Looked (2, pos 101) (Some (pos 1000)))
@@ -98,7 +98,7 @@ cycle_and_cascade =
     ∷ entry (Step 1) (reply.Over (fate.Fell 0))
     ∷ entry (Step 0) (reply.Aborted (cause.Cycle (0 ∷ 1 ∷ [])) (1 ∷ []))
     ∷ entry (Step 1) (reply.Looked (3, pos 7) (Some (pos 1)))
-    ∷ entry (Step 0) (reply.Wrote (3, pos 7) (pos 1))
+    ∷ entry (Step 0) (reply.Wrote (3, pos 7) (Some (pos 1)))
     ∷ entry (Start 6 ([])) (reply.Started 1)
     ∷ entry (Start 5 ([])) (reply.Started 0)
     ∷ []
@@ -143,8 +143,8 @@ asking_is_no_end-legal =
 -- a write that would close three cycles: the reply may name any of them, and is otherwise the same
 abbrev pub several_walks : List Entry
 several_walks =
-    entry (Step 1) (reply.Wrote (2, pos 103) (pos 1000))
-    ∷ entry (Step 0) (reply.Wrote (2, pos 103) (pos 1000))
+    entry (Step 1) (reply.Wrote (2, pos 103) (Some (pos 1000)))
+    ∷ entry (Step 0) (reply.Wrote (2, pos 103) (Some (pos 1000)))
     ∷ entry (Step 2) (reply.Looked (2, pos 103) (Some (pos 300)))
     ∷ entry (Step 1) (reply.Looked (2, pos 101) (Some (pos 1000)))
     ∷ entry (Step 0) (reply.Looked (2, pos 101) (Some (pos 1000)))

@@ -27,7 +27,7 @@ in_branch-left : left tell_and_store (pos 5 ∷ []) (Some (pos 70) ∷ []) 1 ≡
 })
 in_branch-left = refl
 
-in_branch-next : next_left (left tell_and_store (pos 5 ∷ []) (Some (pos 70) ∷ []) 1) ≡ Puts (3, pos 8) (pos 5)
+in_branch-next : next_left (left tell_and_store (pos 5 ∷ []) (Some (pos 70) ∷ []) 1) ≡ Puts (3, pos 8) (Some (pos 5))
 in_branch-next = refl
 
 -- the answer that came before the write is given
@@ -47,7 +47,7 @@ in_branch-absent : left tell_and_store (pos 5 ∷ []) (None ∷ []) 1 ≡ ToAsk 
 in_branch-absent = refl
 
 -- the other branch is empty: the write is the first access
-past_branch-next : next_left (left_at_start tell_and_store (pos 6 ∷ [])) ≡ Puts (3, pos 8) (pos 6)
+past_branch-next : next_left (left_at_start tell_and_store (pos 6 ∷ [])) ≡ Puts (3, pos 8) (Some (pos 6))
 past_branch-next = refl
 
 -- after a Find the procedure continues, whether there was a record or not
@@ -59,7 +59,7 @@ finds-left : left count (pos 40 ∷ []) (Some (pos 8) ∷ []) 1 ≡ ToRun (recor
 })
 finds-left = refl
 
-finds_none-next : next_left (left count (pos 40 ∷ []) (None ∷ []) 1) ≡ Puts (3, pos 7) (pos 41)
+finds_none-next : next_left (left count (pos 40 ∷ []) (None ∷ []) 1) ≡ Puts (3, pos 7) (Some (pos 41))
 finds_none-next = refl
 
 -- an If that comes after the read is not entered yet
@@ -75,5 +75,5 @@ draws-left : left draw (pos 101 ∷ pos 1000 ∷ []) (Some (pos 1000) ∷ []) 1 
 })
 draws-left = refl
 
-draws-next : next_left (left draw (pos 101 ∷ pos 1000 ∷ []) (Some (pos 1000) ∷ []) 1) ≡ Puts (2, pos 101) (pos 0)
+draws-next : next_left (left draw (pos 101 ∷ pos 1000 ∷ []) (Some (pos 1000) ∷ []) 1) ≡ Puts (2, pos 101) (Some (pos 0))
 draws-next = refl

@@ -17,7 +17,7 @@ dirty_reader =
     entry (Step 1) (reply.Looked (1, pos 101) (Some (pos 500)))
     ∷ entry (Step 1) (reply.Looked (0, pos 1) (Some (pos 101)))
     ∷ entry (Start 0 (pos 1 ∷ [])) (reply.Started 1)
-    ∷ entry (Step 0) (reply.Wrote (2, pos 101) (pos 1100))
+    ∷ entry (Step 0) (reply.Wrote (2, pos 101) (Some (pos 1100)))
     ∷ entry (Step 0) (reply.Looked (2, pos 101) (Some (pos 1000)))
     ∷ entry (Step 0) (reply.Looked (0, pos 1) (Some (pos 101)))
     ∷ entry (Start 1 (pos 1 ∷ pos 100 ∷ [])) (reply.Started 0)
@@ -67,7 +67,7 @@ own_write_read_back =
     entry (Commit 0) (reply.Committed (pos 4 ∷ []))
     ∷ entry (Step 0) (reply.Ended)
     ∷ entry (Step 0) (reply.Looked (3, pos 7) (Some (pos 4)))
-    ∷ entry (Step 0) (reply.Wrote (3, pos 7) (pos 4))
+    ∷ entry (Step 0) (reply.Wrote (3, pos 7) (Some (pos 4)))
     ∷ entry (Start 5 ([])) (reply.Started 0)
     ∷ []
 
@@ -81,7 +81,7 @@ own_write_read_back-record = refl
 -- 0 has read a record that 1 has written since
 abbrev pub looked_before : List Entry
 looked_before =
-    entry (Step 1) (reply.Wrote (2, pos 101) (pos 1001))
+    entry (Step 1) (reply.Wrote (2, pos 101) (Some (pos 1001)))
     ∷ entry (Step 1) (reply.Looked (2, pos 101) (Some (pos 1000)))
     ∷ entry (Step 1) (reply.Looked (0, pos 1) (Some (pos 101)))
     ∷ entry (Start 1 (pos 1 ∷ pos 1 ∷ [])) (reply.Started 1)
@@ -111,8 +111,8 @@ read_past_aborted =
     entry (Quit 0) (reply.Aborted cause.Quit (2 ∷ []))
     ∷ entry (Step 2) (reply.Looked (3, pos 7) (Some (pos 1)))
     ∷ entry (Quit 1) (reply.Aborted cause.Quit ([]))
-    ∷ entry (Step 1) (reply.Wrote (3, pos 7) (pos 2))
-    ∷ entry (Step 0) (reply.Wrote (3, pos 7) (pos 1))
+    ∷ entry (Step 1) (reply.Wrote (3, pos 7) (Some (pos 2)))
+    ∷ entry (Step 0) (reply.Wrote (3, pos 7) (Some (pos 1)))
     ∷ entry (Start 6 ([])) (reply.Started 2)
     ∷ entry (Start 5 (pos 2 ∷ [])) (reply.Started 1)
     ∷ entry (Start 5 (pos 1 ∷ [])) (reply.Started 0)
@@ -131,8 +131,8 @@ read_past_aborted-record = refl
 abbrev pub stored_over : List Entry
 stored_over =
     entry (Step 1) (reply.Looked (3, pos 7) (Some (pos 4)))
-    ∷ entry (Step 1) (reply.Wrote (3, pos 7) (pos 4))
-    ∷ entry (Step 0) (reply.Wrote (3, pos 7) (pos 1))
+    ∷ entry (Step 1) (reply.Wrote (3, pos 7) (Some (pos 4)))
+    ∷ entry (Step 0) (reply.Wrote (3, pos 7) (Some (pos 1)))
     ∷ entry (Start 6 []) (reply.Started 1)
     ∷ entry (Start 5 (pos 1 ∷ [])) (reply.Started 0)
     ∷ []

@@ -43,7 +43,7 @@ refusal_takes_reader =
     ∷ entry (Commit 0) (reply.Refused 9 (1 ∷ []))
     ∷ entry (Step 0) (reply.Ended)
     ∷ entry (Step 1) (reply.Looked (3, pos 7) (Some (pos 4)))
-    ∷ entry (Step 0) (reply.Wrote (3, pos 7) (pos 4))
+    ∷ entry (Step 0) (reply.Wrote (3, pos 7) (Some (pos 4)))
     ∷ entry (Start 1 []) (reply.Started 1)
     ∷ entry (Start 0 []) (reply.Started 0)
     ∷ []
@@ -65,7 +65,7 @@ abbrev pub spent_by_another : List Entry
 spent_by_another =
     entry (Step 1) (reply.Looked (2, pos 101) (Some (pos 400)))
     ∷ entry (Start 2 (pos 500 ∷ [])) (reply.Started 1)
-    ∷ entry (Step 0) (reply.Wrote (2, pos 101) (pos 400))
+    ∷ entry (Step 0) (reply.Wrote (2, pos 101) (Some (pos 400)))
     ∷ entry (Step 0) (reply.Looked (2, pos 101) (Some (pos 1000)))
     ∷ entry (Start 2 (pos 600 ∷ [])) (reply.Started 0)
     ∷ []
@@ -74,7 +74,7 @@ spent_by_another =
 abbrev pub falls_and_tries_again : List Entry
 falls_and_tries_again =
     entry (Commit 2) (reply.Committed [])
-    ∷ entry (Step 2) (reply.Wrote (2, pos 101) (pos 500))
+    ∷ entry (Step 2) (reply.Wrote (2, pos 101) (Some (pos 500)))
     ∷ entry (Step 2) (reply.Looked (2, pos 101) (Some (pos 1000)))
     ∷ entry (Start 2 (pos 500 ∷ [])) (reply.Started 2)
     ∷ entry (Quit 0) (reply.Aborted cause.Quit (1 ∷ []))

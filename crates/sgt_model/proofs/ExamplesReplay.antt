@@ -18,14 +18,14 @@ two_deposits =
     entry (Commit 2) (reply.Committed (pos 1150 ∷ []))
     ∷ entry (Commit 0) (reply.Committed (pos 1100 ∷ []))
     ∷ entry (Commit 2) (reply.Waits 0)
-    ∷ entry (Step 2) (reply.Wrote (2, pos 101) (pos 1150))
+    ∷ entry (Step 2) (reply.Wrote (2, pos 101) (Some (pos 1150)))
     ∷ entry (Step 2) (reply.Looked (2, pos 101) (Some (pos 1100)))
     ∷ entry (Quit 1) (reply.Aborted cause.Quit [])
-    ∷ entry (Step 1) (reply.Wrote (2, pos 101) (pos 1070))
+    ∷ entry (Step 1) (reply.Wrote (2, pos 101) (Some (pos 1070)))
     ∷ entry (Step 1) (reply.Looked (2, pos 101) (Some (pos 1100)))
     ∷ entry (Step 1) (reply.Looked (1, pos 101) (Some (pos 500)))
     ∷ entry (Step 1) (reply.Looked (0, pos 1) (Some (pos 101)))
-    ∷ entry (Step 0) (reply.Wrote (2, pos 101) (pos 1100))
+    ∷ entry (Step 0) (reply.Wrote (2, pos 101) (Some (pos 1100)))
     ∷ entry (Step 0) (reply.Looked (2, pos 101) (Some (pos 1000)))
     ∷ entry (Step 0) (reply.Looked (0, pos 1) (Some (pos 101)))
     ∷ entry (Step 2) (reply.Looked (0, pos 1) (Some (pos 101)))
@@ -45,8 +45,8 @@ two_deposits-legal =
 -- the check is none of the committed calls; of the deposits, the one that committed last comes first
 abbrev pub the_deposits : List Call
 the_deposits =
-    record { procedure = 1; args = pos 1 ∷ pos 50 ∷ [] }
-    ∷ record { procedure = 1; args = pos 1 ∷ pos 100 ∷ [] }
+    record { procedure = 1; args = pos 1 ∷ pos 50 ∷ []; caller_accesses = [] }
+    ∷ record { procedure = 1; args = pos 1 ∷ pos 100 ∷ []; caller_accesses = [] }
     ∷ []
 
 two_deposits-committed : told_calls two_deposits ≡ the_deposits

@@ -58,8 +58,8 @@ start_refused-legal =
 -- each of two has made one of its two writes, of the same record
 abbrev pub half_done : List Entry
 half_done =
-    entry (Step 1) (reply.Wrote (3, pos 7) (pos 1))
-    ∷ entry (Step 0) (reply.Wrote (3, pos 7) (pos 1))
+    entry (Step 1) (reply.Wrote (3, pos 7) (Some (pos 1)))
+    ∷ entry (Step 0) (reply.Wrote (3, pos 7) (Some (pos 1)))
     ∷ entry (Start 5 []) (reply.Started 1)
     ∷ entry (Start 5 []) (reply.Started 0)
     ∷ []
@@ -68,7 +68,7 @@ half_done =
 abbrev pub not_ended_before_waits : List Entry
 not_ended_before_waits =
     entry (Commit 1) (reply.Waits 0)
-    ∷ entry (Step 1) (reply.Wrote (3, pos 7) (pos 2))
+    ∷ entry (Step 1) (reply.Wrote (3, pos 7) (Some (pos 2)))
     ∷ entry (Commit 1) reply.NotEnded
     ∷ half_done
 

@@ -33,7 +33,7 @@ draw = record {
 
 -- all that is there may be drawn
 draws_all-trace : trace (run_with draw (pos 101 ∷ pos 1000 ∷ [])) (Some (pos 1000) ∷ [])
-    ≡ record { accesses = look (2, pos 101) ∷ put (2, pos 101) (pos 0) ∷ []; ending = ended (pos 1000 ∷ []) }
+    ≡ record { accesses = look (2, pos 101) ∷ put (2, pos 101) (Some (pos 0)) ∷ []; ending = ended (pos 1000 ∷ []) }
 draws_all-trace = refl
 
 draws_all-serial : serial (run_with draw (pos 101 ∷ pos 1000 ∷ [])) opening ≡ Done (pos 1000 ∷ []) (put_in opening (2, pos 101) (pos 0))
@@ -44,7 +44,7 @@ draws_all-execution = refl
 
 -- if the amount is more than is there, nothing is drawn
 draws_nothing-trace : trace (run_with draw (pos 101 ∷ pos 1001 ∷ [])) (Some (pos 1000) ∷ [])
-    ≡ record { accesses = look (2, pos 101) ∷ put (2, pos 101) (pos 1000) ∷ []; ending = ended (pos 0 ∷ []) }
+    ≡ record { accesses = look (2, pos 101) ∷ put (2, pos 101) (Some (pos 1000)) ∷ []; ending = ended (pos 0 ∷ []) }
 draws_nothing-trace = refl
 
 draws_nothing-serial : serial (run_with draw (pos 101 ∷ pos 1001 ∷ [])) opening ≡ Done (pos 0 ∷ []) (put_in opening (2, pos 101) (pos 1000))
@@ -70,7 +70,7 @@ count = record {
 
 -- if there is none, a read is made and no code is raised
 counts_none-trace : trace (run_with count (pos 40 ∷ [])) (None ∷ [])
-    ≡ record { accesses = look (3, pos 7) ∷ put (3, pos 7) (pos 41) ∷ []; ending = ended (pos 41 ∷ []) }
+    ≡ record { accesses = look (3, pos 7) ∷ put (3, pos 7) (Some (pos 41)) ∷ []; ending = ended (pos 41 ∷ []) }
 counts_none-trace = refl
 
 counts_none-execution : execution count (pos 40 ∷ []) opening ≡ Done (pos 41 ∷ []) (put_in opening (3, pos 7) (pos 41))
@@ -105,9 +105,9 @@ two_draw =
     ∷ entry (Commit 0) (reply.Committed (pos 1000 ∷ []))
     ∷ entry (Step 0) (reply.Ended)
     ∷ entry (Commit 1) (reply.Waits 0)
-    ∷ entry (Step 1) (reply.Wrote (2, pos 101) (pos 0))
+    ∷ entry (Step 1) (reply.Wrote (2, pos 101) (Some (pos 0)))
     ∷ entry (Step 1) (reply.Looked (2, pos 101) (Some (pos 0)))
-    ∷ entry (Step 0) (reply.Wrote (2, pos 101) (pos 0))
+    ∷ entry (Step 0) (reply.Wrote (2, pos 101) (Some (pos 0)))
     ∷ entry (Step 0) (reply.Looked (2, pos 101) (Some (pos 1000)))
     ∷ entry (Start 0 (pos 101 ∷ pos 1 ∷ [])) (reply.Started 1)
     ∷ entry (Start 0 (pos 101 ∷ pos 1000 ∷ [])) (reply.Started 0)

@@ -22,7 +22,7 @@ at_its_end =
 -- 1 has written a record that 0 has read before; 0 is live, and at its end
 abbrev pub early_writer : List Entry
 early_writer =
-    entry (Step 1) (reply.Wrote (2, pos 101) (pos 1050))
+    entry (Step 1) (reply.Wrote (2, pos 101) (Some (pos 1050)))
     ∷ entry (Step 1) (reply.Looked (2, pos 101) (Some (pos 1000)))
     ∷ entry (Step 1) (reply.Looked (0, pos 1) (Some (pos 101)))
     ∷ entry (Start 1 (pos 1 ∷ pos 50 ∷ [])) (reply.Started 1)
@@ -51,7 +51,7 @@ abbrev pub lost_update : List Entry
 lost_update =
     entry (Commit 0) (reply.Committed (pos 900 ∷ []))
     ∷ entry (Step 1) (reply.Aborted (cause.Cycle (1 ∷ 0 ∷ [])) ([]))
-    ∷ entry (Step 0) (reply.Wrote (2, pos 101) (pos 900))
+    ∷ entry (Step 0) (reply.Wrote (2, pos 101) (Some (pos 900)))
     ∷ entry (Step 1) (reply.Looked (2, pos 101) (Some (pos 1000)))
     ∷ entry (Step 1) (reply.Looked (1, pos 101) (Some (pos 500)))
     ∷ entry (Step 1) (reply.Looked (0, pos 1) (Some (pos 101)))
@@ -76,9 +76,9 @@ lost_update-checking = refl
 abbrev pub three_writers : List Entry
 three_writers =
     entry (Quit 1) (reply.Aborted cause.Quit ([]))
-    ∷ entry (Step 2) (reply.Wrote (3, pos 7) (pos 3))
-    ∷ entry (Step 1) (reply.Wrote (3, pos 7) (pos 2))
-    ∷ entry (Step 0) (reply.Wrote (3, pos 7) (pos 1))
+    ∷ entry (Step 2) (reply.Wrote (3, pos 7) (Some (pos 3)))
+    ∷ entry (Step 1) (reply.Wrote (3, pos 7) (Some (pos 2)))
+    ∷ entry (Step 0) (reply.Wrote (3, pos 7) (Some (pos 1)))
     ∷ entry (Start 5 (pos 3 ∷ [])) (reply.Started 2)
     ∷ entry (Start 5 (pos 2 ∷ [])) (reply.Started 1)
     ∷ entry (Start 5 (pos 1 ∷ [])) (reply.Started 0)
@@ -104,8 +104,8 @@ pair_past_aborted-record = refl
 -- 1 has written over a value of 0
 abbrev pub overwritten : List Entry
 overwritten =
-    entry (Step 1) (reply.Wrote (3, pos 7) (pos 2))
-    ∷ entry (Step 0) (reply.Wrote (3, pos 7) (pos 1))
+    entry (Step 1) (reply.Wrote (3, pos 7) (Some (pos 2)))
+    ∷ entry (Step 0) (reply.Wrote (3, pos 7) (Some (pos 1)))
     ∷ entry (Start 5 (pos 2 ∷ [])) (reply.Started 1)
     ∷ entry (Start 5 (pos 1 ∷ [])) (reply.Started 0)
     ∷ []
@@ -128,9 +128,9 @@ undo_beneath_overwriter-record = refl
 -- 2 has written over values of 1 and of 0, and both are live
 abbrev pub two_live_writers : List Entry
 two_live_writers =
-    entry (Step 2) (reply.Wrote (3, pos 7) (pos 3))
-    ∷ entry (Step 0) (reply.Wrote (3, pos 7) (pos 1))
-    ∷ entry (Step 1) (reply.Wrote (3, pos 7) (pos 2))
+    entry (Step 2) (reply.Wrote (3, pos 7) (Some (pos 3)))
+    ∷ entry (Step 0) (reply.Wrote (3, pos 7) (Some (pos 1)))
+    ∷ entry (Step 1) (reply.Wrote (3, pos 7) (Some (pos 2)))
     ∷ entry (Start 5 (pos 3 ∷ [])) (reply.Started 2)
     ∷ entry (Start 5 (pos 2 ∷ [])) (reply.Started 1)
     ∷ entry (Start 5 (pos 1 ∷ [])) (reply.Started 0)

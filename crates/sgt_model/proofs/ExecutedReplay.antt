@@ -1,12 +1,12 @@
 -- The replay of runs is the replay of executions, since a run is an execution.
-use Rattle.std.specs.Prelude.{◌≡◌, ℤ, List, [], ◌∷◌, Option, Some, None, slice_get}
+use Rattle.std.specs.Prelude.{◌≡◌, ℤ, List, [], ◌∷◌, Option, Some, None}
 use Rattle.std.proofs.Common.{refl, sym, ap, ◌∙◌}
 use Rattle.sgt_model.specs.declared.limits.Limits.{Limits}
 use Rattle.sgt_model.specs.Contents.{Contents}
 use Rattle.sgt_model.specs.Syntax.{ProcedureText}
-use Rattle.sgt_model.specs.Runs.{serial}
-use Rattle.sgt_model.specs.Settings.{run_if, setting}
-use Rattle.sgt_model.specs.Progress.{Call, run_of}
+use Rattle.sgt_model.specs.Runs.{serial, with_accesses}
+use Rattle.sgt_model.specs.Settings.{run_if, setting, procedure_at}
+use Rattle.sgt_model.specs.Progress.{Call, outcome_in}
 use Rattle.sgt_model.specs.Replay.{Folded, with_outcome, run_in_turn, told_calls}
 use Rattle.sgt_model.specs.ExecutedReplay.{execution_if, execution_of, execute_in_turn, HistoriesAreExecuted}
 use Rattle.sgt_model.proofs.Executions.{serial_is}
@@ -18,15 +18,15 @@ run_is None args m = refl
 run_is (Some p) args m = serial_is p args m
 
 call_is : (opening : Contents) (programs : List ProcedureText) (limits : Limits) (c : Call) (m : Contents)
-    → serial (run_of (setting opening programs limits).rules c) m ≡ execution_of programs c m
-call_is opening programs limits c m = run_is (slice_get programs c.procedure) c.args m
+    → outcome_in (setting opening programs limits).rules c m ≡ execution_of programs c m
+call_is opening programs limits c m = ap (with_accesses c.caller_accesses) (run_is (procedure_at programs c.procedure) c.args m)
 
 replay_is : (opening : Contents) (programs : List ProcedureText) (limits : Limits) (calls : List Call)
     → run_in_turn (setting opening programs limits) calls ≡ execute_in_turn opening programs calls
 replay_is opening programs limits [] = refl
 replay_is opening programs limits (c ∷ before) =
     let ran : Folded = execute_in_turn opening programs before in
-    ap (λ (f : Folded). with_outcome (serial (run_of (setting opening programs limits).rules c) f.last) f)
+    ap (λ (f : Folded). with_outcome (outcome_in (setting opening programs limits).rules c f.last) f)
     (replay_is opening programs limits before)
     ∙ ap (λ o. with_outcome o ran) (call_is opening programs limits c ran.last)
 

@@ -23,7 +23,7 @@ use Rattle.sgt_model.specs.Progress.{call_at, call_in, call_of, next_of}
 use Rattle.sgt_model.specs.Legality.{HasNoLivePredecessor, LegalReply, Legal}
 use Rattle.sgt_model.specs.Replay.{told_call_in, told_in}
 use Rattle.sgt_model.specs.Laws.{CommitAgrees}
-use Rattle.sgt_model.proofs.Effects.{EndsNone, ends_none-no_end, ends_none-no_call, ends_none-tells_none, ends_none-agrees, no_start-no_call, Begins, Fits, Accesses, Commits, Undoing, Undoes, Effect, idle, begins, accesses, commits, undoes, Refusal, refuses, none_from, effect}
+use Rattle.sgt_model.proofs.Effects.{Made, EndsNone, ends_none-no_end, ends_none-no_call, ends_none-tells_none, ends_none-agrees, no_start-no_call, Begins, Accesses, Commits, Undoing, Undoes, Effect, idle, begins, accesses, commits, undoes, Refusal, refuses, none_from, effect}
 
 -- on options
 
@@ -96,11 +96,11 @@ pub access-free : (s : Setting) (past : List Entry) (event : Event) (r : Reply) 
 access-free s past event r h a e = let x = access_case (effect s past event r h) a e in
     subst (λ (b : Access). (rest : List ℕ) → Closes past b.by b.key b.kind rest → ⊥) x.1 x.0.free
 
--- and is what comes next
+-- and is what comes next, or what the caller requested at the end
 pub access-fits : (s : Setting) (past : List Entry) (event : Event) (r : Reply) → LegalReply s past event r → (a : Access)
-    → access_in event r ≡ Some a → Fits (next_of s past a.by) a
+    → access_in event r ≡ Some a → Made (next_of s past a.by) event a
 access-fits s past event r h a e = let x = access_case (effect s past event r h) a e in
-    subst (λ (b : Access). Fits (next_of s past b.by) b) x.1 x.0.fits
+    subst (λ (b : Access). Made (next_of s past b.by) event b) x.1 x.0.made
 
 -- and where it is a read, returned what was visible
 pub look-found : (s : Setting) (past : List Entry) (event : Event) (r : Reply) → LegalReply s past event r → (a : Access)

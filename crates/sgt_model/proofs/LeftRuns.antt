@@ -1,5 +1,5 @@
 -- The remainder of a procedure is a run that is still to be done, and goes on as that does.
-use Rattle.std.specs.Prelude.{◌≡◌, ℕ, zero, suc, ◌+◌, ℤ, Bool, true, false, cond, nat_lt, List, [], ◌∷◌, ◌++◌, length, Option, Some, None, Ok, Err, slice_set}
+use Rattle.std.specs.Prelude.{◌≡◌, ℕ, zero, suc, ◌+◌, ◌≤◌, ℤ, Bool, true, false, cond, nat_lt, List, [], ◌∷◌, ◌++◌, length, Option, Some, None, Ok, Err, slice_set}
 use Rattle.std.proofs.Common.{refl, sym, ap, ◌∙◌, arith}
 use Rattle.sgt_model.specs.Numbers.{is_value}
 use Rattle.sgt_model.specs.Contents.{Key}
@@ -188,7 +188,7 @@ look_first : (l : Left) (key : Key) (found : Option ℤ) (values : List (Option 
 look_first l key found values made next =
     ap (λ n. after_next n l (found ∷ values) (λ then values_then. left_after then values_then made)) next
 
-store_first : (l : Left) (key : Key) (v : ℤ) (values : List (Option ℤ)) (made : ℕ) → next_left l ≡ Puts key v → left_after l values
+store_first : (l : Left) (key : Key) (v : Option ℤ) (values : List (Option ℤ)) (made : ℕ) → next_left l ≡ Puts key v → left_after l values
     (suc made) ≡ left_after (after_store l) values made
 store_first l key v values made next = ap (λ n. after_next n l values (λ then values_then. left_after then values_then made)) next
 
@@ -230,7 +230,7 @@ look_after (suc made) (ends answers) l values same used key found next = absurd 
 look_after (suc made) (raises code) l values same used key found next = absurd used
 
 pub store_after : (made : ℕ) (r : Run) (l : Left) (values : List (Option ℤ)) → run_left l ≡ r → Used r values made
-    → (key : Key) (v : ℤ) → next_left (left_after l values made) ≡ Puts key v → left_after l values (suc made) ≡ after_store
+    → (key : Key) (v : Option ℤ) → next_left (left_after l values made) ≡ Puts key v → left_after l values (suc made) ≡ after_store
     (left_after l values made)
 store_after zero r l [] same used key v next = store_first l key v [] 0 next
 store_after zero r l (w ∷ values) same used key v next = absurd used
@@ -249,6 +249,57 @@ store_after (suc made) (puts k w rest) l values same used key v next =
     ∙ ap after_store (sym one))
 store_after (suc made) (ends answers) l values same used key v next = absurd used
 store_after (suc made) (raises code) l values same used key v next = absurd used
+
+-- past the end the remainder stays
+
+end_stays : (l : Left) (values : List (Option ℤ)) (answers : List ℤ) (made : ℕ) → next_left l ≡ Ends answers → left_after l values made ≡ l
+end_stays l values answers zero e = refl
+end_stays l values answers (suc made) e =
+    ap (λ n. after_next n l values (λ then values_then. left_after then values_then made)) e
+
+pub left_past : (made total : ℕ) (r : Run) (l : Left) (values more : List (Option ℤ)) (answers : List ℤ) → made ≤ total → run_left l ≡ r
+    → Used r values made → next_left (left_after l values made) ≡ Ends answers
+    → left_after l (values ++ more) total ≡ left_after l values made
+left_past zero total r l [] more answers few same used e = end_stays l more answers total e
+left_past zero total r l (v ∷ values) more answers few same used e = absurd used
+left_past (suc made) zero r l values more answers few same used e = absurd (omega arith)
+left_past (suc made) (suc total) (looks k go) l [] more answers few same used e = absurd used
+left_past (suc made) (suc total) (looks k go) l (v ∷ values) more answers few same used e =
+    let first : next_left l ≡ Looks k = next_is l (looks k go) same in
+    let one : left_after l (v ∷ values) (suc made) ≡ left_after (after_look v l) values made = look_first l k v values made first in
+    look_first l k v (values ++ more) total first
+    ∙ (left_past made total (go v) (after_look v l) values more answers (omega arith) (look_is v l (looks k go) same) used
+    (ap next_left (sym one) ∙ e) ∙ sym one)
+left_past (suc made) (suc total) (puts k w rest) l values more answers few same used e =
+    let first : next_left l ≡ Puts k w = next_is l (puts k w rest) same in
+    let one : left_after l values (suc made) ≡ left_after (after_store l) values made = store_first l k w values made first in
+    store_first l k w (values ++ more) total first
+    ∙ (left_past made total rest (after_store l) values more answers (omega arith) (store_is l (puts k w rest) same) used
+    (ap next_left (sym one) ∙ e) ∙ sym one)
+left_past (suc made) (suc total) (ends given) l values more answers few same used e = absurd used
+left_past (suc made) (suc total) (raises code) l values more answers few same used e = absurd used
+
+-- and a read or a write that is made there leaves it
+
+look_stays : (found : Option ℤ) (l : Left) (answers : List ℤ) (o : OrCode Reached) → next_of_reached o ≡ Ends answers → behind_look found o l ≡ l
+look_stays found l answers (Ok (AtLook key to absent r)) e = absurd (cc e)
+look_stays found l answers (Ok (AtFind key to absent r)) e = absurd (cc e)
+look_stays found l answers (Ok (AtStore key v r)) e = refl
+look_stays found l answers (Ok (AtEnd registers given)) e = refl
+look_stays found l answers (Err code) e = refl
+
+store_stays : (l : Left) (answers : List ℤ) (o : OrCode Reached) → next_of_reached o ≡ Ends answers → behind_store o l ≡ l
+store_stays l answers (Ok (AtLook key to absent r)) e = refl
+store_stays l answers (Ok (AtFind key to absent r)) e = refl
+store_stays l answers (Ok (AtStore key v r)) e = absurd (cc e)
+store_stays l answers (Ok (AtEnd registers given)) e = refl
+store_stays l answers (Err code) e = refl
+
+pub end_looked : (found : Option ℤ) (l : Left) (answers : List ℤ) → next_left l ≡ Ends answers → after_look found l ≡ l
+end_looked found l answers e = look_stays found l answers (reached l) e
+
+pub end_stored : (l : Left) (answers : List ℤ) → next_left l ≡ Ends answers → after_store l ≡ l
+end_stored l answers e = store_stays l answers (reached l) e
 
 -- the laws
 

@@ -1,7 +1,8 @@
 -- Two legal replies to one event are the same, but for the path of a rejected access.
 use Rattle.std.specs.Prelude.{◌≡◌, ℕ, ◌<◌, Bool, true, false, ◌⊎◌, nat_lt, List, [], ◌∷◌, Option, Some, None, ℤ}
 use Rattle.std.proofs.Common.{refl, sym, ◌∙◌, ap, ap₂, inl, inr, arith}
-use Rattle.sgt_model.specs.declared.event.Event.TheVariants.{Start, Step, Commit, Quit}
+use Rattle.sgt_model.specs.declared.event.Event.TheVariants.{Start, Step, Access, Commit, Quit}
+use Rattle.sgt_model.specs.declared.event.Request.{Request}
 use Rattle.sgt_model.specs.declared.reply.Reply.{Reply}
 use Rattle.sgt_model.specs.declared.reply.Reply.TheVariants as reply
 use Rattle.sgt_model.specs.declared.reply.Cause.{Cause}
@@ -18,8 +19,8 @@ use Rattle.sgt_model.specs.Walks.{Member, Rising, IsLeastPredecessor}
 use Rattle.sgt_model.specs.Fates.{start_count, fate_of}
 use Rattle.sgt_model.specs.Falls.{Falls}
 use Rattle.sgt_model.specs.Settings.{Setting}
-use Rattle.sgt_model.specs.Progress.{next_of}
-use Rattle.sgt_model.specs.Legality.{AbortReply, CycleAbortReply, RaisedStep, RaisedCommit, Makes, StepReply, LivePredecessor, MustWait, MayCommit, CommitReply, OfStarted}
+use Rattle.sgt_model.specs.Progress.{next_of, requested, is_fit}
+use Rattle.sgt_model.specs.Legality.{AbortReply, CycleAbortReply, RaisedStep, RaisedCommit, Makes, StepReply, OfFit, RequestReply, LivePredecessor, MustWait, MayCommit, CommitReply, OfStarted}
 use Rattle.sgt_model.specs.OneReply.{SameButWalk, RepliesAreUnique}
 use Rattle.sgt_model.proofs.Paths.{Within}
 
@@ -101,6 +102,18 @@ one_step s past t (Puts k v) r q a b = one_access past t k Store _ r q a b
 one_step s past t (Ends answers) r q a b = inl (a ∙ sym b)
 one_step s past t (Raises code) r q a b = inl (one_asked_step s.rules.limits.asks past t code r q a b)
 
+one_fit : (s : Setting) (past : List Entry) (t : ℕ) (n : Next) (fit : Bool) (r q : Reply) → OfFit fit r (StepReply s past t n r)
+    → OfFit fit q (StepReply s past t n q) → SameButWalk r q
+one_fit s past t n true r q a b = one_step s past t n r q a b
+one_fit s past t n false r q a b = inl (a ∙ sym b)
+
+one_request : (s : Setting) (past : List Entry) (t : ℕ) (d : Request) (next : Next) (r q : Reply) → RequestReply s past t d next r
+    → RequestReply s past t d next q → SameButWalk r q
+one_request s past t d (Ends answers) r q a b = one_fit s past t (requested d) (is_fit d) r q a b
+one_request s past t d (Looks k) r q a b = inl (a ∙ sym b)
+one_request s past t d (Puts k v) r q a b = inl (a ∙ sym b)
+one_request s past t d (Raises code) r q a b = inl (a ∙ sym b)
+
 -- commits
 
 one_least : (past : List Entry) (t u v : ℕ) → IsLeastPredecessor (LivePredecessor past) t u
@@ -144,6 +157,8 @@ pub replies_are_unique : RepliesAreUnique
 replies_are_unique s past (Start p args) r q a b = inl (a ∙ sym b)
 replies_are_unique s past (Step t) r q a b = one_of_started (λ x. StepReply s past t (next_of s past t) x)
     (one_step s past t (next_of s past t)) (nat_lt t (start_count past)) (fate_of past t) r q a b
+replies_are_unique s past (Access t d) r q a b = one_of_started (λ x. RequestReply s past t d (next_of s past t) x)
+    (one_request s past t d (next_of s past t)) (nat_lt t (start_count past)) (fate_of past t) r q a b
 replies_are_unique s past (Commit t) r q a b = one_of_started (λ x. CommitReply s past t (next_of s past t) x)
     (λ x y g h. inl (one_commit s past t (next_of s past t) x y g h)) (nat_lt t (start_count past)) (fate_of past t) r q a b
 replies_are_unique s past (Quit t) r q a b = one_of_started (λ x. AbortReply past t cause.Quit x)

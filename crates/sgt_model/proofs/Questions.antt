@@ -4,7 +4,8 @@ use Rattle.std.proofs.lemmas.Bool.{eq-eqb}
 use Rattle.std.specs.List.{list_any}
 use Rattle.std.specs.Option.{option_or}
 use Rattle.sgt_model.specs.declared.event.Event.{Event}
-use Rattle.sgt_model.specs.declared.event.Event.TheVariants.{Start, Step, Commit, Quit}
+use Rattle.sgt_model.specs.declared.event.Event.TheVariants.{Start, Step, Access, Commit, Quit}
+use Rattle.sgt_model.specs.declared.event.Request.{Request}
 use Rattle.sgt_model.specs.declared.reply.Reply.{Reply}
 use Rattle.sgt_model.specs.declared.reply.Reply.TheVariants as reply
 use Rattle.sgt_model.specs.declared.reply.Cause.{Cause}
@@ -18,8 +19,8 @@ use Rattle.sgt_model.specs.Traces.{Next, Looks, Puts, Ends, Raises}
 use Rattle.sgt_model.specs.Fates.{is_start, start_count, concerns, subject, ending_in, fate_of, live}
 use Rattle.sgt_model.specs.Questions.{named_by, started_number, started_in, tells_end, over_in, is_ending}
 use Rattle.sgt_model.specs.Settings.{Setting}
-use Rattle.sgt_model.specs.Progress.{next_of}
-use Rattle.sgt_model.specs.Legality.{RaisedStep, RaisedCommit, AbortReply, StepReply, CommitReply, OfStarted, OfLive, LegalReply, Legal}
+use Rattle.sgt_model.specs.Progress.{next_of, requested, is_fit}
+use Rattle.sgt_model.specs.Legality.{RaisedStep, RaisedCommit, AbortReply, StepReply, OfFit, RequestReply, CommitReply, OfStarted, OfLive, LegalReply, Legal}
 use Rattle.sgt_model.specs.Aborts.{CauseHolds}
 use Rattle.sgt_model.specs.Laws.{StartedAreLive, OverAreNotLive, EndingsEndOne, OthersEndNone}
 use Rattle.sgt_model.proofs.Effects.{EndsNone, ends_none-no_end, Effect, idle, begins, accesses, commits, undoes, refuses, effect}
@@ -74,6 +75,18 @@ step_ends s past t (Puts k v) r (inr h) = ending_of r _ h.is (λ e. e)
 step_ends s past t (Ends answers) r h = ending_of r _ h (λ e. e)
 step_ends s past t (Raises code) r h = asked_step_ends s.rules.limits.asks past t code r h
 
+fit_ends : (s : Setting) (past : List Entry) (t : ℕ) (n : Next) (fit : Bool) (r : Reply) → OfFit fit r (StepReply s past t n r)
+    → tells_end r ≡ true → is_ending r ≡ true
+fit_ends s past t n true r h = step_ends s past t n r h
+fit_ends s past t n false r h = ending_of r _ h (λ e. e)
+
+request_ends : (s : Setting) (past : List Entry) (t : ℕ) (d : Request) (n : Next) (r : Reply) → RequestReply s past t d n r
+    → tells_end r ≡ true → is_ending r ≡ true
+request_ends s past t d (Ends answers) r h = fit_ends s past t (requested d) (is_fit d) r h
+request_ends s past t d (Looks k) r h = ending_of r _ h (λ e. e)
+request_ends s past t d (Puts k v) r h = ending_of r _ h (λ e. e)
+request_ends s past t d (Raises code) r h = ending_of r _ h (λ e. e)
+
 asked_commit_ends : (asks : Asks) (past : List Entry) (t code : ℕ) (r : Reply) → RaisedCommit asks past t code r → tells_end r ≡ true
     → is_ending r ≡ true
 asked_commit_ends AtStep past t code r h = ending_of r _ h (λ e. e)
@@ -121,6 +134,12 @@ over_are_not_live s past e legal t is = by_event e.event refl is
         let own : concerns e.event u ≡ true = ap (λ v. concerns v u) same ∙ eq-eqb u u refl in
         subst (λ v. live (e ∷ past) v ≡ false) (some_is u t h.1) (over past e u (StepReply s past u (next_of s past u) e.reply)
         (λ y. ends_named e.event e.reply u own (step_ends s past u (next_of s past u) e.reply y h.0)) now)
+    by_event (Access u d) same x =
+        let h = told (tells_end e.reply) u t x in
+        let now : LegalReply s past (Access u d) e.reply = subst (λ v. LegalReply s past v e.reply) same legal.1 in
+        let own : concerns e.event u ≡ true = ap (λ v. concerns v u) same ∙ eq-eqb u u refl in
+        subst (λ v. live (e ∷ past) v ≡ false) (some_is u t h.1) (over past e u (RequestReply s past u d (next_of s past u) e.reply)
+        (λ y. ends_named e.event e.reply u own (request_ends s past u d (next_of s past u) e.reply y h.0)) now)
     by_event (Commit u) same x =
         let h = told (tells_end e.reply) u t x in
         let now : LegalReply s past (Commit u) e.reply = subst (λ v. LegalReply s past v e.reply) same legal.1 in
@@ -153,6 +172,7 @@ starts_one _ t e = absurd (cc)
 number_in : (event : Event) (r : Reply) (t : ℕ) → started_in event r ≡ Some t → started_number r ≡ Some t
 number_in (Start p args) r t e = e
 number_in (Step u) r t e = absurd (cc)
+number_in (Access u d) r t e = absurd (cc)
 number_in (Commit u) r t e = absurd (cc)
 number_in (Quit u) r t e = absurd (cc)
 
@@ -196,6 +216,7 @@ named_cause : (s : Setting) (past : List Entry) (event : Event) (why : Cause) �
     (subject event)
 named_cause s past (Start p args) why h = absurd h
 named_cause s past (Step t) why h = refl
+named_cause s past (Access t d) why h = refl
 named_cause s past (Commit t) why h = refl
 named_cause s past (Quit t) why h = refl
 
@@ -208,6 +229,7 @@ endings_end_one s past e legal is = by_effect (effect s past e.event e.reply leg
         concerns_named : (event : Event) (u : ℕ) → named_by event ≡ Some u → concerns event u ≡ true
         concerns_named (Start p args) u x = absurd (cc)
         concerns_named (Step v) u x = named_own v u x
+        concerns_named (Access v d) u x = named_own v u x
         concerns_named (Commit v) u x = named_own v u x
         concerns_named (Quit v) u x = named_own v u x
 

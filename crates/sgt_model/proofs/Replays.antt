@@ -1,5 +1,5 @@
 -- The replay in commit order: each commit's reads agree with what is committed, and so the replay gives what was reported.
-use Rattle.std.specs.Prelude.{◌≡◌, ◌≢◌, ℕ, ℤ, Bool, true, cond, ◌⊎◌, nat_eq, List, [], ◌∷◌, ◌++◌, Some, None}
+use Rattle.std.specs.Prelude.{◌≡◌, ◌≢◌, ℕ, ℤ, Bool, true, cond, ◌⊎◌, nat_eq, List, [], ◌∷◌, ◌++◌, length, Some, None}
 use Rattle.std.specs.Option.{option_or}
 use Rattle.std.proofs.Common.{refl, sym, ap, ap₂, ◌∙◌, subst, subst₂, inl, inr, ⊎_elim}
 use Rattle.std.proofs.lemmas.Bool.{cases_eq, eq-eqb, ne_eqb, false_from_ne_true}
@@ -9,14 +9,15 @@ use Rattle.sgt_model.specs.declared.reply.Reply.{Reply}
 use Rattle.sgt_model.specs.declared.reply.Reply.TheVariants as reply
 use Rattle.sgt_model.specs.declared.reply.Fate.TheVariants as fate
 use Rattle.sgt_model.specs.declared.entry.Entry.{Entry}
-use Rattle.sgt_model.specs.Contents.{Key}
-use Rattle.sgt_model.specs.Runs.{Run, Asked, serial, contents_after}
+use Rattle.sgt_model.specs.Contents.{Key, Contents}
+use Rattle.sgt_model.specs.Runs.{Run, Asked, serial, contents_after, with_accesses}
+use Rattle.sgt_model.specs.Traces.{Raises}
 use Rattle.sgt_model.specs.Accesses.{Access, access_of, acts}
 use Rattle.sgt_model.specs.Fates.{ending_in, fate_of, has_committed, committed, live}
 use Rattle.sgt_model.specs.Values.{stores, newest_store, value_or, settled}
 use Rattle.sgt_model.specs.Pairs.{Precedes}
 use Rattle.sgt_model.specs.Settings.{Setting}
-use Rattle.sgt_model.specs.Progress.{call_of, run_of}
+use Rattle.sgt_model.specs.Progress.{Call, call_of, caller_accesses, with_caller_accesses, run_of, outcome_in, values_read}
 use Rattle.sgt_model.specs.Legality.{Legal}
 use Rattle.sgt_model.specs.Replay.{result_of, run_in_turn, told_call_in, told_in, told_calls, folded, told, ReplayAgrees}
 use Rattle.sgt_model.specs.Laws.{LooksAgree, CommitAgrees, CommitsAgree}
@@ -24,16 +25,16 @@ use Rattle.sgt_model.proofs.Effects.{Commits, Refusal, effect}
 use Rattle.sgt_model.proofs.Facts.{undone_case, access-live, committed-stays, live-stands, live-not_committed, committed-stands, commit-case, Uncommitted, commits_or_not}
 use Rattle.sgt_model.proofs.PairOrder.{no_pair_from_live}
 use Rattle.sgt_model.proofs.Stores.{found, StoreOf, store_or_not, newest_skip, not_counted, newest_agree, own_or}
-use Rattle.sgt_model.proofs.Acts.{over, DoneWith}
-use Rattle.sgt_model.proofs.Traces.{run_is_trace, law_over_acts}
-use Rattle.sgt_model.proofs.Plays.{plays}
+use Rattle.sgt_model.proofs.Acts.{asks_of, over, FindsIn, DoneWith}
+use Rattle.sgt_model.proofs.Traces.{run_is_trace, law_over_acts, gone_done, finds_own}
+use Rattle.sgt_model.proofs.Plays.{only_own, own_end, plays}
 use Rattle.sgt_model.proofs.Overs.{over-acts, looks_agree, finds_in}
 
 -- the entry of a commit
 abbrev pub commit_entry : ℕ → List ℤ → Entry
 commit_entry t answers = record { event = Commit t; reply = reply.Committed answers }
 
-committed_own : (past : List Entry) (t : ℕ) (answers : List ℤ) → committed (commit_entry t answers ∷ past) t ≡ true
+pub committed_own : (past : List Entry) (t : ℕ) (answers : List ℤ) → committed (commit_entry t answers ∷ past) t ≡ true
 committed_own past t answers = ap (λ b. has_committed (option_or (cond b (Some fate.Committed) None) (fate_of past t))) (eq-eqb t t refl)
 
 committed_other : (past : List Entry) (t : ℕ) (answers : List ℤ) (u : ℕ) → u ≢ t
@@ -89,11 +90,11 @@ same_after s past t answers h is_live ih k =
     ∙ (ap (λ v. value_or (newest_store (λ u. nat_eq u t) k past) v) (ih.database k)
     ∙ sym (settled_commit s past t answers k h is_live))
 
-commit_agrees : (s : Setting) (past : List Entry) (event : Event) (r : Reply) → Legal s past → (c : Commits s past event r)
+pub commit_agrees : (s : Setting) (past : List Entry) (event : Event) (r : Reply) → Legal s past → (c : Commits s past event r)
     → LooksAgree (settled s.opening past) c.t past
 commit_agrees s past event r h c = looks_agree s [] past past c.t refl h c.is_live c.none_live
 
-refusal_agrees : (s : Setting) (past : List Entry) (event : Event) (r : Reply) → Legal s past → (x : Refusal s past event r)
+pub refusal_agrees : (s : Setting) (past : List Entry) (event : Event) (r : Reply) → Legal s past → (x : Refusal s past event r)
     → LooksAgree (settled s.opening past) x.undoing.t past
 refusal_agrees s past event r h x = looks_agree s [] past past x.undoing.t refl h x.undoing.is_live x.none_live
 
@@ -111,16 +112,26 @@ commits_agree s (e ∷ past) h = (commits_agree s past h.0, now (commits_or_not 
     now (inr (inr quiet)) = quiet.agrees
 
 -- the run of a transaction that commits, on the contents so far
+-- the call that is run again
+abbrev again : List Entry → ℕ → Call
+again past t = with_caller_accesses (caller_accesses past t) (call_of past t)
+
 run_done : (s : Setting) (past : List Entry) (event : Event) (r : Reply) → Legal s past → (c : Commits s past event r)
-    → ReplayAgrees s past → DoneWith (serial (run_of s.rules (call_of past c.t)) (folded s past).last) c.answers
+    → ReplayAgrees s past → DoneWith (outcome_in s.rules (again past c.t) (folded s past).last) c.answers
     (over (folded s past).last (acts past c.t))
 run_done s past event r h c ih =
     let run : Run = run_of s.rules (call_of past c.t) in
-    (law_over_acts run (run_is_trace run)).done (folded s past).last (acts past c.t) c.answers (plays s past c.t h)
-    (finds_in (folded s past).last (settled s.opening past) past c.t ih.database (commit_agrees s past event r h c)) c.next
+    let m : Contents = (folded s past).last in
+    let p = plays s past c.t h in
+    let finds : FindsIn m (p.more ++ p.own) = subst (FindsIn m) p.all_are
+    (finds_in m (settled s.opening past) past c.t ih.database (commit_agrees s past event r h c)) in
+    let own = (law_over_acts run (run_is_trace run)).done m p.own c.answers p.as_asked (finds_own m p.more p.own finds)
+    (own_end run (caller_accesses past c.t) (acts past c.t) c.answers p c.next) in
+    subst₂ (λ xs l. DoneWith (with_accesses xs (serial run m)) c.answers (over m l)) (sym p.caller_accesses_are) (sym p.all_are)
+    (gone_done m p.own p.more (serial run m) c.answers p.fit finds own)
 
 at_commit : (s : Setting) (past : List Entry) (t : ℕ) (answers : List ℤ) → Legal s past → live past t ≡ true
-    → DoneWith (serial (run_of s.rules (call_of past t)) (folded s past).last) answers (over (folded s past).last (acts past t))
+    → DoneWith (outcome_in s.rules (again past t) (folded s past).last) answers (over (folded s past).last (acts past t))
     → ReplayAgrees s past → ReplayAgrees s (commit_entry t answers ∷ past)
 at_commit s past t answers h is_live d ih = record {
   answers = ap₂ (λ r l. r ∷ l) (ap result_of d.1) ih.answers;
@@ -138,14 +149,19 @@ at_quiet s e past h quiet ih = record {
 
 -- the run of a transaction that is refused raises its code
 run_asked : (s : Setting) (past : List Entry) (event : Event) (r : Reply) → Legal s past → (x : Refusal s past event r)
-    → ReplayAgrees s past → serial (run_of s.rules (call_of past x.undoing.t)) (folded s past).last ≡ Asked x.code
+    → ReplayAgrees s past → outcome_in s.rules (again past x.undoing.t) (folded s past).last ≡ Asked x.code
 run_asked s past event r h x ih =
     let t : ℕ = x.undoing.t in
     let run : Run = run_of s.rules (call_of past t) in
-    (law_over_acts run (run_is_trace run)).asked (folded s past).last (acts past t) x.code (plays s past t h)
-    (finds_in (folded s past).last (settled s.opening past) past t ih.database (refusal_agrees s past event r h x)) x.next
+    let m : Contents = (folded s past).last in
+    let p = plays s past t h in
+    let only = only_own run (caller_accesses past t) (acts past t) p (λ answers e. cc (sym x.next ∙ e)) in
+    let asked : serial run m ≡ Asked x.code = (law_over_acts run (run_is_trace run)).asked m p.own x.code p.as_asked
+    (subst (FindsIn m) only.1 (finds_in m (settled s.opening past) past t ih.database (refusal_agrees s past event r h x)))
+    (subst (λ l. asks_of run (values_read l) (length l) ≡ Raises x.code) only.1 x.next) in
+    ap (λ xs. with_accesses xs (serial run m)) only.2 ∙ asked
 
-refusal-no_commit : {s : Setting} {past : List Entry} {event : Event} {r : Reply} → Refusal s past event r → (u : ℕ)
+pub refusal-no_commit : {s : Setting} {past : List Entry} {event : Event} {r : Reply} → Refusal s past event r → (u : ℕ)
     → ending_in event r u ≡ Some fate.Committed → ⊥
 refusal-no_commit x u e = let a = (undone_case x.undoing u fate.Committed e).is_abort in cc a
 
@@ -153,7 +169,7 @@ at_refusal : (s : Setting) (e : Entry) (past : List Entry) → Legal s (e ∷ pa
     → ReplayAgrees s past → ReplayAgrees s (e ∷ past)
 at_refusal s e past h x ih =
     let asked = run_asked s past e.event e.reply h.0 x ih in
-    let call : told_call_in past e.event e.reply ≡ call_of past x.undoing.t ∷ [] = ap₂ (λ ev r. told_call_in past ev r) x.event_is
+    let call : told_call_in past e.event e.reply ≡ again past x.undoing.t ∷ [] = ap₂ (λ ev r. told_call_in past ev r) x.event_is
     x.reply_is in
     record {
       answers = ap (λ l. (run_in_turn s (l ++ told_calls past)).results) call

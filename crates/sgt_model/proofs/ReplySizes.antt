@@ -5,7 +5,8 @@ use Rattle.std.specs.Option.{is_none}
 use Rattle.std.proofs.Common.{refl, sym, ap, subst, inl, inr, arith}
 use Rattle.std.proofs.lemmas.Bool.{and_parts, and_from, ltb-true}
 use Rattle.sgt_model.specs.declared.event.Event.{Event}
-use Rattle.sgt_model.specs.declared.event.Event.TheVariants.{Start, Step, Commit, Quit}
+use Rattle.sgt_model.specs.declared.event.Event.TheVariants.{Start, Step, Access, Commit, Quit}
+use Rattle.sgt_model.specs.declared.event.Request.{Request}
 use Rattle.sgt_model.specs.declared.reply.Reply.{Reply}
 use Rattle.sgt_model.specs.declared.reply.Reply.TheVariants as reply
 use Rattle.sgt_model.specs.declared.reply.Cause.{Cause}
@@ -24,9 +25,9 @@ use Rattle.sgt_model.specs.Fates.{concerns, subject, ending_in, start_count, fat
 use Rattle.sgt_model.specs.Pairs.{Pair}
 use Rattle.sgt_model.specs.Falls.{Falls}
 use Rattle.sgt_model.specs.Settings.{Rules, Setting, takes}
-use Rattle.sgt_model.specs.Progress.{next_of}
+use Rattle.sgt_model.specs.Progress.{next_of, requested, is_fit}
 use Rattle.sgt_model.specs.StartReply.{args_fit, room_reply, taken_reply, start_reply}
-use Rattle.sgt_model.specs.Legality.{RaisedStep, RaisedCommit, AbortReply, CycleAbortReply, Makes, StepReply, CommitReply, OfStarted, LegalReply, Legal}
+use Rattle.sgt_model.specs.Legality.{RaisedStep, RaisedCommit, AbortReply, CycleAbortReply, Makes, StepReply, OfFit, RequestReply, CommitReply, OfStarted, LegalReply, Legal}
 use Rattle.sgt_model.specs.ReplySizes.{CauseNamesAtMost, FateNamesAtMost, ReplyNamesAtMost, RepliesNameFew}
 use Rattle.sgt_model.proofs.Facts.{some_is, option_or-cases}
 use Rattle.sgt_model.proofs.Listed.{kept_member}
@@ -131,6 +132,18 @@ module _ (s : Setting) (past : List Entry) (h : Legal s past) where
   step_names t alive (Ends answers) r x = subst (λ y. ReplyNamesAtMost s.rules.limits.live y) (sym x) tt
   step_names t alive (Raises code) r x = asked_step_names t alive code s.rules.limits.asks r x
 
+  fit_names : (t : ℕ) → live past t ≡ true → (n : Next) (fit : Bool) (r : Reply) → OfFit fit r (StepReply s past t n r)
+      → ReplyNamesAtMost s.rules.limits.live r
+  fit_names t alive n true r x = step_names t alive n r x
+  fit_names t alive n false r x = subst (λ y. ReplyNamesAtMost s.rules.limits.live y) (sym x) tt
+
+  request_names : (t : ℕ) → live past t ≡ true → (d : Request) (next : Next) (r : Reply) → RequestReply s past t d next r
+      → ReplyNamesAtMost s.rules.limits.live r
+  request_names t alive d (Ends answers) r x = fit_names t alive (requested d) (is_fit d) r x
+  request_names t alive d (Looks k) r x = subst (λ y. ReplyNamesAtMost s.rules.limits.live y) (sym x) tt
+  request_names t alive d (Puts k v) r x = subst (λ y. ReplyNamesAtMost s.rules.limits.live y) (sym x) tt
+  request_names t alive d (Raises code) r x = subst (λ y. ReplyNamesAtMost s.rules.limits.live y) (sym x) tt
+
   asked_commit_names : (t : ℕ) → live past t ≡ true → (code : ℕ) (asks : Asks) (r : Reply) → RaisedCommit asks past t code r
       → ReplyNamesAtMost s.rules.limits.live r
   asked_commit_names t alive code AtStep r x = subst (λ y. ReplyNamesAtMost s.rules.limits.live y) (sym x) tt
@@ -159,6 +172,8 @@ module _ (s : Setting) (past : List Entry) (h : Legal s past) where
         (start_names s.rules.limits.live s.rules (start_count past) (length (live_ones past)) p args)
     reply_names (Step t) r x = of_started t r (StepReply s past t (next_of s past t) r)
         (λ alive. step_names t alive (next_of s past t) r) (nat_lt t (start_count past)) (fate_of past t) refl refl x
+    reply_names (Access t d) r x = of_started t r (RequestReply s past t d (next_of s past t) r)
+        (λ alive. request_names t alive d (next_of s past t) r) (nat_lt t (start_count past)) (fate_of past t) refl refl x
     reply_names (Commit t) r x = of_started t r (CommitReply s past t (next_of s past t) r)
         (λ alive. commit_names t alive (next_of s past t) r) (nat_lt t (start_count past)) (fate_of past t) refl refl x
     reply_names (Quit t) r x = of_started t r (AbortReply past t cause.Quit r) (λ alive. abort_names t alive cause.Quit tt r)

@@ -4,7 +4,9 @@ use Rattle.std.specs.Prelude.{length}
 use Rattle.std.proofs.lemmas.Bool.{or_cases, eqb-true, ltb-true}
 use Rattle.std.specs.List.{list_any}
 use Rattle.sgt_model.specs.declared.event.Event.{Event}
-use Rattle.sgt_model.specs.declared.event.Event.TheVariants.{Start, Step, Commit, Quit}
+use Rattle.sgt_model.specs.declared.event.Event.TheVariants.{Start, Step, Access, Commit, Quit}
+use Rattle.sgt_model.specs.declared.event.Request.{Request}
+use Rattle.sgt_model.specs.declared.event.Request.TheVariants.{Read, Write}
 use Rattle.sgt_model.specs.declared.reply.Reply.{Reply}
 use Rattle.sgt_model.specs.declared.reply.Reply.TheVariants as reply
 use Rattle.sgt_model.specs.declared.reply.Cause.{Cause}
@@ -20,20 +22,20 @@ use Rattle.sgt_model.specs.Traces.{Raises, Ends, Looks, Next, Puts}
 use Rattle.sgt_model.specs.Fates.{fate_of, live, live_ones, start_count}
 use Rattle.sgt_model.specs.Closes.{Closes}
 use Rattle.sgt_model.specs.Settings.{Setting, takes}
-use Rattle.sgt_model.specs.Progress.{next_of}
-use Rattle.sgt_model.specs.Legality.{AbortReply, RaisedCommit, RaisedStep, CommitReply, MayRefuse, MustWait, Legal, LegalReply, OfStarted, CycleAbortReply, StepReply}
+use Rattle.sgt_model.specs.Progress.{next_of, requested, is_fit}
+use Rattle.sgt_model.specs.Legality.{AbortReply, RaisedCommit, RaisedStep, CommitReply, MayRefuse, MustWait, Legal, LegalReply, OfStarted, CycleAbortReply, StepReply, OfFit, RequestReply}
 use Rattle.sgt_model.specs.Left.{next_left}
 use Rattle.sgt_model.specs.State.{State}
 use Rattle.sgt_model.specs.StateAfter.{IsStateAfter}
 use Rattle.sgt_model.specs.Blocks.{Blocks}
 use Rattle.sgt_model.specs.StartReply.{args_fit, taken_reply}
-use Rattle.sgt_model.specs.CallEffects.{Undo, AbortEffect, RaisedCommitOn, RaisedStepOn, CommitEffect, CommitOn, IfOpen, QuitEffect, CycleAbortEffect, RefusesIn, StartEffect, StartOn, Stays, StepEffect, StepOn, WaitsOn}
+use Rattle.sgt_model.specs.CallEffects.{Undo, AbortEffect, RaisedCommitOn, RaisedStepOn, CommitEffect, CommitOn, IfOpen, QuitEffect, CycleAbortEffect, RefusesIn, StartEffect, StartOn, Stays, StepEffect, StepOn, IfFit, RequestOn, RequestEffect, WaitsOn}
 use Rattle.sgt_model.proofs.Effects.{Idle, ends_none-no_end, no_start-no_call}
 use Rattle.sgt_model.proofs.Facts.{live_from, member_from}
 use Rattle.sgt_model.proofs.Verdict.{blocks_from_closes, closes_from_blocks, falls_from, found-visible, least_from, none_from}
-use Rattle.sgt_model.proofs.LiveLeft.{next_is_left}
-use Rattle.sgt_model.proofs.AfterAccess.{after_look, after_store}
-use Rattle.sgt_model.proofs.AfterEnd.{Of, aborted_so, refused_so, after_undo, after_commit, after_nothing, gone_with, no_one, of_quit, of_step}
+use Rattle.sgt_model.proofs.LiveLeft.{next_is_left, left_looked, left_stored, request_looked, request_stored}
+use Rattle.sgt_model.proofs.AfterAccess.{after_look, after_store, look_asked, store_asked}
+use Rattle.sgt_model.proofs.AfterEnd.{Of, aborted_so, refused_so, after_undo, after_commit, after_nothing, gone_with, no_one, of_quit, of_step, of_request}
 use Rattle.sgt_model.proofs.AfterStart.{after_start}
 
 -- the reply leaves all as it was
@@ -111,9 +113,9 @@ module _ (s : Setting) (past : List Entry) (h : Legal s past) (before after : St
         (lived (cause.Asked code) x.fell alive x.undo) i x.undo.drops),
   )
 
-  refused_in : (k : Key) (kind : Kind) (r : Reply) → live past t ≡ true → CycleAbortEffect t k kind before r after
-      → CycleAbortReply past t k kind r × IsStateAfter s (entry (Step t) r ∷ past) after
-  refused_in k kind r alive x = let a = aborted_in (Step t) (cause.Cycle (t ∷ x.rest)) r (of_step t) alive x.aborts in
+  refused_in : (event : Event) → Of event t → (k : Key) (kind : Kind) (r : Reply) → live past t ≡ true
+      → CycleAbortEffect t k kind before r after → CycleAbortReply past t k kind r × IsStateAfter s (entry event r ∷ past) after
+  refused_in event of k kind r alive x = let a = aborted_in event (cause.Cycle (t ∷ x.rest)) r of alive x.aborts in
       (record { rest = x.rest; closes = closes_from_blocks s past h before i t k kind x.rest x.blocks; aborts = a.0 }, a.1)
 
   free_of : (k : Key) (kind : Kind) → live past t ≡ true → ((rest : List ℕ) → Blocks before t k kind rest → ⊥) → (rest : List ℕ)
@@ -127,19 +129,53 @@ module _ (s : Setting) (past : List Entry) (h : Legal s past) (before after : St
 
   step_on : (n : Next) (r : Reply) → next_of s past t ≡ n → live past t ≡ true → StepOn s.rules.limits.asks t n before r after
       → StepReply s past t n r × IsStateAfter s (entry (Step t) r ∷ past) after
-  step_on (Looks k) r next alive (inl x) = let y = refused_in k Look r alive x in (inl y.0, y.1)
+  step_on (Looks k) r next alive (inl x) = let y = refused_in (Step t) (of_step t) k Look r alive x in (inl y.0, y.1)
   step_on (Looks k) r next alive (inr x) = (
     inr (record { free = free_of k Look alive x.free; is = x.reply ∙ ap (reply.Looked k) (found-visible s past h before i k) }),
-    subst (λ z. IsStateAfter s (entry (Step t) z ∷ past) after) (sym x.reply) (after_look s past h before after i t k alive next x.looks),
+    subst (λ z. IsStateAfter s (entry (Step t) z ∷ past) after) (sym x.reply) (after_look s past h before after i t k alive (λ v. left_looked s past h t k v next) x.looks),
   )
-  step_on (Puts k v) r next alive (inl x) = let y = refused_in k Store r alive x in (inl y.0, y.1)
+  step_on (Puts k v) r next alive (inl x) = let y = refused_in (Step t) (of_step t) k Store r alive x in (inl y.0, y.1)
   step_on (Puts k v) r next alive (inr x) = (
     inr (record { free = free_of k Store alive x.free; is = x.reply }),
     subst (λ z. IsStateAfter s (entry (Step t) z ∷ past) after) (sym x.reply)
-        (after_store s past h before after i t k alive v next x.stores),
+        (after_store s past h before after i t k alive v (left_stored s past h t k v next) x.stores),
   )
   step_on (Ends answers) r next alive x = stayed s past (Step t) reply.Ended r before after refl i x
   step_on (Raises code) r next alive x = asked_step_on s.rules.limits.asks code r alive x
+
+  requested_on : (d : Request) (r : Reply) (answers : List ℤ) → next_of s past t ≡ Ends answers → live past t ≡ true
+      → StepOn s.rules.limits.asks t (requested d) before r after
+      → StepReply s past t (requested d) r × IsStateAfter s (entry (Access t d) r ∷ past) after
+  requested_on (Read k) r answers next alive (inl x) =
+      let y = refused_in (Access t (Read k)) (of_request t (Read k)) k Look r alive x in (inl y.0, y.1)
+  requested_on (Read k) r answers next alive (inr x) = (
+    inr (record { free = free_of k Look alive x.free; is = x.reply ∙ ap (reply.Looked k) (found-visible s past h before i k) }),
+    subst (λ z. IsStateAfter s (entry (Access t (Read k)) z ∷ past) after) (sym x.reply)
+        (look_asked s past t (Read k) k _ after
+        (after_look s past h before after i t k alive (λ v. request_looked s past h t answers k v next) x.looks)),
+  )
+  requested_on (Write k v) r answers next alive (inl x) =
+      let y = refused_in (Access t (Write k v)) (of_request t (Write k v)) k Store r alive x in (inl y.0, y.1)
+  requested_on (Write k v) r answers next alive (inr x) = (
+    inr (record { free = free_of k Store alive x.free; is = x.reply }),
+    subst (λ z. IsStateAfter s (entry (Access t (Write k v)) z ∷ past) after) (sym x.reply)
+        (store_asked s past t (Write k v) k v after
+        (after_store s past h before after i t k alive v (request_stored s past h t answers k v next) x.stores)),
+  )
+
+  fit_on : (d : Request) (r : Reply) (answers : List ℤ) → next_of s past t ≡ Ends answers → live past t ≡ true → (fit : Bool)
+      → IfFit fit before r after (StepOn s.rules.limits.asks t (requested d) before r after)
+      → OfFit fit r (StepReply s past t (requested d) r) × IsStateAfter s (entry (Access t d) r ∷ past) after
+  fit_on d r answers next alive true x = requested_on d r answers next alive x
+  fit_on d r answers next alive false x = stayed s past (Access t d) reply.BadArgs r before after refl i x
+
+  request_on : (d : Request) (n : Next) (r : Reply) → next_of s past t ≡ n → live past t ≡ true
+      → RequestOn s.rules.limits.asks t d n before r after
+      → RequestReply s past t d n r × IsStateAfter s (entry (Access t d) r ∷ past) after
+  request_on d (Ends answers) r next alive x = fit_on d r answers next alive (is_fit d) x
+  request_on d (Looks k) r next alive x = stayed s past (Access t d) reply.NotEnded r before after refl i x
+  request_on d (Puts k v) r next alive x = stayed s past (Access t d) reply.NotEnded r before after refl i x
+  request_on d (Raises code) r next alive x = stayed s past (Access t d) reply.NotEnded r before after refl i x
 
   waits_on : (r : Reply) → WaitsOn t before r after → MustWait past t r × IsStateAfter s (entry (Commit t) r ∷ past) after
   waits_on r x = let y = stayed s past (Commit t) (reply.Waits x.on) r before after refl i x.stays in
@@ -188,6 +224,12 @@ module _ (s : Setting) (past : List Entry) (h : Legal s past) (before after : St
   step_simulates r x = opened (Step t) r (StepOn s.rules.limits.asks t (next_left (before.left t)) before r after)
       (StepReply s past t (next_of s past t) r) (λ alive y. step_on (next_of s past t) r refl alive
       (subst (λ n. StepOn s.rules.limits.asks t n before r after) (next_same alive) y)) x
+
+  pub request_simulates : (d : Request) (r : Reply) → RequestEffect s.rules.limits.asks t d before r after
+      → LegalReply s past (Access t d) r × IsStateAfter s (entry (Access t d) r ∷ past) after
+  request_simulates d r x = opened (Access t d) r (RequestOn s.rules.limits.asks t d (next_left (before.left t)) before r after)
+      (RequestReply s past t d (next_of s past t) r) (λ alive y. request_on d (next_of s past t) r refl alive
+      (subst (λ n. RequestOn s.rules.limits.asks t d n before r after) (next_same alive) y)) x
 
   pub commit_simulates : (r : Reply) → CommitEffect s.rules.limits.asks t before r after → LegalReply s past (Commit t) r × IsStateAfter s
       (entry (Commit t) r ∷ past) after

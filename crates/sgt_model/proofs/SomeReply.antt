@@ -4,7 +4,8 @@ use Rattle.std.specs.Prelude.{◌≡◌, ◌≢◌, ℕ, ℤ, ◌<◌, ◌≤◌
 use Rattle.std.specs.List.{filter}
 use Rattle.std.proofs.Common.{refl, sym, ◌∙◌, subst, inl, inr, arith}
 use Rattle.std.proofs.lemmas.Bool.{and_parts, and_from, cases_Bool, cases_lt, both_ways, eq-eqb, ltb-true, ne_eqb, not-true, not_from_false}
-use Rattle.sgt_model.specs.declared.event.Event.TheVariants.{Start, Step, Commit, Quit}
+use Rattle.sgt_model.specs.declared.event.Event.TheVariants.{Start, Step, Access, Commit, Quit}
+use Rattle.sgt_model.specs.declared.event.Request.{Request}
 use Rattle.sgt_model.specs.declared.reply.Reply.{Reply}
 use Rattle.sgt_model.specs.declared.reply.Reply.TheVariants as reply
 use Rattle.sgt_model.specs.declared.reply.Cause.{Cause}
@@ -24,9 +25,9 @@ use Rattle.sgt_model.specs.Falls.{Feeds, Falls}
 use Rattle.sgt_model.specs.Pairs.{has_conflicting, Pair}
 use Rattle.sgt_model.specs.Closes.{Closes}
 use Rattle.sgt_model.specs.Settings.{Setting}
-use Rattle.sgt_model.specs.Progress.{next_of}
+use Rattle.sgt_model.specs.Progress.{next_of, requested, is_fit}
 use Rattle.sgt_model.specs.StartReply.{start_reply}
-use Rattle.sgt_model.specs.Legality.{RaisedStep, RaisedCommit, HasNoLivePredecessor, AbortReply, CycleAbortReply, Makes, StepReply, MustWait, MayCommit, CommitReply, OfStarted}
+use Rattle.sgt_model.specs.Legality.{RaisedStep, RaisedCommit, HasNoLivePredecessor, AbortReply, CycleAbortReply, Makes, StepReply, OfFit, RequestReply, MustWait, MayCommit, CommitReply, OfStarted}
 use Rattle.sgt_model.specs.OneReply.{SomeReplyIsLegal}
 use Rattle.sgt_model.proofs.Paths.{last_is_member, Simple, simple, simple_some}
 use Rattle.sgt_model.proofs.Listed.{member_added, kept_member, member_kept}
@@ -224,6 +225,16 @@ module _ (past : List Entry) (t : ℕ) where
   some_step s (Ends answers) = (reply.Ended, refl)
   some_step s (Raises code) = some_asked_step s.rules.limits.asks code
 
+  some_fit : (s : Setting) (n : Next) (fit : Bool) → (r : Reply) × OfFit fit r (StepReply s past t n r)
+  some_fit s n true = some_step s n
+  some_fit s n false = (reply.BadArgs, refl)
+
+  some_request : (s : Setting) (d : Request) (next : Next) → (r : Reply) × RequestReply s past t d next r
+  some_request s d (Ends answers) = some_fit s (requested d) (is_fit d)
+  some_request s d (Looks k) = (reply.NotEnded, refl)
+  some_request s d (Puts k v) = (reply.NotEnded, refl)
+  some_request s d (Raises code) = (reply.NotEnded, refl)
+
   some_commit : (s : Setting) (next : Next) → (r : Reply) × CommitReply s past t next r
   some_commit s (Ends answers) = some_end answers
   some_commit s (Looks k) = (reply.NotEnded, refl)
@@ -240,6 +251,8 @@ pub some_reply_is_legal : SomeReplyIsLegal
 some_reply_is_legal s past (Start p args) = (start_reply s.rules (start_count past) (length (live_ones past)) p args, refl)
 some_reply_is_legal s past (Step t) = some_of_started (λ r. StepReply s past t (next_of s past t) r)
     (some_step past t s (next_of s past t)) (nat_lt t (start_count past)) (fate_of past t)
+some_reply_is_legal s past (Access t d) = some_of_started (λ r. RequestReply s past t d (next_of s past t) r)
+    (some_request past t s d (next_of s past t)) (nat_lt t (start_count past)) (fate_of past t)
 some_reply_is_legal s past (Commit t) = some_of_started (λ r. CommitReply s past t (next_of s past t) r)
     (some_commit past t s (next_of s past t)) (nat_lt t (start_count past)) (fate_of past t)
 some_reply_is_legal s past (Quit t) = some_of_started (λ r. AbortReply past t cause.Quit r) (some_abort past t cause.Quit)

@@ -88,11 +88,11 @@ module _ (most : ℕ) (before after : State) (sound : Sound most before) where
         (notes_pairs t k Look l.notes) (before.chain j) (sound.order j));
   }
     where
-      source : (u : ℕ) (o : Option (ℕ × ℤ)) → top before k ≡ o → SourceIs o u → writes_in u (before.chain k) ≡ true
+      source : (u : ℕ) (o : Option (ℕ × Option ℤ)) → top before k ≡ o → SourceIs o u → writes_in u (before.chain k) ≡ true
       source u None e q = absurd q
       source u (Some w) e q = subst (λ v. writes_in v (before.chain k) ≡ true) q (last_writes (before.chain k) w e)
 
-  pub sound_store : (t : ℕ) (k : Key) (v : ℤ) → before.nodes t ≡ true → Notes t k Store before after
+  pub sound_store : (t : ℕ) (k : Key) (v : Option ℤ) → before.nodes t ≡ true → Notes t k Store before after
       → ((j : Key) → after.chain j ≡ cond (key_eq k j) (write_last t v (before.chain j)) (before.chain j))
       → ((u w : ℕ) → Has after.read_from u w ↔ Has before.read_from u w) → Sound most after
   sound_store t k v node n chain read_from = record {
@@ -218,7 +218,7 @@ module _ (most : ℕ) (before after : State) (sound : Sound most before) where
               (ap (λ y. not (gone y)) (eqb-true x.by u (and_parts (nat_eq x.by u) (key_eq x.key j && one_stores x.kind way) now).0) ∙ g))
           one false e ih (inr z) = ih z
 
-      writer_was : (u : ℕ) (c : List (ℕ × ℤ)) → writes_in u (filter (λ w. not (gone w.0)) c) ≡ true
+      writer_was : (u : ℕ) (c : List (ℕ × Option ℤ)) → writes_in u (filter (λ w. not (gone w.0)) c) ≡ true
           → (not (gone u) ≡ true) × (writes_in u c ≡ true)
       writer_was u [] q = absurd (cc)
       writer_was u (x ∷ l) q = one (not (gone x.0)) refl (writer_was u l) q

@@ -1,29 +1,32 @@
 -- From the law that a run at once is its trace to the law over a transaction's acts.
-use Rattle.std.specs.Prelude.{◌≡◌, ℕ, ◌+◌, ℤ, pos, ◌&&◌, cond, ◌⊎◌, List, [], ◌∷◌, ◌++◌, length, Option, Some}
-use Rattle.std.specs.Option.{unwrap_or}
+use Rattle.std.specs.Prelude.{◌≡◌, ℕ, zero, suc, ◌+◌, ◌≤◌, ℤ, true, ◌&&◌, cond, ◌⊎◌, List, [], ◌∷◌, ◌++◌, length, map, Option, Some, None}
 use Rattle.std.proofs.Common.{refl, sym, ap, ap₂, ◌∙◌, subst, subst₂, inl, inr, arith, append_assoc, append-nil, length-append}
 use Rattle.sgt_model.specs.declared.kind.Kind.{Kind}
 use Rattle.sgt_model.specs.declared.kind.Kind.TheVariants.{Look, Store}
-use Rattle.sgt_model.specs.Contents.{Key, key_eq, Contents, put_in}
-use Rattle.sgt_model.specs.Runs.{Run, looks, puts, ends, raises, serial}
-use Rattle.sgt_model.specs.Traces.{Act, look, put, TraceEnding, ended, raising, Trace, after_access, trace, Next, Looks, Puts, Ends, Raises, next_at, Finds, with_stores, GivesAt, RunIsTrace}
+use Rattle.sgt_model.specs.Contents.{Key, key_eq, Contents, set_in}
+use Rattle.sgt_model.specs.Runs.{Run, looks, puts, ends, raises, serial, Outcome, Done, Asked, same_told, with_access, with_accesses}
+use Rattle.sgt_model.specs.Traces.{Act, look, put, TraceEnding, ended, raising, next_of_ending, Trace, after_access, trace, Next, Looks, Puts, Ends, Raises, next_at, Finds, with_stores, GivesAt, RunIsTrace}
 use Rattle.sgt_model.specs.Accesses.{Access, is_store}
-use Rattle.sgt_model.specs.Progress.{if_look, values_read}
+use Rattle.sgt_model.specs.Progress.{if_look, values_read, requested, is_fit}
+use Rattle.sgt_model.specs.declared.event.Request.{Request}
+use Rattle.sgt_model.specs.declared.event.Request.TheVariants.{Read, Write}
+use Rattle.std.specs.Ordering.{int_eq}
+use Rattle.std.proofs.lemmas.Bool.Decides.{Decides-int_eq}
 use Rattle.sgt_model.proofs.Effects.{Fits}
 use Rattle.sgt_model.proofs.Stores.{found}
-use Rattle.sgt_model.proofs.Acts.{asks_of, AsAsked, stored, over, FindsIn, ActsLaw}
+use Rattle.sgt_model.proofs.Acts.{asks_of, AsAsked, stored, over, FindsIn, ActsLaw, DoneWith, caller_access_by, caller_access_of, AllFit}
 
 -- the law holds of each run
 pub run_is_trace : (r : Run) → RunIsTrace r
 run_is_trace (looks k go) m [] f = tt
 run_is_trace (looks k go) m (v ∷ vs) f = subst (λ w. GivesAt (trace (go v) vs).ending (with_stores m (trace (go v) vs).accesses)
     (serial (go w) m)) f.0 (run_is_trace (go v) m vs f.1)
-run_is_trace (puts k v rest) m vs f = run_is_trace rest (put_in m k v) vs f
+run_is_trace (puts k v rest) m vs f = run_is_trace rest (set_in m k v) vs f
 run_is_trace (ends answers) m vs f = refl
 run_is_trace (raises code) m vs f = refl
 
 abbrev act_of : Kind → Key → Option ℤ → Act
-act_of kind k v = cond (is_store kind) (put k (unwrap_or v (pos 0))) (look k)
+act_of kind k v = cond (is_store kind) (put k v) (look k)
 
 abbrev as_act : Access → Act
 as_act a = act_of a.kind a.key a.value
@@ -33,20 +36,20 @@ abbrev olds : List Access → List Act
 olds [] = []
 olds (a ∷ done) = olds done ++ as_act a ∷ []
 
-abbrev left_by : Run → Access → Run
+abbrev pub left_by : Run → Access → Run
 left_by (looks k go) a = go a.value
 left_by (puts k v rest) a = rest
 left_by (ends answers) a = ends answers
 left_by (raises code) a = raises code
 
-abbrev left : Run → List Access → Run
+abbrev pub left : Run → List Access → Run
 left r [] = r
 left r (a ∷ done) = left_by (left r done) a
 
 abbrev behind : List Act → Trace → Trace
 behind xs t = record { accesses = xs ++ t.accesses; ending = t.ending }
 
-abbrev next_of_run : Run → Next
+abbrev pub next_of_run : Run → Next
 next_of_run (looks k go) = Looks k
 next_of_run (puts k v rest) = Puts k v
 next_of_run (ends answers) = Ends answers
@@ -99,9 +102,9 @@ trace_left r (a ∷ done) h ws =
     (trace_by (left r done) a ws (subst (λ n. Fits n a) (next_left r done (trace_left r done h.0 [])) h.1))
     ∙ behind_append (olds done) (as_act a) (trace (left_by (left r done) a) ws)))
 
--- a read, or a write of a value
+-- a read, or a write of a value or of none
 abbrev Shape : Access → Type 0
-Shape a = (a.kind ≡ Look) ⊎ ((v : ℤ) × (a.kind ≡ Store) × (a.value ≡ Some v))
+Shape a = (a.kind ≡ Look) ⊎ ((v : Option ℤ) × (a.kind ≡ Store) × (a.value ≡ v))
 
 abbrev Shaped : List Access → Type 0
 Shaped [] = Unit {0}
@@ -120,7 +123,7 @@ asked_shaped asked (a ∷ done) h = (asked_shaped asked done h.0, fits_shape (as
 with_append : (m : Contents) (xs ys : List Act) → with_stores m (xs ++ ys) ≡ with_stores (with_stores m xs) ys
 with_append m [] ys = refl
 with_append m (look k ∷ xs) ys = with_append m xs ys
-with_append m (put k v ∷ xs) ys = with_append (put_in m k v) xs ys
+with_append m (put k v ∷ xs) ys = with_append (set_in m k v) xs ys
 
 with_one : (m : Contents) (a : Access) (k : Key) → Shape a → with_stores m (as_act a ∷ []) k ≡ stored a k (m k)
 with_one m a k (inl h) = ap (λ kind. with_stores m (act_of kind a.key a.value ∷ []) k) h
@@ -184,7 +187,7 @@ gives r law m done e h f g =
     let P : Trace → Type 0 = λ t. Finds m t.accesses (values_read done) → GivesAt t.ending (with_stores m t.accesses) (serial r m) in
     (subst P (whole_trace r done e h g) (law m (values_read done))) found
 
-left_next : (r : Run) (done : List Access) → AsAsked (asks_of r) done → next_at (trace r (values_read done)) (length done) ≡ next_of_run
+pub left_next : (r : Run) (done : List Access) → AsAsked (asks_of r) done → next_at (trace r (values_read done)) (length done) ≡ next_of_run
     (left r done)
 left_next r done h = next_left r done (trace_left r done h [])
 
@@ -198,3 +201,78 @@ law_over_acts r law = record {
   );
   asked = λ m done code h f e. gives r law m done (raising code) h f (asking_trace (left r done) code (sym (left_next r done h) ∙ e));
 }
+
+-- ---- past its end
+
+pub values_append : (more own : List Access) → values_read (more ++ own) ≡ values_read own ++ values_read more
+values_append [] own = sym (append-nil (values_read own))
+values_append (a ∷ more) own =
+    ap (λ l. l ++ if_look a.kind a.value) (values_append more own) ∙ append_assoc (values_read own) (values_read more) (if_look a.kind a.value)
+
+-- past its accesses a trace has its ending next
+next_past : (xs : List Act) (e : TraceEnding) (n : ℕ) → length xs ≤ n → next_at (behind xs (over_with [] e)) n ≡ next_of_ending e
+next_past [] e zero h = refl
+next_past [] e (suc n) h = refl
+next_past (x ∷ xs) e zero h = absurd (omega arith)
+next_past (x ∷ xs) e (suc n) h = next_past xs e n (omega arith)
+
+at_end_trace : (r : Run) (answers : List ℤ) (ws : List (Option ℤ)) → next_of_run r ≡ Ends answers → trace r ws ≡ over_with [] (ended answers)
+at_end_trace (looks k go) answers ws h = absurd (cc h)
+at_end_trace (puts k v rest) answers ws h = absurd (cc h)
+at_end_trace (ends given) answers ws h = let e : given ≡ answers = cc h in ap (λ l. over_with [] (ended l)) e
+at_end_trace (raises code) answers ws h = absurd (cc h)
+
+-- a run that is at its end stays there, whatever further accesses are made
+pub past_end : (r : Run) (own : List Access) (answers : List ℤ) → AsAsked (asks_of r) own
+    → asks_of r (values_read own) (length own) ≡ Ends answers → (more : List Access)
+    → asks_of r (values_read (more ++ own)) (length (more ++ own)) ≡ Ends answers
+past_end r own answers h e more =
+    let is_end : next_of_run (left r own) ≡ Ends answers = sym (left_next r own h) ∙ e in
+    let whole : trace r (values_read own ++ values_read more) ≡ behind (olds own) (over_with [] (ended answers)) =
+    trace_left r own h (values_read more) ∙ ap (λ t. behind (olds own) t) (at_end_trace (left r own) answers (values_read more) is_end) in
+    let long = length-append more own in
+    let same = length-olds own in
+    let few : length (olds own) ≤ length (more ++ own) = omega arith in
+    ap (λ vs. next_at (trace r vs) (length (more ++ own))) (values_append more own)
+    ∙ (ap (λ t. next_at t (length (more ++ own))) whole
+    ∙ next_past (olds own) (ended answers) (length (more ++ own)) few)
+
+-- what a caller requested after the end of a run at once, on the contents so far
+
+int_same : (v : ℤ) → int_eq v v ≡ true
+int_same v = (Decides-int_eq v v).1 refl
+
+told_same : (v w : Option ℤ) → v ≡ w → same_told v w ≡ true
+told_same None None e = refl
+told_same None (Some w) e = absurd (cc e)
+told_same (Some v) None e = absurd (cc e)
+told_same (Some v) (Some w) e = subst (λ x. same_told (Some v) x ≡ true) e (int_same v)
+
+one_done : (m : Contents) (a : Access) (l : List Access) (o : Outcome) (answers : List ℤ) (d : Request) → is_fit d ≡ true
+    → Fits (requested d) a → (a.kind ≡ Look → a.value ≡ over m l a.key) → DoneWith o answers (over m l)
+    → DoneWith (with_access (caller_access_of a) o) answers (over m (a ∷ l))
+one_done m a l o answers (Read k) fit fits found (last, is, same) =
+    let v : a.value ≡ last a.key = found fits.1 ∙ sym (same a.key) in (
+      last,
+      ap₂ (λ kind r. with_access (caller_access_by kind a.key a.value) r) fits.1 is
+          ∙ ap (λ b. cond b (Done answers last) (Asked 0)) (told_same a.value (last a.key) v),
+      λ j. same j ∙ ap (λ kind. cond (is_store kind && key_eq a.key j) a.value (over m l j)) (sym fits.1),
+    )
+one_done m a l o answers (Write k w) fit fits found (last, is, same) = (
+  set_in last a.key w,
+  ap₂ (λ kind r. with_access (caller_access_by kind a.key a.value) r) fits.1 is
+      ∙ (ap (λ x. with_access (caller_access_by Store a.key x) (Done answers last)) fits.2
+      ∙ ap (λ b. cond b (Done answers (set_in last a.key w)) (Asked 0)) fit),
+  λ j. ap (λ x. cond (key_eq a.key j) w x) (same j)
+      ∙ ap₂ (λ kind x. cond (is_store kind && key_eq a.key j) x (over m l j)) (sym fits.1) (sym fits.2),
+)
+
+pub gone_done : (m : Contents) (own more : List Access) (o : Outcome) (answers : List ℤ) → AllFit more → FindsIn m (more ++ own)
+    → DoneWith o answers (over m own) → DoneWith (with_accesses (map caller_access_of more) o) answers (over m (more ++ own))
+gone_done m own [] o answers fit f d = d
+gone_done m own (a ∷ more) o answers fit f d = one_done m a (more ++ own) (with_accesses (map caller_access_of more) o) answers fit.1.0 fit.1.1 fit.1.2 f.1
+    (gone_done m own more o answers fit.0 f.0 d)
+
+pub finds_own : (m : Contents) (more own : List Access) → FindsIn m (more ++ own) → FindsIn m own
+finds_own m [] own f = f
+finds_own m (a ∷ more) own f = finds_own m more own f.0

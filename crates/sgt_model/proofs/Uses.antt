@@ -19,7 +19,7 @@ used_look-suc (ends answers) vs (suc made) k v u e = absurd u
 used_look-suc (raises code) vs (suc made) k v u e = absurd u
 
 -- where a write is next, it is made
-pub used_store-suc : (r : Run) (vs : List (Option ℤ)) (made : ℕ) (k : Key) (x : ℤ) → Used r vs made
+pub used_store-suc : (r : Run) (vs : List (Option ℤ)) (made : ℕ) (k : Key) (x : Option ℤ) → Used r vs made
     → next_at (trace r vs) made ≡ Puts k x → Used r vs (suc made)
 used_store-suc (looks j go) [] zero k x u e = absurd (cc)
 used_store-suc (puts j y rest) [] zero k x u e = tt

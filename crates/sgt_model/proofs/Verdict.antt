@@ -31,7 +31,7 @@ use Rattle.sgt_model.proofs.PairOrder.{no_pair_from_live}
 use Rattle.sgt_model.proofs.Stores.{is_by, newest-counts, newest_agree}
 use Rattle.sgt_model.proofs.Sources.{read-precedes, source_commits_before, source_of_standing_stands}
 use Rattle.sgt_model.proofs.Counted.{lists_conflicting-counts, lists_conflicting-access_list}
-use Rattle.sgt_model.proofs.Chains.{chain-last, entry_of, newest-split, newest-value}
+use Rattle.sgt_model.proofs.Chains.{chain-last, entry_of, newest-split}
 
 module _ (s : Setting) (past : List Entry) (h : Legal s past) where
   -- an edge out of a live transaction leads to a live one
@@ -129,7 +129,7 @@ module _ (s : Setting) (past : List Entry) (h : Legal s past) where
         go : (o : Option Access) → newest_store (live past) k past ≡ o → top_value (entry_of o)
             (settled s.opening past k) ≡ value_or (option_or o (newest_store (committed past) k past)) (s.opening k)
         go None e = refl
-        go (Some a) e = sym (newest-value (live past) k past a e)
+        go (Some a) e = refl
 
     pub source_from : (k : Key) (u : ℕ) → SourceIs (top c k) u → IsBy (newest_store (λ t. not (aborted past t)) k past) u
     source_from k u q = subst (λ o. IsBy o u) (sym (newest-standing k))

@@ -237,7 +237,7 @@ abbrev refused_writer : List Entry
 refused_writer =
     entry (Start 1 []) (reply.Started 1)
     ∷ entry (Commit 0) (reply.Refused 9 [])
-    ∷ entry (Step 0) (reply.Wrote (3, pos 7) (pos 4))
+    ∷ entry (Step 0) (reply.Wrote (3, pos 7) (Some (pos 4)))
     ∷ entry (Start 0 []) (reply.Started 0)
     ∷ []
 

@@ -2,6 +2,7 @@
 use Rattle.std.specs.Prelude.{◌≡◌, ℕ, List, [], ◌∷◌, Option, Some, None}
 use Rattle.sgt_model.specs.declared.event.Event.{Event}
 use Rattle.sgt_model.specs.declared.event.Event.TheVariants.{Step, Quit}
+use Rattle.sgt_model.specs.declared.event.Event.TheVariants as event
 use Rattle.sgt_model.specs.declared.reply.Reply.{Reply}
 use Rattle.sgt_model.specs.declared.reply.Reply.TheVariants as reply
 use Rattle.sgt_model.specs.declared.reply.Cause.{Cause}
@@ -18,7 +19,7 @@ use Rattle.sgt_model.specs.Falls.{Falls}
 use Rattle.sgt_model.specs.Pairs.{Pair}
 use Rattle.sgt_model.specs.Closes.{Closes}
 use Rattle.sgt_model.specs.Settings.{Setting}
-use Rattle.sgt_model.specs.Progress.{next_of}
+use Rattle.sgt_model.specs.Progress.{next_of, requested}
 
 -- what comes next is an access of that kind of the key
 abbrev pub Wants : Next → Key → Kind → Type 0
@@ -32,20 +33,21 @@ abbrev pub IsAccessBy : Option Access → ℕ → Key → Kind → Type 0
 IsAccessBy None t k kind = ⊥
 IsAccessBy (Some a) t k kind = (a.by ≡ t) × (a.key ≡ k) × (a.kind ≡ kind)
 
--- t's next access would close this path (`walk`) to a cycle; and with that access added as an entry, no serial order of the
+-- t's access that is next would close this path (`walk`) to a cycle; and with that access added as an entry, no serial order of the
 -- path's members agrees with all edges among them
-pub record ClosesCycle (s : Setting) (past : List Entry) (t : ℕ) (walk : List ℕ) : Type 0 where
+pub record ClosesCycle (past : List Entry) (t : ℕ) (next : Next) (walk : List ℕ) : Type 0 where
   pub rest : List ℕ
   pub is : walk ≡ t ∷ rest
   pub key : Key
   pub kind : Kind
-  pub wants : Wants (next_of s past t) key kind
+  pub wants : Wants next key kind
   pub closes : Closes past t key kind rest
   pub no_order : (e : Entry) → IsAccessBy (access_of e) t key kind → (order : List ℕ) → Orders (Pair (e ∷ past)) walk order → ⊥
 
 -- the cause that a reply names is true: the step would close that cycle, the procedure raises that code, or the caller quits
 abbrev pub CauseHolds : Setting → List Entry → Event → Cause → Type 0
-CauseHolds s past (Step t) (cause.Cycle walk) = ClosesCycle s past t walk
+CauseHolds s past (Step t) (cause.Cycle walk) = ClosesCycle past t (next_of s past t) walk
+CauseHolds s past (event.Access t d) (cause.Cycle walk) = ClosesCycle past t (requested d) walk
 CauseHolds s past (Step t) (cause.Asked code) = next_of s past t ≡ Raises code
 CauseHolds s past (Quit t) cause.Quit = Unit {0}
 CauseHolds s past _ _ = ⊥

@@ -4,6 +4,7 @@
 use Rattle.std.specs.Prelude.{ℕ, ℤ, Bool, true, false, cond, nat_eq, List, [], ◌∷◌, Option, Some, None}
 use Rattle.sgt_model.specs.declared.event.Event.{Event}
 use Rattle.sgt_model.specs.declared.event.Event.TheVariants.{Step}
+use Rattle.sgt_model.specs.declared.event.Event.TheVariants as event
 use Rattle.sgt_model.specs.declared.reply.Reply.{Reply}
 use Rattle.sgt_model.specs.declared.reply.Reply.TheVariants as reply
 use Rattle.sgt_model.specs.declared.entry.Entry.{Entry}
@@ -11,7 +12,7 @@ use Rattle.sgt_model.specs.declared.kind.Kind.{Kind}
 use Rattle.sgt_model.specs.declared.kind.Kind.TheVariants.{Look, Store}
 use Rattle.sgt_model.specs.Contents.{Key}
 
--- what a transaction did to a record: a read that returned a value or none, or a write of a value
+-- what a transaction did to a record: a read that returned a value or none, or a write of a value or none
 pub record Access : Type 0 where
   pub by : ℕ
   pub key : Key
@@ -23,15 +24,16 @@ abbrev pub is_store : Kind → Bool
 is_store Look = false
 is_store Store = true
 
--- a step is an access by its transaction
+-- a step, or a request of a caller, is an access by its transaction
 abbrev pub access_at : Event → Key → Kind → Option ℤ → Option Access
 access_at (Step t) k kind v = Some (record { by = t; key = k; kind = kind; value = v })
+access_at (event.Access t d) k kind v = Some (record { by = t; key = k; kind = kind; value = v })
 access_at _ k kind v = None
 
 -- the access that an event with this reply is, if any: a step that was answered Looked or Wrote
 abbrev pub access_in : Event → Reply → Option Access
 access_in event (reply.Looked k v) = access_at event k Look v
-access_in event (reply.Wrote k v) = access_at event k Store (Some v)
+access_in event (reply.Wrote k v) = access_at event k Store v
 access_in event _ = None
 
 -- the access that an entry is, if any

@@ -1,7 +1,8 @@
 -- What a call replies and does, as a relation of the states before and after.
 use Rattle.std.specs.Prelude.{◌≡◌, ℕ, ℤ, Bool, true, false, ◌⊎◌, nat_lt, List, ◌∷◌, length, Option, Some, None}
 use Rattle.sgt_model.specs.declared.event.Event.{Event}
-use Rattle.sgt_model.specs.declared.event.Event.TheVariants.{Start, Step, Commit, Quit}
+use Rattle.sgt_model.specs.declared.event.Event.TheVariants.{Start, Step, Access, Commit, Quit}
+use Rattle.sgt_model.specs.declared.event.Request.{Request}
 use Rattle.sgt_model.specs.declared.reply.Reply.{Reply}
 use Rattle.sgt_model.specs.declared.reply.Reply.TheVariants as reply
 use Rattle.sgt_model.specs.declared.reply.Cause.{Cause}
@@ -16,6 +17,7 @@ use Rattle.sgt_model.specs.Syntax.{ProcedureText}
 use Rattle.sgt_model.specs.Traces.{Next, Looks, Puts, Ends, Raises}
 use Rattle.sgt_model.specs.Walks.{IsLeastPredecessor, HasNoPredecessor}
 use Rattle.sgt_model.specs.Settings.{Rules}
+use Rattle.sgt_model.specs.Progress.{requested, is_fit}
 use Rattle.sgt_model.specs.StartReply.{start_reply}
 use Rattle.sgt_model.specs.Left.{next_left}
 use Rattle.sgt_model.specs.LiveLeft.{left_if}
@@ -62,7 +64,7 @@ pub record MakesLook (t : ℕ) (k : Key) (before : State) (r : Reply) (after : S
   pub looks : LooksAt t k before after
 
 -- a write that nothing blocks is made
-pub record MakesStore (t : ℕ) (k : Key) (v : ℤ) (before : State) (r : Reply) (after : State) : Type 0 where
+pub record MakesStore (t : ℕ) (k : Key) (v : Option ℤ) (before : State) (r : Reply) (after : State) : Type 0 where
   pub free : (rest : List ℕ) → Blocks before t k Store rest → ⊥
   pub reply : r ≡ reply.Wrote k v
   pub stores : StoresInto t k v before after
@@ -82,6 +84,24 @@ StepOn asks t (Raises code) before r after = RaisedStepOn asks t code before r a
 -- a step of any transaction
 abbrev pub StepEffect : Asks → ℕ → State → Reply → State → Type 0
 StepEffect asks t before r after = IfOpen (nat_lt t before.start_count) (before.fates t) before r after (StepOn asks t (next_left (before.left t)) before r after)
+
+-- an access on which the caller decides
+
+-- what is written has to be a value, or none
+abbrev pub IfFit : Bool → State → Reply → State → Type 0 → Type 0
+IfFit true before r after if_fit = if_fit
+IfFit false before r after if_fit = Stays reply.BadArgs before r after
+
+-- such an access of a live transaction, whose procedure has to be at its end
+abbrev pub RequestOn : Asks → ℕ → Request → Next → State → Reply → State → Type 0
+RequestOn asks t d (Ends answers) before r after = IfFit (is_fit d) before r after (StepOn asks t (requested d) before r after)
+RequestOn asks t d (Looks k) before r after = Stays reply.NotEnded before r after
+RequestOn asks t d (Puts k v) before r after = Stays reply.NotEnded before r after
+RequestOn asks t d (Raises code) before r after = Stays reply.NotEnded before r after
+
+-- such an access of any transaction
+abbrev pub RequestEffect : Asks → ℕ → Request → State → Reply → State → Type 0
+RequestEffect asks t d before r after = IfOpen (nat_lt t before.start_count) (before.fates t) before r after (RequestOn asks t d (next_left (before.left t)) before r after)
 
 -- a commit
 
@@ -147,5 +167,6 @@ pub record StartEffect (rules : Rules) (p : ℕ) (args : List ℤ) (before : Sta
 abbrev pub CallEffect : Rules → Event → State → Reply → State → Type 0
 CallEffect rules (Start p args) before r after = StartEffect rules p args before r after
 CallEffect rules (Step t) before r after = StepEffect rules.limits.asks t before r after
+CallEffect rules (Access t d) before r after = RequestEffect rules.limits.asks t d before r after
 CallEffect rules (Commit t) before r after = CommitEffect rules.limits.asks t before r after
 CallEffect rules (Quit t) before r after = QuitEffect t before r after

@@ -1,7 +1,7 @@
 -- What an event does to the state.
-use Rattle.std.specs.Prelude.{◌≡◌, ◌≢◌, ℕ, ◌+◌, ℤ, Bool, true, false, not, ◌&&◌, ◌||◌, cond, ◌⊎◌, ◌↔◌, nat_eq, List, [], ◌∷◌, ◌++◌, Some}
+use Rattle.std.specs.Prelude.{◌≡◌, ◌≢◌, ℕ, ◌+◌, ℤ, Bool, true, false, not, ◌&&◌, ◌||◌, cond, ◌⊎◌, ◌↔◌, nat_eq, List, [], ◌∷◌, ◌++◌, Some, Option}
 use Rattle.std.specs.List.{list_any, filter}
-use Rattle.std.specs.Option.{option_or}
+use Rattle.std.specs.Option.{unwrap_or}
 use Rattle.sgt_model.specs.declared.reply.Cause.{Cause}
 use Rattle.sgt_model.specs.declared.reply.Fate.TheVariants as fate
 use Rattle.sgt_model.specs.declared.kind.Kind.{Kind}
@@ -32,7 +32,7 @@ pub record LooksAt (t : ℕ) (k : Key) (before after : State) : Type 0 where
   pub own_left : after.left t ≡ after_look (found before k) (before.left t)
 
 -- t writes a value
-pub record StoresInto (t : ℕ) (k : Key) (v : ℤ) (before after : State) : Type 0 where
+pub record StoresInto (t : ℕ) (k : Key) (v : Option ℤ) (before after : State) : Type 0 where
   pub notes : Notes t k Store before after
   pub chain : (j : Key) → after.chain j ≡ cond (key_eq k j) (write_last t v (before.chain j)) (before.chain j)
   pub read_from : (u w : ℕ) → Has after.read_from u w ↔ Has before.read_from u w
@@ -66,7 +66,7 @@ pub record Removes (gone : ℕ → Bool) (before after : State) : Type 0 where
 -- `Settles`: t commits, and its values become the committed ones
 pub record Settles (t : ℕ) (before after : State) : Type 0 where
   pub removes : Removes (λ u. nat_eq t u) before after
-  pub settled : (k : Key) → after.settled k ≡ option_or (value_in t (before.chain k)) (before.settled k)
+  pub settled : (k : Key) → after.settled k ≡ unwrap_or (value_in t (before.chain k)) (before.settled k)
   pub fates : (u : ℕ) → after.fates u ≡ cond (nat_eq t u) (Some fate.Committed) (before.fates u)
 
 -- t is aborted, with those aborted in cascade: their values are dropped

@@ -1,15 +1,15 @@
 -- The replay in the plain meaning of the language. The committed and refused procedures of a history are executed one after
 -- another, in reply order, each on the database that the ones before it left. It uses no runs: a law says that it is the
 -- replay of runs.
-use Rattle.std.specs.Prelude.{◌≡◌, ℤ, List, [], ◌∷◌, Option, Some, None, slice_get}
+use Rattle.std.specs.Prelude.{◌≡◌, ℤ, List, [], ◌∷◌, Option, Some, None}
 use Rattle.sgt_model.specs.declared.limits.Limits.{Limits}
 use Rattle.sgt_model.specs.declared.entry.Entry.{Entry}
 use Rattle.sgt_model.specs.Contents.{Key, Contents}
 use Rattle.sgt_model.specs.Syntax.{ProcedureText}
-use Rattle.sgt_model.specs.Runs.{Outcome, Asked}
+use Rattle.sgt_model.specs.Runs.{Outcome, Asked, with_accesses}
 use Rattle.sgt_model.specs.Executions.{stuck, execution}
 use Rattle.sgt_model.specs.Values.{settled}
-use Rattle.sgt_model.specs.Settings.{setting}
+use Rattle.sgt_model.specs.Settings.{setting, procedure_at}
 use Rattle.sgt_model.specs.Progress.{Call}
 use Rattle.sgt_model.specs.Legality.{Legal}
 use Rattle.sgt_model.specs.Replay.{Folded, with_outcome, told_calls, told}
@@ -21,7 +21,7 @@ execution_if (Some p) args database = execution p args database
 
 -- what a call does to a database: procedures are numbered from 0
 abbrev pub execution_of : List ProcedureText → Call → Contents → Outcome
-execution_of programs c database = execution_if (slice_get programs c.procedure) c.args database
+execution_of programs c database = with_accesses c.caller_accesses (execution_if (procedure_at programs c.procedure) c.args database)
 
 -- these calls, the last one first, executed one after another on the initial database
 abbrev pub execute_in_turn : Contents → List ProcedureText → List Call → Folded

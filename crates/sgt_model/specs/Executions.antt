@@ -4,7 +4,7 @@
 use Rattle.std.specs.Prelude.{◌≡◌, ℕ, ℤ, ◌+ℤ◌, ◌-ℤ◌, ◌*ℤ◌, pos, int_div, int_lt, int_le, Bool, ◌&&◌, cond, nat_le, nat_lt, List, [], ◌∷◌, ◌++◌, length, Option, Some, None, Result, Ok, Err, ok_or, slice_get, slice_index_or, slice_set, replicate}
 use Rattle.std.specs.Ordering.{int_eq}
 use Rattle.sgt_model.specs.Numbers.{is_value}
-use Rattle.sgt_model.specs.Contents.{Key, Contents, put_in}
+use Rattle.sgt_model.specs.Contents.{Key, Contents, set_in}
 use Rattle.sgt_model.specs.Syntax.{ExprText, num, arg, reg, sum, diff, product, quotient, CondText, less, at_most, equal, Block, empty, look, find, put, save, ask, choose, answer, ProcedureText}
 use Rattle.sgt_model.specs.Runs.{Outcome, Done, Asked, serial}
 use Rattle.sgt_model.specs.Meaning.{found_or, run_with}
@@ -49,9 +49,9 @@ workspace_of database = record { registers = replicate 16 None; working = databa
 abbrev pub into_register : ℕ → ℤ → Workspace → Workspace
 into_register to v w = record { registers = slice_set w.registers to (Some v); working = w.working; answers = w.answers }
 
--- a value is written to a record of the working map
-abbrev pub into_record : Key → ℤ → Workspace → Workspace
-into_record key v w = record { registers = w.registers; working = put_in w.working key v; answers = w.answers }
+-- a record of the working map is set to a value, or to none
+abbrev pub into_record : Key → Option ℤ → Workspace → Workspace
+into_record key v w = record { registers = w.registers; working = set_in w.working key v; answers = w.answers }
 
 -- a value is added after the answers
 abbrev pub into_answers : ℤ → Workspace → Workspace
@@ -115,7 +115,7 @@ put_record args table id value w =
     and_then (evaluate id args w) (λ n.
     and_then (evaluate value args w) (λ v.
     and_then (key_of table n) (λ key.
-    provided (is_value v) (into_record key v w) stuck)))
+    provided (is_value v) (into_record key (Some v) w) stuck)))
 
 -- Let: the register gets the value
 abbrev pub let_register : List ℤ → (to : ℕ) → (value : ExprText) → Workspace → OrCode Workspace

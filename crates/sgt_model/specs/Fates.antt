@@ -4,7 +4,7 @@ use Rattle.std.specs.Prelude.{ℕ, ◌+◌, Bool, true, false, ◌&&◌, cond, n
 use Rattle.std.specs.List.{list_any, filter}
 use Rattle.std.specs.Option.{option_or, is_none}
 use Rattle.sgt_model.specs.declared.event.Event.{Event}
-use Rattle.sgt_model.specs.declared.event.Event.TheVariants.{Start, Step, Commit, Quit}
+use Rattle.sgt_model.specs.declared.event.Event.TheVariants.{Start, Step, Access, Commit, Quit}
 use Rattle.sgt_model.specs.declared.reply.Reply.{Reply}
 use Rattle.sgt_model.specs.declared.reply.Reply.TheVariants as reply
 use Rattle.sgt_model.specs.declared.reply.Cause.{Cause}
@@ -27,6 +27,7 @@ start_count (e ∷ past) = cond (is_start e.reply) (start_count past + 1) (start
 abbrev pub concerns : Event → ℕ → Bool
 concerns (Start p args) t = false
 concerns (Step u) t = nat_eq u t
+concerns (Access u d) t = nat_eq u t
 concerns (Commit u) t = nat_eq u t
 concerns (Quit u) t = nat_eq u t
 
@@ -34,6 +35,7 @@ concerns (Quit u) t = nat_eq u t
 abbrev pub subject : Event → ℕ
 subject (Start p args) = 0
 subject (Step u) = u
+subject (Access u d) = u
 subject (Commit u) = u
 subject (Quit u) = u
 

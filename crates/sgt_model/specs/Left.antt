@@ -46,7 +46,7 @@ followed_by (answer value rest) more = answer value (followed_by rest more)
 pub data Reached : Type 0 where
   AtLook : Key → (to absent : ℕ) → Rest → Reached
   AtFind : Key → (to : ℕ) → (absent : ℤ) → Rest → Reached
-  AtStore : Key → ℤ → Rest → Reached
+  AtStore : Key → Option ℤ → Rest → Reached
   AtEnd : Registers → List ℤ → Reached
 
 -- with more statements after it
@@ -90,7 +90,7 @@ reach (put table id value rest) args registers answers =
     and_then (number_or_code (value_of id args registers)) (λ n.
     and_then (number_or_code (value_of value args registers)) (λ v.
     and_then (key_of table n) (λ key.
-    provided (is_value v) (AtStore key v (record { statements = rest; args = args; registers = registers; answers = answers })) stuck)))
+    provided (is_value v) (AtStore key (Some v) (record { statements = rest; args = args; registers = registers; answers = answers })) stuck)))
 reach (save to value rest) args registers answers =
     and_then (number_or_code (value_of value args registers)) (λ v.
     reach rest args (slice_set registers to (Some v)) answers)
@@ -188,4 +188,4 @@ LeftAfterLook = OfEachUsed (λ p args values made. (key : Key) (found : Option �
 
 -- if a write is next, so is the remainder after it
 abbrev pub LeftAfterStore : Type 0
-LeftAfterStore = OfEachUsed (λ p args values made. (key : Key) (v : ℤ) → next_left (left p args values made) ≡ Puts key v → left p args values (made + 1) ≡ after_store (left p args values made))
+LeftAfterStore = OfEachUsed (λ p args values made. (key : Key) (v : Option ℤ) → next_left (left p args values made) ≡ Puts key v → left p args values (made + 1) ≡ after_store (left p args values made))

@@ -3,7 +3,8 @@
 -- Neumann, ICDE 2019).
 use Rattle.std.specs.Prelude.{◌≡◌, ℕ, ℤ, Bool, true, false, ◌⊎◌, nat_lt, List, [], ◌∷◌, length, Option, Some, None}
 use Rattle.sgt_model.specs.declared.event.Event.{Event}
-use Rattle.sgt_model.specs.declared.event.Event.TheVariants.{Start, Step, Commit, Quit}
+use Rattle.sgt_model.specs.declared.event.Event.TheVariants.{Start, Step, Access, Commit, Quit}
+use Rattle.sgt_model.specs.declared.event.Request.{Request}
 use Rattle.sgt_model.specs.declared.reply.Reply.{Reply}
 use Rattle.sgt_model.specs.declared.reply.Reply.TheVariants as reply
 use Rattle.sgt_model.specs.declared.reply.Cause.{Cause}
@@ -23,7 +24,7 @@ use Rattle.sgt_model.specs.Pairs.{Pair}
 use Rattle.sgt_model.specs.Closes.{Closes}
 use Rattle.sgt_model.specs.Walks.{IsLeastPredecessor, HasNoPredecessor}
 use Rattle.sgt_model.specs.Settings.{Setting}
-use Rattle.sgt_model.specs.Progress.{next_of}
+use Rattle.sgt_model.specs.Progress.{next_of, requested, is_fit}
 use Rattle.sgt_model.specs.StartReply.{start_reply}
 
 -- a step
@@ -56,6 +57,21 @@ StepReply s past t (Looks k) r = CycleAbortReply past t k Look r ⊎ Makes past 
 StepReply s past t (Puts k v) r = CycleAbortReply past t k Store r ⊎ Makes past t k Store (reply.Wrote k v) r
 StepReply s past t (Ends answers) r = r ≡ reply.Ended
 StepReply s past t (Raises code) r = RaisedStep s.rules.limits.asks past t code r
+
+-- an access on which the caller decides
+
+-- what is written has to be a value, or none
+abbrev pub OfFit : Bool → Reply → Type 0 → Type 0
+OfFit true r if_fit = if_fit
+OfFit false r if_fit = r ≡ reply.BadArgs
+
+-- the reply to an access on which the caller of a live transaction decides: its procedure has to be at its end. It is then as a
+-- step whose next is that access
+abbrev pub RequestReply : Setting → List Entry → ℕ → Request → Next → Reply → Type 0
+RequestReply s past t d (Ends answers) r = OfFit (is_fit d) r (StepReply s past t (requested d) r)
+RequestReply s past t d (Looks k) r = r ≡ reply.NotEnded
+RequestReply s past t d (Puts k v) r = r ≡ reply.NotEnded
+RequestReply s past t d (Raises code) r = r ≡ reply.NotEnded
 
 -- a commit
 
@@ -120,6 +136,7 @@ OfLive past t r if_live = OfStarted (nat_lt t (start_count past)) (fate_of past 
 abbrev pub LegalReply : Setting → List Entry → Event → Reply → Type 0
 LegalReply s past (Start p args) r = r ≡ start_reply s.rules (start_count past) (length (live_ones past)) p args
 LegalReply s past (Step t) r = OfLive past t r (StepReply s past t (next_of s past t) r)
+LegalReply s past (Access t d) r = OfLive past t r (RequestReply s past t d (next_of s past t) r)
 LegalReply s past (Commit t) r = OfLive past t r (CommitReply s past t (next_of s past t) r)
 LegalReply s past (Quit t) r = OfLive past t r (AbortReply past t cause.Quit r)
 

@@ -1,5 +1,5 @@
--- ---- Part 1, what a reader must trust: the definitions that `Legal` and `Headline` rest on, and no others. These 23 files
--- say what the headline means.
+-- ---- Part 1, what a reader must trust: the definitions that `Legal`, `Headline` and `CallersRunAlone` rest on, and no others.
+-- These 24 files say what the headline means.
 -- numbers and keys
 pub mod Numbers
 pub mod Contents
@@ -28,6 +28,8 @@ pub mod Replay
 pub mod Aborts
 pub mod CommitOrder
 pub mod Headline
+-- the headline for any programs of the callers
+pub mod Callers
 -- ---- Part 2, terms of single contracts: what types and functions say of themselves beside part 1.
 pub mod Bounds
 pub mod Databases

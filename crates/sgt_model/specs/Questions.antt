@@ -1,7 +1,7 @@
 -- What an event and its reply say by themselves, without the history.
 use Rattle.std.specs.Prelude.{ℕ, Bool, true, false, cond, Option, Some, None}
 use Rattle.sgt_model.specs.declared.event.Event.{Event}
-use Rattle.sgt_model.specs.declared.event.Event.TheVariants.{Start, Step, Commit, Quit}
+use Rattle.sgt_model.specs.declared.event.Event.TheVariants.{Start, Step, Access, Commit, Quit}
 use Rattle.sgt_model.specs.declared.reply.Reply.{Reply}
 use Rattle.sgt_model.specs.declared.reply.Reply.TheVariants as reply
 use Rattle.sgt_model.specs.declared.reply.Cause.TheVariants as cause
@@ -12,6 +12,7 @@ use Rattle.sgt_model.specs.declared.reply.Cause.TheVariants as cause
 abbrev pub named_by : Event → Option ℕ
 named_by (Start p args) = None
 named_by (Step t) = Some t
+named_by (Access t d) = Some t
 named_by (Commit t) = Some t
 named_by (Quit t) = Some t
 
@@ -72,6 +73,7 @@ tells_end _ = false
 abbrev pub started_in : Event → Reply → Option ℕ
 started_in (Start p args) r = started_number r
 started_in (Step t) r = None
+started_in (Access t d) r = None
 started_in (Commit t) r = None
 started_in (Quit t) r = None
 
@@ -80,5 +82,6 @@ started_in (Quit t) r = None
 abbrev pub over_in : Event → Reply → Option ℕ
 over_in (Start p args) r = None
 over_in (Step t) r = cond (tells_end r) (Some t) None
+over_in (Access t d) r = cond (tells_end r) (Some t) None
 over_in (Commit t) r = cond (tells_end r) (Some t) None
 over_in (Quit t) r = Some t

@@ -8,11 +8,11 @@ use Rattle.sgt_model.specs.declared.reply.Reply.{Reply}
 use Rattle.sgt_model.specs.declared.reply.Reply.TheVariants as reply
 use Rattle.sgt_model.specs.declared.entry.Entry.{Entry}
 use Rattle.sgt_model.specs.Contents.{Key, Contents}
-use Rattle.sgt_model.specs.Runs.{Outcome, Done, Asked, serial, contents_after}
+use Rattle.sgt_model.specs.Runs.{Outcome, Done, Asked, contents_after}
 use Rattle.sgt_model.specs.Fates.{subject}
 use Rattle.sgt_model.specs.Values.{settled}
 use Rattle.sgt_model.specs.Settings.{Setting}
-use Rattle.sgt_model.specs.Progress.{Call, call_of, run_of}
+use Rattle.sgt_model.specs.Progress.{Call, call_of, caller_accesses, with_caller_accesses, outcome_in}
 
 -- ---- the serial run
 
@@ -38,14 +38,14 @@ with_outcome o before = record { results = result_of o ∷ before.results; last 
 -- these calls, the last one first, run one after another on the initial database
 abbrev pub run_in_turn : Setting → List Call → Folded
 run_in_turn s [] = record { results = []; last = s.opening }
-run_in_turn s (c ∷ before) = with_outcome (serial (run_of s.rules c) (run_in_turn s before).last) (run_in_turn s before)
+run_in_turn s (c ∷ before) = with_outcome (outcome_in s.rules c (run_in_turn s before).last) (run_in_turn s before)
 
 -- ---- of a history
 
 -- the call of the transaction that an entry commits or refuses, if it does
 abbrev pub told_call_in : List Entry → Event → Reply → List Call
-told_call_in past event (reply.Committed answers) = call_of past (subject event) ∷ []
-told_call_in past event (reply.Refused code fell) = call_of past (subject event) ∷ []
+told_call_in past event (reply.Committed answers) = with_caller_accesses (caller_accesses past (subject event)) (call_of past (subject event)) ∷ []
+told_call_in past event (reply.Refused code fell) = with_caller_accesses (caller_accesses past (subject event)) (call_of past (subject event)) ∷ []
 told_call_in past event _ = []
 
 -- the calls of the committed and refused transactions, the last reply first

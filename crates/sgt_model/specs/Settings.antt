@@ -1,9 +1,9 @@
 -- What an engine is made of: its configuration (`Setting`).
-use Rattle.std.specs.Prelude.{ℕ, ℤ, List, Option, Some, None, slice_get}
+use Rattle.std.specs.Prelude.{ℕ, ℤ, cond, nat_eq, List, Option, Some, None, slice_get}
 use Rattle.std.specs.Option.{option_map}
 use Rattle.sgt_model.specs.declared.limits.Limits.{Limits}
 use Rattle.sgt_model.specs.Contents.{Contents}
-use Rattle.sgt_model.specs.Syntax.{ProcedureText}
+use Rattle.sgt_model.specs.Syntax.{ProcedureText, empty}
 use Rattle.sgt_model.specs.Runs.{Run}
 use Rattle.sgt_model.specs.Meaning.{wrong, run_with}
 
@@ -26,13 +26,21 @@ abbrev pub run_if : Option ProcedureText → List ℤ → Run
 run_if None args = wrong
 run_if (Some p) args = run_with p args
 
--- what procedure n of a list does, numbered from 0
-abbrev pub runs_in : List ProcedureText → ℕ → List ℤ → Run
-runs_in programs n = run_if (slice_get programs n)
+-- the procedure that takes no arguments, does nothing and answers nothing: what follows it is its caller's own
+abbrev pub empty_procedure : ProcedureText
+empty_procedure = record { args = 0; body = empty }
 
--- the rules of these procedures, numbered from 0, and limits
+-- procedure n of a list, numbered from 0. Number 65535 is the empty one, whatever the list
+abbrev pub procedure_at : List ProcedureText → ℕ → Option ProcedureText
+procedure_at programs n = cond (nat_eq n 65535) (Some empty_procedure) (slice_get programs n)
+
+-- what procedure n does
+abbrev pub runs_in : List ProcedureText → ℕ → List ℤ → Run
+runs_in programs n = run_if (procedure_at programs n)
+
+-- the rules of these procedures and limits
 abbrev pub rules_from : List ProcedureText → Limits → Rules
-rules_from programs limits = record { procedures = slice_get programs; limits = limits }
+rules_from programs limits = record { procedures = procedure_at programs; limits = limits }
 
 -- the configuration of these initial contents, procedures and limits
 abbrev pub setting : Contents → List ProcedureText → Limits → Setting

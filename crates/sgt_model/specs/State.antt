@@ -12,7 +12,7 @@ pub record State : Type 0 where
   pub nodes : ℕ → Bool
   pub pairs : ℕ → ℕ → Bool
   pub accesses : List ListedAccess
-  pub chain : Key → List (ℕ × ℤ)
+  pub chain : Key → List (ℕ × Option ℤ)
   pub settled : Key → Option ℤ
   pub read_from : List (ℕ × ℕ)
   pub fates : ℕ → Option Fate

@@ -20,7 +20,7 @@ HoldValues m = (k : Key) → IfSome (m k) IsValue
 -- the run writes only values, whatever its reads return
 abbrev pub StoresValues : Run → Type 0
 StoresValues (looks k go) = (found : Option ℤ) → StoresValues (go found)
-StoresValues (puts k v rest) = IsValue v × StoresValues rest
+StoresValues (puts k v rest) = IfSome v IsValue × StoresValues rest
 StoresValues (ends answers) = Unit {0}
 StoresValues (raises code) = Unit {0}
 

@@ -3,6 +3,7 @@ ghost use Rattle.std.specs.Prelude.{◌≡◌, ◌↔◌, IsTrue};
 ghost use Rattle.sgt_model.specs.Questions.{named_by, started_in, over_in};
 
 use crate::bounded::Bounded;
+use crate::key::Key;
 use crate::reply::Reply;
 use crate::tid::Tid;
 
@@ -12,13 +13,25 @@ pub type Args = Bounded<i64, 4>;
 /// The answers of a procedure, at most 8 values, in order.
 pub type Answers = Bounded<i64, 8>;
 
-/// A request to an engine: one atomic step, answered by one reply. Step, Commit and Quit name their transaction.
+/// An access that a transaction's caller decides on, once the transaction's procedure is at its end. A transaction that began with
+/// the empty procedure consists of such accesses alone.
+#[derive(Clone, Copy, Debug, PartialEq, Eq)]
+pub enum Request {
+    /// A read of the record.
+    Read(Key),
+    /// A write of this value to the record, or, with no value, its removal.
+    Write(Key, Option<i64>),
+}
+
+/// A request to an engine: one atomic step, answered by one reply. Step, Access, Commit and Quit name their transaction.
 #[derive(Debug, Drop, PartialEq, Eq)]
 pub enum Event {
     /// Start a transaction. It runs the procedure of this number with these arguments.
     Start { procedure: u16, args: Args },
     /// Let the transaction's procedure make its next access: one read or one write.
     Step(Tid),
+    /// Make this access, on which the caller decided. The transaction's procedure must be at its end.
+    Access(Tid, Request),
     /// Commit the transaction. Its procedure must be at its end.
     Commit(Tid),
     /// `Quit`: abort the transaction at its caller's request.
@@ -36,6 +49,7 @@ impl Event {
                 args: args.copied(),
             },
             Event::Step(t) => Event::Step(*t),
+            Event::Access(t, request) => Event::Access(*t, *request),
             Event::Commit(t) => Event::Commit(*t),
             Event::Quit(t) => Event::Quit(*t),
         }
@@ -54,7 +68,7 @@ impl Event {
     {
         match self {
             Event::Start { .. } => None,
-            Event::Step(t) | Event::Commit(t) | Event::Quit(t) => Some(*t),
+            Event::Step(t) | Event::Access(t, _) | Event::Commit(t) | Event::Quit(t) => Some(*t),
         }
     }
 
@@ -64,7 +78,7 @@ impl Event {
     {
         match self {
             Event::Start { .. } => reply.started(),
-            Event::Step(_) | Event::Commit(_) | Event::Quit(_) => None,
+            Event::Step(_) | Event::Access(..) | Event::Commit(_) | Event::Quit(_) => None,
         }
     }
 
@@ -75,7 +89,9 @@ impl Event {
     {
         match self {
             Event::Start { .. } => None,
-            Event::Step(t) | Event::Commit(t) => reply.tells_end().then_some(*t),
+            Event::Step(t) | Event::Access(t, _) | Event::Commit(t) => {
+                reply.tells_end().then_some(*t)
+            }
             Event::Quit(t) => Some(*t),
         }
     }

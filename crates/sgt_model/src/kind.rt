@@ -6,6 +6,6 @@
 pub enum Kind {
     /// `Look`: a read of the value.
     Look,
-    /// `Store`: a write of a value.
+    /// `Store`: a write of a value, or of none, which removes.
     Store,
 }

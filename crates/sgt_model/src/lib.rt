@@ -2,11 +2,12 @@
 //! It says what procedures, transactions, events, replies and databases are, which histories are legal, and what is true of
 //! every legal history.
 //!
-//! A transaction runs one procedure, one access at a time. An [`Event`] starts it, lets it make its next access, commits
-//! it or quits it, and is answered by a [`Reply`]. The two are an [`Entry`]; the entries in order are the history.
-//! In a legal history, each reply is one that its event may get after the entries before it, by the rules
-//! of `specs/Legality.antt`. [`headline_holds`] follows from these rules alone: a legal history is serializable in commit
-//! order, and each of its aborts has its cause.
+//! A transaction runs one procedure, one access at a time, and then makes the accesses on which its caller decides. An [`Event`]
+//! starts it, lets it make its next access or the caller's, commits it or quits it, and is answered by a [`Reply`]. The two are
+//! an [`Entry`]; the entries in order are the history. In a legal history, each reply is one that its event may get after the
+//! entries before it, by the rules of `specs/Legality.antt`. [`callers_run_alone`] and [`headline_holds`] follow from these rules
+//! alone: a legal history is serializable in commit order, whatever programs its callers are, and each of its aborts has its
+//! cause.
 //!
 //! It is no engine: nothing here schedules, stores transactions, or checks and runs procedures. Its code makes,
 //! compares and copies plain values. The functions of `laws`, `left` and `refinement` do nothing:
@@ -14,7 +15,8 @@
 //!
 //! `specs/` holds the definitions that contracts cite, in four parts. Read them in the order of `specs/Lib.antt`:
 //!
-//! 1. What a reader has to trust: the 23 files that `Legal` and `Headline` rest on, from `Numbers` to `Headline`.
+//! 1. What a reader has to trust: the 24 files that `Legal`, `Headline` and `CallersRunAlone` rest on, from `Numbers` to
+//!    `Callers`.
 //! 2. Terms of single contracts: `Bounds`, `Databases`, `Programs`, `Codes`, `Histories`, `Questions`, `ShortReplies`.
 //! 3. Laws, proved from the definitions of part 1: from `Admissions` to `ExecutedReplay`.
 //! 4. The state that a scheduler stores in place of the history, what its calls do to it, and why that is legal. This is
@@ -66,20 +68,20 @@ pub use bounded::Bounded;
 pub use database::Database;
 pub use entry::Entry;
 pub use errors::{MakeError, NoMemory};
-pub use event::{Answers, Args, Event};
+pub use event::{Answers, Args, Event, Request};
 pub use key::{Key, LAST_TABLE, LEAST, MOST, is_value};
 pub use kind::Kind;
 pub use laws::{
-    aborts_have_cause, commit_order_is_total, commits_in_order, committed_are_admitted,
-    headline_holds, histories_are_executed, histories_go_on, limits_are_kept,
-    looks_agree_at_commit, no_pair_from_live, pairs_have_no_cycle, replay_is_serial,
-    replays_hold_values, replies_are_unique, replies_name_few, replies_tell_who_is_live,
-    runs_are_traces, serial_is_execution, some_reply_is_legal, sources_commit_before_replies,
-    sources_commit_first, sources_stand, writers_commit_in_order,
+    aborts_have_cause, callers_run_alone, commit_order_is_total, commits_in_order,
+    committed_are_admitted, headline_holds, histories_are_executed, histories_go_on,
+    limits_are_kept, looks_agree_at_commit, no_pair_from_live, pairs_have_no_cycle,
+    replay_is_serial, replays_hold_values, replies_are_unique, replies_name_few,
+    replies_tell_who_is_live, runs_are_traces, serial_is_execution, some_reply_is_legal,
+    sources_commit_before_replies, sources_commit_first, sources_stand, writers_commit_in_order,
 };
 pub use left::{left_goes_on, next_is_of_left};
 pub use limits::{Asks, Limits, MOST_BEGINS, MOST_LIVE};
-pub use procedure::{Cond, Expr, Procedure, Statement};
+pub use procedure::{Cond, EMPTY_PROCEDURE, Expr, Procedure, Statement};
 pub use refinement::{calls_simulate, new_is_empty, nexts_agree, states_are_sound, verdicts_agree};
 pub use reply::{Cause, Fate, Reply};
 pub use short_reply::{ReplyLists, ShortCause, ShortFate, ShortReply};

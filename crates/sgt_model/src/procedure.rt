@@ -1,5 +1,9 @@
 //! The text of a procedure as a tree: statements, expressions and conditions.
 
+/// The number of the empty procedure, in every engine, whatever its list of procedures: no arguments, no statements, no answers.
+/// A start of it begins a transaction whose caller decides each access. A procedure of a list that has this index is not reached.
+pub const EMPTY_PROCEDURE: u16 = 65_535;
+
 /// A procedure, as it is written. Check its text before it runs: a check requires the ranges below.
 /// It has no loops and calls no other procedure, so it always comes to its end or raises a code.
 #[derive(Drop)]

@@ -51,8 +51,8 @@ pub enum Reply {
     Over(Fate),
     /// `Looked`: the step read this value of the record, or none. The value may not be committed yet.
     Looked { key: Key, value: Option<i64> },
-    /// `Wrote`: the step wrote this value to the record.
-    Wrote { key: Key, value: i64 },
+    /// `Wrote`: the step wrote this value to the record, or removed the record.
+    Wrote { key: Key, value: Option<i64> },
     /// The procedure is at its end, and nothing was done. If codes are reported at commit, a procedure that raises one is
     /// at its end too.
     Ended,
@@ -136,7 +136,10 @@ impl Reply {
     pub fn is_same(&self, other: &Self) -> bool
         ensures { IsTrue result ↔ (self.now ≡ other.now) }
     {
-        self == other
+        if !self.in_short().is_same(&other.in_short()) {
+            return false;
+        }
+        self.lists().is_same(&other.lists())
     }
 
     /// The transaction that the reply starts, if any.

@@ -35,7 +35,7 @@ pub enum ShortReply {
     Unknown,
     Over(ShortFate),
     Looked { key: Key, value: Option<i64> },
-    Wrote { key: Key, value: i64 },
+    Wrote { key: Key, value: Option<i64> },
     Ended,
     NotEnded,
     Waits(Tid),
@@ -45,7 +45,7 @@ pub enum ShortReply {
 }
 
 /// The lists of a reply. A list that the reply's kind does not have is not looked at, whatever it holds.
-#[derive(Debug, Drop)]
+#[derive(Debug, Drop, PartialEq, Eq)]
 pub struct ReplyLists {
     /// The answers of a commit.
     pub answers: Answers,
@@ -56,6 +56,13 @@ pub struct ReplyLists {
 }
 
 impl ReplyLists {
+    /// Whether both are the same.
+    pub fn is_same(&self, other: &Self) -> bool
+        ensures { IsTrue result ↔ (self.now ≡ other.now) }
+    {
+        self == other
+    }
+
     /// Empty lists.
     pub fn new() -> Self
         ensures { result ≡ no_lists }

@@ -20,7 +20,7 @@ access_lines letter key = flat_map (λ t. letter ++ decimal t ++ bracketed (key_
 abbrev pub end_lines : List ℕ → List ℕ → List ℕ
 end_lines letter = flat_map (λ t. letter ++ decimal t ++ codes "\n")
 
--- The lines of the operations of an event with this reply. `Looked` is a read, and `Wrote` a write. A commit is one
+-- The lines of the operations of an event with this reply. `Looked` is a read, and `Wrote` a write, of none as well. A commit is one
 -- if the reply says so. An abort is first that of the event's transaction, and then one for each that is aborted in
 -- cascade.
 abbrev pub operations_text : Event → Reply → List ℕ

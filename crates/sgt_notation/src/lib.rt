@@ -17,7 +17,7 @@
 //! let history = read_history(alloc, b"r1[x] w2[x] # 2 overwrites\nc1 a2")?;
 //! history.operations[1];  // Operation { transaction: 2, action: Action::Write(0) }
 //! history.items[0];       // b"x"
-//! append_operations(&mut text, &Event::Step(Tid(1)), &Reply::Wrote { key, value: 50 })?; // adds "w1[2/101]\n"
+//! append_operations(&mut text, &Event::Step(Tid(1)), &Reply::Wrote { key, value: Some(50) })?; // adds "w1[2/101]\n"
 //! ```
 #![tactic(auto)]
 

@@ -56,7 +56,7 @@ fn append_lines(text: &mut Vec<u8>, event: &Event, reply: &Reply) -> Result<(), 
     }
 }
 
-/// Appends the access of the transaction that made the step. On an error the text still begins with what it held.
+/// Appends the access of the transaction that made it, by a step or as its caller decided. On an error the text still begins with what it held.
 fn append_access(
     text: &mut Vec<u8>,
     letter: &[u8],
@@ -67,7 +67,7 @@ fn append_access(
         ++ access_lines letter.now key.now (stepping event.now)) }
     ensures err { OnErr result (take (vec_len text.old) text.new.items ≡ text.old.items) }
 {
-    let Event::Step(t) = event else {
+    let (Event::Step(t) | Event::Access(t, _)) = event else {
         return Ok(());
     };
     append_numbered(text, letter, t.0)?;

@@ -87,14 +87,14 @@ reach_followed (find to table id absent b) more args registers answers =
 reach_followed (put table id value b) more args registers answers =
     then_then (number_or_code (value_of id args registers)) _ _ _ (λ n.
     then_then (number_or_code (value_of value args registers))
-    (λ v. and_then (key_of table n) (λ key. provided (is_value v) (AtStore key v (rest_with b args registers answers)) stuck))
+    (λ v. and_then (key_of table n) (λ key. provided (is_value v) (AtStore key (Some v) (rest_with b args registers answers)) stuck))
     (then_behind more (reach more args)) (λ v. and_then (key_of table n)
-    (λ key. provided (is_value v) (AtStore key v (rest_with (followed_by b more) args registers answers)) stuck)) (λ v.
-    then_then (key_of table n) (λ key. provided (is_value v) (AtStore key v (rest_with b args registers answers)) stuck)
+    (λ key. provided (is_value v) (AtStore key (Some v) (rest_with (followed_by b more) args registers answers)) stuck)) (λ v.
+    then_then (key_of table n) (λ key. provided (is_value v) (AtStore key (Some v) (rest_with b args registers answers)) stuck)
     (then_behind more (reach more args)) (λ key. provided (is_value v)
-    (AtStore key v (rest_with (followed_by b more) args registers answers)) stuck) (λ key.
-    last_then (is_value v) (AtStore key v (rest_with b args registers answers))
-    (AtStore key v (rest_with (followed_by b more) args registers answers)) (then_behind more (reach more args)) refl)))
+    (AtStore key (Some v) (rest_with (followed_by b more) args registers answers)) stuck) (λ key.
+    last_then (is_value v) (AtStore key (Some v) (rest_with b args registers answers))
+    (AtStore key (Some v) (rest_with (followed_by b more) args registers answers)) (then_behind more (reach more args)) refl)))
 reach_followed (save to value b) more args registers answers =
     then_then (number_or_code (value_of value args registers)) _ _ _
     (λ v. reach_followed b more args (slice_set registers to (Some v)) answers)

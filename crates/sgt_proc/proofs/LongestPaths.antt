@@ -7,7 +7,6 @@ use Rattle.sgt_model.specs.Syntax as text
 use Rattle.sgt_model.specs.Ways.{Way, onto}
 use Rattle.sgt_model.specs.Ways as way
 use Rattle.sgt_model.specs.Runs.{Run, looks, puts, ends, raises}
-use Rattle.sgt_model.specs.Traces.{Used}
 use Rattle.sgt_model.specs.Meaning.{Got, is, over, missing, Truth, holds, too_far, unknown, Registers, value_of, truth_of, with_value, with_condition, is_key, if_found, found_or, run, fresh}
 use Rattle.sgt_model.specs.Settings.{run_if}
 use Rattle.sgt_proc.specs.Flaws.{size}
@@ -109,14 +108,3 @@ accesses_few (text.save to value b) = let h = accesses_few b in omega arith
 accesses_few (text.ask code b) = omega arith
 accesses_few (text.choose test ys ns b) = let h = accesses_few b in let y = accesses_few ys in let n = accesses_few ns in omega arith
 accesses_few (text.answer value b) = let h = accesses_few b in omega arith
-
--- what a run has used, it has made
-pub used_few : (r : Run) (n : ℕ) (vs : List (Option ℤ)) (made : ℕ) → MakesAtMost r n → Used r vs made → made ≤ n
-used_few r n vs zero w u = omega arith
-used_few (looks k go) zero vs (suc made) w u = absurd w
-used_few (looks k go) (suc n) [] (suc made) w u = absurd u
-used_few (looks k go) (suc n) (v ∷ vs) (suc made) w u = let h = used_few (go v) n vs made (w v) u in omega arith
-used_few (puts k x rest) zero vs (suc made) w u = absurd w
-used_few (puts k x rest) (suc n) vs (suc made) w u = let h = used_few rest n vs made w u in omega arith
-used_few (ends answers) n vs (suc made) w u = absurd u
-used_few (raises code) n vs (suc made) w u = absurd u

@@ -28,7 +28,7 @@ used_look (raises code) [] zero q found used next = cc
 used_look (raises code) (v ∷ vs) zero q found used next = absurd used
 used_look (raises code) vs (suc made) q found used next = absurd used
 
-used_store : (r : Run) (vs : List (Option ℤ)) (made : ℕ) (k : Key) (x : ℤ) → Used r vs made
+used_store : (r : Run) (vs : List (Option ℤ)) (made : ℕ) (k : Key) (x : Option ℤ) → Used r vs made
     → next_at (trace r vs) made ≡ Puts k x → Used r vs (suc made)
 used_store (looks k go) [] zero q x used next = cc
 used_store (looks k go) (v ∷ vs) zero q x used next = absurd used
@@ -125,7 +125,7 @@ module _ (p : ProcedureText) (args : List ℤ) (read : List (Option ℤ)) (used 
     more = take_more read used other within
 
   -- one more write
-  pub store_passed : (k : Key) (x : ℤ) → Puts k x ≡ next_left w.1 → HasPassed p args read used (made + 1) (w.0, after_store w.1)
+  pub store_passed : (k : Key) (x : Option ℤ) → Puts k x ≡ next_left w.1 → HasPassed p args read used (made + 1) (w.0, after_store w.1)
   store_passed k x told = record {
     few = passed.few;
     done = subst (Used (run_with p args) (take used read)) one

@@ -21,7 +21,7 @@ use Rattle.sgt_proc.specs.declared.numbers.Number.{Number}
 use Rattle.sgt_proc.specs.declared.numbers.Number.TheVariants.{Register, Argument, Table, Code, Literal}
 use Rattle.sgt_proc.specs.Flaws.{in_expr, in_cond, in_block, uses, cond_uses, uses_unset, most_answers, IsFlawless}
 use Rattle.sgt_proc.specs.NumberFlaws.{is_bad}
-use Rattle.sgt_proc.specs.Sound.{MayBeFound, IsSound, FlawlessIsSound}
+use Rattle.sgt_proc.specs.Sound.{MayBeFound, IsSomeValue, IsSound, FlawlessIsSound}
 use Rattle.sgt_proc.proofs.Clean.{in_way, in_onto, in_nothing, value_from, allowed_number}
 
 -- a number, if there is one, is a value
@@ -34,10 +34,6 @@ abbrev IsKnown : Truth → Type 0
 IsKnown (holds b) = Unit {0}
 IsKnown too_far = Unit {0}
 IsKnown unknown = ⊥
-
-abbrev IsSomeValue : Option ℤ → Type 0
-IsSomeValue None = ⊥
-IsSomeValue (Some v) = IsValue v
 
 bounded_if : (v : ℤ) (b : Bool) → is_value v ≡ b → IsFine (cond b (is v) over)
 bounded_if v true e = value_from v e
@@ -220,8 +216,8 @@ module _ (args : List ℤ) (all_values : All IsValue args) where
       (λ r h e. assigned r h (or_left _ _ (or_left _ _ e))))
       (λ n g. with_value_sound (value_of value args regs) _
       (value_fine regs value (λ f. (or_parts _ _ (terms f)).1) (λ r h e. assigned r h (or_left _ _ (or_right _ _ e))))
-      (λ v h. with_key_sound table n (λ k. with_stored v (puts k v (run args rest regs answers))) is_table g
-      (with_stored_sound v (puts (table, n) v (run args rest regs answers)) h
+      (λ v h. with_key_sound table n (λ k. with_stored v (puts k (Some v) (run args rest regs answers))) is_table g
+      (with_stored_sound v (puts (table, n) (Some v) (run args rest regs answers)) h
       ((is_table, g), (h, run_sound rest regs answers behind l (λ r k e. assigned r k (or_right _ _ e)) m all)))))
   run_sound (way.save to value rest) regs answers c l assigned m all =
       let here = (λ (f : Flaw). (or_parts _ _ (c f)).0) in

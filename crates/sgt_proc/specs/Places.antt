@@ -35,7 +35,7 @@ reach_from b m = reach (to_come m.path.items m.at b) m.args m.registers m.answer
 abbrev pub reached_at : Block → Place → Stop → OrCode Reached
 reached_at b m (stop.Look key to absent) = Ok (AtLook key to absent (rest_from b m (m.at + 1)))
 reached_at b m (stop.Find key to absent) = Ok (AtFind key to absent (rest_from b m (m.at + 1)))
-reached_at b m (stop.Put key v) = Ok (AtStore key v (rest_from b m (m.at + 1)))
+reached_at b m (stop.Put key v) = Ok (AtStore key (Some v) (rest_from b m (m.at + 1)))
 reached_at b m stop.End = Ok (AtEnd m.registers m.answers)
 reached_at b m (stop.Asks code) = Err code
 reached_at b m (stop.Absent code) = Err code

@@ -2,6 +2,7 @@
 ghost use Rattle.std.specs.Prelude.{◌≡◌, ◌≤◌, ◌<◌, IfOk, OnOk, IfErr};
 ghost use Rattle.sgt_model.specs.ProcedureTexts.{procedure_text};
 ghost use Rattle.sgt_model.specs.Meaning.{run_with};
+ghost use Rattle.sgt_model.specs.Settings.{empty_procedure};
 ghost use Rattle.sgt_model.specs.Traces.{next_at, trace, Used};
 ghost use Rattle.sgt_proc.specs.Nexts.{seen, IsAccess, StoresValue};
 ghost use Rattle.sgt_proc.specs.Flaws.{IsFlawless, IsLeastFlaw};
@@ -11,6 +12,7 @@ use crate::flaw::{Flaw, Flawed};
 use crate::next::Next;
 use crate::place::{Place, Stop};
 use sgt_model::{Args, Procedure};
+use std::alloc::Global;
 use std::marker::Model;
 
 /// A procedure without a flaw.
@@ -51,6 +53,18 @@ pub fn check(procedure: Procedure) -> Result<Checked, Flawed>
 }
 
 impl Checked {
+    /// The empty procedure: no arguments, no statements, no answers. It allocates nothing.
+    pub fn empty(alloc: Global) -> Checked
+        ensures { result ≡ empty_procedure }
+    {
+        Checked {
+            procedure: Procedure {
+                args: 0,
+                body: Vec::new(alloc),
+            },
+        }
+    }
+
     /// The procedure as it was written.
     pub fn procedure(&self) -> &Procedure
         ensures { procedure_text result.now ≡ self.now }

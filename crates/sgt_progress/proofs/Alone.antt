@@ -6,6 +6,7 @@ use Rattle.std.specs.Option.{option_or}
 use Rattle.std.specs.List.{list_any}
 use Rattle.sgt_model.specs.declared.event.Event.{Event}
 use Rattle.sgt_model.specs.declared.event.Event.TheVariants.{Start}
+use Rattle.sgt_model.specs.declared.event.Request.{Request}
 use Rattle.sgt_model.specs.declared.reply.Reply.{Reply}
 use Rattle.sgt_model.specs.declared.reply.Cause.{Cause}
 use Rattle.sgt_model.specs.declared.reply.Cause.TheVariants as cause
@@ -18,7 +19,7 @@ use Rattle.sgt_model.specs.declared.limits.Asks.{Asks}
 use Rattle.sgt_model.specs.declared.limits.Asks.TheVariants.{AtStep, AtCommit}
 use Rattle.sgt_model.specs.declared.kind.Kind.TheVariants.{Look, Store}
 use Rattle.sgt_model.specs.Traces.{Next, Looks, Puts, Ends, Raises}
-use Rattle.sgt_model.specs.Progress.{next_of}
+use Rattle.sgt_model.specs.Progress.{requested, is_fit, next_of}
 use Rattle.sgt_progress.proofs.Moves.{of_live}
 use Rattle.sgt_model.specs.Walks.{PathOf}
 use Rattle.sgt_model.specs.Fates.{is_start, concerns, subject, start_count, fate_of, live, ending_in}
@@ -26,12 +27,12 @@ use Rattle.sgt_model.specs.Pairs.{Pair}
 use Rattle.sgt_model.specs.Closes.{Closes}
 use Rattle.sgt_model.specs.Settings.{Setting}
 use Rattle.sgt_model.specs.Aborts.{CauseHolds}
-use Rattle.sgt_model.specs.Legality.{CycleAbortReply, Makes, StepReply, CommitReply, RaisedStep, RaisedCommit, LegalReply, Legal, HasNoLivePredecessor}
+use Rattle.sgt_model.specs.Legality.{CycleAbortReply, Makes, StepReply, OfFit, RequestReply, CommitReply, RaisedStep, RaisedCommit, LegalReply, Legal, HasNoLivePredecessor}
 use Rattle.sgt_model.proofs.Effects.{Effect, idle, begins, accesses, commits, undoes, refuses, effect, ends_none-no_end}
 use Rattle.sgt_model.proofs.Facts.{live-no_fate, live-started, live-before, live_from, fate-final, option_or-at_none, started-stays, precedes-started, committed_else}
 use Rattle.sgt_model.proofs.PairOrder.{no_pair_from_live}
 use Rattle.sgt_model.proofs.Questions.{started_are_live}
-use Rattle.sgt_progress.specs.Alone.{IsAlone, IsStepOrCommitOf, AreStepsAndCommitsOf, is_hindered, AloneIsNotAborted, IsByItself, AloneEndsByItself, StartedAlone}
+use Rattle.sgt_progress.specs.Alone.{IsAlone, IsNoQuitOf, AreNoQuitsOf, is_hindered, AloneIsNotAborted, IsByItself, AloneEndsByItself, StartedAlone}
 
 -- no edge leads from it
 pub no_pair_out : (s : Setting) (past : List Entry) → Legal s past → (t : ℕ) → IsAlone past t → (u : ℕ) → Pair past t u → ⊥
@@ -53,14 +54,17 @@ waits_for_none past t alone v p = p.pair.apart (alone.only v p.is_live)
 
 -- an event of it
 
-pub undoes_own : (s : Setting) (past : List Entry) → Legal s past → (t : ℕ) → IsAlone past t → (event : Event) → IsStepOrCommitOf event t
+pub undoes_own : (s : Setting) (past : List Entry) → Legal s past → (t : ℕ) → IsAlone past t → (event : Event) → IsNoQuitOf event t
     → (why : Cause) → CauseHolds s past event why → (code : ℕ) × (why ≡ cause.Asked code)
-undoes_own s past legal t alone event (inl e) (cause.Cycle walk) h =
+undoes_own s past legal t alone event (inl (inl e)) (cause.Cycle walk) h =
     let c = subst (λ v. CauseHolds s past v (cause.Cycle walk)) e h in absurd (closes_none s past legal t alone c.key c.kind c.rest c.closes)
-undoes_own s past legal t alone event (inr e) (cause.Cycle walk) h = absurd (subst (λ v. CauseHolds s past v (cause.Cycle walk)) e h)
+undoes_own s past legal t alone event (inl (inr e)) (cause.Cycle walk) h = absurd (subst (λ v. CauseHolds s past v (cause.Cycle walk)) e h)
+undoes_own s past legal t alone event (inr (d, e)) (cause.Cycle walk) h =
+    let c = subst (λ v. CauseHolds s past v (cause.Cycle walk)) e h in absurd (closes_none s past legal t alone c.key c.kind c.rest c.closes)
 undoes_own s past legal t alone event a (cause.Asked code) h = (code, refl)
-undoes_own s past legal t alone event (inl e) cause.Quit h = absurd (subst (λ v. CauseHolds s past v cause.Quit) e h)
-undoes_own s past legal t alone event (inr e) cause.Quit h = absurd (subst (λ v. CauseHolds s past v cause.Quit) e h)
+undoes_own s past legal t alone event (inl (inl e)) cause.Quit h = absurd (subst (λ v. CauseHolds s past v cause.Quit) e h)
+undoes_own s past legal t alone event (inl (inr e)) cause.Quit h = absurd (subst (λ v. CauseHolds s past v cause.Quit) e h)
+undoes_own s past legal t alone event (inr (d, e)) cause.Quit h = absurd (subst (λ v. CauseHolds s past v cause.Quit) e h)
 
 pub started_alone : StartedAlone
 started_alone s past e legal none t is = record {
@@ -87,12 +91,14 @@ started_alone s past e legal none t is = record {
 abbrev pub Goes : List Entry → ℕ → Type 0
 Goes past t = IsAlone past t ⊎ ((f : Fate) × (fate_of past t ≡ Some f) × IsByItself (Some f))
 
-pub asks-no_start : (event : Event) (t : ℕ) → IsStepOrCommitOf event t → (p : ℕ) (args : List ℤ) → event ≡ Start p args → ⊥
-asks-no_start event t (inl a) p args e = cc
-asks-no_start event t (inr a) p args e = cc
+pub asks-no_start : (event : Event) (t : ℕ) → IsNoQuitOf event t → (p : ℕ) (args : List ℤ) → event ≡ Start p args → ⊥
+asks-no_start event t (inl (inl a)) p args e = cc
+asks-no_start event t (inl (inr a)) p args e = cc
+asks-no_start event t (inr (d, a)) p args e = cc
 
 -- it stays alone, where an entry ends none and starts none
-pub stays_alone : (past : List Entry) (e : Entry) (t : ℕ) → IsAlone past t → is_start e.reply ≡ false → ending_in e.event e.reply t ≡ None → IsAlone (e ∷ past) t
+pub stays_alone : (past : List Entry) (e : Entry) (t : ℕ) → IsAlone past t → is_start e.reply ≡ false
+    → ending_in e.event e.reply t ≡ None → IsAlone (e ∷ past) t
 stays_alone past e t alone no_start no_end = record {
   is_live = live_from (e ∷ past) t (started-stays e past t (live-started past t alone.is_live))
       (option_or-at_none _ _ no_end ∙ live-no_fate past t alone.is_live);
@@ -100,14 +106,16 @@ stays_alone past e t alone no_start no_end = record {
       (live-started (e ∷ past) u h)));
 }
 
-concerns_t : (event : Event) (t : ℕ) → IsStepOrCommitOf event t → concerns event t ≡ true
-concerns_t event t (inl e) = ap (λ v. concerns v t) e ∙ eq-eqb t t refl
-concerns_t event t (inr e) = ap (λ v. concerns v t) e ∙ eq-eqb t t refl
+concerns_t : (event : Event) (t : ℕ) → IsNoQuitOf event t → concerns event t ≡ true
+concerns_t event t (inl (inl e)) = ap (λ v. concerns v t) e ∙ eq-eqb t t refl
+concerns_t event t (inl (inr e)) = ap (λ v. concerns v t) e ∙ eq-eqb t t refl
+concerns_t event t (inr (d, e)) = ap (λ v. concerns v t) e ∙ eq-eqb t t refl
 
 ends_own : (past : List Entry) (e : Entry) (t : ℕ) (f : Fate) → ending_in e.event e.reply t ≡ Some f → fate_of (e ∷ past) t ≡ Some f
 ends_own past e t f is = ap (λ o. option_or o (fate_of past t)) is
 
-pub goes_on : (s : Setting) (past : List Entry) (e : Entry) (t : ℕ) → Legal s (e ∷ past) → IsStepOrCommitOf e.event t → IsAlone past t → Goes (e ∷ past) t
+pub goes_on : (s : Setting) (past : List Entry) (e : Entry) (t : ℕ) → Legal s (e ∷ past) → IsNoQuitOf e.event t
+    → IsAlone past t → Goes (e ∷ past) t
 goes_on s past e t legal asks alone = by_effect (effect s past e.event e.reply legal.1)
   where
     own : concerns e.event t ≡ true
@@ -137,7 +145,8 @@ goes_on s past e t legal asks alone = by_effect (effect s past e.event e.reply l
       tt,
     )
 
-pub goes : (s : Setting) (past : List Entry) (t : ℕ) → IsAlone past t → (later : List Entry) → AreStepsAndCommitsOf t later → Legal s (later ++ past) → Goes (later ++ past) t
+pub goes : (s : Setting) (past : List Entry) (t : ℕ) → IsAlone past t → (later : List Entry) → AreNoQuitsOf t later
+    → Legal s (later ++ past) → Goes (later ++ past) t
 goes s past t alone [] asked legal = inl alone
 goes s past t alone (e ∷ later) asked legal = elim (goes s past t alone later asked.1 legal.0) [
   | inl a ↦ goes_on s (later ++ past) e t legal asked.0 a
@@ -178,8 +187,20 @@ module _ (s : Setting) (past : List Entry) (legal : Legal s past) (t : ℕ) (alo
       go AtCommit (inl w) = absurd (waits_for_none past t alone w.predecessor w.least.pair)
       go AtCommit (inr m) = ap is_hindered m.is
 
+  request_free : (d : Request) (n : Next) → RequestReply s past t d n r → is_hindered r ≡ false
+  request_free d (Looks k) h = ap is_hindered h
+  request_free d (Puts k v) h = ap is_hindered h
+  request_free d (Raises code) h = ap is_hindered h
+  request_free d (Ends answers) h = by_fit (is_fit d) h
+    where
+      by_fit : (fit : Bool) → OfFit fit r (StepReply s past t (requested d) r) → is_hindered r ≡ false
+      by_fit true h = step_free (requested d) h
+      by_fit false h = ap is_hindered h
+
 pub alone_is_not_aborted : AloneIsNotAborted
-alone_is_not_aborted s past legal t alone event (inl e) r h = step_free s past legal t alone r (next_of s past t)
+alone_is_not_aborted s past legal t alone event (inl (inl e)) r h = step_free s past legal t alone r (next_of s past t)
     (of_live past t r _ alone.is_live (subst (λ v. LegalReply s past v r) e h))
-alone_is_not_aborted s past legal t alone event (inr e) r h = commit_free s past legal t alone r (next_of s past t)
+alone_is_not_aborted s past legal t alone event (inr (d, e)) r h = request_free s past legal t alone r d (next_of s past t)
+    (of_live past t r _ alone.is_live (subst (λ v. LegalReply s past v r) e h))
+alone_is_not_aborted s past legal t alone event (inl (inr e)) r h = commit_free s past legal t alone r (next_of s past t)
     (of_live past t r _ alone.is_live (subst (λ v. LegalReply s past v r) e h))

@@ -3,6 +3,7 @@ pub mod Alone
 pub mod RealTime
 pub mod Drains
 pub mod Needed
+pub mod InTurn
 pub mod Reruns
 pub mod RunAlone
 pub mod GivenCalls

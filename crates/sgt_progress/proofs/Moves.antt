@@ -1,9 +1,11 @@
 -- The next event of a live transaction moves it on or waits, and not all wait.
-use Rattle.std.specs.Prelude.{◌≡◌, ◌≢◌, ℕ, zero, suc, ◌+◌, ◌<◌, ◌≤◌, Bool, true, false, cond, ◌⊎◌, nat_eq, List, [], ◌∷◌, length, Option}
+use Rattle.std.specs.Prelude.{◌≡◌, ◌≢◌, ℕ, zero, suc, ◌+◌, ◌<◌, ◌≤◌, ℤ, Bool, true, false, cond, ◌⊎◌, nat_eq, List, [], ◌∷◌, length, Option}
 use Rattle.std.proofs.Common.{refl, sym, ap, ◌∙◌, subst, subst₂, inl, inr, arith}
 use Rattle.std.proofs.lemmas.Bool.{and_parts, eqb-true, eq-eqb, both_ways}
 use Rattle.sgt_model.specs.declared.event.Event.{Event}
-use Rattle.sgt_model.specs.declared.event.Event.TheVariants.{Start, Step, Commit, Quit}
+use Rattle.sgt_model.specs.declared.event.Event.TheVariants.{Start, Step, Access, Commit, Quit}
+use Rattle.sgt_model.specs.declared.event.Request.{Request}
+use Rattle.sgt_model.specs.declared.event.Request.TheVariants.{Read, Write}
 use Rattle.sgt_model.specs.declared.reply.Reply.{Reply}
 use Rattle.sgt_model.specs.declared.reply.Reply.TheVariants as reply
 use Rattle.sgt_model.specs.declared.reply.Fate.{Fate}
@@ -15,8 +17,8 @@ use Rattle.sgt_model.specs.Traces.{Next, Looks, Puts, Ends, Raises}
 use Rattle.sgt_model.specs.Fates.{live, live_ones, started_ones}
 use Rattle.sgt_model.specs.Pairs.{Pair}
 use Rattle.sgt_model.specs.Settings.{Setting}
-use Rattle.sgt_model.specs.Progress.{next_of}
-use Rattle.sgt_model.specs.Legality.{OfStarted, OfLive, StepReply, CommitReply, RaisedStep, RaisedCommit, LegalReply, Legal, LivePredecessor, MustWait}
+use Rattle.sgt_model.specs.Progress.{requested, is_fit, next_of}
+use Rattle.sgt_model.specs.Legality.{OfStarted, OfLive, OfFit, RequestReply, StepReply, CommitReply, RaisedStep, RaisedCommit, LegalReply, Legal, LivePredecessor, MustWait}
 use Rattle.sgt_model.specs.OneReply.{SameButWalk}
 use Rattle.sgt_model.proofs.Facts.{live-no_fate, live-started}
 use Rattle.sgt_model.proofs.Paths.{reaches_self, reaches_trans, no_way_back}
@@ -24,7 +26,7 @@ use Rattle.sgt_model.proofs.NoCycle.{no_cycle}
 use Rattle.sgt_model.proofs.SomeReply.{some_reply_is_legal, begun_has}
 use Rattle.sgt_model.proofs.OneReply.{replies_are_unique}
 use Rattle.sgt_model.proofs.Listed.{kept_member}
-use Rattle.sgt_progress.specs.Moves.{event_of_code, event_for, next_event, has_moved, CanMove, AskedMovesOrWaits, NoDeadlock, WaitsFor, NoWaitCycle}
+use Rattle.sgt_progress.specs.Moves.{event_of_code, event_for, next_event, has_moved, CanMove, AskedMovesOrWaits, RequestedMoves, NoDeadlock, WaitsFor, NoWaitCycle}
 
 -- of a live transaction the reply is by what it does next
 pub of_live : (past : List Entry) (t : ℕ) (r : Reply) (P : Type 0) → live past t ≡ true → OfLive past t r P → P
@@ -37,6 +39,7 @@ to_live past t r P alive h = subst₂ (λ (b : Bool) (o : Option Fate). OfStarte
 abbrev pub ReplyTo : Setting → List Entry → Event → ℕ → Next → Reply → Type 0
 ReplyTo s past (Start p args) t n r = ⊥
 ReplyTo s past (Step u) t n r = StepReply s past t n r
+ReplyTo s past (Access u d) t n r = ⊥
 ReplyTo s past (Commit u) t n r = CommitReply s past t n r
 ReplyTo s past (Quit u) t n r = ⊥
 
@@ -71,6 +74,23 @@ moves_or_waits s past t (Raises code) r h = go s.rules.limits.asks refl h
 
 pub asked_moves_or_waits : AskedMovesOrWaits
 asked_moves_or_waits s past legal t alive r h = moves_or_waits s past t (next_of s past t) r (reply_to s past t alive r h)
+
+-- the reply to an access on which the caller of a live transaction decided, at its procedure's end
+pub request_reply : (s : Setting) (past : List Entry) (t : ℕ) (d : Request) (answers : List ℤ) (r : Reply) → live past t ≡ true
+    → next_of s past t ≡ Ends answers → is_fit d ≡ true → LegalReply s past (Access t d) r → StepReply s past t (requested d) r
+request_reply s past t d answers r alive end fit h = subst (λ b. OfFit b r (StepReply s past t (requested d) r)) fit
+    (subst (λ n. RequestReply s past t d n r) end (of_live past t r _ alive h))
+
+requested_moves : (s : Setting) (past : List Entry) (t : ℕ) (d : Request) (r : Reply) → StepReply s past t (requested d) r
+    → has_moved (Access t d) r ≡ true
+requested_moves s past t (Read k) r (inl h) = ap (has_moved (Access t (Read k))) h.aborts.is
+requested_moves s past t (Read k) r (inr h) = ap (has_moved (Access t (Read k))) h.is
+requested_moves s past t (Write k v) r (inl h) = ap (has_moved (Access t (Write k v))) h.aborts.is
+requested_moves s past t (Write k v) r (inr h) = ap (has_moved (Access t (Write k v))) h.is
+
+pub requests_move : RequestedMoves
+requests_move s past legal t alive answers end d fit r h =
+    requested_moves s past t d r (request_reply s past t d answers r alive end fit h)
 
 same_moves : (event : Event) (r q : Reply) → SameButWalk r q → has_moved event r ≡ true → has_moved event q ≡ true
 same_moves event r q (inl e) m = sym (ap (has_moved event) e) ∙ m

@@ -4,7 +4,8 @@ use Rattle.std.proofs.Common.{refl, sym, ap, ◌∙◌, subst, inl, inr, arith, 
 use Rattle.std.proofs.lemmas.Bool.{both_ways}
 use Rattle.sgt_model.specs.declared.entry.Entry.{Entry}
 use Rattle.sgt_model.specs.declared.event.Event.{Event}
-use Rattle.sgt_model.specs.declared.event.Event.TheVariants.{Step}
+use Rattle.sgt_model.specs.declared.event.Event.TheVariants.{Start, Step, Commit, Quit}
+use Rattle.sgt_model.specs.declared.event.Event.TheVariants as event
 use Rattle.sgt_model.specs.declared.reply.Reply.{Reply}
 use Rattle.sgt_model.specs.declared.reply.Reply.TheVariants as reply
 use Rattle.std.specs.Option.{option_or}
@@ -17,14 +18,14 @@ use Rattle.sgt_model.specs.Pairs.{has_conflicting, FollowsIn, Precedes, Pair}
 use Rattle.sgt_model.specs.Closes.{Closes}
 use Rattle.sgt_model.specs.Settings.{Setting}
 use Rattle.sgt_model.specs.Traces.{Next, Looks, Puts, Ends, Raises}
-use Rattle.sgt_model.specs.Progress.{next_of}
+use Rattle.sgt_model.specs.Progress.{requested, next_of}
 use Rattle.sgt_model.specs.Aborts.{Wants, IsAccessBy}
 use Rattle.sgt_model.specs.Legality.{Legal, LegalReply, StepReply}
 use Rattle.sgt_model.proofs.Facts.{live-stands}
 use Rattle.sgt_model.proofs.Paths.{path-append, last_of-append, last_is_member}
 use Rattle.sgt_model.proofs.NoCycle.{Granted, no_cycle_grows, no_cycle}
-use Rattle.sgt_progress.specs.Needed.{is_rejection, ClosedCyclesStay, CyclesAloneAreRejected}
-use Rattle.sgt_progress.proofs.Moves.{of_live}
+use Rattle.sgt_progress.specs.Needed.{is_rejection, AsksFor, ClosedCyclesStay, CyclesAloneAreRejected}
+use Rattle.sgt_progress.proofs.Moves.{of_live, request_reply}
 
 -- what comes before comes before in a longer history
 pub precedes_later : (later past : List Entry) (a b : ℕ) → Precedes past a b → Precedes (later ++ past) a b
@@ -96,7 +97,8 @@ pub access_aborts : (e : Entry) (past : List Entry) (t : ℕ) (k : Key) (kind : 
 access_aborts e past t k kind is u = ap (λ ending. has_aborted (option_or ending (fate_of past u))) (access_ends e.event e.reply t k kind is u)
 
 -- an access that closes no cycle leaves none
-pub free_acyclic : (s : Setting) (past : List Entry) → Legal s past → (t : ℕ) (k : Key) (kind : Kind) (e : Entry) → IsAccessBy (access_of e) t k kind
+pub free_acyclic : (s : Setting) (past : List Entry) → Legal s past → (t : ℕ) (k : Key) (kind : Kind) (e : Entry)
+    → IsAccessBy (access_of e) t k kind
     → ((rest : List ℕ) → Closes past t k kind rest → ⊥) → Acyclic (Pair (e ∷ past))
 free_acyclic s past legal t k kind e is free =
     no_cycle_grows past (access_of e) (Pair (e ∷ past)) (granted (access_of e) is) (λ a b p. (
@@ -110,12 +112,12 @@ free_acyclic s past legal t k kind e is free =
     granted None h = tt
     granted (Some a) (by, key, same_kind) = λ rest c. free rest (rw (by, key, same_kind) at c)
 
--- a step of an access is rejected, and a cycle would be closed; or it is not, and none would be
-pub rejected_or_free : (s : Setting) (past : List Entry) (t : ℕ) (k : Key) (kind : Kind) (r : Reply) → live past t ≡ true → Wants (next_of s past t) k kind
-    → LegalReply s past (Step t) r
+-- an access that is asked for is rejected, and a cycle would be closed; or it is not, and none would be
+pub rejected_or_free : (s : Setting) (past : List Entry) (event : Event) (t : ℕ) (k : Key) (kind : Kind) (r : Reply) → live past t ≡ true
+    → AsksFor s past event t k kind → LegalReply s past event r
     → ((is_rejection r ≡ true) × ((rest : List ℕ) × Closes past t k kind rest))
     ⊎ ((is_rejection r ≡ false) × ((rest : List ℕ) → Closes past t k kind rest → ⊥))
-rejected_or_free s past t k kind r alive wants legal = by_next (next_of s past t) wants (of_live past t r _ alive legal)
+rejected_or_free s past asked t k kind r alive asks legal = by_event asked asks legal
   where
     by_next : (n : Next) → Wants n k kind → StepReply s past t n r
         → ((is_rejection r ≡ true) × ((rest : List ℕ) × Closes past t k kind rest))
@@ -127,8 +129,19 @@ rejected_or_free s past t k kind r alive wants legal = by_next (next_of s past t
     by_next (Ends answers) w h = absurd w
     by_next (Raises code) w h = absurd w
 
+    by_event : (v : Event) → AsksFor s past v t k kind → LegalReply s past v r
+        → ((is_rejection r ≡ true) × ((rest : List ℕ) × Closes past t k kind rest))
+        ⊎ ((is_rejection r ≡ false) × ((rest : List ℕ) → Closes past t k kind rest → ⊥))
+    by_event (Step u) (same, wants) h = by_next (next_of s past t) wants
+        (of_live past t r _ alive (subst (λ v. LegalReply s past (Step v) r) same h))
+    by_event (event.Access u d) (same, may, wants) h = by_next (requested d) wants
+        (request_reply s past t d may.answers r alive may.end may.fit (subst (λ v. LegalReply s past (event.Access v d) r) same h))
+    by_event (Start p args) asks h = absurd asks
+    by_event (Commit u) asks h = absurd asks
+    by_event (Quit u) asks h = absurd asks
+
 pub cycles_alone_are_rejected : CyclesAloneAreRejected
-cycles_alone_are_rejected s past legal t k kind r e at = elim (rejected_or_free s past t k kind r at.is_live at.wants at.legal) [
+cycles_alone_are_rejected s past legal event t k kind r e at = elim (rejected_or_free s past event t k kind r at.is_live at.asks at.legal) [
   | inl (is, (rest, closes)) ↦ (
     λ _. closed_cycles_stay past t k kind rest closes e at.makes []
         (λ u m. access_aborts e past t k kind at.makes u ∙ members_stand past t rest (live-stands past t at.is_live) closes.pairs u m),

@@ -1,7 +1,7 @@
 -- Reply order keeps real time.
-use Rattle.std.specs.Prelude.{◌≡◌, ℕ, ◌<◌, true, cond, nat_eq, ◌⊎◌, List, [], ◌∷◌, ◌++◌, map, Some}
-use Rattle.std.proofs.Common.{refl, sym, ap, ap₂, ◌∙◌, subst, inl, inr}
-use Rattle.std.proofs.lemmas.Bool.{eq-eqb}
+use Rattle.std.specs.Prelude.{◌≡◌, ℕ, ◌<◌, true, cond, nat_eq, ◌⊎◌, List, [], ◌∷◌, ◌++◌, map, Option, Some, None}
+use Rattle.std.proofs.Common.{refl, sym, ap, ap₂, ◌∙◌, subst, inl, inr, ⊎_elim}
+use Rattle.std.proofs.lemmas.Bool.{cases_eq, eq-eqb}
 use Rattle.std.proofs.lemmas.List.{map-append}
 use Rattle.std.specs.Option.{option_or}
 use Rattle.sgt_model.specs.declared.event.Event.{Event}
@@ -10,17 +10,20 @@ use Rattle.sgt_model.specs.declared.reply.Reply.TheVariants as reply
 use Rattle.sgt_model.specs.declared.reply.Fate.{Fate}
 use Rattle.sgt_model.specs.declared.reply.Fate.TheVariants as fate
 use Rattle.sgt_model.specs.declared.entry.Entry.{Entry}
+use Rattle.sgt_model.specs.Accesses.{Access, access_of}
+use Rattle.sgt_model.specs.Runs.{CallerAccess}
 use Rattle.sgt_model.specs.Walks.{Member, Distinct, StandsBefore}
 use Rattle.sgt_model.specs.Fates.{start_count, ending_in, fate_of, live}
 use Rattle.sgt_model.specs.Settings.{Setting}
-use Rattle.sgt_model.specs.Progress.{Call, call_of}
+use Rattle.sgt_model.specs.Progress.{Call, caller_access_in, caller_accesses, with_caller_accesses}
 use Rattle.sgt_model.specs.Replay.{told_call_in, told_calls}
 use Rattle.sgt_model.specs.Legality.{LegalReply, Legal}
 use Rattle.sgt_model.proofs.Effects.{EndsNone, Effect, idle, begins, accesses, commits, undoes, refuses, effect}
-use Rattle.sgt_model.proofs.Facts.{live-no_fate, live-started, fate-final, ended-started, call-kept, end-live}
+use Rattle.sgt_model.proofs.Facts.{live-no_fate, live-started, live_from, fate-final, ended-started, option_or-at_none, started-stays, access-live, access-no_end, call-kept, end-live}
+use Rattle.sgt_model.proofs.Plays.{caller_access_if, caller_access_in-is, caller_access_if-none, caller_access_if-other}
 use Rattle.sgt_model.proofs.Questions.{started_are_live}
 use Rattle.sgt_model.proofs.Replays.{is_serializable}
-use Rattle.sgt_progress.specs.RealTime.{told_one_in, told_ones, EndsBeforeStart, ReplayKeepsRealTime}
+use Rattle.sgt_progress.specs.RealTime.{told_one_in, told_ones, whole_call, EndsBeforeStart, ReplayKeepsRealTime}
 
 -- what an entry tells
 
@@ -71,7 +74,8 @@ told-ended s (e ∷ past) legal t m = go (told-ended s past legal.0 t) (tells s 
     before : ((f : Fate) × (fate_of past t ≡ Some f)) → (f : Fate) × (fate_of (e ∷ past) t ≡ Some f)
     before (f, is) = (f, fate-final s e past legal t f is)
 
-    go : (Member t (told_ones past) → (f : Fate) × (fate_of past t ≡ Some f)) → (told_one_in e.event e.reply ≡ []) ⊎ TellsOne past e.event e.reply
+    go : (Member t (told_ones past) → (f : Fate) × (fate_of past t ≡ Some f))
+        → (told_one_in e.event e.reply ≡ []) ⊎ TellsOne past e.event e.reply
         → (f : Fate) × (fate_of (e ∷ past) t ≡ Some f)
     go rest (inl none) = before (rest (subst (λ l. Member t (l ++ told_ones past)) none m))
     go rest (inr w) = elim (subst (λ l. Member t (l ++ told_ones past)) w.is m) [
@@ -97,7 +101,7 @@ once s (e ∷ past) legal = go (once s past legal.0) (tells s past e.event e.rep
 
 -- the calls are theirs
 
-told_call-is : (past : List Entry) (event : Event) (r : Reply) → told_call_in past event r ≡ map (call_of past) (told_one_in event r)
+told_call-is : (past : List Entry) (event : Event) (r : Reply) → told_call_in past event r ≡ map (whole_call past) (told_one_in event r)
 told_call-is past event (reply.Committed answers) = refl
 told_call-is past event (reply.Refused code fell) = refl
 told_call-is past event _ = refl
@@ -106,12 +110,35 @@ map_agree : (f g : ℕ → Call) (l : List ℕ) → ((t : ℕ) → Member t l �
 map_agree f g [] h = refl
 map_agree f g (t ∷ l) h = ap₂ (λ c m. c ∷ m) (h t (inl refl)) (map_agree f g l (λ u m. h u (inr m)))
 
-pub calls : (s : Setting) (past : List Entry) → Legal s past → told_calls past ≡ map (call_of past) (told_ones past)
+-- one that was told made no access now, for itself or for its caller
+told-no_access : (s : Setting) (past : List Entry) (e : Entry) → Legal s (e ∷ past) → (t : ℕ) → Member t (told_ones (e ∷ past))
+    → caller_access_in e.event e.reply t ≡ []
+told-no_access s past e legal t m = caller_access_in-is e.event e.reply t ∙ by_access (access_of e) refl
+  where
+    not_own : (a : Access) → access_of e ≡ Some a → a.by ≡ t → ⊥
+    not_own a is own =
+        let alive : live past t ≡ true = subst (λ u. live past u ≡ true) own (access-live s past e.event e.reply legal.1 a is) in
+        told-not_live s (e ∷ past) legal t m (live_from (e ∷ past) t (started-stays e past t (live-started past t alive))
+        (option_or-at_none _ _ (access-no_end s past e.event e.reply legal.1 a is t) ∙ live-no_fate past t alive))
+
+    by_access : (o : Option Access) → access_of e ≡ o → caller_access_if e.event (access_of e) t ≡ []
+    by_access None is = ap (λ o. caller_access_if e.event o t) is ∙ caller_access_if-none e.event t
+    by_access (Some a) is = ap (λ o. caller_access_if e.event o t) is
+        ∙ ⊎_elim (λ own. absurd (not_own a is own)) (λ other. caller_access_if-other e.event a t other) (cases_eq a.by t)
+
+whole-kept : (s : Setting) (past : List Entry) (e : Entry) → Legal s (e ∷ past) → (t : ℕ) → t < start_count past
+    → Member t (told_ones (e ∷ past))
+    → whole_call (e ∷ past) t ≡ whole_call past t
+whole-kept s past e legal t started m =
+    ap₂ (λ (xs : List CallerAccess) (c : Call). with_caller_accesses (xs ++ caller_accesses past t) c) (told-no_access s past e legal t m)
+    (call-kept s past e t legal.1 started)
+
+pub calls : (s : Setting) (past : List Entry) → Legal s past → told_calls past ≡ map (whole_call past) (told_ones past)
 calls s [] legal = refl
 calls s (e ∷ past) legal =
     ap₂ (λ l m. l ++ m) (told_call-is past e.event e.reply) (calls s past legal.0)
-    ∙ (sym (map-append (call_of past) (told_one_in e.event e.reply) (told_ones past))
-    ∙ map_agree (call_of past) (call_of (e ∷ past)) (told_ones (e ∷ past)) (λ t m. sym (call-kept s past e t legal.1 (started t m))))
+    ∙ (sym (map-append (whole_call past) (told_one_in e.event e.reply) (told_ones past))
+    ∙ map_agree (whole_call past) (whole_call (e ∷ past)) (told_ones (e ∷ past)) (λ t m. sym (whole-kept s past e legal t (started t m) m)))
   where
     started : (t : ℕ) → Member t (told_ones (e ∷ past)) → t < start_count past
     started t m = elim (tells s past e.event e.reply legal.1) [

@@ -3,7 +3,7 @@ use Rattle.std.specs.Prelude.{◌≡◌, ℕ, zero, suc, ◌+◌, ◌≤◌, tru
 use Rattle.std.proofs.Common.{refl, sym, ap, ◌∙◌, subst, inl, inr, arith, le_refl}
 use Rattle.std.proofs.lemmas.Bool.{both_ways, false_from_ne_true}
 use Rattle.sgt_model.specs.declared.event.Event.{Event}
-use Rattle.sgt_model.specs.declared.event.Event.TheVariants.{Start, Step, Commit, Quit}
+use Rattle.sgt_model.specs.declared.event.Event.TheVariants.{Start, Step, Access, Commit, Quit}
 use Rattle.sgt_model.specs.declared.reply.Reply.{Reply}
 use Rattle.sgt_model.specs.declared.reply.Reply.TheVariants as reply
 use Rattle.sgt_model.specs.declared.entry.Entry.{Entry}
@@ -22,11 +22,12 @@ use Rattle.sgt_progress.specs.Alone.{NoneLive}
 use Rattle.sgt_progress.specs.Drains.{events_left}
 use Rattle.sgt_progress.specs.Rounds.{Turns, Rounds, RoundsMove, RoundsDrain}
 use Rattle.sgt_progress.proofs.Moves.{ReplyTo, reply_to, asked_moves_or_waits, no_deadlock}
-use Rattle.sgt_progress.proofs.Drains.{next_asks, asked-no_start, someone, some_left, left_fewer, left_less}
+use Rattle.sgt_progress.proofs.Drains.{next_asks, no_request, asked-no_start, someone, some_left, left_fewer, left_less}
 
 abbrev IsStep : Event → Type 0
 IsStep (Start p args) = ⊥
 IsStep (Step t) = Unit {0}
+IsStep (Access t d) = ⊥
 IsStep (Commit t) = ⊥
 IsStep (Quit t) = ⊥
 
@@ -105,7 +106,7 @@ turns_move s past legal (t ∷ order) after (inl (over, rest)) = turns_move s pa
 turns_move s past legal (t ∷ order) after (inr (alive, (r, h, rest))) =
     let e : Entry = record { event = next_event s past t; reply = r } in
     let m = turns_move s (e ∷ past) (legal, h) order after rest in
-    let fewer = left_fewer s past e (legal, h) (asked-no_start s past (next_event s past t) t (next_asks s past t) r h) in
+    let fewer = left_fewer s past e (legal, h) (asked-no_start s past (next_event s past t) t (inl (next_asks s past t)) r h) in
     let few = m.1 in (m.0, omega arith)
 
 turns_less : (s : Setting) (past : List Entry) → Legal s past → (u : ℕ) → live past u ≡ true → Ready s past u → (order : List ℕ) → Member u order
@@ -115,11 +116,11 @@ turns_less s past legal u alive is_ready (t ∷ order) (inl own) after (inl (ove
 turns_less s past legal u alive is_ready (t ∷ order) (inr m) after (inl (over, rest)) = turns_less s past legal u alive is_ready order m after rest
 turns_less s past legal u alive is_ready (t ∷ order) m after (inr (t_alive, (r, h, rest))) =
     let e : Entry = record { event = next_event s past t; reply = r } in
-    let none = asked-no_start s past (next_event s past t) t (next_asks s past t) r h in
+    let none = asked-no_start s past (next_event s past t) t (inl (next_asks s past t)) r h in
     let fewer = left_fewer s past e (legal, h) none in
     elim (asked_moves_or_waits s past legal t t_alive r h) [
       | inl moved ↦
-          let less = left_less s past e (legal, h) none moved in
+          let less = left_less s past e (legal, h) none (no_request (next_event s past t) t (next_asks s past t) r) moved in
           let few = (turns_move s (e ∷ past) (legal, h) order after rest).1 in omega arith
       | inr w ↦ elim m [
         | inl own ↦ absurd (ready_no_wait s past t t_alive (subst (Ready s past) own is_ready) r h w)

@@ -1,7 +1,8 @@
 -- What becomes of a transaction while it is the only live one.
 use Rattle.std.specs.Prelude.{◌≡◌, ℕ, Bool, true, false, ◌⊎◌, List, [], ◌∷◌, ◌++◌, Option, Some, None}
 use Rattle.sgt_model.specs.declared.event.Event.{Event}
-use Rattle.sgt_model.specs.declared.event.Event.TheVariants.{Step, Commit}
+use Rattle.sgt_model.specs.declared.event.Event.TheVariants.{Step, Access, Commit}
+use Rattle.sgt_model.specs.declared.event.Request.{Request}
 use Rattle.sgt_model.specs.declared.reply.Reply.{Reply}
 use Rattle.sgt_model.specs.declared.reply.Reply.TheVariants as reply
 use Rattle.sgt_model.specs.declared.reply.Cause.TheVariants as cause
@@ -27,10 +28,14 @@ NoneLive past = (u : ℕ) → live past u ≡ false
 abbrev pub IsStepOrCommitOf : Event → ℕ → Type 0
 IsStepOrCommitOf event t = (event ≡ Step t) ⊎ (event ≡ Commit t)
 
--- each entry is one of t's steps or commits
-abbrev pub AreStepsAndCommitsOf : ℕ → List Entry → Type 0
-AreStepsAndCommitsOf t [] = Unit {0}
-AreStepsAndCommitsOf t (e ∷ before) = IsStepOrCommitOf e.event t × AreStepsAndCommitsOf t before
+-- the event is one of t's, and no quit: a step, a commit, or an access on which its caller decided
+abbrev pub IsNoQuitOf : Event → ℕ → Type 0
+IsNoQuitOf event t = IsStepOrCommitOf event t ⊎ ((d : Request) × (event ≡ Access t d))
+
+-- each entry is one of t's, and no quit
+abbrev pub AreNoQuitsOf : ℕ → List Entry → Type 0
+AreNoQuitsOf t [] = Unit {0}
+AreNoQuitsOf t (e ∷ before) = IsNoQuitOf e.event t × AreNoQuitsOf t before
 
 -- a reply that waits, or that aborts for a cycle
 abbrev pub is_hindered : Reply → Bool
@@ -38,9 +43,9 @@ is_hindered (reply.Waits u) = true
 is_hindered (reply.Aborted (cause.Cycle walk) fell) = true
 is_hindered _ = false
 
--- the only live transaction never waits, and is never aborted for a cycle
+-- the only live transaction never waits, and is never aborted for a cycle, by the accesses of its caller neither
 abbrev pub AloneIsNotAborted : Type 0
-AloneIsNotAborted = InEach (λ s past. (t : ℕ) → IsAlone past t → (event : Event) → IsStepOrCommitOf event t → (r : Reply) → LegalReply s past event r → is_hindered r ≡ false)
+AloneIsNotAborted = InEach (λ s past. (t : ℕ) → IsAlone past t → (event : Event) → IsNoQuitOf event t → (r : Reply) → LegalReply s past event r → is_hindered r ≡ false)
 
 -- it is live, has committed, or has aborted with a code of its own: not for a cycle, in cascade, or by its caller
 abbrev pub IsByItself : Option Fate → Type 0
@@ -49,10 +54,10 @@ IsByItself (Some fate.Committed) = Unit {0}
 IsByItself (Some (fate.Aborted (cause.Asked code))) = Unit {0}
 IsByItself (Some _) = ⊥
 
--- as long as all events are its steps and commits, the only live transaction is live, has committed, or has aborted with a code of
--- its own
+-- as long as all events are its own, and none of them is a quit, the only live transaction is live, has committed, or has aborted
+-- with a code of its own
 abbrev pub AloneEndsByItself : Type 0
-AloneEndsByItself = InEach (λ s past. (t : ℕ) → IsAlone past t → (later : List Entry) → AreStepsAndCommitsOf t later → Legal s (later ++ past) → IsByItself (fate_of (later ++ past) t))
+AloneEndsByItself = InEach (λ s past. (t : ℕ) → IsAlone past t → (later : List Entry) → AreNoQuitsOf t later → Legal s (later ++ past) → IsByItself (fate_of (later ++ past) t))
 
 -- a transaction that is started when nothing is live is the only live one
 abbrev pub StartedAlone : Type 0

@@ -1,8 +1,9 @@
 -- Which event moves a transaction on, and that not all can wait.
-use Rattle.std.specs.Prelude.{◌≡◌, ℕ, Bool, true, not, ◌||◌, ◌⊎◌, List}
+use Rattle.std.specs.Prelude.{◌≡◌, ℕ, ℤ, Bool, true, not, ◌||◌, ◌⊎◌, List}
 use Rattle.std.specs.Option.{is_none}
 use Rattle.sgt_model.specs.declared.event.Event.{Event}
-use Rattle.sgt_model.specs.declared.event.Event.TheVariants.{Step, Commit}
+use Rattle.sgt_model.specs.declared.event.Event.TheVariants.{Step, Access, Commit}
+use Rattle.sgt_model.specs.declared.event.Request.{Request}
 use Rattle.sgt_model.specs.declared.reply.Reply.{Reply}
 use Rattle.sgt_model.specs.declared.reply.Reply.TheVariants as reply
 use Rattle.sgt_model.specs.declared.entry.Entry.{Entry}
@@ -15,7 +16,7 @@ use Rattle.sgt_model.specs.Fates.{live}
 use Rattle.sgt_model.specs.Questions.{is_ending}
 use Rattle.sgt_model.specs.Pairs.{Pair}
 use Rattle.sgt_model.specs.Settings.{Setting}
-use Rattle.sgt_model.specs.Progress.{next_of}
+use Rattle.sgt_model.specs.Progress.{is_fit, next_of}
 use Rattle.sgt_model.specs.Legality.{LegalReply, MustWait}
 use Rattle.sgt_model.specs.Laws.{InEach}
 
@@ -46,6 +47,12 @@ CanMove s past t = (r : Reply) → LegalReply s past (next_event s past t) r →
 -- the next event of a live transaction moves it on, or waits for its least live predecessor
 abbrev pub AskedMovesOrWaits : Type 0
 AskedMovesOrWaits = InEach (λ s past. (t : ℕ) → live past t ≡ true → (r : Reply) → LegalReply s past (next_event s past t) r → (has_moved (next_event s past t) r ≡ true) ⊎ MustWait past t r)
+
+-- an access on which the caller of a live transaction decided, at its procedure's end, moves it on: it never waits. What it writes
+-- has to be a value, or none
+abbrev pub RequestedMoves : Type 0
+RequestedMoves = InEach (λ s past. (t : ℕ) → live past t ≡ true → (answers : List ℤ) → next_of s past t ≡ Ends answers → (d : Request) → is_fit d ≡ true
+    → (r : Reply) → LegalReply s past (Access t d) r → has_moved (Access t d) r ≡ true)
 
 -- No deadlock: each live transaction can move on, or some live one from which edges lead to it can
 abbrev pub NoDeadlock : Type 0

@@ -8,7 +8,7 @@ use Rattle.sgt_model.specs.declared.entry.Entry.{Entry}
 use Rattle.sgt_model.specs.Walks.{Member, Distinct, StandsBefore}
 use Rattle.sgt_model.specs.Fates.{subject}
 use Rattle.sgt_model.specs.Settings.{Setting}
-use Rattle.sgt_model.specs.Progress.{call_of}
+use Rattle.sgt_model.specs.Progress.{Call, call_of, caller_accesses, with_caller_accesses}
 use Rattle.sgt_model.specs.Questions.{started_in}
 use Rattle.sgt_model.specs.Replay.{told_calls, ReplayAgrees}
 use Rattle.sgt_model.specs.Laws.{InEach}
@@ -29,11 +29,15 @@ abbrev pub EndsBeforeStart : List Entry → ℕ → ℕ → Type 0
 EndsBeforeStart [] t u = ⊥
 EndsBeforeStart (e ∷ past) t u = ((started_in e.event e.reply ≡ Some u) × Member t (told_ones past)) ⊎ EndsBeforeStart past t u
 
--- Strictly serializable. The replay runs the calls of these transactions, each once, in this order (the last one first). It
--- gives what was reported, and leaves the committed values. If t ended before u was started, t comes before u
+-- the call of t, with the accesses that its caller has made
+abbrev pub whole_call : List Entry → ℕ → Call
+whole_call past t = with_caller_accesses (caller_accesses past t) (call_of past t)
+
+-- Strictly serializable. The replay runs the calls of these transactions, each once with its caller's accesses, in this order
+-- (the last one first). It gives what was reported, and leaves the committed values. If t ended before u was started, t comes before u
 pub record KeepsRealTime (s : Setting) (past : List Entry) : Type 0 where
   pub once : Distinct (told_ones past)
-  pub calls : told_calls past ≡ map (call_of past) (told_ones past)
+  pub calls : told_calls past ≡ map (whole_call past) (told_ones past)
   pub replay : ReplayAgrees s past
   pub real_time : (t u : ℕ) → EndsBeforeStart past t u → Member u (told_ones past) → StandsBefore u t (told_ones past)
 

@@ -8,23 +8,23 @@ use Rattle.sgt_model.specs.Progress.{Call}
 use Rattle.sgt_model.specs.Replay.{told_calls, told}
 use Rattle.sgt_model.specs.Legality.{Legal}
 use Rattle.sgt_model.specs.Laws.{InEach}
-use Rattle.sgt_progress.specs.Alone.{NoneLive, IsAlone, IsStepOrCommitOf}
+use Rattle.sgt_progress.specs.Alone.{NoneLive, IsAlone, IsNoQuitOf}
 
 -- the same answers and codes were reported, and the committed databases are the same
 pub record TellTheSame (s : Setting) (one other : List Entry) : Type 0 where
   pub told_same : told one ≡ told other
   pub same_database : (k : Key) → settled s.opening one k ≡ settled s.opening other k
 
--- the committed and refused calls in reply order decide what was reported and what is committed, however they were interleaved
+-- the committed and refused calls in reply order, each with its caller's accesses, decide what was reported and what is committed, however they were interleaved
 abbrev pub CallsDecide : Type 0
 CallsDecide = (s : Setting) (one other : List Entry) → Legal s one → Legal s other → told_calls one ≡ told_calls other → TellTheSame s one other
 
--- one after another: at each entry nothing is live, or the event is a step or a commit of the only live transaction
+-- one after another: at each entry nothing is live, or the event is a step, a commit or a caller's access of the only live transaction
 abbrev pub IsOneByOne : List Entry → Type 0
 IsOneByOne [] = Unit {0}
-IsOneByOne (e ∷ past) = IsOneByOne past × (NoneLive past ⊎ ((t : ℕ) × IsAlone past t × IsStepOrCommitOf e.event t))
+IsOneByOne (e ∷ past) = IsOneByOne past × (NoneLive past ⊎ ((t : ℕ) × IsAlone past t × IsNoQuitOf e.event t))
 
--- a legal history that commits or refuses these calls, and no others, one after another
+-- a legal history that commits or refuses these calls, each with its caller's accesses, and no others, one after another
 pub record Rerun (s : Setting) (calls : List Call) : Type 0 where
   pub again : List Entry
   pub legal : Legal s again
@@ -32,8 +32,8 @@ pub record Rerun (s : Setting) (calls : List Call) : Type 0 where
   pub none_live : NoneLive again
   pub same_calls : told_calls again ≡ calls
 
--- the committed and refused calls of each legal history can be requested again, one after another. Each gets the same answers
--- or code, and the same is committed
+-- the committed and refused calls of each legal history can be requested again, one after another, each with its caller's accesses.
+-- Each gets the same answers or code, each such read is told the same, and the same is committed
 abbrev pub RerunsAgree : Type 0
 RerunsAgree = InEach (λ s past. 1 ≤ s.rules.limits.live → (r : Rerun s (told_calls past)) × TellTheSame s r.again past)
 

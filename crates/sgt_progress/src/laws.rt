@@ -3,7 +3,7 @@ ghost use Rattle.sgt_progress.specs.Alone.{AloneEndsByItself, AloneIsNotAborted,
 ghost use Rattle.sgt_progress.specs.Checked.{CheckedDrainSoon};
 ghost use Rattle.sgt_progress.specs.Drains.{AloneEnds, EventsLeftAreFew, HistoriesDrain, MovesAreFew, SomeStepsDrain};
 ghost use Rattle.sgt_progress.specs.GivenCalls.{GivenCallsAreTold};
-ghost use Rattle.sgt_progress.specs.Moves.{AskedMovesOrWaits, NoDeadlock, NoWaitCycle};
+ghost use Rattle.sgt_progress.specs.Moves.{AskedMovesOrWaits, NoDeadlock, NoWaitCycle, RequestedMoves};
 ghost use Rattle.sgt_progress.specs.Needed.{ClosedCyclesStay, CyclesAloneAreRejected};
 ghost use Rattle.sgt_progress.specs.Owners.{OwnersGoOn, TwoEachMayNot};
 ghost use Rattle.sgt_progress.specs.Predecessors.{NoNewPredecessors};
@@ -12,9 +12,11 @@ ghost use Rattle.sgt_progress.specs.RealTime.{ReplayKeepsRealTime};
 ghost use Rattle.sgt_progress.specs.Rounds.{RoundsDrain, RoundsMove};
 ghost use Rattle.sgt_progress.specs.Reruns.{CallsDecide, OneByOneIsForced, RerunsAgree};
 
-/// The next event of a live transaction moves it on, or waits for a live predecessor.
+/// The next event of a live transaction moves it on, or waits for a live predecessor. An access on which its caller decided
+/// never waits.
 pub fn asked_moves_or_waits()
-    ensures { AskedMovesOrWaits }
+    ensures next { AskedMovesOrWaits }
+    ensures requested { RequestedMoves }
 {}
 
 /// No deadlock: each live transaction, or a live one that it waits for, also through others, can move on.
@@ -23,13 +25,13 @@ pub fn no_deadlock()
     ensures waits { NoWaitCycle }
 {}
 
-/// A step or a commit of the only live transaction neither waits nor is aborted for a cycle.
+/// A step, a commit or a caller's access of the only live transaction neither waits nor is aborted for a cycle.
 pub fn alone_is_not_aborted()
     ensures { AloneIsNotAborted }
 {}
 
-/// As long as all events are its steps and commits, the only live transaction commits, raises a code of its own, or is
-/// still live.
+/// As long as all events are its own, and none of them is a quit, the only live transaction commits, raises a code of its
+/// own, or is still live.
 pub fn alone_ends_by_itself()
     ensures { AloneEndsByItself }
 {}
@@ -44,7 +46,8 @@ pub fn replay_keeps_real_time()
     ensures { ReplayKeepsRealTime }
 {}
 
-/// No livelock: if nothing is started, accesses and ends are at most `events_left`, whatever events come.
+/// No livelock: if nothing is started, accesses and ends are at most `events_left` and the accesses on which callers
+/// decided, whatever events come.
 pub fn moves_are_few()
     ensures { MovesAreFew }
 {}
@@ -68,8 +71,8 @@ pub fn closed_cycles_stay()
     ensures exact { CyclesAloneAreRejected }
 {}
 
-/// The committed and refused calls decide what was reported and what is committed. Given again one after another, each
-/// gets the same.
+/// The committed and refused calls, with their callers' accesses, decide what was reported and what is committed. Given
+/// again one after another, each gets the same.
 pub fn reruns_agree()
     ensures decide { CallsDecide }
     ensures again { RerunsAgree }
@@ -90,7 +93,7 @@ pub fn owners_go_on()
     ensures two { TwoEachMayNot }
 {}
 
-/// Once a procedure has ended, its transaction gets no more live predecessors.
+/// Once a procedure has ended, and as long as its caller makes no access, its transaction gets no more live predecessors.
 pub fn no_new_predecessors()
     ensures { NoNewPredecessors }
 {}

@@ -9,7 +9,7 @@ use Rattle.sgt_records.specs.declared.write.Write.{Write}
 use Rattle.sgt_records.specs.Pendings.{chain_in}
 
 -- who wrote, and what
-abbrev pub written_by : Write → ℕ × ℤ
+abbrev pub written_by : Write → ℕ × Option ℤ
 written_by w = (w.by, w.value)
 
 -- the write is of the key
@@ -17,7 +17,7 @@ abbrev pub is_of : Key → Write → Bool
 is_of k w = key_eq w.key k
 
 -- the last of a chain, or what came before it
-last_or_found : (d : Option (ℕ × ℤ)) (writes : List Write) (k : Key)
+last_or_found : (d : Option (ℕ × Option ℤ)) (writes : List Write) (k : Key)
     → last_or d (chain_in writes k) ≡ option_or (option_map written_by (find (is_of k) (reverse writes))) d
 last_or_found d [] k = refl
 last_or_found d (w ∷ writes) k = go (key_eq w.key k) (λ e. last_or_found e writes k)
@@ -30,7 +30,7 @@ last_or_found d (w ∷ writes) k = go (key_eq w.key k) (λ e. last_or_found e wr
     choose false None = refl
     choose b (Some x) = refl
 
-    go : (b : Bool) → ((e : Option (ℕ × ℤ)) → last_or e (chain_in writes k) ≡ option_or
+    go : (b : Bool) → ((e : Option (ℕ × Option ℤ)) → last_or e (chain_in writes k) ≡ option_or
         (option_map written_by (find (is_of k) (reverse writes))) e)
         → last_or d (cond b (written_by w ∷ chain_in writes k) (chain_in writes k)) ≡ option_or
         (option_map written_by (option_or (find (is_of k) (reverse writes)) (cond b (Some w) None))) d
@@ -43,6 +43,6 @@ pub last_found : (writes : List Write) (k : Key) (found : Option Write) → foun
 last_found writes k found is = last_or_found None writes k
     ∙ (ap (λ o. option_or (option_map written_by o) None) (sym is) ∙ or_none (option_map written_by found))
   where
-    or_none : (o : Option (ℕ × ℤ)) → option_or o None ≡ o
+    or_none : (o : Option (ℕ × Option ℤ)) → option_or o None ≡ o
     or_none None = refl
     or_none (Some x) = refl

@@ -4,7 +4,7 @@ use Rattle.std.proofs.lemmas.Bool.{true≢false, eq-eqb, ne_eqb, eqb-true}
 use Rattle.std.proofs.lemmas.List.Elements.{All-filter, All-push}
 use Rattle.std.proofs.Math.Seq.{take-suc}
 use Rattle.std.specs.List.{filter}
-use Rattle.std.specs.Option.{option_or}
+use Rattle.std.specs.Option.{unwrap_or}
 use Rattle.sgt_model.specs.Contents.{Key, key_eq}
 use Rattle.sgt_model.specs.Chains.{chain_without, write_last, value_in, writes_in}
 use Rattle.sgt_model.proofs.Stores.{key_eq-true}
@@ -24,7 +24,7 @@ or_assoc false b c = refl
 -- on one chain
 
 -- which transactions write in what remains
-pub writers_left : (t u : ℕ) (c : List (ℕ × ℤ)) → writes_in u (chain_without t c) ≡ (not (nat_eq u t) && writes_in u c)
+pub writers_left : (t u : ℕ) (c : List (ℕ × Option ℤ)) → writes_in u (chain_without t c) ≡ (not (nat_eq u t) && writes_in u c)
 writers_left t u [] = go (nat_eq u t)
   where
     go : (b : Bool) → false ≡ (not b && false)
@@ -43,17 +43,17 @@ writers_left t u (w ∷ c) = go (nat_eq w.0 t) refl (nat_eq w.0 u) refl (nat_eq 
     go false e false f d g h = rw f h
 
 -- no transaction writes in a chain without them
-pub not_left : (t : ℕ) (c : List (ℕ × ℤ)) → writes_in t (chain_without t c) ≡ false
+pub not_left : (t : ℕ) (c : List (ℕ × Option ℤ)) → writes_in t (chain_without t c) ≡ false
 not_left t c = writers_left t t c ∙ ap (λ b. not b && writes_in t c) (eq-eqb t t refl)
 
 -- who writes in a chain of two parts
-writers_joined : (u : ℕ) (c d : List (ℕ × ℤ)) → writes_in u (c ++ d) ≡ (writes_in u c || writes_in u d)
+writers_joined : (u : ℕ) (c d : List (ℕ × Option ℤ)) → writes_in u (c ++ d) ≡ (writes_in u c || writes_in u d)
 writers_joined u [] d = refl
 writers_joined u (w ∷ c) d = ap (λ b. nat_eq w.0 u || b) (writers_joined u c d)
     ∙ sym (or_assoc (nat_eq w.0 u) (writes_in u c) (writes_in u d))
 
 -- who writes in a chain after a write
-pub writers_after : (t u : ℕ) (v : ℤ) (c : List (ℕ × ℤ)) → writes_in u (write_last t v c) ≡ (writes_in u c || nat_eq t u)
+pub writers_after : (t u : ℕ) (v : Option ℤ) (c : List (ℕ × Option ℤ)) → writes_in u (write_last t v c) ≡ (writes_in u c || nat_eq t u)
 writers_after t u v c = writers_joined u (chain_without t c) ((t, v) ∷ [])
     ∙ (ap (λ b. b || (nat_eq t u || false)) (writers_left t u c) ∙ go (nat_eq t u) refl (nat_eq u t) refl (writes_in u c))
   where
@@ -119,7 +119,8 @@ module _ (t : ℕ) (writes : List LiveWrite) (i : ℕ) (w : LiveWrite) (short : 
   live_own own k = live_next k ∙ ap (λ b. is_live t k (take i writes) || (b && key_eq w.key k)) (eq-eqb w.by t own)
 
   -- t's own leaves its key's chain without it
-  pub undo_more : w.by ≡ t → (k : Key) (opening before after : List (ℕ × ℤ)) → after ≡ cond (key_eq w.key k) (chain_without t before) before
+  pub undo_more : w.by ≡ t → (k : Key) (opening before after : List (ℕ × Option ℤ))
+      → after ≡ cond (key_eq w.key k) (chain_without t before) before
       → before ≡ cond (is_live t k (take i writes)) (chain_without t opening) opening
       → after ≡ cond (is_live t k (take (i + 1) writes)) (chain_without t opening) opening
   undo_more own k opening before after one so_far = one
@@ -135,23 +136,23 @@ module _ (t : ℕ) (writes : List LiveWrite) (i : ℕ) (w : LiveWrite) (short : 
       go false false = refl
 
   -- and makes its value the committed one
-  pub settle_more : w.by ≡ t → (k : Key) (chain opening : List (ℕ × ℤ)) (committed before after : Option ℤ)
-      → after ≡ cond (key_eq w.key k) (option_or (value_in t chain) before) before
+  pub settle_more : w.by ≡ t → (k : Key) (chain opening : List (ℕ × Option ℤ)) (committed before after : Option ℤ)
+      → after ≡ cond (key_eq w.key k) (unwrap_or (value_in t chain) before) before
       → chain ≡ cond (is_live t k (take i writes)) (chain_without t opening) opening
-      → before ≡ cond (is_live t k (take i writes)) (option_or (value_in t opening) committed) committed
-      → after ≡ cond (is_live t k (take (i + 1) writes)) (option_or (value_in t opening) committed) committed
+      → before ≡ cond (is_live t k (take i writes)) (unwrap_or (value_in t opening) committed) committed
+      → after ≡ cond (is_live t k (take (i + 1) writes)) (unwrap_or (value_in t opening) committed) committed
   settle_more own k chain opening committed before after one left so_far = one
-      ∙ (ap (λ c. cond (key_eq w.key k) (option_or (value_in t c) before) before) left
-      ∙ (ap (λ s. cond (key_eq w.key k) (option_or (value_in t (cond (is_live t k (take i writes)) (chain_without t opening) opening)) s) s)
+      ∙ (ap (λ c. cond (key_eq w.key k) (unwrap_or (value_in t c) before) before) left
+      ∙ (ap (λ s. cond (key_eq w.key k) (unwrap_or (value_in t (cond (is_live t k (take i writes)) (chain_without t opening) opening)) s) s)
       so_far ∙ (go (key_eq w.key k) (is_live t k (take i writes))
-      ∙ sym (ap (λ b. cond b (option_or (value_in t opening) committed) committed) (live_own own k)))))
+      ∙ sym (ap (λ b. cond b (unwrap_or (value_in t opening) committed) committed) (live_own own k)))))
     where
       final : Option ℤ
-      final = option_or (value_in t opening) committed
+      final = unwrap_or (value_in t opening) committed
 
-      go : (e d : Bool) → cond e (option_or (value_in t (cond d (chain_without t opening) opening)) (cond d final committed))
+      go : (e d : Bool) → cond e (unwrap_or (value_in t (cond d (chain_without t opening) opening)) (cond d final committed))
           (cond d final committed) ≡ cond (d || e) final committed
-      go true true = ap (λ o. option_or o final) (no_value t (chain_without t opening) (not_left t opening))
+      go true true = ap (λ o. unwrap_or o final) (no_value t (chain_without t opening) (not_left t opening))
       go true false = refl
       go false true = refl
       go false false = refl
@@ -159,28 +160,28 @@ module _ (t : ℕ) (writes : List LiveWrite) (i : ℕ) (w : LiveWrite) (short : 
 -- on what an end leaves
 
 -- who doesn't write in the chain leaves it as it is
-pub undone : (t : ℕ) (b : Bool) (opening after : List (ℕ × ℤ)) → b ≡ writes_in t opening → after ≡ cond b (chain_without t opening) opening
-    → after ≡ chain_without t opening
+pub undone : (t : ℕ) (b : Bool) (opening after : List (ℕ × Option ℤ)) → b ≡ writes_in t opening
+    → after ≡ cond b (chain_without t opening) opening → after ≡ chain_without t opening
 undone t true opening after is left = left
 undone t false opening after is left = left ∙ sym (left_whole t opening (sym is))
 
 -- and has no value to commit
-pub settled_once : (t : ℕ) (b : Bool) (opening : List (ℕ × ℤ)) (committed after : Option ℤ) → b ≡ writes_in t opening
-    → after ≡ cond b (option_or (value_in t opening) committed) committed → after ≡ option_or (value_in t opening) committed
+pub settled_once : (t : ℕ) (b : Bool) (opening : List (ℕ × Option ℤ)) (committed after : Option ℤ) → b ≡ writes_in t opening
+    → after ≡ cond b (unwrap_or (value_in t opening) committed) committed → after ≡ unwrap_or (value_in t opening) committed
 settled_once t true opening committed after is left = left
-settled_once t false opening committed after is left = left ∙ sym (ap (λ o. option_or o committed) (no_value t opening (sym is)))
+settled_once t false opening committed after is left = left ∙ sym (ap (λ o. unwrap_or o committed) (no_value t opening (sym is)))
 
 -- on the whole list
 
 -- once t's are gone from the list and from the chain, they say the same
-pub live_ended : (t u : ℕ) (k : Key) (writes left : List LiveWrite) (opening after : List (ℕ × ℤ))
+pub live_ended : (t u : ℕ) (k : Key) (writes left : List LiveWrite) (opening after : List (ℕ × Option ℤ))
     → is_live u k writes ≡ writes_in u opening → left ≡ filter (not_by t) writes → after ≡ chain_without t opening
     → is_live u k left ≡ writes_in u after
 live_ended t u k writes left opening after are gone out = ap (is_live u k) gone
     ∙ (live_left t u k writes ∙ (ap (λ b. not (nat_eq u t) && b) are ∙ (sym (writers_left t u opening) ∙ sym (ap (writes_in u) out))))
 
 -- and so with a new writer
-pub live_added : (t u : ℕ) (key k : Key) (index : ℕ) (v : ℤ) (writes more : List LiveWrite) (opening after : List (ℕ × ℤ))
+pub live_added : (t u : ℕ) (key k : Key) (index : ℕ) (v : Option ℤ) (writes more : List LiveWrite) (opening after : List (ℕ × Option ℤ))
     → is_live u k writes ≡ writes_in u opening → more ≡ writes ++ record { by = t; key = key; index = index } ∷ []
     → after ≡ cond (key_eq key k) (write_last t v opening) opening → is_live u k more ≡ writes_in u after
 live_added t u key k index v writes more opening after are added put = ap (is_live u k) added
@@ -196,8 +197,8 @@ live_added t u key k index v writes more opening after are added put = ap (is_li
     go false false h = or_false (writes_in u opening)
 
 -- and with one who had written the key
-pub live_again : (t u : ℕ) (key k : Key) (v : ℤ) (writes : List LiveWrite) (chains : Key → List (ℕ × ℤ)) (after : List (ℕ × ℤ))
-    → writes_in t (chains key) ≡ true → is_live u k writes ≡ writes_in u (chains k)
+pub live_again : (t u : ℕ) (key k : Key) (v : Option ℤ) (writes : List LiveWrite) (chains : Key → List (ℕ × Option ℤ))
+    (after : List (ℕ × Option ℤ)) → writes_in t (chains key) ≡ true → is_live u k writes ≡ writes_in u (chains k)
     → after ≡ cond (key_eq key k) (write_last t v (chains k)) (chains k) → is_live u k writes ≡ writes_in u after
 live_again t u key k v writes chains after again are put = are
     ∙ (go (key_eq key k) refl (nat_eq t u) refl (writers_after t u v (chains k)) ∙ sym (ap (writes_in u) put))

@@ -1,12 +1,12 @@
 -- The pending writes: what remains of them, and what one more changes.
-use Rattle.std.proofs.Common.{◌≡◌, ◌≢◌, ℕ, suc, ◌+◌, ◌<◌, ◌≤◌, ℤ, Bool, true, false, cond, not, ◌||◌, nat_eq, List, [], ◌∷◌, ◌++◌, length, length-append, ◌⊎◌, take, drop, get_or, Option, Some, None, refl, sym, ap, ap₂, ◌∙◌, subst, inl, inr, arith, add-one, append_assoc}
+use Rattle.std.proofs.Common.{◌≡◌, ◌≢◌, ℕ, suc, ◌+◌, ◌<◌, ◌≤◌, ℤ, Bool, true, false, cond, not, ◌||◌, nat_eq, List, [], ◌∷◌, ◌++◌, length, length-append, ◌⊎◌, take, drop, get_or, Option, Some, None, IfSome, refl, sym, ap, ap₂, ◌∙◌, subst, inl, inr, arith, add-one, append_assoc}
 use Rattle.std.proofs.lemmas.Bool.{true≢false, eq-eqb, ne_eqb, cases_eq}
 use Rattle.std.proofs.lemmas.List.{append-nil, take-append-drop}
 use Rattle.std.proofs.Math.Seq.{take-suc}
 use Rattle.std.proofs.lemmas.List.Elements.{All-filter, All-push, filter-append}
 use Rattle.std.specs.BTreeMap.{BTreeMap}
 use Rattle.std.specs.List.{filter}
-use Rattle.std.specs.Option.{option_or}
+use Rattle.std.specs.Option.{option_or, unwrap_or}
 use Rattle.sgt_model.specs.Numbers.{IsValue}
 use Rattle.sgt_model.specs.Contents.{Key, key_eq}
 use Rattle.sgt_model.specs.Chains.{chain_without, write_last, value_in, writes_in}
@@ -19,7 +19,7 @@ use Rattle.sgt_records.specs.Validity.{IsOnceIn}
 -- on one chain
 
 -- no filter adds a value
-fewer : (f g : ℕ × ℤ → Bool) (c : List (ℕ × ℤ)) → length (filter f (filter g c)) ≤ length (filter f c)
+fewer : (f g : ℕ × Option ℤ → Bool) (c : List (ℕ × Option ℤ)) → length (filter f (filter g c)) ≤ length (filter f c)
 fewer f g [] = omega arith
 fewer f g (w ∷ c) = go (g w) (f w) refl (fewer f g c)
   where
@@ -31,11 +31,11 @@ fewer f g (w ∷ c) = go (g w) (f w) refl (fewer f g c)
     go false false e h = h
 
 -- who had one value has one still
-pub once_without : (t u : ℕ) (c : List (ℕ × ℤ)) → IsOnceIn u c → IsOnceIn u (chain_without t c)
+pub once_without : (t u : ℕ) (c : List (ℕ × Option ℤ)) → IsOnceIn u c → IsOnceIn u (chain_without t c)
 once_without t u c h = let le = fewer (λ w. nat_eq w.0 u) (λ w. not (nat_eq w.0 t)) c in omega arith
 
 -- t's own value is gone
-none_left : (t : ℕ) (c : List (ℕ × ℤ)) → filter (λ w. nat_eq w.0 t) (chain_without t c) ≡ []
+none_left : (t : ℕ) (c : List (ℕ × Option ℤ)) → filter (λ w. nat_eq w.0 t) (chain_without t c) ≡ []
 none_left t [] = refl
 none_left t (w ∷ c) = go (nat_eq w.0 t) refl (none_left t c)
   where
@@ -46,7 +46,7 @@ none_left t (w ∷ c) = go (nat_eq w.0 t) refl (none_left t c)
         ap (λ b. cond b (w ∷ filter (λ w. nat_eq w.0 t) (chain_without t c)) (filter (λ w. nat_eq w.0 t) (chain_without t c))) e ∙ h
 
 -- and so after a write
-pub once_written : (t : ℕ) (v : ℤ) (u : ℕ) (c : List (ℕ × ℤ)) → IsOnceIn u c → IsOnceIn u (write_last t v c)
+pub once_written : (t : ℕ) (v : Option ℤ) (u : ℕ) (c : List (ℕ × Option ℤ)) → IsOnceIn u c → IsOnceIn u (write_last t v c)
 once_written t v u c h = subst (λ l. length l ≤ 1) (sym (filter-append (λ w. nat_eq w.0 u) (chain_without t c) ((t, v) ∷ [])))
     (go (cases_eq t u))
   where
@@ -55,7 +55,7 @@ once_written t v u c h = subst (λ l. length l ≤ 1) (sym (filter-append (λ w.
     go (inr n) = rw (ne_eqb t u n, append-nil) (once_without t u c h)
 
 -- the remainder is no longer
-pub few_filtered : (f : ℕ × ℤ → Bool) (c : List (ℕ × ℤ)) → length (filter f c) ≤ length c
+pub few_filtered : (f : ℕ × Option ℤ → Bool) (c : List (ℕ × Option ℤ)) → length (filter f c) ≤ length c
 few_filtered f [] = omega arith
 few_filtered f (w ∷ c) = go (f w) (few_filtered f c)
   where
@@ -64,7 +64,7 @@ few_filtered f (w ∷ c) = go (f w) (few_filtered f c)
     go false h = omega (arith, h)
 
 -- and where t had a value there is capacity
-pub fewer_left : (t : ℕ) (c : List (ℕ × ℤ)) → writes_in t c ≡ true → length (chain_without t c) < length c
+pub fewer_left : (t : ℕ) (c : List (ℕ × Option ℤ)) → writes_in t c ≡ true → length (chain_without t c) < length c
 fewer_left t [] h = absurd (true≢false (sym h))
 fewer_left t (w ∷ c) h = go (nat_eq w.0 t) (few_filtered (λ w. not (nat_eq w.0 t)) c) (fewer_left t c) h
   where
@@ -74,7 +74,7 @@ fewer_left t (w ∷ c) h = go (nat_eq w.0 t) (few_filtered (λ w. not (nat_eq w.
     go false le less e = omega (arith, less e)
 
 -- so a write leaves at most 32
-pub few_written : (t : ℕ) (v : ℤ) (c : List (ℕ × ℤ)) → length c ≤ 32 → (writes_in t c ≡ false → length c < 32)
+pub few_written : (t : ℕ) (v : Option ℤ) (c : List (ℕ × Option ℤ)) → length c ≤ 32 → (writes_in t c ≡ false → length c < 32)
     → length (write_last t v c) ≤ 32
 few_written t v c few room = go (writes_in t c) refl
   where
@@ -155,17 +155,16 @@ other_chain t key (w ∷ writes) k other = go (key_eq w.key k) (key_eq w.key key
     go false false false e f h = rw e h
 
 -- the writes after one more, which replaces t's earlier one
-abbrev pub written : ℕ → Key → ℤ → List Write → List Write
+abbrev pub written : ℕ → Key → Option ℤ → List Write → List Write
 written t key v writes = filter (not_this t key) writes ++ record { by = t; key = key; value = v } ∷ []
 
 -- the remainder, with the write at the end
-pub after_write : (t : ℕ) (key : Key) (v : ℤ) (writes left new : List Write) (w : ℤ) → left ≡ filter (not_this t key) writes → w ≡ v
-    → new ≡ left ++ record { by = t; key = key; value = w } ∷ [] → new ≡ written t key v writes
-after_write t key v writes left new w is same added = added
-    ∙ ap₂ (λ (l : List Write) (x : ℤ). l ++ record { by = t; key = key; value = x } ∷ []) is same
+pub after_write : (t : ℕ) (key : Key) (v : Option ℤ) (writes left new : List Write) → left ≡ filter (not_this t key) writes
+    → new ≡ left ++ record { by = t; key = key; value = v } ∷ [] → new ≡ written t key v writes
+after_write t key v writes left new is added = added ∙ ap (λ (l : List Write). l ++ record { by = t; key = key; value = v } ∷ []) is
 
 -- a write goes above all others of its key
-pub chain_written : (t : ℕ) (key : Key) (v : ℤ) (writes : List Write) (k : Key)
+pub chain_written : (t : ℕ) (key : Key) (v : Option ℤ) (writes : List Write) (k : Key)
     → chain_in (written t key v writes) k ≡ cond (key_eq key k) (write_last t v (chain_in writes k)) (chain_in writes k)
 chain_written t key v writes k = chain_joined (filter (not_this t key) writes) (record { by = t; key = key; value = v } ∷ []) k
     ∙ go (key_eq key k) refl
@@ -182,9 +181,9 @@ module _ (records : BTreeMap Key (Option ℤ)) (writes : List Write) (are : AreP
   abbrev IsRecorded : Write → Type 0
   IsRecorded w = has_record records w.key ≡ true
 
-  -- the write is of a value
+  -- the write is of a value or of none
   abbrev HasValue : Write → Type 0
-  HasValue w = IsValue w.value
+  HasValue w = IfSome w.value IsValue
 
   -- the remainder without t's is pending
   pub pending_left : (t : ℕ) → ArePending records (filter (not_by t) writes)
@@ -197,7 +196,7 @@ module _ (records : BTreeMap Key (Option ℤ)) (writes : List Write) (are : AreP
   }
 
   -- and so is what a write leaves
-  pub pending_written : (t : ℕ) (key : Key) (v : ℤ) → has_record records key ≡ true → IsValue v
+  pub pending_written : (t : ℕ) (key : Key) (v : Option ℤ) → has_record records key ≡ true → IfSome v IsValue
       → (writes_in t (chain_in writes key) ≡ false → length (chain_in writes key) < 32) → ArePending records (written t key v writes)
   pending_written t key v there in_range room = record {
     once = λ u k. subst (λ c. IsOnceIn u c) (sym (chain_written t key v writes k)) (single (key_eq key k) u k);
@@ -224,7 +223,7 @@ module _ (records : BTreeMap Key (Option ℤ)) (writes : List Write) (are : AreP
 -- on what a commit settles
 
 -- t's value in a chain with one more at the end
-value_added : (t u : ℕ) (v : ℤ) (c : List (ℕ × ℤ))
+value_added : (t u : ℕ) (v : Option ℤ) (c : List (ℕ × Option ℤ))
     → value_in t (c ++ (u, v) ∷ []) ≡ option_or (value_in t c) (cond (nat_eq u t) (Some v) None)
 value_added t u v [] = refl
 value_added t u v (w ∷ c) = go (nat_eq w.0 t) (value_added t u v c)
@@ -235,11 +234,11 @@ value_added t u v (w ∷ c) = go (nat_eq w.0 t) (value_added t u v c)
     go false h = h
 
 -- before t's one value there is none
-none_before : (t : ℕ) (c d : List (ℕ × ℤ)) (v : ℤ) → IsOnceIn t (c ++ (t, v) ∷ d) → value_in t c ≡ None
+none_before : (t : ℕ) (c d : List (ℕ × Option ℤ)) (v : Option ℤ) → IsOnceIn t (c ++ (t, v) ∷ d) → value_in t c ≡ None
 none_before t [] d v once = refl
 none_before t (w ∷ c) d v once = go (nat_eq w.0 t) once (none_before t c d v)
   where
-    one : (c : List (ℕ × ℤ)) → 0 < length (filter (λ w. nat_eq w.0 t) (c ++ (t, v) ∷ d))
+    one : (c : List (ℕ × Option ℤ)) → 0 < length (filter (λ w. nat_eq w.0 t) (c ++ (t, v) ∷ d))
     one [] = rw (eq-eqb t t refl) (omega arith)
     one (x ∷ c) = two (nat_eq x.0 t) (one c)
       where
@@ -271,27 +270,27 @@ module _ (t : ℕ) (writes : List Write) (i : ℕ) (w : Write) (short : i < leng
 
   -- a write by t settles its key
   pub settle_more : ((k : Key) → IsOnceIn t (chain_in writes k)) → w.by ≡ t → (k : Key) (before after opening : Option ℤ)
-      → after ≡ cond (key_eq w.key k) (Some w.value) before → before ≡ option_or (value_in t (chain_in (take i writes) k)) opening
-      → after ≡ option_or (value_in t (chain_in (take (i + 1) writes) k)) opening
+      → after ≡ cond (key_eq w.key k) w.value before → before ≡ unwrap_or (value_in t (chain_in (take i writes) k)) opening
+      → after ≡ unwrap_or (value_in t (chain_in (take (i + 1) writes) k)) opening
   settle_more once own k before after opening put so_far = put
-      ∙ (go (key_eq w.key k) refl ∙ ap (λ c. option_or (value_in t c) opening) (sym (chain_more k)))
+      ∙ (go (key_eq w.key k) refl ∙ ap (λ c. unwrap_or (value_in t c) opening) (sym (chain_more k)))
     where
-      go : (b : Bool) → key_eq w.key k ≡ b → cond b (Some w.value) before ≡ option_or
+      go : (b : Bool) → key_eq w.key k ≡ b → cond b w.value before ≡ unwrap_or
           (value_in t (chain_in (take i writes) k ++ cond b ((w.by, w.value) ∷ []) [])) opening
       go true e =
           let single : IsOnceIn t (chain_in (take i writes) k ++ (t, w.value) ∷ chain_in (drop (i + 1) writes) k) = subst
           (λ c. IsOnceIn t c) (whole_chain k ∙ ap₂ (λ (b : Bool) (u : ℕ). chain_in (take i writes)
           k ++ (cond b ((u, w.value) ∷ []) [] ++ chain_in (drop (i + 1) writes) k)) e own) (once k) in
           let nothing = none_before t (chain_in (take i writes) k) (chain_in (drop (i + 1) writes) k) w.value single in
-          sym (ap (λ o. option_or o opening) (value_added t w.by w.value (chain_in (take i writes) k)
-          ∙ ap₂ (λ (o : Option ℤ) (b : Bool). option_or o (cond b (Some w.value) None)) nothing (eq-eqb w.by t own)))
-      go false e = so_far ∙ ap (λ c. option_or (value_in t c) opening) (sym (append-nil (chain_in (take i writes) k)))
+          sym (ap (λ o. unwrap_or o opening) (value_added t w.by w.value (chain_in (take i writes) k)
+          ∙ ap₂ (λ (o : Option (Option ℤ)) (b : Bool). option_or o (cond b (Some w.value) None)) nothing (eq-eqb w.by t own)))
+      go false e = so_far ∙ ap (λ c. unwrap_or (value_in t c) opening) (sym (append-nil (chain_in (take i writes) k)))
 
   -- another's settles none
   pub settle_other : w.by ≢ t → (k : Key) → value_in t (chain_in (take i writes) k) ≡ value_in t (chain_in (take (i + 1) writes) k)
   settle_other other k = sym (ap (value_in t) (chain_more k) ∙ go (key_eq w.key k))
     where
-      or_none : (o : Option ℤ) → option_or o None ≡ o
+      or_none : (o : Option (Option ℤ)) → option_or o None ≡ o
       or_none None = refl
       or_none (Some v) = refl
 

@@ -1,7 +1,7 @@
 -- What a record that has changed, with its chain, changes for the keys.
 use Rattle.std.proofs.Common.{◌≡◌, ◌≢◌, ℕ, ◌<◌, nat_eq, length, unwrap_or, ℤ, Bool, true, false, cond, List, [], ◌⊎◌, inl, inr, Option, Some, None, Result, Ok, Err, OnOk, OnErr, IfSome, refl, sym, ap, ◌∙◌, subst}
 use Rattle.std.proofs.lemmas.Bool.{true≢false, eq-eqb, eqb-true}
-use Rattle.std.specs.Option.{is_some, option_and_then, option_or}
+use Rattle.std.specs.Option.{is_some, option_and_then, unwrap_or}
 use Rattle.slab.specs.Slab.{Slab}
 use Rattle.slab.specs.Slab as slab
 use Rattle.sgt_model.specs.Numbers.{IsValue}
@@ -13,7 +13,7 @@ use Rattle.sgt_records.specs.declared.chain.Chain.{Chain}
 use Rattle.sgt_records.specs.declared.record.Record.{Record}
 use Rattle.sgt_records.specs.declared.written.Written.{Written}
 use Rattle.sgt_records.specs.declared.written.Written.TheVariants.{Nothing, Once, InSlot}
-use Rattle.sgt_records.specs.Slots.{writes_of, chain_at, slot_in, IsHeld, Moves, written_by, slot_of, key_chain, committed_of, IsIndex}
+use Rattle.sgt_records.specs.Slots.{writes_of, chain_at, slot_in, Moves, written_by, slot_of, key_chain, committed_of, IsIndex}
 use Rattle.sgt_records.specs.Validity.{IsChain}
 use Rattle.sgt_records.proofs.ChainsKept.{chain_empty}
 
@@ -168,7 +168,7 @@ module _ (m n : Key → Option Record) (key : Key) (r : Record) (told : (k : Key
         go false e at = ap (chain_at b) at ∙ same_chain k e (written_by (m k)) refl
 
     -- a change of the chain is a change of the key's
-    pub chain_by : (f : List (ℕ × ℤ) → List (ℕ × ℤ)) → chain_at b r.written ≡ f (chain_at a from) → (k : Key)
+    pub chain_by : (f : List (ℕ × Option ℤ) → List (ℕ × Option ℤ)) → chain_at b r.written ≡ f (chain_at a from) → (k : Key)
         → key_chain n b k ≡ cond (key_eq key k) (f (key_chain m a k)) (key_chain m a k)
     chain_by f changed k = chain_told k ∙ go (key_eq key k) refl
       where
@@ -179,18 +179,18 @@ module _ (m n : Key → Option Record) (key : Key) (r : Record) (told : (k : Key
 
     -- and so is one of its committed value
     pub committed_by : (t : ℕ) (before : Option ℤ) → committed_of m key ≡ before
-        → r.committed ≡ option_or (value_in t (chain_at a from)) before → (k : Key)
-        → committed_of n k ≡ cond (key_eq key k) (option_or (value_in t (key_chain m a k)) (committed_of m k)) (committed_of m k)
+        → r.committed ≡ unwrap_or (value_in t (chain_at a from)) before → (k : Key)
+        → committed_of n k ≡ cond (key_eq key k) (unwrap_or (value_in t (key_chain m a k)) (committed_of m k)) (committed_of m k)
     committed_by t before old changed k = committed_told k ∙ go (key_eq key k) refl
       where
-        here : r.committed ≡ option_or (value_in t (key_chain m a key)) (committed_of m key)
+        here : r.committed ≡ unwrap_or (value_in t (key_chain m a key)) (committed_of m key)
         here =
-            changed ∙ (ap (λ o. option_or (value_in t (chain_at a from)) o) (sym old)
-            ∙ ap (λ o. option_or (value_in t (chain_at a o)) (committed_of m key)) (sym was))
+            changed ∙ (ap (λ o. unwrap_or (value_in t (chain_at a from)) o) (sym old)
+            ∙ ap (λ o. unwrap_or (value_in t (chain_at a o)) (committed_of m key)) (sym was))
 
         go : (e : Bool) → key_eq key k ≡ e → cond e r.committed (committed_of m k) ≡ cond e
-            (option_or (value_in t (key_chain m a k)) (committed_of m k)) (committed_of m k)
-        go true e = here ∙ ap (λ j. option_or (value_in t (key_chain m a j)) (committed_of m j)) (key_eq-true key k e)
+            (unwrap_or (value_in t (key_chain m a k)) (committed_of m k)) (committed_of m k)
+        go true e = here ∙ ap (λ j. unwrap_or (value_in t (key_chain m a j)) (committed_of m j)) (key_eq-true key k e)
         go false e = refl
 
     -- the index stands

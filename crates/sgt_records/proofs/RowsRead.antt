@@ -1,7 +1,7 @@
 -- The values of the rows of a database.
 use Rattle.std.proofs.Common.{Bool, true, false, cond, List, [], ◌∷◌, Some, IfSome}
 use Rattle.sgt_model.specs.Numbers.{IsValue}
-use Rattle.sgt_model.specs.Contents.{Key, key_eq}
+use Rattle.sgt_model.specs.Contents.{key_eq}
 use Rattle.sgt_model.specs.Databases.{Row, contents_of, HasValues}
 use Rattle.sgt_model.specs.StoredValues.{HoldValues}
 

@@ -8,7 +8,7 @@ use Rattle.std.specs.Cmp.{Equal-is}
 use Rattle.std.specs.BTreeMap.{BTreeMap, get, is_at, Updates, IsUnchanged}
 use Rattle.std.specs.Map.{lookup}
 use Rattle.sgt_model.specs.Numbers.{IsValue}
-use Rattle.sgt_model.specs.Contents.{Key, key_eq, put_in}
+use Rattle.sgt_model.specs.Contents.{Key, key_eq, set_in}
 use Rattle.sgt_model.specs.Databases.{key_cmp}
 use Rattle.sgt_model.specs.StoredValues.{HoldValues}
 use Rattle.sgt_model.proofs.Rows.{key_order, key_cmp-equal}
@@ -57,17 +57,17 @@ module _ (m n : BTreeMap Key (Option ℤ)) (key : Key) (content : Option ℤ) (t
       go true = refl
       go false = h
 
--- a value that is written
-pub value_put : (m n : BTreeMap Key (Option ℤ)) (key : Key) (v : ℤ) → Updates key_cmp m n key (Some (Some v)) → (k : Key)
-    → settled_in n k ≡ put_in (settled_in m) key v k
-value_put m n key v told = value_told m n key (Some v) told
+-- a value that is written, or none
+pub value_put : (m n : BTreeMap Key (Option ℤ)) (key : Key) (v : Option ℤ) → Updates key_cmp m n key (Some v) → (k : Key)
+    → settled_in n k ≡ set_in (settled_in m) key v k
+value_put m n key v told = value_told m n key v told
 
 -- of values in range, if it is
-pub values_put : (m n : BTreeMap Key (Option ℤ)) (key : Key) (v : ℤ) → Updates key_cmp m n key (Some (Some v)) → IsValue v
+pub values_put : (m n : BTreeMap Key (Option ℤ)) (key : Key) (v : Option ℤ) → Updates key_cmp m n key (Some v) → IfSome v IsValue
     → HoldValues (settled_in m) → HoldValues (settled_in n)
 values_put m n key v told in_range values k = rw (value_put m n key v told k) (go (key_eq key k) (values k))
   where
-    go : (b : Bool) → IfSome (settled_in m k) IsValue → IfSome (cond b (Some v) (settled_in m k)) IsValue
+    go : (b : Bool) → IfSome (settled_in m k) IsValue → IfSome (cond b v (settled_in m k)) IsValue
     go true rest = in_range
     go false rest = rest
 

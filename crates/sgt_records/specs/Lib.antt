@@ -1,5 +1,6 @@
 pub mod Tops
 pub mod Validity
+pub mod PackedValues
 pub mod Settleds
 pub mod Pendings
 pub mod PendingChains

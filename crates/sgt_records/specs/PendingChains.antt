@@ -1,5 +1,5 @@
 -- The pending writes of each key are a chain: the proof of a law of the records.
-use Rattle.std.specs.Prelude.{ℕ, ℤ, Bool, true, false, cond, List, [], ◌∷◌, Option}
+use Rattle.std.specs.Prelude.{ℕ, ℤ, Bool, true, false, cond, List, [], ◌∷◌, Option, IfSome}
 use Rattle.std.specs.BTreeMap.{BTreeMap}
 use Rattle.std.specs.List.{All}
 use Rattle.std.proofs.lemmas.List.Elements.{All-nil, All-cons, All-head, All-tail}
@@ -9,13 +9,13 @@ use Rattle.sgt_records.specs.declared.write.Write.{Write}
 use Rattle.sgt_records.specs.Pendings.{chain_in, ArePending}
 use Rattle.sgt_records.specs.Validity.{IsChain}
 
--- if all writes are of values, so is a chain of them
-chain_values : (writes : List Write) → All (λ (w : Write). IsValue w.value) writes → (k : Key) → All (λ (w : ℕ × ℤ). IsValue w.1) (chain_in writes k)
-chain_values [] values k = All-nil (λ (x : ℕ × ℤ). IsValue x.1)
-chain_values (w ∷ writes) values k = go (key_eq w.key k) (All-head (λ (x : Write). IsValue x.value) w writes values) (chain_values writes (All-tail (λ (x : Write). IsValue x.value) w writes values) k)
+-- if all writes are of values or of none, so is a chain of them
+chain_values : (writes : List Write) → All (λ (w : Write). IfSome w.value IsValue) writes → (k : Key) → All (λ (w : ℕ × Option ℤ). IfSome w.1 IsValue) (chain_in writes k)
+chain_values [] values k = All-nil (λ (x : ℕ × Option ℤ). IfSome x.1 IsValue)
+chain_values (w ∷ writes) values k = go (key_eq w.key k) (All-head (λ (x : Write). IfSome x.value IsValue) w writes values) (chain_values writes (All-tail (λ (x : Write). IfSome x.value IsValue) w writes values) k)
   where
-    go : (b : Bool) → IsValue w.value → All (λ (w : ℕ × ℤ). IsValue w.1) (chain_in writes k) → All (λ (w : ℕ × ℤ). IsValue w.1) (cond b ((w.by, w.value) ∷ chain_in writes k) (chain_in writes k))
-    go true here rest = All-cons (λ (x : ℕ × ℤ). IsValue x.1) (w.by, w.value) (chain_in writes k) here rest
+    go : (b : Bool) → IfSome w.value IsValue → All (λ (w : ℕ × Option ℤ). IfSome w.1 IsValue) (chain_in writes k) → All (λ (w : ℕ × Option ℤ). IfSome w.1 IsValue) (cond b ((w.by, w.value) ∷ chain_in writes k) (chain_in writes k))
+    go true here rest = All-cons (λ (x : ℕ × Option ℤ). IfSome x.1 IsValue) (w.by, w.value) (chain_in writes k) here rest
     go false here rest = rest
 
 -- the pending writes of a key are a chain

@@ -12,12 +12,12 @@ use Rattle.sgt_records.specs.declared.written.Written.TheVariants.{Nothing, Once
 use Rattle.sgt_records.specs.Validity.{IsChain}
 
 -- the writes of a chain; a missing chain has none
-abbrev pub writes_of : Option Chain → List (ℕ × ℤ)
+abbrev pub writes_of : Option Chain → List (ℕ × Option ℤ)
 writes_of None = []
 writes_of (Some chain) = chain.writes.items
 
 -- what is written, oldest first
-abbrev pub chain_at : Slab Chain → Written → List (ℕ × ℤ)
+abbrev pub chain_at : Slab Chain → Written → List (ℕ × Option ℤ)
 chain_at chains Nothing = []
 chain_at chains (Once t v) = (t, v) ∷ []
 chain_at chains (InSlot slot) = writes_of (slab.get chains slot)
@@ -55,7 +55,7 @@ abbrev pub slot_of : (Key → Option Record) → Key → Option ℕ
 slot_of records k = slot_in (written_by (records k))
 
 -- a key's chain: each writer and its value, oldest first
-abbrev pub key_chain : (Key → Option Record) → Slab Chain → Key → List (ℕ × ℤ)
+abbrev pub key_chain : (Key → Option Record) → Slab Chain → Key → List (ℕ × Option ℤ)
 key_chain records chains k = chain_at chains (written_by (records k))
 
 -- a key's committed value; a key without a record, or whose record has no value, has none

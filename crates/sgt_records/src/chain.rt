@@ -4,18 +4,22 @@ ghost use Rattle.std.specs.List.{last_or, position_from};
 ghost use Rattle.sgt_model.specs.Chains.{chain_without, write_last, value_in, writes_in};
 ghost use Rattle.sgt_records.specs.Validity.{IsChain};
 
+use crate::packed_value::PackedValue;
 use arrayvec::ArrayVec;
 use sgt_model::Tid;
 
 /// The values that live transactions have written to one key: the last one of each writer, in the order of these writes.
 #[derive(Drop)]
 pub struct Chain {
-    pub writes: ArrayVec<(Tid, i64), 32>,
+    pub writes: ArrayVec<(Tid, PackedValue), 32>,
 }
+
+// A removal takes no more bytes than a value.
+const _: () = prove!(size_of::<Chain>() == 520);
 
 impl Chain {
     /// A chain of two writes.
-    pub fn of(first: (Tid, i64), second: (Tid, i64)) -> Chain
+    pub fn of(first: (Tid, PackedValue), second: (Tid, PackedValue)) -> Chain
         ensures { result.writes.items ≡ first ∷ second ∷ [] }
     {
         let mut writes = ArrayVec::new();
@@ -25,17 +29,17 @@ impl Chain {
     }
 
     /// The last write.
-    pub fn last(&self) -> Option<(Tid, i64)>
+    pub fn last(&self) -> Option<(Tid, Option<i64>)>
         ensures { result ≡ last_or None self.now.writes.items }
     {
         match self.writes.last() {
-            Some(write) => Some(*write),
+            Some(write) => Some((write.0, write.1.get())),
             None => None,
         }
     }
 
     /// Adds t's value as the last, and returns whether it replaces an earlier one of t.
-    pub fn write(&mut self, t: Tid, value: i64) -> bool
+    pub fn write(&mut self, t: Tid, value: PackedValue) -> bool
         requires chain { IsChain self.old.writes.items }
         requires room { writes_in t self.old.writes.items ≡ false → length self.old.writes.items < 32 }
         ensures again { result ≡ writes_in t self.old.writes.items }
@@ -47,14 +51,14 @@ impl Chain {
     }
 
     /// Removes t's value and returns it, if there is one.
-    pub fn take_out(&mut self, t: Tid) -> Option<i64>
+    pub fn take_out(&mut self, t: Tid) -> Option<Option<i64>>
         requires chain { IsChain self.old.writes.items }
         ensures value { result ≡ value_in t self.old.writes.items }
         ensures left { self.new.writes.items ≡ chain_without t self.old.writes.items }
     {
         let at = self.index_of(t)?;
         let (_, value) = self.writes.remove(at);
-        Some(value)
+        Some(value.get())
     }
 
     // The index of t's value.

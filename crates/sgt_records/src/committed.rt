@@ -1,7 +1,7 @@
 //! The committed values by key.
 ghost use Rattle.std.specs.Prelude.{◌≡◌, true, IfSome, IfOk, OnOk};
 ghost use Rattle.sgt_model.specs.Numbers.{IsValue};
-ghost use Rattle.sgt_model.specs.Contents.{Key, put_in};
+ghost use Rattle.sgt_model.specs.Contents.{Key, set_in};
 ghost use Rattle.sgt_model.specs.Databases.{contents_of, IsByKey};
 ghost use Rattle.sgt_model.specs.StoredValues.{HoldValues};
 ghost use Rattle.std.proofs.Props.{props};
@@ -14,7 +14,7 @@ use std::alloc::Global;
 use std::collections::BTreeMap;
 
 /// The committed values by key. An empty record counts as none: it is there so that a value can be written without an
-/// allocation.
+/// allocation, or it is left of a value that was removed.
 #[derive(Drop)]
 pub struct Committed {
     pub records: BTreeMap<Key, Option<i64>>,
@@ -56,16 +56,16 @@ impl Committed {
         Ok(())
     }
 
-    /// Writes the value to the key's record. It allocates nothing.
-    pub fn put(&mut self, key: Key, value: i64)
+    /// Writes the value to the key's record, or empties it. It allocates nothing.
+    pub fn put(&mut self, key: Key, value: Option<i64>)
         requires ready { has_record self.old.records key ≡ true }
-        requires in_range { IsValue value }
+        requires in_range { IfSome value IsValue }
         ensures put { (k : Key) → settled_in self.new.records k
-            ≡ put_in (settled_in self.old.records) key value k }
+            ≡ set_in (settled_in self.old.records) key value k }
         ensures kept { KeepsRecords self.old.records self.new.records }
     {
         if let Some(record) = self.records.get_mut(&key) {
-            *record = Some(value);
+            *record = value;
         }
     }
 

@@ -1,6 +1,6 @@
 //! The records by key, with the chains of the keys that several live transactions have written.
 ghost use Rattle.std.specs.Prelude.{◌≡◌, ℕ, ◌<◌, Some, false, cond, length, [], IfSome, IfOk, OnOk};
-ghost use Rattle.std.specs.Option.{option_or};
+ghost use Rattle.std.specs.Option.{unwrap_or};
 ghost use Rattle.slab.specs.Slab.{HasRoomFor};
 ghost use Rattle.std.proofs.Props.{props};
 ghost use Rattle.sgt_model.specs.Numbers.{IsValue};
@@ -14,6 +14,7 @@ ghost use Rattle.sgt_records.specs.Tables.{index_in, record_in};
 
 use crate::chain::Chain;
 use crate::live_write::LiveWrite;
+use crate::packed_value::PackedValue;
 use crate::record::Record;
 use crate::table::Table;
 use crate::top::Top;
@@ -88,10 +89,10 @@ impl Index {
     /// Adds t's value as the last in the chain of a key whose record has this index. It returns whether the value replaces an
     /// earlier one of t. It allocates nothing.
     #[inline(always)]
-    pub fn write(&mut self, t: Tid, key: Key, index: usize, value: i64) -> bool
+    pub fn write(&mut self, t: Tid, key: Key, index: usize, value: Option<i64>) -> bool
         requires index { index_in self.old.table key ≡ Some index }
         requires ready { HasRoomFor self.old.chains 1 }
-        requires in_range { IsValue value }
+        requires in_range { IfSome value IsValue }
         requires room { writes_in t (key_chain (record_in self.old.table) self.old.chains key) ≡ false
             → length (key_chain (record_in self.old.table) self.old.chains key) < 32 }
         ensures again { result ≡ writes_in t (key_chain (record_in self.old.table) self.old.chains key) }
@@ -102,7 +103,7 @@ impl Index {
         ensures indices { self.new.table.indices ≡ self.old.table.indices }
     {
         let Record { committed, written } = *self.table.at(key, index);
-        let (written, again) = written.write(&mut self.chains, t, value);
+        let (written, again) = written.write(&mut self.chains, t, PackedValue::of(value));
         self.table.put(key, index, Record { committed, written });
         again
     }
@@ -131,13 +132,13 @@ impl Index {
             (key_chain (record_in self.old.table) self.old.chains k) }
         ensures settled { (k : Key) → committed_of (record_in self.new.table) k
             ≡ cond (key_eq key k)
-            (option_or (value_in t (key_chain (record_in self.old.table) self.old.chains k)) (committed_of (record_in self.old.table) k))
+            (unwrap_or (value_in t (key_chain (record_in self.old.table) self.old.chains k)) (committed_of (record_in self.old.table) k))
             (committed_of (record_in self.old.table) k) }
         ensures indices { self.new.table.indices ≡ self.old.table.indices }
     {
         let Record { committed, written } = *self.table.at(key, index);
         let (written, value) = written.take_out(&mut self.chains, t);
-        let committed = value.or(committed);
+        let committed = value.unwrap_or(committed);
         self.table.put(key, index, Record { committed, written });
     }
 
@@ -165,7 +166,7 @@ impl Index {
             (key_chain (record_in self.old.table) self.old.chains k) }
         ensures settled { (k : Key) → committed_of (record_in self.new.table) k
             ≡ cond (is_live t k writes.now)
-            (option_or (value_in t (key_chain (record_in self.old.table) self.old.chains k)) (committed_of (record_in self.old.table) k))
+            (unwrap_or (value_in t (key_chain (record_in self.old.table) self.old.chains k)) (committed_of (record_in self.old.table) k))
             (committed_of (record_in self.old.table) k) }
         ensures indices { self.new.table.indices ≡ self.old.table.indices }
     {

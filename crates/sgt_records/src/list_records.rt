@@ -1,4 +1,5 @@
 //! Records as an ordered map with one list of the pending writes.
+ghost use Rattle.std.proofs.Props.{props};
 ghost use Rattle.sgt_records.specs.Pendings.{ArePending};
 
 use crate::committed::Committed;
@@ -14,7 +15,7 @@ use std::alloc::Global;
 pub struct ListRecords {
     committed: Committed,
     pending: Vec<Write>,
-    ghost are_pending: { ArePending committed.records pending.items },
+    ghost are_pending: { ArePending committed.records pending.items } by { Prim.hlevel props },
 }
 
 impl ListRecords {
@@ -24,9 +25,9 @@ impl ListRecords {
     ghost use Rattle.sgt_records.specs.Pendings.{chain_in};
 
     // The last write of the key: its writer and value.
-    fn last_write(&self, key: Key) -> Option<(Tid, i64)>
+    fn last_write(&self, key: Key) -> Option<(Tid, Option<i64>)>
         ensures last { result ≡ last_or None (chain_in self.now.pending.items key) }
-        ensures in_range { IfSome result (λ w. IsValue w.1) }
+        ensures in_range { IfSome result (λ w. IfSome w.1 IsValue) }
     {
         let write = self.pending.iter().rev().find(|write| write.key == key)?;
         Some((write.by, write.value))
@@ -73,7 +74,7 @@ impl Records for ListRecords {
         self.committed.reserve(key)
     }
 
-    fn write(&mut self, t: Tid, key: Key, value: i64) {
+    fn write(&mut self, t: Tid, key: Key, value: Option<i64>) {
         self.pending
             .retain(|write| write.by != t || write.key != key);
         self.pending.push_reserved(Write { by: t, key, value });

@@ -15,6 +15,9 @@ pub struct Record {
     pub written: Written,
 }
 
+// Sixteen bytes each, so a removal takes no more than a value.
+const _: () = prove!(size_of::<Record>() == 32);
+
 impl Record {
     /// What a read returns.
     #[inline(always)]

@@ -1,7 +1,7 @@
 //! The calls of a store of records, and their contracts on its committed and pending values.
 ghost use Rattle.std.specs.Prelude.{◌≡◌, ℕ, ℤ, ◌<◌, false, cond, length, List, [], Option, IfSome, IfOk, OnOk};
 ghost use Rattle.std.specs.List.{last_or};
-ghost use Rattle.std.specs.Option.{option_or};
+ghost use Rattle.std.specs.Option.{unwrap_or};
 ghost use Rattle.sgt_model.specs.Numbers.{IsValue};
 ghost use Rattle.sgt_model.specs.Contents.{Key, key_eq};
 ghost use Rattle.sgt_model.specs.Databases.{contents_of, IsByKey};
@@ -18,7 +18,7 @@ use std::alloc::Global;
 /// The committed values, and above them the writes of the live transactions.
 pub trait Records: Drop + Send {
     /// The values that live transactions have written to a key: the last one of each writer, in the order of these writes.
-    ghost chain: { Self → Key → List (ℕ × ℤ) };
+    ghost chain: { Self → Key → List (ℕ × Option ℤ) };
 
     /// `settled`: the committed value of a key, or none.
     ghost settled: { Self → Key → Option ℤ };
@@ -43,11 +43,11 @@ pub trait Records: Drop + Send {
         ensures settled { (k : Key) → settled self.new k ≡ settled self.old k }
         ensures ready { OnOk result (is_ready self.new key) };
 
-    /// Writes t's value, from `LEAST` to `MOST`, above all others of the key. It replaces t's earlier one, over which no
-    /// other transaction may have written. It allocates nothing.
-    fn write(&mut self, t: Tid, key: Key, value: i64)
+    /// Writes t's value, from `LEAST` to `MOST`, above all others of the key; none removes the record. It replaces t's earlier
+    /// one, over which no other transaction may have written. It allocates nothing.
+    fn write(&mut self, t: Tid, key: Key, value: Option<i64>)
         requires ready { is_ready self.old key }
-        requires in_range { IsValue value }
+        requires in_range { IfSome value IsValue }
         requires last { IsLastIn t (chain self.old key) }
         requires room { writes_in t (chain self.old key) ≡ false
             → length (chain self.old key) < 32 }
@@ -55,12 +55,12 @@ pub trait Records: Drop + Send {
             ≡ cond (key_eq key k) (write_last t value (chain self.old k)) (chain self.old k) }
         ensures settled { (k : Key) → settled self.new k ≡ settled self.old k };
 
-    /// `settle`: commits the values of t, each the first of its chain. It allocates nothing.
+    /// `settle`: commits the values of t, each the first of its chain; none leaves none. It allocates nothing.
     fn settle(&mut self, t: Tid)
         requires first { (k : Key) → IsFirstIn t (chain self.old k) }
         ensures chain { (k : Key) → chain self.new k ≡ chain_without t (chain self.old k) }
         ensures settled { (k : Key) → settled self.new k
-            ≡ option_or (value_in t (chain self.old k)) (settled self.old k) };
+            ≡ unwrap_or (value_in t (chain self.old k)) (settled self.old k) };
 
     /// Removes the values of t from every chain. Everything else stays, later writes included. It allocates nothing.
     fn undo(&mut self, t: Tid)
@@ -77,7 +77,7 @@ pub trait Records: Drop + Send {
         ensures values { IfOk result (λ d. (k : Key) → contents_of d k ≡ settled self.now k) }
         ensures by_key { IfOk result IsByKey };
 
-    /// In a chain each writer occurs once, at most 32 do, and what each wrote is a value.
+    /// In a chain each writer occurs once, at most 32 do, and what each wrote is a value or none.
     ghost are_chains: { (r : Self) (k : Key) → IsChain (chain r k) };
 
     /// The committed values are values.

@@ -74,7 +74,7 @@ impl Records for SlabRecords {
         Ok(())
     }
 
-    fn write(&mut self, t: Tid, key: Key, value: i64) {
+    fn write(&mut self, t: Tid, key: Key, value: Option<i64>) {
         let index = self.reserved;
         let again = self.index.write(t, key, index, value);
         if !again {

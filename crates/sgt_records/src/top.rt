@@ -7,8 +7,8 @@ use sgt_model::Tid;
 /// What a read of a key returns.
 #[derive(Clone, Copy, Debug, PartialEq, Eq)]
 pub enum Top {
-    /// The last value that a live transaction has written.
-    Pending(Tid, i64),
+    /// The last value that a live transaction has written, or none: it has removed the record.
+    Pending(Tid, Option<i64>),
     /// `Settled`: the committed value, if no live transaction has written one.
     Settled(i64),
     /// Neither.
@@ -21,7 +21,8 @@ impl Top {
         ensures { result ≡ value_of_top self }
     {
         match self {
-            Top::Pending(_, value) | Top::Settled(value) => Some(value),
+            Top::Pending(_, value) => value,
+            Top::Settled(value) => Some(value),
             Top::Nothing => None,
         }
     }

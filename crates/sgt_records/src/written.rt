@@ -1,4 +1,5 @@
 //! What live transactions have written to one key.
+use crate::packed_value::PackedValue;
 use sgt_model::Tid;
 
 mod by_writer;
@@ -7,8 +8,8 @@ mod by_writer;
 #[derive(Clone, Copy)]
 pub enum Written {
     Nothing,
-    /// One transaction wrote this value.
-    Once(Tid, i64),
+    /// One transaction wrote this value, or none.
+    Once(Tid, PackedValue),
     /// The chain in this slot.
     InSlot(usize),
 }

@@ -42,7 +42,7 @@ listed_conflicting (a ∷ rest) t h = elim (or_cases (nat_eq a.by t) (is_listed 
 ]
 
 -- a read's source, as the state has it
-pub read_added : (o : Option (ℕ × ℤ)) (s : Option ℤ) (t : ℕ) (reads : List (ℕ × ℕ)) (u v : ℕ)
+pub read_added : (o : Option (ℕ × Option ℤ)) (s : Option ℤ) (t : ℕ) (reads : List (ℕ × ℕ)) (u v : ℕ)
     → Has (with_source (top_from o s) t reads) u v ↔ (Has reads u v ⊎ ((v ≡ t) × (u ≢ t) × SourceIs o u))
 read_added None None t reads u v = ((λ h. inl h), (λ h. elim h [ inl old ↦ old | inr new ↦ absurd new.2 ]))
 read_added None (Some x) t reads u v = ((λ h. inl h), (λ h. elim h [ inl old ↦ old | inr new ↦ absurd new.2 ]))
@@ -72,7 +72,7 @@ read_added (Some w) s t reads u v = both (nat_eq w.0 t) refl where
   )
 
 -- what a read returns, as the state has it
-pub value_of_top-from : (o : Option (ℕ × ℤ)) (s : Option ℤ) → value_of_top (top_from o s) ≡ top_value o s
+pub value_of_top-from : (o : Option (ℕ × Option ℤ)) (s : Option ℤ) → value_of_top (top_from o s) ≡ top_value o s
 value_of_top-from None None = refl
 value_of_top-from None (Some v) = refl
 value_of_top-from (Some w) s = refl
@@ -97,7 +97,7 @@ no_rivals list t k kind rivals none alone u = (
 pub no_walk : (test : ℕ → ℕ → Bool) (t : ℕ) (rivals : List ℕ) → rivals ≡ [] → NoWalk test t rivals
 no_walk test t rivals none rest w = absurd (subst (Member (last_of t rest)) none w.ends)
 
-module _ {R A G : Type 0} {chain : R → Key → List (ℕ × ℤ)} {settled : R → Key → Option ℤ} {list : A → List ListedAccess}
+module _ {R A G : Type 0} {chain : R → Key → List (ℕ × Option ℤ)} {settled : R → Key → Option ℤ} {list : A → List ListedAccess}
     {nodes : G → ℕ → Bool} {pairs : G → ℕ → ℕ → Bool} {before : SchedulerView R A G}
     (kept : IsKept chain settled list nodes pairs before) where
   -- few have accesses

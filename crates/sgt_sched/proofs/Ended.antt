@@ -54,7 +54,7 @@ unread-kept t (p ∷ rest) u v h f g = both (not (nat_eq p.0 t) && not (nat_eq p
       (and_from (not (nat_eq p.0 t)) (not (nat_eq p.1 t)) (apart p.0 u here.0 f) (apart p.1 v here.1 g)) ∙ e))
   both false e (inr there) rec = rec there f g
 
-module _ {R A G : Type 0} {chain : R → Key → List (ℕ × ℤ)} {settled : R → Key → Option ℤ} {list : A → List ListedAccess}
+module _ {R A G : Type 0} {chain : R → Key → List (ℕ × Option ℤ)} {settled : R → Key → Option ℤ} {list : A → List ListedAccess}
     {nodes : G → ℕ → Bool} {pairs : G → ℕ → ℕ → Bool} {before : SchedulerView R A G} (kept : IsKept chain settled list nodes pairs before)
     (t : ℕ) (live_t : nodes before.graph t ≡ true) (f : Fate) (records : R) (accesses : A) (graph : G)
     (chain_is : (k : Key) → chain records k ≡ chains.chain_without t (chain before.records k))
@@ -88,7 +88,7 @@ module _ {R A G : Type 0} {chain : R → Key → List (ℕ × ℤ)} {settled : R
     nodes = nodes_are;
     pairs = pairs_are;
     accesses = list_is ∙ filter-same _ _ (list before.accesses) (λ (a : ListedAccess). ap not (nat_eq-swap a.by t));
-    chain = λ k. chain_is k ∙ filter-same _ _ (chain before.records k) (λ (w : ℕ × ℤ). ap not (nat_eq-swap w.0 t));
+    chain = λ k. chain_is k ∙ filter-same _ _ (chain before.records k) (λ (w : ℕ × Option ℤ). ap not (nat_eq-swap w.0 t));
     read_from = λ u v. (unread-left t before.read_from u v, λ h. unread-kept t before.read_from u v h.0 h.1 h.2);
     start_count = length-set before.fates t (Some f);
     left = λ u g. ap left_kept (progress_at-without t u before.live g);

@@ -9,7 +9,9 @@ use Rattle.std.proofs.lemmas.List.{length-append}
 use Rattle.sgt_model.specs.declared.limits.Asks.TheVariants.{AtStep, AtCommit}
 use Rattle.sgt_model.specs.declared.limits.Asks.{Asks}
 use Rattle.sgt_model.specs.declared.event.Event.{Event}
-use Rattle.sgt_model.specs.declared.event.Event.TheVariants.{Start, Step, Commit, Quit}
+use Rattle.sgt_model.specs.declared.event.Event.TheVariants.{Start, Step, Access, Commit, Quit}
+use Rattle.sgt_model.specs.declared.event.Request.{Request}
+use Rattle.sgt_model.specs.Progress.{requested, is_fit}
 use Rattle.sgt_model.specs.declared.limits.Limits.{Limits}
 use Rattle.sgt_model.specs.declared.reply.Fate.{Fate}
 use Rattle.sgt_model.specs.declared.reply.Reply.{Reply}
@@ -22,10 +24,10 @@ use Rattle.sgt_model.specs.Left.{next_left}
 use Rattle.sgt_model.specs.State.{State}
 use Rattle.sgt_model.specs.Walks.{Member}
 use Rattle.sgt_model.specs.Changes.{Removes}
-use Rattle.sgt_model.specs.CallEffects.{Stays, IfOpen, AbortEffect, StepOn, CommitOn, CallEffect, StartOn, Undo, RaisedStepOn, RaisedCommitOn}
+use Rattle.sgt_model.specs.CallEffects.{Stays, IfOpen, AbortEffect, StepOn, IfFit, RequestOn, CommitOn, CallEffect, StartOn, Undo, RaisedStepOn, RaisedCommitOn}
 use Rattle.sgt_sched.specs.Steps.{IsUnended}
 use Rattle.sgt_model.specs.Questions.{is_ending}
-use Rattle.sgt_sched.specs.Endings.{StepEnds, CommitEnds, EndsOne, EndsWhere, Counts, AtItsStep, AtItsCommit, IsFirst}
+use Rattle.sgt_sched.specs.Endings.{StepEnds, RequestEnds, CommitEnds, EndsOne, EndsWhere, Counts, AtItsStep, AtItsCommit, IsFirst}
 
 quiet : (r answer : Reply) (X : Type 0) → r ≡ answer → is_ending answer ≡ false → (X → ⊥) → EndsWhere r X
 quiet r answer X is isnt none = ((λ x. absurd (none x)), (λ _. ap is_ending is ∙ isnt))
@@ -52,6 +54,19 @@ step_agrees asks t (Puts k v) c r after (inl x) = loud r _ _ x.aborts.reply refl
 step_agrees asks t (Puts k v) c r after (inr x) = quiet r _ _ x.reply refl (λ b. x.free b.0 b.1)
 step_agrees asks t (Ends answers) c r after x = quiet r _ _ x.reply refl (λ e. e)
 step_agrees asks t (Raises code) c r after x = asked_step_agrees asks t code c r after x
+
+fit_agrees : (asks : Asks) (t : ℕ) (d : Request) (fit : Bool) (c : State) (r : Reply) (after : State) → is_fit d ≡ fit
+    → IfFit fit c r after (StepOn asks t (requested d) c r after) → EndsWhere r ((is_fit d ≡ true) × StepEnds asks t (requested d) c)
+fit_agrees asks t d true c r after e x = let a = step_agrees asks t (requested d) c r after x in
+    ((λ y. a.0 y.1), (λ none. a.1 (λ y. none (e, y))))
+fit_agrees asks t d false c r after e x = quiet r _ _ x.reply refl (λ y. true≢false (sym y.0 ∙ e))
+
+request_agrees : (asks : Asks) (t : ℕ) (d : Request) (n : Next) (c : State) (r : Reply) (after : State) → RequestOn asks t d n c r after
+    → EndsWhere r (RequestEnds asks t d n c)
+request_agrees asks t d (Ends answers) c r after x = fit_agrees asks t d (is_fit d) c r after refl x
+request_agrees asks t d (Looks k) c r after x = quiet r _ _ x.reply refl (λ e. e)
+request_agrees asks t d (Puts k v) c r after x = quiet r _ _ x.reply refl (λ e. e)
+request_agrees asks t d (Raises code) c r after x = quiet r _ _ x.reply refl (λ e. e)
 
 commit_agrees : (asks : Asks) (t : ℕ) (n : Next) (c : State) (r : Reply) (after : State) → CommitOn asks t n c r after
     → EndsWhere r (CommitEnds asks t n c)
@@ -95,6 +110,8 @@ replies_agree rules (Start p args) c r after x = quiet r _ _ x.reply
     (start_quiet rules.limits c.start_count (length c.live) (takes rules p) args) (λ e. e)
 replies_agree rules (Step t) c r after x = open_agrees t c r after _ (StepEnds rules.limits.asks t (next_left (c.left t)) c)
     (step_agrees rules.limits.asks t (next_left (c.left t)) c r after) (nat_lt t c.start_count) (c.fates t) refl refl x
+replies_agree rules (Access t d) c r after x = open_agrees t c r after _ (RequestEnds rules.limits.asks t d (next_left (c.left t)) c)
+    (request_agrees rules.limits.asks t d (next_left (c.left t)) c r after) (nat_lt t c.start_count) (c.fates t) refl refl x
 replies_agree rules (Commit t) c r after x = open_agrees t c r after _ (CommitEnds rules.limits.asks t (next_left (c.left t)) c)
     (commit_agrees rules.limits.asks t (next_left (c.left t)) c r after) (nat_lt t c.start_count) (c.fates t) refl refl x
 replies_agree rules (Quit t) c r after x =
@@ -121,6 +138,12 @@ module _ (asks : Asks) (t : ℕ) (c : State) (n : Next) (next : n ≡ next_left 
   step_ends_by exact = (
     (λ e. (live, subst (λ m. StepEnds asks t m c) next (exact.0 e))),
     (λ x. exact.1 (subst (λ m. StepEnds asks t m c) (sym next) x.1)),
+  )
+
+  pub request_ends_by : (d : Request) → IsTrue b ↔ RequestEnds asks t d n c → IsTrue b ↔ EndsOne asks (Access t d) c
+  request_ends_by d exact = (
+    (λ e. (live, subst (λ m. RequestEnds asks t d m c) next (exact.0 e))),
+    (λ x. exact.1 (subst (λ m. RequestEnds asks t d m c) (sym next) x.1)),
   )
 
   pub commit_ends_by : IsTrue b ↔ CommitEnds asks t n c → IsTrue b ↔ EndsOne asks (Commit t) c
@@ -200,6 +223,18 @@ asked_commit_count AtStep t code before r after m x = stays_count _ r before aft
 asked_commit_count AtCommit t code before r after m (inl x) = stays_count _ r before after refl x.stays
 asked_commit_count AtCommit t code before r after m (inr x) = undo_count t _ x.fell r before after m x.undo
 
+fit_count : (asks : Asks) (t : ℕ) (n : Next) (fit : Bool) (before : State) (r : Reply) (after : State) → Member t before.live
+    → IfFit fit before r after (StepOn asks t n before r after) → Counts r before after
+fit_count asks t n true before r after m x = step_count asks t n before r after m x
+fit_count asks t n false before r after m x = stays_count _ r before after refl x
+
+request_count : (asks : Asks) (t : ℕ) (d : Request) (n : Next) (before : State) (r : Reply) (after : State) → Member t before.live
+    → RequestOn asks t d n before r after → Counts r before after
+request_count asks t d (Ends answers) before r after m x = fit_count asks t (requested d) (is_fit d) before r after m x
+request_count asks t d (Looks k) before r after m x = stays_count _ r before after refl x
+request_count asks t d (Puts k v) before r after m x = stays_count _ r before after refl x
+request_count asks t d (Raises code) before r after m x = stays_count _ r before after refl x
+
 commit_count : (asks : Asks) (t : ℕ) (n : Next) (before : State) (r : Reply) (after : State) → Member t before.live
     → CommitOn asks t n before r after → Counts r before after
 commit_count asks t (Ends answers) before r after m (inl x) = stays_count _ r before after refl x.stays
@@ -231,6 +266,10 @@ call_counts rules (Start p args) before r after live x = start_count (rules.proc
     (ap is_ending x.reply ∙ start_quiet rules.limits before.start_count (length before.live) (takes rules p) args) x.does
 call_counts rules (Step t) before r after live x = open_count t before r after _
     (λ u. step_count rules.limits.asks t (next_left (before.left t)) before r after (live t u)) (nat_lt t before.start_count)
+    (before.fates t)
+    refl refl x
+call_counts rules (Access t d) before r after live x = open_count t before r after _
+    (λ u. request_count rules.limits.asks t d (next_left (before.left t)) before r after (live t u)) (nat_lt t before.start_count)
     (before.fates t)
     refl refl x
 call_counts rules (Commit t) before r after live x = open_count t before r after _

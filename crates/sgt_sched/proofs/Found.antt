@@ -12,7 +12,7 @@ use Rattle.sgt_sched.specs.SchedulerView.{SchedulerView, IsAlong, IsKept, state_
 use Rattle.sgt_sched.specs.Steps.{IsUnended}
 use Rattle.sgt_sched.proofs.Lives.{index_member, has_index}
 
-module _ {R A G : Type 0} {chain : R → Key → List (ℕ × ℤ)} {settled : R → Key → Option ℤ} {list : A → List ListedAccess}
+module _ {R A G : Type 0} {chain : R → Key → List (ℕ × Option ℤ)} {settled : R → Key → Option ℤ} {list : A → List ListedAccess}
     {nodes : G → ℕ → Bool} {pairs : G → ℕ → ℕ → Bool} {p : SchedulerView R A G} (kept : IsKept chain settled list nodes pairs p)
     (t : ℕ) where
   -- a transaction with an index among the live ones is a node

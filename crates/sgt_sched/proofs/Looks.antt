@@ -23,7 +23,7 @@ use Rattle.sgt_sched.specs.SchedulerView.{SchedulerView, state_of, IsKept}
 use Rattle.sgt_sched.specs.Steps.{with_source}
 use Rattle.sgt_sched.proofs.Accessed.{not_blocked, notes, own_progress_is, kept_access, read_added, value_of_top-from}
 
-module _ {R A G : Type 0} {chain : R → Key → List (ℕ × ℤ)} {settled : R → Key → Option ℤ} {list : A → List ListedAccess}
+module _ {R A G : Type 0} {chain : R → Key → List (ℕ × Option ℤ)} {settled : R → Key → Option ℤ} {list : A → List ListedAccess}
     {nodes : G → ℕ → Bool} {pairs : G → ℕ → ℕ → Bool} {before now : SchedulerView R A G} (seen : before ≡ now)
     (kept : IsKept chain settled list nodes pairs before) (t : ℕ) (live_t : nodes before.graph t ≡ true) (k : Key) (rivals : List ℕ)
     (free : NoWalk (pairs before.graph) t rivals) where
@@ -107,7 +107,7 @@ module _ {R A G : Type 0} {chain : R → Key → List (ℕ × ℤ)} {settled : R
     pub store_room : writes_in t (chain before.records k) ≡ false → length (chain before.records k) < 32
     store_room h = let few = chain_room before.limits.live _ kept.sound t k live_t h in omega (arith, kept.in_range.few_live)
 
-    module _ (v : ℤ) (records : R) (accesses : A) (graph : G) (live : List (ℕ × Progress))
+    module _ (v : Option ℤ) (records : R) (accesses : A) (graph : G) (live : List (ℕ × Progress))
         (chain_is : (j : Key) → chain records j ≡ cond (key_eq k j) (write_last t v (chain before.records j)) (chain before.records j))
         (settled_is : (j : Key) → settled records j ≡ settled before.records j)
         (list_is : list accesses ≡ list before.accesses ++ record { by = t; key = k; kind = Store } ∷ [])
@@ -151,12 +151,12 @@ module _ {R A G : Type 0} {chain : R → Key → List (ℕ × ℤ)} {settled : R
           (sound_store before.limits.live _ _ kept.sound t k v live_t stores.notes stores.chain stores.read_from))
 
       -- it is a write that nothing blocks
-      pub makes_store : (w : ℤ) → w ≡ v → MakesStore t k v (state_of chain settled list nodes pairs now) (reply.Wrote k w)
+      pub makes_store : MakesStore t k v (state_of chain settled list nodes pairs now) (reply.Wrote k v)
           (state_of chain settled list nodes pairs after_store)
-      makes_store w told = subst (λ (p : SchedulerView R A G). MakesStore t k v (state_of chain settled list nodes pairs p)
-          (reply.Wrote k w) (state_of chain settled list nodes pairs after_store)) seen (record {
+      makes_store = subst (λ (p : SchedulerView R A G). MakesStore t k v (state_of chain settled list nodes pairs p)
+          (reply.Wrote k v) (state_of chain settled list nodes pairs after_store)) seen (record {
             free = not_blocked kept t live_t k Store rivals exact free;
-            reply = ap (reply.Wrote k) told;
+            reply = refl;
             stores = subst (λ (p : SchedulerView R A G). StoresInto t k v (state_of chain settled list nodes pairs before)
                 (state_of chain settled list nodes pairs p)) store_is stores;
           })

@@ -27,7 +27,7 @@ no_accesses : (list : List ListedAccess) → ((t : ℕ) (k : Key) (kind : Kind) 
 no_accesses [] none = refl
 no_accesses (a ∷ rest) none = absurd (none a.by a.key Store (or_left _ _ (conflicting a)))
 
-no_writes : (chain : List (ℕ × ℤ)) → ((t : ℕ) → writes_in t chain ≡ true → ⊥) → chain ≡ []
+no_writes : (chain : List (ℕ × Option ℤ)) → ((t : ℕ) → writes_in t chain ≡ true → ⊥) → chain ≡ []
 no_writes [] none = refl
 no_writes (w ∷ rest) none = absurd (none w.0 (or_left _ _ (eq-eqb w.0 w.0 refl)))
 
@@ -39,7 +39,7 @@ no_reads : (reads : List (ℕ × ℕ)) → ((u t : ℕ) → Has reads u t → �
 no_reads [] none = refl
 no_reads (p ∷ rest) none = absurd (none p.0 p.1 (inl (refl, refl)))
 
-module _ {R A G : Type 0} {chain : R → Key → List (ℕ × ℤ)} {settled : R → Key → Option ℤ} {list : A → List ListedAccess}
+module _ {R A G : Type 0} {chain : R → Key → List (ℕ × Option ℤ)} {settled : R → Key → Option ℤ} {list : A → List ListedAccess}
     {nodes : G → ℕ → Bool} {pairs : G → ℕ → ℕ → Bool} {before : SchedulerView R A G} (kept : IsKept chain settled list nodes pairs before)
     (none : numbers before.live ≡ []) where
   -- the parts afterwards

@@ -8,7 +8,7 @@ use Rattle.sgt_model.specs.ChainOrder.{InOrder}
 use Rattle.sgt_model.specs.State.{PairIn}
 use Rattle.sgt_sched.specs.SchedulerView.{SchedulerView, state_of, IsKept}
 
-module _ {R A G : Type 0} {chain : R → Key → List (ℕ × ℤ)} {settled : R → Key → Option ℤ} {list : A → List ListedAccess}
+module _ {R A G : Type 0} {chain : R → Key → List (ℕ × Option ℤ)} {settled : R → Key → Option ℤ} {list : A → List ListedAccess}
     {nodes : G → ℕ → Bool} {pairs : G → ℕ → ℕ → Bool} {before : SchedulerView R A G} (kept : IsKept chain settled list nodes pairs before)
     (records : R) (accesses : A) (same_chain : (k : Key) → chain records k ≡ chain before.records k)
     (same_list : list accesses ≡ list before.accesses) where

@@ -1,6 +1,7 @@
 -- What a start does to the state.
-use Rattle.std.proofs.Common.{◌≡◌, ℕ, zero, suc, ℤ, ◌<◌, arith, Bool, true, false, ◌||◌, inl, inr, nat_eq, List, [], ◌∷◌, ◌++◌, length, Option, Some, None, refl, sym, ap, ◌∙◌, subst}
-use Rattle.std.specs.Prelude.{slice_get}
+use Rattle.std.proofs.Common.{◌≡◌, ℕ, ℤ, ◌<◌, arith, Bool, true, false, ◌||◌, inl, inr, nat_eq, List, [], ◌∷◌, ◌++◌, length, Option, Some, None, refl, sym, ap, ◌∙◌, subst}
+use Rattle.std.specs.Prelude.{IsSome}
+use Rattle.std.specs.Option.{option_map}
 use Rattle.std.proofs.lemmas.List.{length-append, length-map}
 use Rattle.std.proofs.lemmas.Bool.{false_from_ne_true, or_cases, or_left, or_right, eqb-true, eqb-false}
 use Rattle.sgt_model.specs.declared.reply.Fate.{Fate}
@@ -10,7 +11,7 @@ use Rattle.sgt_model.specs.AccessList.{ListedAccess}
 use Rattle.sgt_sched.specs.LiveProgress.{Progress, left_kept}
 use Rattle.sgt_model.specs.declared.limits.Limits.{Limits}
 use Rattle.sgt_model.specs.Syntax.{ProcedureText}
-use Rattle.sgt_model.specs.Settings.{rules_from, takes}
+use Rattle.sgt_model.specs.Settings.{procedure_at}
 use Rattle.sgt_model.specs.LiveLeft.{left_if}
 use Rattle.sgt_model.specs.declared.reply.Reply.TheVariants as reply
 use Rattle.sgt_model.specs.StartReply.{taken_reply}
@@ -24,21 +25,19 @@ use Rattle.sgt_sched.specs.SchedulerView.{SchedulerView, fate_at, rules_of, stat
 use Rattle.sgt_sched.proofs.Lists.{numbers-added, progress_at-added, progress_at-new, fate_at-added, fate_at-past, rising-added}
 
 -- a start that is let in names a procedure
-named : (programs : List ProcedureText) (procedure : ℕ) (limits : Limits) (begun living t : ℕ) (args : List ℤ)
-    → reply.Started t ≡ taken_reply limits begun living (takes (rules_from programs limits) procedure) args → procedure < length programs
-named [] zero limits begun living t args e = absurd (cc)
-named [] (suc n) limits begun living t args e = absurd (cc)
-named (p ∷ rest) zero limits begun living t args e = omega arith
-named (p ∷ rest) (suc n) limits begun living t args e = let r = named rest n limits begun living t args e in omega (arith, r)
+named : (program : Option ProcedureText) (limits : Limits) (begun living t : ℕ) (args : List ℤ)
+    → reply.Started t ≡ taken_reply limits begun living (option_map (λ (q : ProcedureText). q.args) program) args → IsSome program
+named None limits begun living t args e = absurd (cc)
+named (Some p) limits begun living t args e = refl
 
 -- the same, by the parts and their state
 pub is_named : {R A G : Type 0} (p : SchedulerView R A G) (c : State) (procedure t : ℕ) (args : List ℤ)
-    → reply.Started t ≡ start_answer (rules_of p) c procedure args → procedure < length p.procedures
-is_named p c procedure t args is = named p.procedures procedure p.limits c.start_count (length c.live) t args is
+    → reply.Started t ≡ start_answer (rules_of p) c procedure args → IsSome (procedure_at p.procedures procedure)
+is_named p c procedure t args is = named (procedure_at p.procedures procedure) p.limits c.start_count (length c.live) t args is
 
-module _ {R A G : Type 0} {chain : R → Key → List (ℕ × ℤ)} {settled : R → Key → Option ℤ} {list : A → List ListedAccess}
+module _ {R A G : Type 0} {chain : R → Key → List (ℕ × Option ℤ)} {settled : R → Key → Option ℤ} {list : A → List ListedAccess}
     {nodes : G → ℕ → Bool} {pairs : G → ℕ → ℕ → Bool} {before : SchedulerView R A G} (kept : IsKept chain settled list nodes pairs before)
-    (procedure : ℕ) (program : ProcedureText) (args : List ℤ) (named : slice_get before.procedures procedure ≡ Some program) (graph : G)
+    (procedure : ℕ) (program : ProcedureText) (args : List ℤ) (named : procedure_at before.procedures procedure ≡ Some program) (graph : G)
     (nodes_are : (u : ℕ) → nodes graph u ≡ (nodes before.graph u || nat_eq u (length before.fates)))
     (pairs_are : (u v : ℕ) → pairs graph u v ≡ pairs before.graph u v) where
   -- the parts afterwards
@@ -55,7 +54,7 @@ module _ {R A G : Type 0} {chain : R → Key → List (ℕ × ℤ)} {settled : R
       ((kept.sound.listed (length before.fates)).1 m)
 
   -- the state starts it
-  pub start_count : Starts (left_if (slice_get before.procedures procedure) args) (state_of chain settled list nodes pairs before)
+  pub start_count : Starts (left_if (procedure_at before.procedures procedure) args) (state_of chain settled list nodes pairs before)
       (state_of chain settled list nodes pairs after_start)
   start_count = record {
     live = numbers-added before.live (length before.fates) (started procedure program args);
@@ -78,7 +77,7 @@ module _ {R A G : Type 0} {chain : R → Key → List (ℕ × ℤ)} {settled : R
   kept_start room more = record {
     in_range = kept.in_range;
     begun = omega (arith, length-append before.fates (None ∷ []));
-    sound = sound_starts before.limits.live _ _ kept.sound (left_if (slice_get before.procedures procedure) args)
+    sound = sound_starts before.limits.live _ _ kept.sound (left_if (procedure_at before.procedures procedure) args)
         (few before.live room) start_count;
     rising = subst Rising (sym start_count.live) (rising-added (length before.fates) (numbers before.live) kept.rising
         (λ u m. kept.sound.begun u ((kept.sound.listed u).1 m)));
@@ -135,7 +134,7 @@ module _ {R A G : Type 0} {chain : R → Key → List (ℕ × ℤ)} {settled : R
         (ap (progress_at after_start.live) e ∙ progress_at-new before.live (length before.fates)
         (started procedure program args) not_live)) named
 
-module _ {R A G : Type 0} {chain : R → Key → List (ℕ × ℤ)} {settled : R → Key → Option ℤ} {list : A → List ListedAccess}
+module _ {R A G : Type 0} {chain : R → Key → List (ℕ × Option ℤ)} {settled : R → Key → Option ℤ} {list : A → List ListedAccess}
     {nodes : G → ℕ → Bool} {pairs : G → ℕ → ℕ → Bool} {before : SchedulerView R A G} (kept : IsKept chain settled list nodes pairs before)
     (procedure : ℕ) (program : ProcedureText) (args : List ℤ) (t : ℕ) (next : t ≡ length before.fates) where
   -- the next number is no node
@@ -156,14 +155,14 @@ module _ {R A G : Type 0} {chain : R → Key → List (ℕ × ℤ)} {settled : R
   pub start_done : (graph : G) (live : List (ℕ × Progress)) (fates : List (Option Fate))
       → ((u : ℕ) → nodes graph u ≡ (nodes before.graph u || nat_eq u t)) → ((u v : ℕ) → pairs graph u v ≡ pairs before.graph u v)
       → live ≡ before.live ++ (t, started procedure program args) ∷ [] → fates ≡ before.fates ++ None ∷ []
-      → slice_get before.procedures procedure ≡ Some program → length (numbers before.live) < before.limits.live
+      → procedure_at before.procedures procedure ≡ Some program → length (numbers before.live) < before.limits.live
       → length before.fates < before.limits.begins → IsKept chain settled list nodes pairs
       (record before { graph = graph; live = live; fates = fates }) × Starts
-      (left_if (slice_get before.procedures procedure) args) (state_of chain settled list nodes pairs before)
+      (left_if (procedure_at before.procedures procedure) args) (state_of chain settled list nodes pairs before)
       (state_of chain settled list nodes pairs (record before { graph = graph; live = live; fates = fates }))
   start_done graph live fates nodes_are pairs_are live_is fates_is named room more =
       subst (λ (p : SchedulerView R A G). IsKept chain settled list nodes pairs p × Starts
-      (left_if (slice_get before.procedures procedure) args) (state_of chain settled list nodes pairs before)
+      (left_if (procedure_at before.procedures procedure) args) (state_of chain settled list nodes pairs before)
       (state_of chain settled list nodes pairs p)) same (
         kept_start kept procedure program args named graph nodes_now pairs_are
             (subst (λ n. n < before.limits.live) (length-map before.live _) room) more,

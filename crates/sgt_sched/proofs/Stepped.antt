@@ -8,6 +8,8 @@ use Rattle.sgt_graph.specs.declared.graph.Graph.{Ghosts as GraphGhosts}
 use Rattle.sgt_model.specs.declared.errors.NoMemory.{NoMemory}
 use Rattle.sgt_model.specs.declared.limits.Asks.{Asks}
 use Rattle.sgt_model.specs.declared.event.Event.{Event}
+use Rattle.sgt_model.specs.declared.event.Request.{Request}
+use Rattle.sgt_model.specs.Progress.{requested, is_fit}
 use Rattle.sgt_model.specs.declared.reply.Fate.{Fate}
 use Rattle.sgt_model.specs.declared.reply.Reply.{Reply}
 use Rattle.sgt_model.specs.Contents.{Key}
@@ -15,7 +17,7 @@ use Rattle.sgt_model.specs.Traces.{Next}
 use Rattle.sgt_model.specs.Settings.{Rules}
 use Rattle.sgt_model.specs.Left.{next_left}
 use Rattle.sgt_model.specs.State.{State}
-use Rattle.sgt_model.specs.CallEffects.{IfOpen, CycleAbortEffect, StepOn, StepEffect, CommitOn, CommitEffect, CallEffect}
+use Rattle.sgt_model.specs.CallEffects.{IfOpen, CycleAbortEffect, StepOn, StepEffect, IfFit, RequestOn, RequestEffect, CommitOn, CommitEffect, CallEffect}
 use Rattle.sgt_model.specs.declared.short_reply.ReplyLists.{ReplyLists}
 use Rattle.sgt_model.specs.declared.short_reply.ShortReply.{ShortReply}
 use Rattle.sgt_sched.specs.declared.operation.Operation.{Operation}
@@ -45,6 +47,19 @@ pub steps_on : (asks : Asks) (t : ℕ) (before : State) (r : Reply) (after : Sta
     → n ≡ next_left (before.left t) → StepOn asks t n before r after → StepEffect asks t before r after
 steps_on asks t before r after n begun none next done = if_unended _ _ before r after _ begun none
     (subst (λ m. StepOn asks t m before r after) next done)
+
+-- an access that the caller asks for, by what comes next
+pub requests_on : (asks : Asks) (t : ℕ) (d : Request) (before : State) (r : Reply) (after : State) (n : Next)
+    → nat_lt t before.start_count ≡ true → before.fates t ≡ None → n ≡ next_left (before.left t) → RequestOn asks t d n before r after
+    → RequestEffect asks t d before r after
+requests_on asks t d before r after n begun none next done = if_unended _ _ before r after _ begun none
+    (subst (λ m. RequestOn asks t d m before r after) next done)
+
+-- what is asked for is a value, if it is written; so it does what a step would that wants it
+pub fit_does : (asks : Asks) (t : ℕ) (d : Request) (n : Next) (before : State) (r : Reply) (after : State) → is_fit d ≡ true → n ≡ requested d
+    → StepOn asks t n before r after → IfFit (is_fit d) before r after (StepOn asks t (requested d) before r after)
+fit_does asks t d n before r after fit same x = subst (λ b. IfFit b before r after (StepOn asks t (requested d) before r after)) (sym fit)
+    (subst (λ m. StepOn asks t m before r after) same x)
 
 -- a commit, by what comes next
 pub commits_on : (asks : Asks) (t : ℕ) (before : State) (r : Reply) (after : State) (n : Next) → nat_lt t before.start_count ≡ true

@@ -3,7 +3,9 @@ use Rattle.std.specs.Prelude.{◌≡◌, ℕ, ◌+◌, ◌≤◌, true, false, c
 use Rattle.sgt_model.specs.declared.limits.Asks.TheVariants.{AtStep, AtCommit}
 use Rattle.sgt_model.specs.declared.limits.Asks.{Asks}
 use Rattle.sgt_model.specs.declared.event.Event.{Event}
-use Rattle.sgt_model.specs.declared.event.Event.TheVariants.{Start, Step, Commit, Quit}
+use Rattle.sgt_model.specs.declared.event.Event.TheVariants.{Start, Step, Access, Commit, Quit}
+use Rattle.sgt_model.specs.declared.event.Request.{Request}
+use Rattle.sgt_model.specs.Progress.{requested, is_fit}
 use Rattle.sgt_model.specs.declared.kind.Kind.{Kind}
 use Rattle.sgt_model.specs.declared.kind.Kind.TheVariants.{Look, Store}
 use Rattle.sgt_model.specs.declared.reply.Cause.TheVariants as cause
@@ -58,6 +60,13 @@ StepEnds asks t (Puts k v) c = IsBlocked c t k Store
 StepEnds asks t (Ends answers) c = ⊥
 StepEnds asks t (Raises code) c = AtItsStep asks
 
+-- an access that the caller asks for ends t, which is live: its procedure is at its end, and the access is blocked
+abbrev pub RequestEnds : Asks → ℕ → Request → Next → State → Type 0
+RequestEnds asks t d (Looks k) c = ⊥
+RequestEnds asks t d (Puts k v) c = ⊥
+RequestEnds asks t d (Ends answers) c = (is_fit d ≡ true) × StepEnds asks t (requested d) c
+RequestEnds asks t d (Raises code) c = ⊥
+
 -- a commit ends t, which is live, by what its procedure does next: t has no predecessor, and either its procedure is at its
 -- end, or it raises a code and codes are reported at commit
 abbrev pub CommitEnds : Asks → ℕ → Next → State → Type 0
@@ -70,6 +79,7 @@ CommitEnds asks t (Raises code) c = AtItsCommit asks × IsFirst t c
 abbrev pub EndsOne : Asks → Event → State → Type 0
 EndsOne asks (Start p args) c = ⊥
 EndsOne asks (Step t) c = IsUnended c t × StepEnds asks t (next_left (c.left t)) c
+EndsOne asks (Access t d) c = IsUnended c t × RequestEnds asks t d (next_left (c.left t)) c
 EndsOne asks (Commit t) c = IsUnended c t × CommitEnds asks t (next_left (c.left t)) c
 EndsOne asks (Quit t) c = IsUnended c t
 

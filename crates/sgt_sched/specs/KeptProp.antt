@@ -47,11 +47,11 @@ Rising-prop [] = Unit-prop
 Rising-prop (t ∷ []) = Unit-prop
 Rising-prop (t ∷ u ∷ rest) = ×_prop (lt_prop t u) (Rising-prop (u ∷ rest))
 
-EachAfter-prop : (c : State) (t : ℕ) (l : List (ℕ × ℤ)) → IsProp (EachAfter (PairIn c) t l)
+EachAfter-prop : (c : State) (t : ℕ) (l : List (ℕ × Option ℤ)) → IsProp (EachAfter (PairIn c) t l)
 EachAfter-prop c t [] = Unit-prop
 EachAfter-prop c t (w ∷ rest) = ×_prop (bool_prop _ _) (EachAfter-prop c t rest)
 
-InOrder-prop : (c : State) (l : List (ℕ × ℤ)) → IsProp (InOrder (PairIn c) l)
+InOrder-prop : (c : State) (l : List (ℕ × Option ℤ)) → IsProp (InOrder (PairIn c) l)
 InOrder-prop c [] = Unit-prop
 InOrder-prop c (w ∷ rest) = ×_prop (EachAfter-prop c w.0 rest) (InOrder-prop c rest)
 
@@ -78,7 +78,7 @@ Sound-prop most c rising a b i = record {
   order = λ k. InOrder-prop c (c.chain k) (a.order k) (b.order k) i;
 }
 
-module _ {R A G : Type 0} {chain : R → Key → List (ℕ × ℤ)} {settled : R → Key → Option ℤ} {list : A → List ListedAccess}
+module _ {R A G : Type 0} {chain : R → Key → List (ℕ × Option ℤ)} {settled : R → Key → Option ℤ} {list : A → List ListedAccess}
     {nodes : G → ℕ → Bool} {pairs : G → ℕ → ℕ → Bool} where
   pub IsKept-prop : (p : SchedulerView R A G) → IsProp (IsKept chain settled list nodes pairs p)
   IsKept-prop p a b i = record {

@@ -1,5 +1,5 @@
--- What a step does with a record: its kind, and what the procedure does next.
-use Rattle.std.specs.Prelude.{ℕ}
+-- What an access does with a record: its kind, and what the procedure or the caller wants next.
+use Rattle.std.specs.Prelude.{ℕ, IfSome}
 use Rattle.sgt_model.specs.declared.kind.Kind.{Kind}
 use Rattle.sgt_model.specs.declared.kind.Kind.TheVariants as kind
 use Rattle.sgt_model.specs.Contents.{Key}
@@ -21,12 +21,12 @@ kind_of (Store v) = kind.Store
 abbrev pub next_by : State → ℕ → Ahead → Next
 next_by c t ahead = seen_with (answers_at (next_left (c.left t))) ahead
 
--- the step of a procedure that does so with this record
+-- the step of a procedure that does so with this record, or the access of a caller
 abbrev pub next_of : Key → Operation → Next
 next_of k Look = Looks k
 next_of k (Store v) = Puts k v
 
--- what it writes is a value
+-- what it writes is a value, or none
 abbrev pub WritesValue : Operation → Type 0
 WritesValue Look = Unit {0}
-WritesValue (Store v) = IsValue v
+WritesValue (Store v) = IfSome v IsValue

@@ -21,7 +21,7 @@ use Rattle.sgt_sched.specs.declared.sched.Sched.{Sched}
 module _ {R A G : Type 0} {r : RecordsGhosts R} {a : AccessesGhosts A} {g : GraphGhosts G} where
   -- its parts
   abbrev pub parts : Sched R A G r a g → SchedulerView R A G
-  parts s = view s.procedures.items s.limits s.records s.accesses s.graph s.live s.read_from.items s.fates.fates
+  parts s = view s.procedures s.limits s.records s.accesses s.graph s.live s.read_from.items s.fates.fates
 
   -- its state
   abbrev pub state : Sched R A G r a g → State
@@ -29,7 +29,7 @@ module _ {R A G : Type 0} {r : RecordsGhosts R} {a : AccessesGhosts A} {g : Grap
 
   -- the rules that it follows
   abbrev pub rules_of : Sched R A G r a g → Rules
-  rules_of s = rules_from s.procedures.items s.limits
+  rules_of s = rules_from s.procedures s.limits
 
   -- when it reports codes
   abbrev pub asks_of : Sched R A G r a g → Asks
@@ -37,7 +37,7 @@ module _ {R A G : Type 0} {r : RecordsGhosts R} {a : AccessesGhosts A} {g : Grap
 
   -- the procedures and limits stay
   abbrev pub Keeps : Sched R A G r a g → Sched R A G r a g → Type 0
-  Keeps old new = (new.procedures.items ≡ old.procedures.items) × (new.limits ≡ old.limits)
+  Keeps old new = (new.procedures ≡ old.procedures) × (new.limits ≡ old.limits)
 
   -- its state changes so, with this reply; nothing else changes
   pub record Turns {X : Type 0} (effect : State → X → State → Type 0) (old : Sched R A G r a g) (x : X)

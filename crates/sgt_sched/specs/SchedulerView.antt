@@ -1,11 +1,11 @@
 -- What a scheduler is made of, and what it holds.
-use Rattle.std.specs.Prelude.{◌≡◌, ◌<◌, ◌≤◌, ◌↔◌, ℕ, ℤ, Bool, true, List, length, Option, Some, None, slice_get, slice_index_or}
+use Rattle.std.specs.Prelude.{◌≡◌, ◌<◌, ◌≤◌, ◌↔◌, ℕ, ℤ, Bool, true, List, length, Option, Some, None, slice_index_or}
 use Rattle.sgt_model.specs.declared.limits.Limits.{Limits}
 use Rattle.sgt_model.specs.declared.reply.Fate.{Fate}
 use Rattle.sgt_model.specs.Bounds.{AreInRange}
 use Rattle.sgt_model.specs.Contents.{Key}
 use Rattle.sgt_model.specs.Syntax.{ProcedureText}
-use Rattle.sgt_model.specs.Settings.{Rules, rules_from}
+use Rattle.sgt_model.specs.Settings.{Rules, rules_from, procedure_at}
 use Rattle.sgt_model.specs.Walks.{Rising}
 use Rattle.sgt_model.specs.AccessList.{ListedAccess}
 use Rattle.sgt_sched.specs.LiveProgress.{Progress, left_kept}
@@ -49,11 +49,11 @@ fate_at fates t = slice_index_or fates t None
 
 -- a transaction runs one of these procedures, which its number names
 abbrev pub IsAlong : List ProcedureText → Progress → Type 0
-IsAlong programs c = slice_get programs c.procedure ≡ Some c.cursor.0
+IsAlong programs c = procedure_at programs c.procedure ≡ Some c.cursor.0
 
 -- by the views of the layers: the chain and the committed value of each key for records, the list for accesses, the nodes and
 -- edges for a graph
-module _ {R A G : Type 0} (chain : R → Key → List (ℕ × ℤ)) (settled : R → Key → Option ℤ) (list : A → List ListedAccess)
+module _ {R A G : Type 0} (chain : R → Key → List (ℕ × Option ℤ)) (settled : R → Key → Option ℤ) (list : A → List ListedAccess)
     (nodes : G → ℕ → Bool) (pairs : G → ℕ → ℕ → Bool) where
   -- the state
   abbrev pub state_of : SchedulerView R A G → State

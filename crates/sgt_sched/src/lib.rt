@@ -1,5 +1,5 @@
-//! The scheduler. It starts transactions, lets each make its procedure's accesses one by one, and commits or aborts them, by
-//! serialization graph testing over three layers: records, a list of accesses and a graph.
+//! The scheduler. It starts transactions, lets each make its procedure's accesses and then its caller's one by one, and commits
+//! or aborts them, by serialization graph testing over three layers: records, a list of accesses and a graph.
 //!
 //! It knows the layers by their contracts alone, so any implementations will do. It stores no history and reads none: it
 //! decides by what it stores of the live transactions. Each contract says what a call replies and does in terms of this state
@@ -22,6 +22,7 @@ mod laws;
 mod leave;
 mod live;
 mod operation;
+mod procedure_table;
 mod reads;
 mod running;
 mod sched;

@@ -4,6 +4,7 @@ ghost use Rattle.sgt_model.specs.Walks.{Rising};
 ghost use Rattle.sgt_sched.specs.LiveList.{numbers, has_number, progress_at, started, with_look, with_store, changed, others_live};
 ghost use Rattle.sgt_sched.specs.SchedulerView.{IsAlong};
 
+use crate::procedure_table::ProcedureTable;
 use crate::running::Running;
 use sgt_model::{Args, NoMemory, Tid, Tids};
 use sgt_proc::Checked;
@@ -117,7 +118,7 @@ impl Live {
 
     /// Continues t, which is live and has this index, after a read that returned this. It allocates nothing.
     #[inline(always)]
-    pub fn look(&mut self, _t: Tid, index: usize, procedures: &[Checked], value: Option<i64>)
+    pub fn look(&mut self, _t: Tid, index: usize, procedures: &ProcedureTable, value: Option<i64>)
         requires at { position (has_number _t) self.old ≡ Some index }
         requires along { IsAlong procedures.now (progress_at self.old _t) }
         ensures { self.new ≡ changed _t (with_look value) self.old }
@@ -127,7 +128,7 @@ impl Live {
 
     /// Continues t, which is live and has this index, after a write. It allocates nothing.
     #[inline(always)]
-    pub fn store(&mut self, _t: Tid, index: usize, procedures: &[Checked])
+    pub fn store(&mut self, _t: Tid, index: usize, procedures: &ProcedureTable)
         requires at { position (has_number _t) self.old ≡ Some index }
         requires along { IsAlong procedures.now (progress_at self.old _t) }
         ensures { self.new ≡ changed _t with_store self.old }

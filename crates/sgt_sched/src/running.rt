@@ -7,13 +7,14 @@ ghost use Rattle.sgt_sched.specs.LiveList.{started, with_look, with_store};
 ghost use Rattle.sgt_sched.specs.LiveProgress.{left_kept};
 ghost use Rattle.sgt_sched.specs.SchedulerView.{IsAlong};
 
+use crate::procedure_table::ProcedureTable;
 use sgt_model::{Answers, Args, NoMemory, Tid};
 use sgt_proc::{Ahead, Checked, Cursor};
 use std::alloc::Global;
 use std::marker::Model;
 
 /// A live transaction: its number, that of its procedure, and the procedure's progress. It holds no procedure: its calls take
-/// the list of procedures that the number refers to.
+/// the procedures that the number refers to.
 #[derive(Drop)]
 pub struct Running {
     pub tid: Tid,
@@ -89,7 +90,7 @@ impl Running {
 
     /// Continues after a read, which returned this.
     #[inline(always)]
-    pub fn look(&mut self, procedures: &[Checked], value: Option<i64>)
+    pub fn look(&mut self, procedures: &ProcedureTable, value: Option<i64>)
         requires along { IsAlong procedures.now self.old.1 }
         ensures { self.new ≡ (self.old.0, with_look value self.old.1) }
     {
@@ -99,7 +100,7 @@ impl Running {
 
     /// Continues after a write.
     #[inline(always)]
-    pub fn store(&mut self, procedures: &[Checked])
+    pub fn store(&mut self, procedures: &ProcedureTable)
         requires along { IsAlong procedures.now self.old.1 }
         ensures { self.new ≡ (self.old.0, with_store self.old.1) }
     {
@@ -108,10 +109,10 @@ impl Running {
     }
 
     // The procedure that it runs.
-    fn checked<'a>(&self, procedures: &'a [Checked]) -> &'a Checked
+    fn checked<'a>(&self, procedures: &'a ProcedureTable) -> &'a Checked
         requires along { IsAlong procedures.now self.now.1 }
         ensures { result.now ≡ self.now.1.cursor.0 }
     {
-        &procedures[usize::from(self.procedure)]
+        procedures.at(self.procedure)
     }
 }

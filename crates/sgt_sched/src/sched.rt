@@ -26,11 +26,13 @@ mod commit;
 mod procedures;
 mod quit;
 mod renew;
+mod request;
 mod start;
 mod step;
 
 use crate::fates::Fates;
 use crate::live::Live;
+use crate::procedure_table::ProcedureTable;
 use sgt_access::Accesses;
 use sgt_graph::Graph;
 use sgt_model::{Database, Event, Limits, MakeError, NoMemory, ReplyLists, ShortReply, Tid, Tids};
@@ -44,6 +46,7 @@ use std::alloc::Global;
 /// - A step reads one key or writes one. Each other live transaction with a conflicting access of the key must commit first:
 ///   an edge leads from it to the one that steps. If these edges would close a cycle, the step is rejected and its
 ///   transaction aborts (Bernstein, Hadzilacos and Goodman 1987, chapter 4).
+/// - Once its procedure is at its end, a transaction's caller may ask for accesses. Each is made as a step would make it.
 /// - A read returns the last value that is not undone, committed or not. An abort removes the transaction's own values, and
 ///   aborts in cascade those that have read from it (chapter 1).
 /// - A commit waits for the transaction's live predecessors, so commit order agrees with the order of conflicts (Durner and
@@ -54,7 +57,7 @@ use std::alloc::Global;
 /// when a list grows now and then.
 #[derive(Drop)]
 pub struct Sched<R: Records, A: Accesses, G: Graph> {
-    procedures: Vec<Checked>,
+    procedures: ProcedureTable,
     limits: Limits,
     records: R,
     accesses: A,
@@ -62,14 +65,14 @@ pub struct Sched<R: Records, A: Accesses, G: Graph> {
     live: Live,
     read_from: Vec<(Tid, Tid)>,
     fates: Fates,
-    ghost kept: { IsKept R.chain R.settled A.list G.nodes G.pairs (view procedures.items limits records accesses graph live read_from.items fates.fates) } by { IsKept-prop (view procedures.items limits records accesses graph live read_from.items fates.fates) },
+    ghost kept: { IsKept R.chain R.settled A.list G.nodes G.pairs (view procedures limits records accesses graph live read_from.items fates.fates) } by { IsKept-prop (view procedures limits records accesses graph live read_from.items fates.fates) },
 }
 
 impl<R: Records, A: Accesses, G: Graph> Sched<R, A, G> {
     ghost use Rattle.sgt_sched.specs.Scheduler.{parts, state, rules_of, asks_of, Tries};
 
     /// A scheduler over an initial database, with nothing started. It copies the initial database. The procedures are numbered
-    /// from 0 in their order.
+    /// from 0 in their order. Number 65535 (`EMPTY_PROCEDURE`) is the empty procedure, whatever they are.
     ///
     /// `BadLimits` if a limit is out of its range, tested first; `NoMemory` if an allocation failed.
     pub fn new(
@@ -87,7 +90,7 @@ impl<R: Records, A: Accesses, G: Graph> Sched<R, A, G> {
             return Err(MakeError::BadLimits);
         }
         Ok(Sched {
-            procedures,
+            procedures: ProcedureTable::new(alloc, procedures),
             limits,
             records: R::build(alloc, opening)?,
             accesses: A::empty(alloc),
@@ -98,8 +101,8 @@ impl<R: Records, A: Accesses, G: Graph> Sched<R, A, G> {
         })
     }
 
-    /// Makes the call of an event: starts, steps, commits or quits. It writes the reply without its lists to `reply`, and those
-    /// that the reply has to `lists`.
+    /// Makes the call of an event: starts, steps, makes an access that the caller asks for, commits or quits. It writes the reply
+    /// without its lists to `reply`, and those that the reply has to `lists`.
     ///
     /// `NoMemory` if an allocation failed; then nothing has changed. An event that ends a live transaction allocates nothing.
     pub fn answer(
@@ -115,6 +118,7 @@ impl<R: Records, A: Accesses, G: Graph> Sched<R, A, G> {
         match event {
             Event::Start { procedure, args } => self.answer_start(*procedure, args, reply),
             Event::Step(t) => self.answer_step(*t, lists, reply),
+            Event::Access(t, request) => self.answer_request(*t, *request, lists, reply),
             Event::Commit(t) => {
                 *reply = self.answer_commit(*t, lists);
                 Ok(())
@@ -137,6 +141,7 @@ impl<R: Records, A: Accesses, G: Graph> Sched<R, A, G> {
         match event {
             Event::Start { .. } => false,
             Event::Step(t) => self.step_ends(*t),
+            Event::Access(t, request) => self.request_ends(*t, *request),
             Event::Commit(t) => self.commit_ends(*t),
             Event::Quit(t) => self.is_live(*t),
         }

@@ -1,13 +1,13 @@
 //! The access that a transaction was about to make when a cycle aborted it.
 
-use sgt_explain::{Call, Pending, Progress, call_before, progress_before};
+use sgt_explain::{Call, Pending, Progress, call_before, progress_before, requested_at};
 use sgt_log::History;
 use sgt_model::{Kind, NoMemory, Tid};
 use sgt_proc::{Checked, Next};
 use std::alloc::Global;
 
-/// The access that a transaction was about to make when the entry at this position aborted it because of a cycle. For
-/// any other entry it is none.
+/// The access that a transaction was about to make when the entry at this position aborted it because of a cycle: the one on which
+/// its caller decided, or the next of its procedure. For any other entry it is none.
 ///
 /// `NoMemory` if an allocation failed.
 pub(crate) fn pending_at(
@@ -16,9 +16,12 @@ pub(crate) fn pending_at(
     place: usize,
     procedures: &[Checked],
 ) -> Result<Option<Pending>, NoMemory> {
-    match rejected_at(history, place) {
-        Some(t) => pending_of(alloc, history, place, t, procedures),
-        None => Ok(None),
+    let Some(t) = rejected_at(history, place) else {
+        return Ok(None);
+    };
+    match requested_at(history, place) {
+        Some(pending) => Ok(Some(pending)),
+        None => pending_of(alloc, history, place, t, procedures),
     }
 }
 
@@ -32,7 +35,7 @@ fn rejected_at(history: &History, place: usize) -> Option<Tid> {
     }
 }
 
-// The next access of the transaction, after the entries before a position.
+// The next access of the transaction's procedure, after the entries before a position.
 fn pending_of(
     alloc: Global,
     history: &History,

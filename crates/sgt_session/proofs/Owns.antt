@@ -2,7 +2,7 @@
 use Rattle.std.proofs.Common.{◌≡◌, ℕ, ◌+◌, ◌<◌, ◌≤◌, Bool, true, false, cond, List, [], ◌∷◌, ◌++◌, length, Option, Some, None, refl, sym, arith}
 use Rattle.std.proofs.lemmas.List.{length-append}
 use Rattle.sgt_model.specs.declared.event.Event.{Event}
-use Rattle.sgt_model.specs.declared.event.Event.TheVariants.{Start, Step, Commit, Quit}
+use Rattle.sgt_model.specs.declared.event.Event.TheVariants.{Start, Step, Access, Commit, Quit}
 use Rattle.sgt_model.specs.declared.reply.Reply.{Reply}
 use Rattle.sgt_session.specs.declared.receipt.Receipt.{Receipt}
 use Rattle.sgt_model.specs.Questions.{started_number, tells_end}
@@ -37,6 +37,7 @@ quit-few false t own is = (let h = open_without-few t own in omega (arith, h))
 pub room_needed-enough : (e : Event) (own : List ℕ) (r : Reply) → 1 + length (open_by own e r) ≤ room_needed e own
 room_needed-enough (Start p args) own r = (let h = with_one-few (started_number r) own in omega (arith, h))
 room_needed-enough (Step t) own r = without_if-few (tells_end r) t own
+room_needed-enough (Access t d) own r = without_if-few (tells_end r) t own
 room_needed-enough (Commit t) own r = without_if-few (tells_end r) t own
 room_needed-enough (Quit t) own r = quit-few (is_open t own) t own refl
 

@@ -3,7 +3,7 @@
 use Rattle.std.specs.Prelude.{ℕ, ◌+◌, Bool, not, cond, nat_eq, List, [], ◌∷◌, ◌++◌, length, Option, Some, None}
 use Rattle.std.specs.List.{filter, list_any}
 use Rattle.sgt_model.specs.declared.event.Event.{Event}
-use Rattle.sgt_model.specs.declared.event.Event.TheVariants.{Start, Step, Commit, Quit}
+use Rattle.sgt_model.specs.declared.event.Event.TheVariants.{Start, Step, Access, Commit, Quit}
 use Rattle.sgt_model.specs.declared.reply.Reply.{Reply}
 use Rattle.sgt_model.specs.Questions.{started_in, over_in}
 use Rattle.sgt_session.specs.declared.receipt.Receipt.{Receipt}
@@ -40,5 +40,6 @@ is_open t own = list_any (λ u. nat_eq u t) own
 abbrev pub room_needed : Event → List ℕ → ℕ
 room_needed (Start p args) own = length own + 2
 room_needed (Step t) own = length own + 1
+room_needed (Access t d) own = length own + 1
 room_needed (Commit t) own = length own + 1
 room_needed (Quit t) own = cond (is_open t own) (length own) (length own + 1)

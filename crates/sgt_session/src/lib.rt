@@ -69,6 +69,9 @@
 //! }
 //! ```
 //!
+//! A caller that decides on each access itself starts `EMPTY_PROCEDURE`. In place of steps it then calls
+//! `Event::Access(t, request)`, with `Request::Read(key)` or `Request::Write(key, value)`, as it likes.
+//!
 //! A program calls `two_threads::<Brand, _>(&rt, alloc, engine, Blank::new(2))`. The caller's `Invariants.antt` has the picks:
 //!
 //! ```

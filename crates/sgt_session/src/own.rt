@@ -49,7 +49,7 @@ fn room_needed(event: &Event, own: &[Tid]) -> usize
 {
     match event {
         Event::Start { .. } => own.len() + 2,
-        Event::Step(_) | Event::Commit(_) => own.len() + 1,
+        Event::Step(_) | Event::Access(..) | Event::Commit(_) => own.len() + 1,
         Event::Quit(t) => {
             if own.contains(t) {
                 own.len()

@@ -27,12 +27,12 @@ look_step fits k code go m next e then = rw e (found_at (m k) code go m next the
 
 -- a write of a value to a valid key
 put_step : (fits is_one : Bool) (k : Key) (v : ℤ) (rest : Run) (m : Contents) (last : Outcome) → fits ≡ true → is_one ≡ true
-    → serial rest (put_in m k v) ≡ last → serial (cond fits (cond is_one (puts k v rest) wrong) wrong) m ≡ last
+    → serial rest (put_in m k v) ≡ last → serial (cond fits (cond is_one (puts k (Some v) rest) wrong) wrong) m ≡ last
 put_step fits is_one k v rest m last e f then = rw (e, f) then
 
 -- a write of 0
 put_zero : (fits : Bool) (k : Key) (rest : Run) (m : Contents) (last : Outcome) → fits ≡ true
-    → serial rest (put_in m k (pos 0)) ≡ last → serial (cond fits (puts k (pos 0) rest) wrong) m ≡ last
+    → serial rest (put_in m k (pos 0)) ≡ last → serial (cond fits (puts k (Some (pos 0)) rest) wrong) m ≡ last
 put_zero fits k rest m last e then = rw e then
 
 -- a code raised if a test holds

@@ -11,16 +11,19 @@ use Rattle.sgt_model.specs.declared.reply.Reply.TheVariants as reply
 use Rattle.sgt_model.specs.Numbers.{IsValue, is_value}
 use Rattle.sgt_model.specs.Contents.{Key, key_eq, Contents, put_in}
 use Rattle.sgt_model.specs.Syntax.{ProcedureText}
-use Rattle.sgt_model.specs.Runs.{Outcome, Done, Asked, serial, contents_after}
+use Rattle.sgt_model.specs.Runs.{Outcome, Done, Asked, serial, contents_after, with_accesses}
 use Rattle.sgt_model.specs.Meaning.{run_with}
-use Rattle.sgt_model.specs.Settings.{Setting, run_if}
+use Rattle.sgt_model.specs.Settings.{Setting, run_if, procedure_at}
 use Rattle.sgt_model.specs.Fates.{subject}
-use Rattle.sgt_model.specs.Progress.{Call, call_of, run_of}
+use Rattle.sgt_model.specs.Progress.{Call, call_of, caller_accesses, with_caller_accesses, run_of, outcome_in}
 use Rattle.sgt_model.specs.Admissions.{IsAdmitted, AreAdmitted}
 use Rattle.sgt_model.specs.Replay.{RunResult, GaveAnswers, AskedCode, result_of, run_in_turn, told_call_in, told_calls, told_in, told}
 use Rattle.sgt_model.specs.StoredValues.{HoldValues, ReplaysHoldValues}
-use Rattle.sgt_model.specs.Legality.{Legal}
+use Rattle.sgt_model.specs.Accesses.{acts}
+use Rattle.sgt_model.specs.Legality.{LegalReply, Legal}
 use Rattle.sgt_model.specs.Laws.{ReplayIsSerial, CommittedAreAdmitted}
+use Rattle.sgt_model.proofs.Effects.{Effect, idle, begins, accesses, commits, undoes, refuses, effect}
+use Rattle.sgt_model.proofs.Plays.{only_own, plays}
 use Rattle.sgt_smallbank.specs.declared.account.Account.{Account}
 use Rattle.sgt_smallbank.specs.declared.errors.OpeningFault.{OpeningFault}
 use Rattle.sgt_smallbank.specs.Texts.{balance, deposit_checking, transact_saving, amalgamate, write_check, procedures}
@@ -35,7 +38,7 @@ use Rattle.sgt_smallbank.proofs.Banks.{serial_is_bank}
 pub record IsOneOf (others : List ProcedureText) (n : ℕ) : Type 0 where
   pub program : ProcedureText
   pub of_bank : slice_get procedures n ≡ Some program
-  pub of_all : slice_get (procedures ++ others) n ≡ Some program
+  pub of_all : procedure_at (procedures ++ others) n ≡ Some program
 
 one_of_five : (others : List ProcedureText) (n : ℕ) → n < 5 → IsOneOf others n
 one_of_five others zero below = record { program = balance; of_bank = refl; of_all = refl }
@@ -44,6 +47,10 @@ one_of_five others (suc (suc zero)) below = record { program = transact_saving; 
 one_of_five others (suc (suc (suc zero))) below = record { program = amalgamate; of_bank = refl; of_all = refl }
 one_of_five others (suc (suc (suc (suc zero)))) below = record { program = write_check; of_bank = refl; of_all = refl }
 one_of_five others (suc (suc (suc (suc (suc n))))) below = absurd (omega arith)
+
+-- the call of t, with the accesses that its caller has made
+abbrev whole : List Entry → ℕ → Call
+whole past t = with_caller_accesses (caller_accesses past t) (call_of past t)
 
 -- an outcome with this result
 done_with : (o : Outcome) (m : Contents) (answers : List ℤ) → result_of o ≡ GaveAnswers answers → o ≡ Done answers (contents_after o m)
@@ -60,6 +67,23 @@ same_count a b e = cc
 
 first_same : (r q : RunResult) (rs qs : List RunResult) → r ∷ rs ≡ q ∷ qs → r ≡ q
 first_same r q rs qs e = cc
+
+-- the caller of a transaction that is refused has made no access
+refused_alone : (s : Setting) (past : List Entry) → Legal s past → (event : Event) (code : ℕ) (fell : List ℕ)
+    → LegalReply s past event (reply.Refused code fell) → caller_accesses past (subject event) ≡ []
+refused_alone s past legal event code fell h = by_effect (effect s past event (reply.Refused code fell) h)
+  where
+    by_effect : Effect s past event (reply.Refused code fell) → caller_accesses past (subject event) ≡ []
+    by_effect (idle i) = absurd i.ends_none
+    by_effect (begins b) = absurd (cc b.reply_is)
+    by_effect (accesses x) = absurd x.ends_none
+    by_effect (commits c) = absurd (cc c.reply_is)
+    by_effect (undoes x) = absurd (cc x.reply_is)
+    by_effect (refuses x) =
+        let t : ℕ = x.undoing.t in
+        ap (λ v. caller_accesses past (subject v)) x.event_is
+        ∙ (only_own (run_of s.rules (call_of past t)) (caller_accesses past t) (acts past t) (plays s past t legal)
+        (λ answers e. cc (sym x.next ∙ e))).2
 
 module _ (replay_is_serial : ReplayIsSerial) (admitted : CommittedAreAdmitted) (hold_values : ReplaysHoldValues)
     (opening : Contents) (others : List ProcedureText) (limits : Limits) (hold : HoldValues opening) where
@@ -83,49 +107,52 @@ module _ (replay_is_serial : ReplayIsSerial) (admitted : CommittedAreAdmitted) (
       runs ∙ banks
 
   agrees : (c : Call) (before : List Call) (answers : List ℤ) → IsAdmitted the_setting c
-      → result_of (serial (run_of the_setting.rules c) (run_in_turn the_setting before).last) ≡ GaveAnswers answers
-      → c.procedure < 5 → bank c.procedure c.args (run_in_turn the_setting before).last ≡ Done answers
+      → result_of (outcome_in the_setting.rules c (run_in_turn the_setting before).last) ≡ GaveAnswers answers
+      → c.procedure < 5 → with_accesses c.caller_accesses (bank c.procedure c.args (run_in_turn the_setting before).last) ≡ Done answers
       (run_in_turn the_setting (c ∷ before)).last
   agrees c before answers fits gives below =
       let m : Contents = (run_in_turn the_setting before).last in
-      sym (does c before fits below) ∙ done_with (serial (run_of the_setting.rules c) m) m answers gives
+      ap (with_accesses c.caller_accesses) (sym (does c before fits below)) ∙ done_with (outcome_in the_setting.rules c m) m answers gives
 
-  asks : (c : Call) (before : List Call) (code : ℕ) → IsAdmitted the_setting c
-      → result_of (serial (run_of the_setting.rules c) (run_in_turn the_setting before).last) ≡ AskedCode code
+  asks : (c : Call) (before : List Call) (code : ℕ) → IsAdmitted the_setting c → c.caller_accesses ≡ []
+      → result_of (outcome_in the_setting.rules c (run_in_turn the_setting before).last) ≡ AskedCode code
       → c.procedure < 5 → (bank c.procedure c.args (run_in_turn the_setting before).last ≡ Asked code)
       × ((run_in_turn the_setting (c ∷ before)).last ≡ (run_in_turn the_setting before).last)
-  asks c before code fits gives below =
+  asks c before code fits none gives below =
       let m : Contents = (run_in_turn the_setting before).last in
-      let asked = asked_with (serial (run_of the_setting.rules c) m) code gives in
-      (sym (does c before fits below) ∙ asked, ap (λ o. contents_after o m) asked)
+      let asked : outcome_in the_setting.rules c m ≡ Asked code = asked_with (outcome_in the_setting.rules c m) code gives in
+      let own : outcome_in the_setting.rules c m ≡ serial (run_of the_setting.rules c) m =
+      ap (λ xs. with_accesses xs (serial (run_of the_setting.rules c) m)) none in
+      (sym (does c before fits below) ∙ (sym own ∙ asked), ap (λ o. contents_after o m) asked)
 
-  at_entry : (past : List Entry) (event : Event) (r : Reply) → AreAdmitted the_setting
+  at_entry : (past : List Entry) (event : Event) (r : Reply) → Legal the_setting past → LegalReply the_setting past event r
+      → AreAdmitted the_setting
       (told_call_in past event r ++ told_calls past)
       → (run_in_turn the_setting (told_call_in past event r ++ told_calls past)).results ≡ told_in r ++ told past
       → CommitIsBank the_setting past event r
-  at_entry past event (reply.Committed answers) fit told = λ below. agrees (call_of past (subject event))
+  at_entry past event (reply.Committed answers) legal h fit told = λ below. agrees (whole past (subject event))
       (told_calls past) answers fit.1 (first_same _ _ _ _ told) below
-  at_entry past event (reply.Refused code fell) fit told = λ below. asks (call_of past (subject event))
-      (told_calls past) code fit.1 (first_same _ _ _ _ told) below
-  at_entry past event (reply.Started t) fit told = tt
-  at_entry past event reply.NoProcedure fit told = tt
-  at_entry past event reply.BadArgs fit told = tt
-  at_entry past event reply.Spent fit told = tt
-  at_entry past event reply.Full fit told = tt
-  at_entry past event reply.Unknown fit told = tt
-  at_entry past event (reply.Over ended) fit told = tt
-  at_entry past event (reply.Looked k v) fit told = tt
-  at_entry past event (reply.Wrote k v) fit told = tt
-  at_entry past event reply.Ended fit told = tt
-  at_entry past event reply.NotEnded fit told = tt
-  at_entry past event (reply.Waits t) fit told = tt
-  at_entry past event (reply.Aborted why fell) fit told = tt
+  at_entry past event (reply.Refused code fell) legal h fit told = λ below. asks (whole past (subject event))
+      (told_calls past) code fit.1 (refused_alone the_setting past legal event code fell h) (first_same _ _ _ _ told) below
+  at_entry past event (reply.Started t) legal h fit told = tt
+  at_entry past event reply.NoProcedure legal h fit told = tt
+  at_entry past event reply.BadArgs legal h fit told = tt
+  at_entry past event reply.Spent legal h fit told = tt
+  at_entry past event reply.Full legal h fit told = tt
+  at_entry past event reply.Unknown legal h fit told = tt
+  at_entry past event (reply.Over ended) legal h fit told = tt
+  at_entry past event (reply.Looked k v) legal h fit told = tt
+  at_entry past event (reply.Wrote k v) legal h fit told = tt
+  at_entry past event reply.Ended legal h fit told = tt
+  at_entry past event reply.NotEnded legal h fit told = tt
+  at_entry past event (reply.Waits t) legal h fit told = tt
+  at_entry past event (reply.Aborted why fell) legal h fit told = tt
 
   commits_are_bank : (past : List Entry) → Legal the_setting past → CommitsAreBank the_setting past
   commits_are_bank [] legal = tt
   commits_are_bank (e ∷ past) legal = (
     commits_are_bank past legal.0,
-    at_entry past e.event e.reply (admitted the_setting (e ∷ past) legal)
+    at_entry past e.event e.reply legal.0 legal.1 (admitted the_setting (e ∷ past) legal)
         (replay_is_serial the_setting (e ∷ past) legal).answers,
   )
 

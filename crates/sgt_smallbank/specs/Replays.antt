@@ -7,11 +7,11 @@ use Rattle.sgt_model.specs.declared.reply.Reply.{Reply}
 use Rattle.sgt_model.specs.declared.reply.Reply.TheVariants as reply
 use Rattle.sgt_model.specs.Contents.{Contents}
 use Rattle.sgt_model.specs.Syntax.{ProcedureText}
-use Rattle.sgt_model.specs.Runs.{Done, Asked}
+use Rattle.sgt_model.specs.Runs.{Done, Asked, with_accesses}
 use Rattle.sgt_model.specs.Settings.{Setting, setting}
 use Rattle.sgt_model.specs.Legality.{Legal}
 use Rattle.sgt_model.specs.Fates.{subject}
-use Rattle.sgt_model.specs.Progress.{call_of}
+use Rattle.sgt_model.specs.Progress.{call_of, caller_accesses}
 use Rattle.sgt_model.specs.Replay.{folded}
 use Rattle.sgt_model.specs.StoredValues.{HoldValues}
 use Rattle.sgt_smallbank.specs.declared.account.Account.{Account}
@@ -20,13 +20,14 @@ use Rattle.sgt_smallbank.specs.Arithmetic.{bank}
 use Rattle.sgt_smallbank.specs.Accounts.{opened, fault_of}
 
 -- an entry that commits a transaction of one of the five procedures, which are numbered from 0: on the contents that
--- those before it left, the bank's arithmetic ends with the answers of the reply, and leaves the contents with which
--- the replay continues. An entry that refuses one: on those contents, the bank's arithmetic raises the code of the
+-- those before it left, the bank's arithmetic, and then the accesses that its caller made, end with the answers of the reply,
+-- and leave the contents with which the replay continues. An entry that refuses one: on those contents, the bank's arithmetic raises the code of the
 -- reply, and the replay continues with the same contents
 abbrev pub CommitIsBank : Setting → List Entry → Event → Reply → Type 0
 CommitIsBank s past event (reply.Committed answers) =
     (call_of past (subject event)).procedure < 5
-    → bank (call_of past (subject event)).procedure (call_of past (subject event)).args (folded s past).last ≡ Done answers (folded s (record { event = event; reply = reply.Committed answers } ∷ past)).last
+    → with_accesses (caller_accesses past (subject event)) (bank (call_of past (subject event)).procedure (call_of past (subject event)).args (folded s past).last)
+    ≡ Done answers (folded s (record { event = event; reply = reply.Committed answers } ∷ past)).last
 CommitIsBank s past event (reply.Refused code fell) =
     (call_of past (subject event)).procedure < 5
     → (bank (call_of past (subject event)).procedure (call_of past (subject event)).args (folded s past).last ≡ Asked code)

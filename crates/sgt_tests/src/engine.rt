@@ -102,8 +102,8 @@ const STORE: &str = r#"["start",0,[]]
 type Row = (&'static str, &'static str, &'static str);
 
 /// An uncommitted write is not in the database. If a quit after a write has refusals around it, and then a transaction
-/// commits, each event has its entry.
-const ROWS: [Row; 3] = [
+/// commits, each event has its entry. A caller's accesses come after the procedure's end, and a removal leaves no record.
+const ROWS: [Row; 4] = [
     (
         "an own write is read back",
         STORE,
@@ -143,6 +143,37 @@ read 3/7 4
 committed 4
 over committed
 3/7 4
+"#,
+    ),
+    (
+        "accesses on which callers decide",
+        r#"["start",0,[]]
+["read",0,3,7]
+["step",0]
+["step",0]
+["write",0,3,7,5]
+["remove",0,3,7]
+["read",0,3,7]
+["commit",0]
+["begin"]
+["read",1,3,7]
+["write",1,3,8,9]
+["write",1,3,8,1000000000000000]
+["commit",1]"#,
+        r#"started 0
+not ended
+wrote 3/7 4
+read 3/7 4
+wrote 3/7 5
+removed 3/7
+read 3/7 none
+committed 4
+started 1
+read 3/7 none
+wrote 3/8 9
+bad args
+committed none
+3/8 9
 "#,
     ),
 ];

@@ -30,9 +30,18 @@ fn call(sched: &mut ListSched, event: &Event) -> Result<Reply, NoMemory> {
     match event {
         Event::Start { procedure, args } => sched.start(*procedure, args),
         Event::Step(t) => sched.step(*t),
+        Event::Access(..) => answered(sched, event),
         Event::Commit(t) => Ok(sched.commit(*t)),
         Event::Quit(t) => Ok(sched.quit(*t)),
     }
+}
+
+/// The call that serves every event, with its reply in full.
+fn answered(sched: &mut ListSched, event: &Event) -> Result<Reply, NoMemory> {
+    let mut lists = ReplyLists::new();
+    let mut reply = ShortReply::Unknown;
+    sched.answer(event, &mut lists, &mut reply)?;
+    Ok(reply.with_lists(&lists))
 }
 
 /// Whether a commit would end the transaction of this number.
@@ -134,7 +143,7 @@ const PASS_ON: &str =
 /// What is shown, an initial database, and lines with their responses.
 type Row = (&'static str, &'static str, &'static str);
 
-const ROWS: [Row; 10] = [
+const ROWS: [Row; 11] = [
     (
         "starts are answered",
         PAY,
@@ -155,7 +164,7 @@ seen -> [Tid(0), Tid(2)] 2 [false, false] [None, None, None, None, Some(1)] Some
         r#"["step",0] -> Unknown
 ["start",0,[7]] -> Started(Tid(0))
 ["step",0] -> Looked { key: Key { table: 0, id: 7 }, value: Some(1) }
-["step",0] -> Wrote { key: Key { table: 0, id: 7 }, value: 5 }
+["step",0] -> Wrote { key: Key { table: 0, id: 7 }, value: Some(5) }
 ["step",0] -> Ended
 ["commit",0] -> Committed([1])
 ["step",0] -> Over(Committed)
@@ -176,8 +185,28 @@ seen -> [Tid(0), Tid(2)] 2 [false, false] [None, None, None, None, Some(1)] Some
 ["step",0] -> Looked { key: Key { table: 0, id: 7 }, value: Some(1) }
 ["start",0,[7]] -> Started(Tid(1))
 ["step",1] -> Looked { key: Key { table: 0, id: 7 }, value: Some(1) }
-["step",0] -> Wrote { key: Key { table: 0, id: 7 }, value: 5 }
+["step",0] -> Wrote { key: Key { table: 0, id: 7 }, value: Some(5) }
 ["step",1] -> Aborted { cause: Cycle([Tid(1), Tid(0)]), fell: [] }
+"#,
+    ),
+    (
+        "callers decide accesses, once a procedure is at its end: a removal is undone, and another one is committed",
+        PAY,
+        r#"["begin"] -> Started(Tid(0))
+["start",0,[7]] -> Started(Tid(1))
+["read",1,0,7] -> NotEnded
+["remove",0,0,7] -> Wrote { key: Key { table: 0, id: 7 }, value: None }
+["read",0,0,7] -> Looked { key: Key { table: 0, id: 7 }, value: None }
+["write",0,0,8,1000000000000000] -> BadArgs
+["quit",0] -> Aborted { cause: Quit, fell: [] }
+["step",1] -> Looked { key: Key { table: 0, id: 7 }, value: Some(1) }
+["step",1] -> Wrote { key: Key { table: 0, id: 7 }, value: Some(5) }
+["read",1,0,7] -> Looked { key: Key { table: 0, id: 7 }, value: Some(5) }
+["remove",1,0,7] -> Wrote { key: Key { table: 0, id: 7 }, value: None }
+["commit",1] -> Committed([1])
+["read",1,0,7] -> Over(Committed)
+["read",9,0,7] -> Unknown
+seen -> [] 0 [false, false] [None, None, None, None, None] Some([]) None
 "#,
     ),
     (
@@ -187,11 +216,11 @@ seen -> [Tid(0), Tid(2)] 2 [false, false] [None, None, None, None, Some(1)] Some
 ["start",0,[7]] -> Started(Tid(0))
 ["commit",0] -> NotEnded
 ["step",0] -> Looked { key: Key { table: 0, id: 7 }, value: Some(1) }
-["step",0] -> Wrote { key: Key { table: 0, id: 7 }, value: 5 }
+["step",0] -> Wrote { key: Key { table: 0, id: 7 }, value: Some(5) }
 ["start",0,[7]] -> Started(Tid(1))
 ["commit",1] -> NotEnded
 ["step",1] -> Looked { key: Key { table: 0, id: 7 }, value: Some(5) }
-["step",1] -> Wrote { key: Key { table: 0, id: 7 }, value: 5 }
+["step",1] -> Wrote { key: Key { table: 0, id: 7 }, value: Some(5) }
 ["commit",1] -> Waits(Tid(0))
 ["commit",0] -> Committed([1])
 ["commit",0] -> Over(Committed)
@@ -205,10 +234,10 @@ seen -> [] 0 [false, false] [None, None, None, None, Some(5)] Some([]) None
         r#"["quit",0] -> Unknown
 ["start",0,[7]] -> Started(Tid(0))
 ["step",0] -> Looked { key: Key { table: 0, id: 7 }, value: Some(1) }
-["step",0] -> Wrote { key: Key { table: 0, id: 7 }, value: 5 }
+["step",0] -> Wrote { key: Key { table: 0, id: 7 }, value: Some(5) }
 ["start",0,[7]] -> Started(Tid(1))
 ["step",1] -> Looked { key: Key { table: 0, id: 7 }, value: Some(5) }
-["step",1] -> Wrote { key: Key { table: 0, id: 7 }, value: 5 }
+["step",1] -> Wrote { key: Key { table: 0, id: 7 }, value: Some(5) }
 ["quit",0] -> Aborted { cause: Quit, fell: [Tid(1)] }
 ["quit",0] -> Over(Aborted(Quit))
 ["quit",1] -> Over(Fell(Tid(0)))
@@ -219,7 +248,7 @@ seen -> [] 0 [false, false] [None, None, None, None, Some(5)] Some([]) None
         PAY,
         r#"short ["start",0,[7]] -> Started(Tid(0)), []
 short ["step",0] -> Looked { key: Key { table: 0, id: 7 }, value: Some(1) }, []
-short ["step",0] -> Wrote { key: Key { table: 0, id: 7 }, value: 5 }, []
+short ["step",0] -> Wrote { key: Key { table: 0, id: 7 }, value: Some(5) }, []
 seen -> [Tid(0)] 1 [true, false] [None, None, None, None, Some(1)] Some([Tid(0)]) None
 short ["commit",0] -> Committed, [1]
 short ["quit",0] -> Over(Committed), [1]
@@ -234,7 +263,7 @@ seen -> [] 0 [false, false] [None, None, None, None, Some(5)] Some([]) None
 ["start",0,[7]] -> Started(Tid(1))
 ["step",1] -> Looked { key: Key { table: 0, id: 7 }, value: Some(1) }
 seen -> [Tid(0), Tid(1)] 2 [false, false] [None, None, None, None, Some(1)] Some([Tid(0)]) None
-["step",0] -> Wrote { key: Key { table: 0, id: 7 }, value: 5 }
+["step",0] -> Wrote { key: Key { table: 0, id: 7 }, value: Some(5) }
 seen -> [Tid(0), Tid(1)] 2 [false, false] [None, None, None, None, Some(1)] Some([Tid(0)]) Some(Tid(1))
 "#,
     ),
@@ -243,13 +272,13 @@ seen -> [Tid(0), Tid(1)] 2 [false, false] [None, None, None, None, Some(1)] Some
         PASS_ON,
         r#"["start",0,[0,1]] -> Started(Tid(0))
 ["step",0] -> Looked { key: Key { table: 0, id: 0 }, value: Some(1) }
-["step",0] -> Wrote { key: Key { table: 0, id: 1 }, value: 5 }
+["step",0] -> Wrote { key: Key { table: 0, id: 1 }, value: Some(5) }
 ["start",0,[1,2]] -> Started(Tid(1))
 ["step",1] -> Looked { key: Key { table: 0, id: 1 }, value: Some(5) }
-["step",1] -> Wrote { key: Key { table: 0, id: 2 }, value: 5 }
+["step",1] -> Wrote { key: Key { table: 0, id: 2 }, value: Some(5) }
 ["start",0,[2,3]] -> Started(Tid(2))
 ["step",2] -> Looked { key: Key { table: 0, id: 2 }, value: Some(5) }
-["step",2] -> Wrote { key: Key { table: 0, id: 3 }, value: 5 }
+["step",2] -> Wrote { key: Key { table: 0, id: 3 }, value: Some(5) }
 seen -> [Tid(0), Tid(1), Tid(2)] 3 [true, false] [Some(1), None, None, None, None] Some([]) None
 ["commit",2] -> Waits(Tid(1))
 ["commit",0] -> Committed([])
@@ -262,13 +291,13 @@ seen -> [Tid(1), Tid(2)] 2 [false, false] [Some(1), Some(5), None, None, None] S
         PASS_ON,
         r#"["start",0,[0,1]] -> Started(Tid(0))
 ["step",0] -> Looked { key: Key { table: 0, id: 0 }, value: Some(1) }
-["step",0] -> Wrote { key: Key { table: 0, id: 1 }, value: 5 }
+["step",0] -> Wrote { key: Key { table: 0, id: 1 }, value: Some(5) }
 ["start",0,[1,2]] -> Started(Tid(1))
 ["step",1] -> Looked { key: Key { table: 0, id: 1 }, value: Some(5) }
-["step",1] -> Wrote { key: Key { table: 0, id: 2 }, value: 5 }
+["step",1] -> Wrote { key: Key { table: 0, id: 2 }, value: Some(5) }
 ["start",0,[2,3]] -> Started(Tid(2))
 ["step",2] -> Looked { key: Key { table: 0, id: 2 }, value: Some(5) }
-["step",2] -> Wrote { key: Key { table: 0, id: 3 }, value: 5 }
+["step",2] -> Wrote { key: Key { table: 0, id: 3 }, value: Some(5) }
 ["quit",0] -> Aborted { cause: Quit, fell: [Tid(1), Tid(2)] }
 ["step",2] -> Over(Fell(Tid(0)))
 seen -> [] 0 [false, false] [Some(1), None, None, None, None] Some([]) None

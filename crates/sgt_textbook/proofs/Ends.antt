@@ -2,7 +2,7 @@
 use Rattle.std.proofs.Common.{◌≡◌, ◌<◌, ◌+◌, ℕ, zero, suc, true, ◌⊎◌, List, [], ◌∷◌, ◌++◌, length, Some, refl, sym, ap, subst, inl, inr, ◌∙◌, arith}
 use Rattle.std.specs.Prelude.{slice_get}
 use Rattle.sgt_model.specs.declared.event.Event.{Event}
-use Rattle.sgt_model.specs.declared.event.Event.TheVariants.{Start, Step, Commit, Quit}
+use Rattle.sgt_model.specs.declared.event.Event.TheVariants.{Start, Step, Access, Commit, Quit}
 use Rattle.sgt_model.specs.declared.reply.Reply.{Reply}
 use Rattle.sgt_model.specs.declared.reply.Reply.TheVariants as reply
 use Rattle.sgt_model.specs.declared.reply.Fate.TheVariants as fate
@@ -47,6 +47,7 @@ rising_once (u ∷ l) r (suc n) (suc m) t first second = ap suc (rising_once l (
 named_subject : (event : Event) (j t : ℕ) → slice_get (named event) j ≡ Some t → t ≡ subject event
 named_subject (Start p args) j t at = absurd (cc)
 named_subject (Step u) j t at = sym (alone u j t at).1
+named_subject (Access u d) j t at = sym (alone u j t at).1
 named_subject (Commit u) j t at = sym (alone u j t at).1
 named_subject (Quit u) j t at = sym (alone u j t at).1
 
@@ -56,6 +57,7 @@ named_once event n m t first second = (named_is event n t first).0 ∙ sym (name
 stepping_once : (event : Event) → AreOnce (stepping event)
 stepping_once (Start p args) n m t first second = absurd (cc)
 stepping_once (Step u) n m t first second = (alone u n t first).0 ∙ sym (alone u m t second).0
+stepping_once (Access u d) n m t first second = (alone u n t first).0 ∙ sym (alone u m t second).0
 stepping_once (Commit u) n m t first second = absurd (cc)
 stepping_once (Quit u) n m t first second = absurd (cc)
 

@@ -5,6 +5,7 @@ use Rattle.std.specs.List.{list_any}
 use Rattle.std.proofs.lemmas.Bool.{eq-eqb, eqb-true, or_left, or_right}
 use Rattle.sgt_model.specs.declared.event.Event.{Event}
 use Rattle.sgt_model.specs.declared.event.Event.TheVariants.{Start, Step, Commit, Quit}
+use Rattle.sgt_model.specs.declared.event.Event.TheVariants as events
 use Rattle.sgt_model.specs.declared.reply.Reply.{Reply}
 use Rattle.sgt_model.specs.declared.reply.Reply.TheVariants as reply
 use Rattle.sgt_model.specs.declared.reply.Cause.{Cause}
@@ -90,12 +91,14 @@ alone u (suc j) t at = absurd (cc)
 pub named_is : (event : Event) (j t : ℕ) → slice_get (named event) j ≡ Some t → (j ≡ 0) × (concerns event t ≡ true)
 named_is (Start p args) j t at = absurd (cc)
 named_is (Step u) j t at = let a = alone u j t at in (a.0, eq-eqb u t a.1)
+named_is (events.Access u d) j t at = let a = alone u j t at in (a.0, eq-eqb u t a.1)
 named_is (Commit u) j t at = let a = alone u j t at in (a.0, eq-eqb u t a.1)
 named_is (Quit u) j t at = let a = alone u j t at in (a.0, eq-eqb u t a.1)
 
 named_at : (event : Event) (t : ℕ) → concerns event t ≡ true → slice_get (named event) 0 ≡ Some t
 named_at (Start p args) t h = absurd (cc)
 named_at (Step u) t h = ap (λ v. Some v) (eqb-true u t h)
+named_at (events.Access u d) t h = ap (λ v. Some v) (eqb-true u t h)
 named_at (Commit u) t h = ap (λ v. Some v) (eqb-true u t h)
 named_at (Quit u) t h = ap (λ v. Some v) (eqb-true u t h)
 
@@ -104,6 +107,8 @@ stepping_is : (event : Event) (k : Key) (kind : Kind) (v : Option ℤ) (j t : �
 stepping_is (Start p args) k kind v j t at = absurd (cc)
 stepping_is (Step u) k kind v j t at = let a = alone u j t at in
     (a.0, ap (λ w. Some (record { by = w; key = k; kind = kind; value = v })) a.1)
+stepping_is (events.Access u d) k kind v j t at = let a = alone u j t at in
+    (a.0, ap (λ w. Some (record { by = w; key = k; kind = kind; value = v })) a.1)
 stepping_is (Commit u) k kind v j t at = absurd (cc)
 stepping_is (Quit u) k kind v j t at = absurd (cc)
 
@@ -111,6 +116,7 @@ stepping_at : (number : Key → ℕ) (event : Event) (k : Key) (kind : Kind) (v 
     → slice_get (each_does (action_on kind (number k)) (stepping event)) 0 ≡ Some (access_as number a)
 stepping_at number (Start p args) k kind v a is = absurd (cc)
 stepping_at number (Step u) k kind v a is = ap (λ b. Some (access_as number b)) (some_is _ a is)
+stepping_at number (events.Access u d) k kind v a is = ap (λ b. Some (access_as number b)) (some_is _ a is)
 stepping_at number (Commit u) k kind v a is = absurd (cc)
 stepping_at number (Quit u) k kind v a is = absurd (cc)
 
@@ -184,12 +190,12 @@ looked number event k v = record {
   commit_does = λ j t at. absurd (cc at);
 }
 
-wrote : (number : Key → ℕ) (event : Event) (k : Key) (v : ℤ) → Tells number event (reply.Wrote k v)
+wrote : (number : Key → ℕ) (event : Event) (k : Key) (v : Option ℤ) → Tells number event (reply.Wrote k v)
 wrote number event k v = record {
-  told = λ j t a at. let e = each_is _ (stepping event) j t a at in let s = stepping_is event k Store (Some v) j t e.1 in
+  told = λ j t a at. let e = each_is _ (stepping event) j t a at in let s = stepping_is event k Store v j t e.1 in
       subst (Told number event (reply.Wrote k v) j t) e.0
       (record { access = _; is = s.1; by = refl; kind_is = refl; item = refl; first = s.0 });
-  access_there = λ a is. stepping_at number event k Store (Some v) a is;
+  access_there = λ a is. stepping_at number event k Store v a is;
   abort_there = λ t undone. absurd (cc undone.1);
   commit_there = λ t now. absurd (cc now);
   commit_does = λ j t at. absurd (cc at);

@@ -9,6 +9,7 @@ use Rattle.sgt_model.specs.Legality.{Legal}
 use Rattle.sgt_model.proofs.Facts.{some_is}
 use Rattle.sgt_model.proofs.Computed.{made_by}
 use Rattle.sgt_model.proofs.ExampleSettings.{small_bank_tell, entry}
+use Rattle.sgt_model.proofs.ExamplesCallers.{write_skew, own_removal}
 use Rattle.sgt_model.proofs.ExamplesReads.{dirty_read_waits, quit_takes_reader, read_past_aborted}
 use Rattle.sgt_model.proofs.ExamplesReplay.{two_deposits}
 use Rattle.sgt_model.proofs.ExamplesRefusals.{refusal_takes_reader}
@@ -68,11 +69,33 @@ refusal_takes_reader-textbook : (number : Key → ℕ) → textbook number refus
     ∷ []
 refusal_takes_reader-textbook number = refl
 
+-- accesses on which callers decide are reads and writes as all others: 1's write is rejected, so it is none, and 1 is aborted. A
+-- read of a record that does not exist is a read
+write_skew-textbook : (number : Key → ℕ) → textbook number write_skew ≡
+    does 0 (action.Read (number (2, pos 101)))
+    ∷ does 0 (action.Read (number (2, pos 102)))
+    ∷ does 1 (action.Read (number (2, pos 101)))
+    ∷ does 1 (action.Read (number (2, pos 102)))
+    ∷ does 0 (action.Write (number (2, pos 101)))
+    ∷ does 1 action.Abort
+    ∷ does 0 (action.Read (number (3, pos 9)))
+    ∷ does 0 action.Commit
+    ∷ []
+write_skew-textbook number = refl
+
+-- a removal is a write
+own_removal-textbook : (number : Key → ℕ) → textbook number own_removal ≡
+    does 0 (action.Write (number (2, pos 101)))
+    ∷ does 0 (action.Read (number (2, pos 101)))
+    ∷ does 1 (action.Read (number (2, pos 101)))
+    ∷ []
+own_removal-textbook number = refl
+
 -- a transaction reads what another has written, and neither has ended
 abbrev dirty_read : List Entry
 dirty_read =
     entry (Step 1) (reply.Looked (3, pos 7) (Some (pos 1)))
-    ∷ entry (Step 0) (reply.Wrote (3, pos 7) (pos 1))
+    ∷ entry (Step 0) (reply.Wrote (3, pos 7) (Some (pos 1)))
     ∷ entry (Start 6 []) (reply.Started 1)
     ∷ entry (Start 5 (pos 1 ∷ [])) (reply.Started 0)
     ∷ []

@@ -243,7 +243,7 @@ module _ (number : Key → ℕ) (injective : IsNumbering number) (s : Setting) (
       (λ u m. access_aborts e past t k kind is u ∙ live-stands past u (listed_live u m)) (free_acyclic s past h t k kind e is free)
 
 pub rejects_exactly : RejectsExactly
-rejects_exactly number injective s past h t k kind r e at = elim (rejected_or_free s past t k kind r at.is_live at.wants at.legal) [
+rejects_exactly number injective s past h event t k kind r e at = elim (rejected_or_free s past event t k kind r at.is_live at.asks at.legal) [
   | inl (is, (rest, closes)) ↦ (λ _. closing_not number injective s past h t at.is_live k kind e at.makes rest closes, λ _. is)
   | inr (is, free) ↦ (
     λ rejected. absurd (both_ways _ is rejected),

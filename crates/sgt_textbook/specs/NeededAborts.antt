@@ -2,6 +2,7 @@
 -- aborted is another question: in place of the one whose access is rejected, another member of the cycle might abort.
 use Rattle.std.specs.Prelude.{◌≡◌, ◌↔◌, ℕ, true, List, ◌∷◌, ◌++◌}
 use Rattle.sgt_model.specs.declared.entry.Entry.{Entry}
+use Rattle.sgt_model.specs.declared.event.Event.{Event}
 use Rattle.sgt_model.specs.declared.reply.Reply.{Reply}
 use Rattle.sgt_model.specs.declared.kind.Kind.{Kind}
 use Rattle.sgt_model.specs.Contents.{Key}
@@ -12,7 +13,7 @@ use Rattle.sgt_model.specs.Falls.{Falls}
 use Rattle.sgt_model.specs.Closes.{Closes}
 use Rattle.sgt_model.specs.Aborts.{IsAccessBy}
 use Rattle.sgt_model.specs.Laws.{InEach}
-use Rattle.sgt_progress.specs.Needed.{is_rejection, StepsAt}
+use Rattle.sgt_progress.specs.Needed.{is_rejection, AccessAt}
 use Rattle.sgt_classes.specs.declared.operation.Operation.{Operation}
 use Rattle.sgt_classes.specs.declared.operation.Action.TheVariants as action
 use Rattle.sgt_classes.specs.Histories.{IsWellFormed}
@@ -42,10 +43,11 @@ abbrev pub LiveOnesMayCommit : Type 0
 LiveOnesMayCommit = (number : Key → ℕ) → IsNumbering number → InEach (λ s past. (ones : List ℕ) → ((u : ℕ) → Member u ones → live past u ≡ true)
     → IsSerializable (textbook number past ++ each_does action.Commit ones))
 
--- An access is rejected exactly if the history with it, all live transactions committing then, would not be serializable.
+-- An access, of a procedure or one on which a caller decided, is rejected exactly if the history with it, all live transactions
+-- committing then, would not be serializable.
 abbrev pub RejectsExactly : Type 0
-RejectsExactly = (number : Key → ℕ) → IsNumbering number → InEach (λ s past. (t : ℕ) (k : Key) (kind : Kind) (r : Reply) (e : Entry)
-    → StepsAt s past t k kind r e
+RejectsExactly = (number : Key → ℕ) → IsNumbering number → InEach (λ s past. (event : Event) (t : ℕ) (k : Key) (kind : Kind) (r : Reply) (e : Entry)
+    → AccessAt s past event t k kind r e
     → (is_rejection r ≡ true) ↔ (¬ IsSerializable (textbook number (e ∷ past) ++ each_does action.Commit (live_ones past))))
 
 -- The cycles that rejections name are of live transactions alone.

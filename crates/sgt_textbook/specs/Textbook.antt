@@ -2,7 +2,7 @@
 -- (Bernstein, Hadzilacos and Goodman (1987), chapter 2). Items are the numbers of keys.
 use Rattle.std.specs.Prelude.{◌≡◌, ℕ, List, [], ◌∷◌, ◌++◌}
 use Rattle.sgt_model.specs.declared.event.Event.{Event}
-use Rattle.sgt_model.specs.declared.event.Event.TheVariants.{Start, Step, Commit, Quit}
+use Rattle.sgt_model.specs.declared.event.Event.TheVariants.{Start, Step, Access, Commit, Quit}
 use Rattle.sgt_model.specs.declared.reply.Reply.{Reply}
 use Rattle.sgt_model.specs.declared.reply.Reply.TheVariants as reply
 use Rattle.sgt_model.specs.declared.entry.Entry.{Entry}
@@ -19,13 +19,15 @@ IsNumbering number = (j k : Key) → number j ≡ number k → j ≡ k
 abbrev pub named : Event → List ℕ
 named (Start p args) = []
 named (Step t) = t ∷ []
+named (Access t d) = t ∷ []
 named (Commit t) = t ∷ []
 named (Quit t) = t ∷ []
 
--- the transaction that makes a step, alone
+-- the transaction that makes a step, or an access on which its caller decided, alone
 abbrev pub stepping : Event → List ℕ
 stepping (Start p args) = []
 stepping (Step t) = t ∷ []
+stepping (Access t d) = t ∷ []
 stepping (Commit t) = []
 stepping (Quit t) = []
 

@@ -3,8 +3,9 @@
 //!
 //! A legal history is a list of entries, each an event with its reply. In the notation of Bernstein, Hadzilacos and
 //! Goodman (1987), chapter 2, it is a list of reads, writes, commits and aborts, as `specs/Textbook.antt` defines.
-//! Each transaction that is aborted in cascade has an abort of its own. Keys are numbers there; any numbering will do
-//! that gives no two keys the same number.
+//! Each transaction that is aborted in cascade has an abort of its own. An access on which a caller decided is a read or
+//! a write as every other, and a removal is a write. Keys are numbers there; any numbering will do that gives no two keys
+//! the same number.
 //!
 //! By the definitions of `sgt_classes` the list is:
 //!

@@ -160,7 +160,7 @@ fn left_behind_a_cut<R: Threads + Wait + Sync>(rt: &R, alloc: Global) -> Option<
 enum Told {
     Started,
     Looked(Option<i64>),
-    Wrote(i64),
+    Wrote(Option<i64>),
     Waits(u32),
     Committed(Option<i64>),
     Quit,
@@ -275,7 +275,7 @@ const DEPOSITED: [Told; 5] = [
     Told::Started,
     Told::Looked(Some(101)),
     Told::Looked(Some(1000)),
-    Told::Wrote(1100),
+    Told::Wrote(Some(1100)),
     Told::Committed(Some(1100)),
 ];
 
@@ -309,7 +309,7 @@ const QUIT: [Told; 5] = [
     Told::Started,
     Told::Looked(Some(101)),
     Told::Looked(Some(1000)),
-    Told::Wrote(1100),
+    Told::Wrote(Some(1100)),
     Told::Quit,
 ];
 
@@ -324,7 +324,7 @@ const FELL: [Told; 6] = [
 ];
 
 /// It writes, and is refused at its commit.
-const REFUSED: [Told; 3] = [Told::Started, Told::Wrote(1), Told::Refused(9)];
+const REFUSED: [Told; 3] = [Told::Started, Told::Wrote(Some(1)), Told::Refused(9)];
 
 /// It has read what the refused one wrote.
 const FELL_WITH_REFUSED: [Told; 4] = [
@@ -391,7 +391,7 @@ const AGAIN: [(u32, &[Told]); 2] = [
             Told::Started,
             Told::Looked(Some(101)),
             Told::Looked(Some(1100)),
-            Told::Wrote(1200),
+            Told::Wrote(Some(1200)),
             Told::Committed(Some(1200)),
         ],
     ),

@@ -18,9 +18,11 @@ pub const BEGUN: u32 = 7;
 pub const TAKEN: u32 = 8;
 pub const TOO_MANY: u32 = 9;
 pub const BUSY: u32 = 10;
+pub const SELF_WAIT: u32 = 11;
 pub const TIMED_OUT: u32 = 12;
 pub const STALE: u32 = 13;
 pub const MISUSE: u32 = 14;
+pub const UNDONE: u32 = 15;
 pub const NOT_JSON: u32 = 16;
 pub const BAD_LINE: u32 = 17;
 pub const BAD_LIMITS: u32 = 18;
@@ -81,6 +83,10 @@ pub struct Event {
     pub procedure: u32,
     pub args: u32,
     pub arg: [i64; 4],
+    pub table: u32,
+    pub spare: u32,
+    pub number: i64,
+    pub value: i64,
 }
 
 /// `sgt_row`: a record and its value.
@@ -121,6 +127,19 @@ pub struct Call {
     pub answers: u32,
     pub arg: [i64; 4],
     pub answer: [i64; 8],
+    pub accesses: u64,
+}
+
+/// `sgt_access`: an access that a transaction's caller decided.
+#[repr(C)]
+#[derive(Clone, Copy, Debug, Default, PartialEq, Eq)]
+pub struct Access {
+    pub kind: u32,
+    pub table: u32,
+    pub number: i64,
+    pub value: i64,
+    pub found: u32,
+    pub spare: u32,
 }
 
 /// `sgt_outcome`: the outcome of a call of `sgt_run_many`.
@@ -190,6 +209,31 @@ pub struct SharedOutcome {
     pub reply: Reply,
 }
 
+/// `sgt_transact_options`: how a transaction function is run.
+#[repr(C)]
+#[derive(Clone, Copy, Debug)]
+pub struct TransactOptions {
+    pub size: usize,
+    pub wait_ns: i64,
+    pub tries: u32,
+    pub spare: u32,
+}
+
+/// `sgt_transaction`: a transaction whose accesses its caller decides, with its tries.
+#[repr(C)]
+#[derive(Clone, Copy, Debug)]
+pub struct Transaction {
+    pub size: usize,
+    pub shared: *mut Shared,
+    pub ticket: Ticket,
+    pub ends: u64,
+    pub tries: u32,
+    pub waits: u32,
+    pub status: u32,
+    pub is_live: u32,
+    pub reply: Reply,
+}
+
 pub type Ask = unsafe extern "C" fn(*mut Engine, u32, *mut Reply) -> u32;
 
 extern "C" {
@@ -233,6 +277,11 @@ extern "C" {
     pub fn sgt_step(engine: *mut Engine, tid: u32, reply: *mut Reply) -> u32;
     pub fn sgt_commit(engine: *mut Engine, tid: u32, reply: *mut Reply) -> u32;
     pub fn sgt_quit(engine: *mut Engine, tid: u32, reply: *mut Reply) -> u32;
+    pub fn sgt_begin(engine: *mut Engine, reply: *mut Reply) -> u32;
+    pub fn sgt_read(engine: *mut Engine, tid: u32, table: u64, number: i64, reply: *mut Reply) -> u32;
+    pub fn sgt_write(engine: *mut Engine, tid: u32, table: u64, number: i64, value: i64, reply: *mut Reply) -> u32;
+    pub fn sgt_remove(engine: *mut Engine, tid: u32, table: u64, number: i64, reply: *mut Reply) -> u32;
+    pub fn sgt_accesses(engine: *const Engine, tid: u32, accesses: *mut Access, room: usize, count: *mut u64) -> u32;
     pub fn sgt_get(engine: *const Engine, table: u64, number: i64, value: *mut i64) -> u32;
     pub fn sgt_rows(engine: *const Engine, table: u64, number: i64, rows: *mut Row, room: usize, count: *mut u64) -> u32;
     pub fn sgt_records(engine: *const Engine, count: *mut u64) -> u32;
@@ -298,6 +347,19 @@ extern "C-unwind" {
     pub fn sgt_shared_quit(shared: *mut Shared, ticket: *const Ticket, reply: *mut Reply) -> u32;
     pub fn sgt_shared_abandon(shared: *mut Shared, ticket: *const Ticket) -> u32;
     pub fn sgt_shared_commit(shared: *mut Shared, ticket: *const Ticket, wait_ns: i64, reply: *mut Reply) -> u32;
+    pub fn sgt_shared_accesses(
+        shared: *mut Shared,
+        ticket: *const Ticket,
+        accesses: *mut Access,
+        room: usize,
+        count: *mut u64,
+    ) -> u32;
+    pub fn sgt_shared_try(shared: *mut Shared, transaction: *mut Transaction, options: *const TransactOptions) -> u32;
+    pub fn sgt_transaction_read(transaction: *mut Transaction, table: u64, number: i64, value: *mut i64) -> u32;
+    pub fn sgt_transaction_write(transaction: *mut Transaction, table: u64, number: i64, value: i64) -> u32;
+    pub fn sgt_transaction_remove(transaction: *mut Transaction, table: u64, number: i64) -> u32;
+    pub fn sgt_transaction_commit(transaction: *mut Transaction, wait_ns: i64) -> u32;
+    pub fn sgt_transaction_quit(transaction: *mut Transaction) -> u32;
     pub fn sgt_shared_live(shared: *mut Shared, rows: *mut Live, room: usize, count: *mut u64) -> u32;
     pub fn sgt_shared_cut(shared: *mut Shared, wait_ns: i64) -> u32;
     pub fn sgt_shared_get(shared: *mut Shared, table: u64, number: i64, value: *mut i64) -> u32;

@@ -1,13 +1,15 @@
 //! Cutting the history off, so that the engine continues with an empty one.
-ghost use Rattle.std.specs.Prelude.{◌≡◌, Err, IfOk, OnOk, OnErr, ◌↔◌, reverse};
+ghost use Rattle.std.specs.Prelude.{◌≡◌, [], Err, IfOk, OnOk, OnErr, ◌↔◌, reverse};
 ghost use Rattle.sgt_model.specs.Aborts.{AbortsHaveCause};
 ghost use Rattle.sgt_model.specs.CommitOrder.{CommitsInOrder};
 ghost use Rattle.sgt_model.specs.Contents.{Key};
 ghost use Rattle.sgt_model.specs.Databases.{contents_of, IsByKey};
 ghost use Rattle.sgt_model.specs.Legality.{Legal};
+ghost use Rattle.sgt_model.specs.NewState.{IsNew};
 ghost use Rattle.sgt_model.specs.Pairs.{Pair};
 ghost use Rattle.sgt_model.specs.Replay.{folded, ReplayAgrees};
 ghost use Rattle.sgt_model.specs.Walks.{Acyclic};
+ghost use Rattle.sgt_sched.specs.Scheduler.{state, Keeps};
 ghost use Rattle.sgt_engine.specs.Cuts.{GoesOn, NobodyLive};
 ghost use Rattle.sgt_engine.specs.EngineView.{setting_of};
 
@@ -16,8 +18,9 @@ use crate::past::Past;
 use sgt_access::Accesses;
 use sgt_graph::Graph;
 use sgt_log::History;
-use sgt_model::{NoMemory, headline_holds, new_is_empty};
+use sgt_model::{Database, NoMemory, headline_holds, new_is_empty};
 use sgt_records::Records;
+use sgt_sched::Sched;
 use std::alloc::Global;
 use std::mem;
 use thiserror::Error;
@@ -50,8 +53,8 @@ impl<R: Records, A: Accesses, G: Graph> Engine<R, A, G> {
     /// take, however long it runs.
     ///
     /// The headline holds of each part, and the parts chain: what the replay of one leaves is the initial database of the next. That
-    /// is a copy of the old one with what the part has written, or of all records if they are fewer than the entries. No record
-    /// changes.
+    /// is a copy of the old one with what the part has written, or of all records if they are fewer than the entries. If the part
+    /// removed records, the others are copied too, and nothing is kept of those; else no record changes.
     ///
     /// `StillLive` if a transaction is live, tested first; `NoMemory` if an allocation failed. Then nothing has changed.
     pub fn cut(&mut self, alloc: Global) -> Result<Past, CutError>
@@ -75,7 +78,8 @@ impl<R: Records, A: Accesses, G: Graph> Engine<R, A, G> {
             return Err(CutError::StillLive);
         }
         let database = self.database(alloc)?;
-        self.sched.renew();
+        restart(alloc, &mut self.sched, self.removes, &database)?;
+        self.removes = false;
         let opening = mem::replace(&mut self.opening, database);
         let history = mem::replace(&mut self.history, History::new(alloc));
         Ok(Past { opening, history })
@@ -88,4 +92,24 @@ impl<R: Records, A: Accesses, G: Graph> Engine<R, A, G> {
     {
         self.history.recycle(past.history);
     }
+}
+
+// Starts a scheduler anew over the committed database. If records were removed, it keeps no memory for them.
+fn restart<R: Records, A: Accesses, G: Graph>(
+    alloc: Global,
+    sched: &mut Sched<R, A, G>,
+    removes: bool,
+    database: &Database,
+) -> Result<(), NoMemory>
+    requires none_live { (state sched.old).live ≡ [] }
+    requires committed { (k : Key) → (state sched.old).settled k ≡ contents_of database.now k }
+    ensures new { OnOk result (IsNew (contents_of database.now) (state sched.new)) }
+    ensures unchanged { OnErr result (sched.new ≡ sched.old) }
+    ensures kept { Keeps sched.old sched.new }
+{
+    if removes {
+        return sched.reopen(alloc, database);
+    }
+    sched.renew();
+    Ok(())
 }

@@ -8,6 +8,7 @@ ghost use Rattle.sgt_records.specs.Slots.{chain_at, slot_in, IsHeld, Moves};
 ghost use Rattle.sgt_records.specs.Validity.{IsChain};
 
 use crate::chain::Chain;
+use crate::packed_value::PackedValue;
 use crate::written::Written;
 use sgt_model::Tid;
 use slab::Slab;
@@ -15,12 +16,12 @@ use slab::Slab;
 impl Written {
     /// The last write: its writer and value.
     #[inline(always)]
-    pub fn last(self, chains: &Slab<Chain>) -> Option<(Tid, i64)>
+    pub fn last(self, chains: &Slab<Chain>) -> Option<(Tid, Option<i64>)>
         ensures { result ≡ last_or None (chain_at chains.now self) }
     {
         match self {
             Written::Nothing => None,
-            Written::Once(t, value) => Some((t, value)),
+            Written::Once(t, value) => Some((t, value.get())),
             Written::InSlot(slot) => chains.get(slot)?.last(),
         }
     }
@@ -28,7 +29,7 @@ impl Written {
     /// The same with t's value last, and whether it replaces an earlier one of t. A second writer gets a chain. It allocates
     /// nothing.
     #[inline(always)]
-    pub fn write(self, chains: &mut Slab<Chain>, t: Tid, value: i64) -> (Written, bool)
+    pub fn write(self, chains: &mut Slab<Chain>, t: Tid, value: PackedValue) -> (Written, bool)
         requires ready { HasRoomFor chains.old 1 }
         requires held { IsHeld chains.old (slot_in self) }
         requires chain { IsChain (chain_at chains.old self) }
@@ -54,7 +55,7 @@ impl Written {
 
     /// The same without t's value, and that value. If a chain becomes empty, its slot is freed.
     #[inline(always)]
-    pub fn take_out(self, chains: &mut Slab<Chain>, t: Tid) -> (Written, Option<i64>)
+    pub fn take_out(self, chains: &mut Slab<Chain>, t: Tid) -> (Written, Option<Option<i64>>)
         requires held { IsHeld chains.old (slot_in self) }
         requires chain { IsChain (chain_at chains.old self) }
         ensures left { chain_at chains.new result.0 ≡ chain_without t (chain_at chains.old self) }
@@ -67,7 +68,7 @@ impl Written {
                 if by != t {
                     return (self, None);
                 }
-                (Written::Nothing, Some(value))
+                (Written::Nothing, Some(value.get()))
             }
             Written::InSlot(slot) => take_out_of(chains, slot, t),
         }
@@ -76,7 +77,11 @@ impl Written {
 
 // Makes a chain of two writes. It allocates nothing.
 #[inline(never)]
-fn chain_of(chains: &mut Slab<Chain>, first: (Tid, i64), second: (Tid, i64)) -> Written
+fn chain_of(
+    chains: &mut Slab<Chain>,
+    first: (Tid, PackedValue),
+    second: (Tid, PackedValue),
+) -> Written
     requires ready { HasRoomFor chains.old 1 }
     ensures chain { chain_at chains.new result ≡ first ∷ second ∷ [] }
     ensures moves { Moves chains.old chains.new None (slot_in result) }
@@ -86,7 +91,7 @@ fn chain_of(chains: &mut Slab<Chain>, first: (Tid, i64), second: (Tid, i64)) -> 
 
 // Removes t's value from the chain in a slot. If the chain becomes empty, its slot is freed.
 #[inline(never)]
-fn take_out_of(chains: &mut Slab<Chain>, slot: usize, t: Tid) -> (Written, Option<i64>)
+fn take_out_of(chains: &mut Slab<Chain>, slot: usize, t: Tid) -> (Written, Option<Option<i64>>)
     requires held { IsHeld chains.old (Some slot) }
     requires chain { IsChain (chain_at chains.old (InSlot slot)) }
     ensures left { chain_at chains.new result.0 ≡ chain_without t (chain_at chains.old (InSlot slot)) }

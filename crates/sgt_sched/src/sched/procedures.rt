@@ -14,14 +14,14 @@ impl<R: Records, A: Accesses, G: Graph> Sched<R, A, G> {
     pub fn procedures(&self) -> &[Checked]
         ensures { result.now ≡ (parts self.now).procedures }
     {
-        self.procedures.as_slice()
+        self.procedures.list()
     }
 
     /// How many procedures there are.
     pub fn procedure_count(&self) -> usize
         ensures { result ≡ length (parts self.now).procedures }
     {
-        self.procedures.len()
+        self.procedures.list().len()
     }
 
     /// Adds a procedure after the others. Live transactions continue with the ones that they were started with.
@@ -33,8 +33,6 @@ impl<R: Records, A: Accesses, G: Graph> Sched<R, A, G> {
         ensures state { state self.new ≡ state self.old }
         ensures limits { (parts self.new).limits ≡ (parts self.old).limits }
     {
-        self.procedures.reserve(1)?;
-        self.procedures.push_reserved(procedure);
-        Ok(())
+        self.procedures.push(procedure)
     }
 }

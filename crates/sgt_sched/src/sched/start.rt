@@ -50,7 +50,7 @@ impl<R: Records, A: Accesses, G: Graph> Sched<R, A, G> {
             }
         };
         self.fates.reserve()?;
-        let checked = &self.procedures[usize::from(procedure)];
+        let checked = self.procedures.at(procedure);
         self.live.start(t, procedure, checked, args)?;
         self.graph.add(t);
         self.fates.start();
@@ -62,7 +62,7 @@ impl<R: Records, A: Accesses, G: Graph> Sched<R, A, G> {
     fn admit(&self, procedure: u16, args: &Args) -> Result<Tid, ShortReply>
         ensures { Admits (rules_of self.now) (state self.now) procedure args.now result }
     {
-        let count = match self.procedures.get(usize::from(procedure)) {
+        let count = match self.procedures.get(procedure) {
             Some(checked) => checked.args(),
             None => return Err(ShortReply::NoProcedure),
         };

@@ -1,5 +1,5 @@
 //! Steps.
-ghost use Rattle.std.specs.Prelude.{◌≡◌, ◌≢◌, ℕ, true, [], position, Some, IsTrue, OnErr, ◌↔◌};
+ghost use Rattle.std.specs.Prelude.{◌≡◌, ◌≢◌, ℕ, true, [], position, Some, IfSome, IsTrue, OnErr, ◌↔◌};
 ghost use Rattle.std.specs.Result.{IsOk};
 ghost use Rattle.sgt_model.specs.declared.event.Event.TheVariants.{Step};
 ghost use Rattle.sgt_model.specs.declared.kind.Kind.TheVariants.{Look, Store};
@@ -68,7 +68,7 @@ impl<R: Records, A: Accesses, G: Graph> Sched<R, A, G> {
         match self.ahead_at(t, index) {
             Ahead::Look(key) => self.access(t, index, key, Operation::Look, lists, reply),
             Ahead::Put(key, value) => {
-                self.access(t, index, key, Operation::Store(value), lists, reply)
+                self.access(t, index, key, Operation::Store(Some(value)), lists, reply)
             }
             Ahead::Ends => {
                 *reply = ShortReply::Ended;
@@ -84,7 +84,7 @@ impl<R: Records, A: Accesses, G: Graph> Sched<R, A, G> {
     // Makes an access of a live transaction, which has this index. If the access would close a cycle, it aborts the
     // transaction. Most accesses have no rival.
     #[inline(always)]
-    fn access(
+    pub(super) fn access(
         &mut self,
         t: Tid,
         index: usize,
@@ -191,7 +191,7 @@ impl<R: Records, A: Accesses, G: Graph> Sched<R, A, G> {
         follow(&mut self.graph, t, writers, link);
         self.accesses.note(t, key, Kind::Look);
         note_read(&mut self.read_from, &top, t);
-        self.live.look(t, index, self.procedures.as_slice(), value);
+        self.live.look(t, index, &self.procedures, value);
         *reply = ShortReply::Looked { key, value };
         Ok(())
     }
@@ -203,14 +203,14 @@ impl<R: Records, A: Accesses, G: Graph> Sched<R, A, G> {
         t: Tid,
         index: usize,
         key: Key,
-        value: i64,
+        value: Option<i64>,
         rivals: &Tids,
         link: Link,
         reply: &mut ShortReply,
     ) -> Result<(), NoMemory>
         requires live { (state self.old).nodes t ≡ true }
         requires at { position (has_number t) (parts self.old).live ≡ Some index }
-        requires in_range { IsValue value }
+        requires in_range { IfSome value IsValue }
         requires rivals { AreRivals (state self.old) t key Store rivals.now }
         requires free { NoWalk (state self.old).pairs t rivals.now }
         requires planned { rivals.now ≢ [] → G.is_planned (parts self.old).graph t rivals.now link }
@@ -221,7 +221,7 @@ impl<R: Records, A: Accesses, G: Graph> Sched<R, A, G> {
         follow(&mut self.graph, t, rivals, link);
         self.records.write(t, key, value);
         self.accesses.note(t, key, Kind::Store);
-        self.live.store(t, index, self.procedures.as_slice());
+        self.live.store(t, index, &self.procedures);
         *reply = ShortReply::Wrote { key, value };
         Ok(())
     }
@@ -279,7 +279,7 @@ impl<R: Records, A: Accesses, G: Graph> Sched<R, A, G> {
     }
 
     // Whether an access of a live transaction would close a cycle.
-    fn is_blocked(&self, t: Tid, key: Key, kind: Kind) -> bool
+    pub(super) fn is_blocked(&self, t: Tid, key: Key, kind: Kind) -> bool
         requires live { (state self.now).nodes t ≡ true }
         ensures { IsTrue result ↔ IsBlocked (state self.now) t key kind }
     {

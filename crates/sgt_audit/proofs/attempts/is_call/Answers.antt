@@ -1,4 +1,4 @@
-use Rattle.std.proofs.Common.{◌≡◌, ℕ, ℤ, List, sym, ap, ap₂, ◌∙◌}
+use Rattle.std.proofs.Common.{◌≡◌, ℕ, ℤ, List, [], sym, ap, ap₂, ◌∙◌}
 use Rattle.std.specs.Bool.{Decides}
 use Rattle.std.proofs.lemmas.Slice.Eq.{slice_eq-Decides}
 use Rattle.std.proofs.lemmas.Bool.Decides.{Decides-int_eq}
@@ -6,7 +6,7 @@ use Rattle.sgt_model.specs.Progress.{Call}
 use Rattle.sgt_audit.proofs.attempts.is_call.Goals as goal
 
 abbrev called : ℕ → List ℤ → Call
-called p args = record { procedure = p; args = args }
+called p args = record { procedure = p; args = args; caller_accesses = [] }
 
 pub returns-then-procedure-job : goal.returns-then-procedure-job
 returns-then-procedure-job c =

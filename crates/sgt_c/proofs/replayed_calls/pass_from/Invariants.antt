@@ -1,13 +1,13 @@
 use Rattle.std.proofs.Common.{◌≡◌, ◌-◌, ◌≤◌, length, take, drop}
 use Rattle.std.specs.List.{All}
-use Rattle.sgt_c.specs.ManyRuns.{IsAsked}
+use Rattle.sgt_c.specs.ManyRuns.{IsStartable}
 use Rattle.sgt_c.specs.ReplayedCalls.{AreTold}
 use Rattle.sgt_c.proofs.replayed_calls.pass_from.Given as goal
 
 abbrev pub invariant-loop-next : goal.invariant-loop-next
 invariant-loop-next l = record {
   told : AreTold l.history.entries l.from l.to l.count l.next;
-  asked : All IsAsked (take l.count l.to);
+  asked : All IsStartable (take l.count l.to);
   onward : l.from ≤ l.next;
   within : l.next ≤ length l.history.entries;
   fits : l.count ≤ length l.to;

@@ -1,5 +1,6 @@
-use Rattle.std.proofs.Common.{◌≡◌, None, IfSome, cond, take}
+use Rattle.std.proofs.Common.{◌≡◌, ◌≢◌, false, Some, None, IfSome, cond, take}
 use Rattle.std.specs.BTreeMap.{get}
+use Rattle.std.specs.Option.{option_flatten}
 use Rattle.sgt_model.specs.Contents.{Key}
 use Rattle.sgt_model.specs.Databases.{key_cmp}
 use Rattle.sgt_model.specs.Numbers.{IsValue}
@@ -10,6 +11,7 @@ use Rattle.sgt_engine.proofs.changes.written_values.Given as goal
 abbrev pub invariant-loop-place : goal.invariant-loop-place
 invariant-loop-place g l = record {
   values : (k : Key) → get key_cmp l.values k
-      ≡ cond (is_written k (take l.place l.history.entries)) (g.R.Records.settled l.records k) None;
-  in_range : (k : Key) → IfSome (get key_cmp l.values k) IsValue;
+      ≡ cond (is_written k (take l.place l.history.entries)) (Some (g.R.Records.settled l.records k)) None;
+  in_range : (k : Key) → IfSome (option_flatten (get key_cmp l.values k)) IsValue;
+  removes : l.removes ≡ false → (k : Key) → get key_cmp l.values k ≢ Some None;
 }

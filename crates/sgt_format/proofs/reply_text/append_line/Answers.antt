@@ -79,6 +79,9 @@ returns-in-Looked-clause-ok c = rw c.in-Looked.is (grouped c.append_looked.resul
 pub returns-in-Looked-clause-err : goal.returns-in-Looked-clause-err
 returns-in-Looked-clause-err c = left_whole c.append_looked.result _ c.args.lines.now.items _ (search rules) c.append_looked.ensures.err
 
+pub returns-in-Wrote-clause-ok : goal.returns-in-Wrote-clause-ok
+returns-in-Wrote-clause-ok c = rw c.in-Wrote.is (grouped c.append_wrote.result c.args.lines.now.items _ _ _ c.append_wrote.ensures.ok)
+
 pub returns-in-Wrote-clause-err : goal.returns-in-Wrote-clause-err
 returns-in-Wrote-clause-err c = left_whole c.append_wrote.result _ c.args.lines.now.items _ (search rules) c.append_wrote.ensures.err
 

@@ -15,7 +15,7 @@ use Rattle.sgt_engine.proofs.engine.Engine.answer.Goals as goal
 
 pub invariant_of-self-2 : goal.invariant_of-self-2
 invariant_of-self-2 g c =
-    let s = setting (contents_of c.self.inside.opening) c.self.inside.sched.procedures.items c.self.inside.sched.limits in
+    let s = setting (contents_of c.self.inside.opening) c.self.inside.sched.procedures c.self.inside.sched.limits in
     let kept = kept_entry c.calls_simulate.ensures s _ c.self.inside.history.entries c.push.new.self.entries (state c.self.inside.sched)
     (state c.answer.new.self) c.args.event.now (reply_with c.answer.new.reply c.answer.new.lists)
     (same_setting _ _ _ _ _ c.answer.ensures.done.kept.0 c.answer.ensures.done.kept.1)
@@ -28,7 +28,7 @@ invariant_of-self-2 g c =
       replies = c.endings_agree.ensures.replies;
       counts = c.endings_agree.ensures.counts;
     })
-    (setting (contents_of c.self.inside.opening) c.self.inside.sched.procedures.items c.self.inside.sched.limits)
+    (setting (contents_of c.self.inside.opening) c.self.inside.sched.procedures c.self.inside.sched.limits)
     (reverse c.self.inside.history.entries) c.self.invariant.0 (state c.self.inside.sched) c.self.invariant.1 c.args.event.now
     (state c.answer.new.self) (reply_with c.answer.new.reply c.answer.new.lists) c.make_room.new.history.room
     c.in_ok-answer.ensures.done.done c.make_room.ensures.ends
@@ -46,7 +46,7 @@ returns-clause-order g c = (c.headline_holds.ensures _ _ (invariant_of-self-2 g 
 
 pub returns-clause-adds : goal.returns-clause-adds
 returns-clause-adds g c =
-    let s = setting (contents_of c.self.inside.opening) c.self.inside.sched.procedures.items c.self.inside.sched.limits in record {
+    let s = setting (contents_of c.self.inside.opening) c.self.inside.sched.procedures c.self.inside.sched.limits in record {
       reply = reply_with c.answer.new.reply c.answer.new.lists;
       is_short = short_with c.answer.new.reply c.answer.new.lists;
       adds = entry_added c.self.inside.opening _ _ _ _ c.self.inside.history.entries c.push.new.self.entries c.args.event.now
@@ -90,7 +90,7 @@ push-requires g c =
       replies = c.endings_agree.ensures.replies;
       counts = c.endings_agree.ensures.counts;
     })
-    (setting (contents_of c.self.inside.opening) c.self.inside.sched.procedures.items c.self.inside.sched.limits)
+    (setting (contents_of c.self.inside.opening) c.self.inside.sched.procedures c.self.inside.sched.limits)
     (reverse c.self.inside.history.entries) c.self.invariant.0 (state c.self.inside.sched) c.self.invariant.1 c.args.event.now
     (state c.answer.new.self) (reply_with c.answer.new.reply c.answer.new.lists) c.make_room.new.history.room
     c.in_ok-answer.ensures.done.done c.make_room.ensures.ends
@@ -111,7 +111,8 @@ returns-clause-progress g c = histories_make_progress _ _ (invariant_of-self-2 g
 
 pub returns-clause-alone : goal.returns-clause-alone
 returns-clause-alone g c = λ t alone of_t r same. let done = returns-clause-adds g c in
-    undisturbed (setting_of c.args.self.now) c.args.self.now.past (legal_before c.self.view_is c.self.invariant.0) t alone c.args.event.now of_t done.reply r
+    undisturbed (setting_of c.args.self.now) c.args.self.now.past (legal_before c.self.view_is c.self.invariant.0) t alone
+    c.args.event.now of_t done.reply r
     (done.is_short ∙ sym same) done.legal
 
 pub returns-in_err-make_room-clause-legal : goal.returns-in_err-make_room-clause-legal

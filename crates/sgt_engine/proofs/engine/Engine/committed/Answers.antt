@@ -10,6 +10,6 @@ returns-clause-replayed g c =
     c.committed.ensures.value
     ∙ (ap (λ r. g.R.Records.settled r c.args.key) c.records.ensures
     ∙ (c.self.invariant.1.settled c.args.key
-    ∙ (sym ((c.replay_is_serial.ensures (setting (contents_of c.self.inside.opening) c.self.inside.sched.procedures.items
+    ∙ (sym ((c.replay_is_serial.ensures (setting (contents_of c.self.inside.opening) c.self.inside.sched.procedures
     c.self.inside.sched.limits) _ c.self.invariant.0).database c.args.key)
     ∙ ap (λ e. (folded (setting_of e) e.past).last c.args.key) c.self.view_is)))

@@ -18,7 +18,7 @@ invariant_of-self c =
       entries-pushed c.self.inside.tids.items c.self.inside.tids.items c.self.inside.values.items c.append-part.new.list.items
           c.self.inside.entries.items c.push_reserved.new.self.items filed ([], sym (append-nil _))
           (c.args.answers.now, c.append-part.ensures.items) c.self.invariant.0 (
-            record { args = (omega arith, omega arith); few = omega arith },
+            record { args = (omega arith, omega arith); few = omega arith; own = tt },
             record {
               answers = c.append-part.ensures.within;
               few = omega (arith, c.append-part.ensures.count, c.requires.few);

@@ -19,7 +19,7 @@ invariant_of-self c =
       entries-pushed c.self.inside.tids.items c.self.inside.tids.items c.self.inside.values.items c.append-part.new.list.items
           c.self.inside.entries.items c.push_reserved.new.self.items filed ([], sym (append-nil _))
           (c.args.args.now, c.append-part.ensures.items) c.self.invariant.0 (
-            record { args = c.append-part.ensures.within; few = omega (arith, c.append-part.ensures.count, c.requires.few) },
+            record { args = c.append-part.ensures.within; few = omega (arith, c.append-part.ensures.count, c.requires.few); own = tt },
             record {
               answers = (omega arith, omega arith);
               few = omega arith;

@@ -1,6 +1,6 @@
-use Rattle.std.proofs.Common.{◌≡◌, refl, None, IsSome, arith, sym, subst, w64, ◌≤◌, length}
+use Rattle.std.proofs.Common.{refl, IsSome, arith, sym, subst, w64, ◌≤◌, length}
 use Rattle.std.proofs.lemmas.Int.{to_z-of_z}
-use Rattle.sgt_model.specs.Databases.{contents_of, IsByKey, IsRowIndex}
+use Rattle.sgt_model.specs.Databases.{IsByKey, IsRowIndex}
 use Rattle.sgt_model.proofs.Rows.{insert_rows, insert_told, index_within, value_found, value_missing}
 use Rattle.sgt_model.proofs.database.Database.put_new.Goals as goal
 

@@ -1,8 +1,8 @@
-use Rattle.std.proofs.Common.{rules, ◌≡◌, ◌<◌, ◌+◌, ◌≤◌, ℤ, Some, length, slice_get, cond, w64, arith, ap, sym, subst, ◌∙◌}
+use Rattle.std.proofs.Common.{rules, ◌≡◌, ◌<◌, Some, length, slice_get, cond, w64, arith, ap, sym, subst, ◌∙◌}
 use Rattle.std.proofs.lemmas.Int.{to_z-of_z}
 use Rattle.sgt_model.specs.Numbers.{IsValue}
 use Rattle.sgt_model.specs.Contents.{key_eq}
-use Rattle.sgt_model.specs.Databases.{Row, contents_of, IsByKey, HasValues}
+use Rattle.sgt_model.specs.Databases.{contents_of, IsByKey, HasValues}
 use Rattle.sgt_model.proofs.Rows.{read_at}
 use Rattle.sgt_model.proofs.Merges.{value_of_row, newer_more, older_more, apart_more}
 use Rattle.sgt_model.proofs.database.Database.updated.Goals as goal

@@ -1,5 +1,4 @@
-use Rattle.std.proofs.Common.{rules, sym, ◌∙◌, arith, w64, ap, Some, ℕ, ℤ}
-use Rattle.std.proofs.lemmas.Int.{to_z-of_z}
+use Rattle.std.proofs.Common.{rules, sym, ◌∙◌, arith, ap, Some, ℕ, ℤ, Option}
 use Rattle.sgt_records.proofs.ChainIndices.{not_found, found, at_index, value_at, taken_out, left_whole, no_value}
 use Rattle.sgt_records.proofs.chain.Chain.take_out.Goals as goal
 
@@ -17,7 +16,7 @@ pub returns-clause-value : goal.returns-clause-value
 returns-clause-value c =
     let w = c.remove-value.result in
     let at = found c.args.t c.args.self.now.writes.items c.in_ok-at.at (search rules) in
-    ap (λ v. Some v) (to_z-of_z w64 w.1 (search rules) ∙ ap (λ (x : ℕ × ℤ). x.1) c.remove-value.ensures.value)
+    ap (λ (v : Option ℤ). Some v) (c.get.ensures ∙ ap (λ (x : ℕ × Option ℤ). x.1) c.remove-value.ensures.value)
     ∙ sym (value_at c.args.t c.args.self.now.writes.items c.in_ok-at.at w at)
 
 pub returns-clause-left : goal.returns-clause-left

@@ -18,7 +18,7 @@ loop-key-preserved c k =
     let at : slice_get rows c.loop-key.key-index ≡ Some row = rw (← c.rows-key-items.ensures.rows)
     (slice_get_read c.rows-key-items.result.now _ c.loop-key.key-index row refl c.loop-key-test.true c.loop-key-item.is) in
     value_put c.loop-key.records c.insert.new.self row.0 _ c.in_ok-insert.ensures.updates k
-    ∙ (ap (λ v. put_in (settled_in c.loop-key.records) row.0 v k) (to_z-of_z w64 row.1 (search rules))
+    ∙ (ap (λ (v : ℤ). put_in (settled_in c.loop-key.records) row.0 v k) (to_z-of_z w64 row.1 (search rules))
     ∙ (ap (λ o. cond (key_eq row.0 k) (Some row.1) o) (c.loop-key.invariant k)
     ∙ sym (row_more rows c.loop-key.key-index row (subst IsByKey c.rows-key-items.ensures.rows c.rows-key-items.ensures.by_key) at k)))
 

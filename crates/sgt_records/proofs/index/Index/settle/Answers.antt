@@ -1,5 +1,5 @@
 use Rattle.std.proofs.Common.{◌≡◌, ℤ, Option, Some, IfSome, ap, sym, subst, ◌∙◌}
-use Rattle.std.specs.Option.{option_or}
+use Rattle.std.specs.Option.{unwrap_or}
 use Rattle.sgt_model.specs.Numbers.{IsValue}
 use Rattle.sgt_model.specs.Chains.{chain_without, value_in}
 use Rattle.sgt_records.specs.Slots.{chain_at}
@@ -17,8 +17,8 @@ invariant_of-self c =
     let old = c.at.result.now in
     let is : records c.args.key ≡ Some old = c.at.ensures in
     let was = written_is records chains c.args.key old is index in
-    let value : c.or-committed.result ≡ option_or (value_in c.args.t (chain_at chains old.written)) old.committed = c.or-committed.ensures
-    ∙ ap (λ v. option_or v old.committed) c.take_out-written.ensures.value in
+    let value : c.unwrap_or-committed.result ≡ unwrap_or (value_in c.args.t (chain_at chains old.written)) old.committed =
+    c.unwrap_or-committed.ensures ∙ ap (λ (v : Option (Option ℤ)). unwrap_or v old.committed) c.take_out-written.ensures.value in
     let chain = chain_there records chains c.args.key old is index in
     record {
       is_index = index_told records (record_in c.put.new.self) c.args.key _ c.put.ensures.put chains c.take_out-written.new.chains index
@@ -47,7 +47,7 @@ returns-clause-settled c =
     let old = c.at.result.now in
     let is : records c.args.key ≡ Some old = c.at.ensures in
     let was = written_is records chains c.args.key old is index in
-    let value : c.or-committed.result ≡ option_or (value_in c.args.t (chain_at chains old.written)) old.committed = c.or-committed.ensures
-    ∙ ap (λ v. option_or v old.committed) c.take_out-written.ensures.value in
+    let value : c.unwrap_or-committed.result ≡ unwrap_or (value_in c.args.t (chain_at chains old.written)) old.committed =
+    c.unwrap_or-committed.ensures ∙ ap (λ (v : Option (Option ℤ)). unwrap_or v old.committed) c.take_out-written.ensures.value in
     committed_by records (record_in c.put.new.self) c.args.key _ c.put.ensures.put chains c.take_out-written.new.chains index old.written
     was c.take_out-written.ensures.moves c.args.t old.committed (committed_is records chains c.args.key old is index) value

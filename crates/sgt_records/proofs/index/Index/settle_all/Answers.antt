@@ -1,6 +1,6 @@
 use Rattle.std.proofs.Common.{◌≡◌, ◌≢◌, cond, ap, sym, ◌∙◌}
 use Rattle.std.proofs.lemmas.Bool.{eqb-true, eqb-false}
-use Rattle.std.specs.Option.{option_or}
+use Rattle.std.specs.Option.{unwrap_or}
 use Rattle.sgt_model.specs.Chains.{chain_without, value_in}
 use Rattle.sgt_records.specs.Slots.{key_chain, committed_of}
 use Rattle.sgt_records.proofs.LiveWritesLeft.{undo_more, settle_more, live_other, tell_at}
@@ -44,7 +44,7 @@ loop-write-preserved c =
                 (key_chain (record_in c.args.self.now.table) c.args.self.now.chains k))
                 (sym (live_other c.args.t writes at w c.loop-write-test.true c.write-item.is other k));
             settled = λ k. c.loop-write.invariant.settled k ∙ ap
-                (λ d. cond d (option_or (value_in c.args.t (key_chain (record_in c.args.self.now.table) c.args.self.now.chains k))
+                (λ d. cond d (unwrap_or (value_in c.args.t (key_chain (record_in c.args.self.now.table) c.args.self.now.chains k))
                 (committed_of (record_in c.args.self.now.table) k)) (committed_of (record_in c.args.self.now.table) k))
                 (sym (live_other c.args.t writes at w c.loop-write-test.true c.write-item.is other k));
             indices = c.loop-write.invariant.indices;

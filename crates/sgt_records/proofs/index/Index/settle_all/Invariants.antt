@@ -1,5 +1,5 @@
 use Rattle.std.proofs.Common.{◌≡◌, cond, take}
-use Rattle.std.specs.Option.{option_or}
+use Rattle.std.specs.Option.{unwrap_or}
 use Rattle.sgt_model.specs.Contents.{Key}
 use Rattle.sgt_model.specs.Chains.{chain_without, value_in}
 use Rattle.sgt_records.specs.LiveWrites.{is_live}
@@ -14,7 +14,7 @@ invariant-loop-write l = record {
       (chain_without l.t (key_chain (record_in l.fn.self.table) l.fn.self.chains k))
       (key_chain (record_in l.fn.self.table) l.fn.self.chains k);
   settled : (k : Key) → committed_of (record_in l.self.table) k ≡ cond (is_live l.t k (take l.write-index l.writes))
-      (option_or (value_in l.t (key_chain (record_in l.fn.self.table) l.fn.self.chains k)) (committed_of (record_in l.fn.self.table) k))
+      (unwrap_or (value_in l.t (key_chain (record_in l.fn.self.table) l.fn.self.chains k)) (committed_of (record_in l.fn.self.table) k))
       (committed_of (record_in l.fn.self.table) k);
   indices : l.self.table.indices ≡ l.fn.self.table.indices;
 }

@@ -1,5 +1,4 @@
-use Rattle.std.proofs.Common.{◌≡◌, Some, ◌<◌, false, length, w64, ap, sym, subst, ◌∙◌}
-use Rattle.std.proofs.lemmas.Int.{to_z-of_z}
+use Rattle.std.proofs.Common.{◌≡◌, ℤ, Option, Some, ◌<◌, false, length, ap, sym, subst, ◌∙◌}
 use Rattle.sgt_model.specs.Chains.{write_last, writes_in}
 use Rattle.sgt_records.specs.Slots.{chain_at}
 use Rattle.sgt_records.specs.Tables.{record_in}
@@ -18,8 +17,7 @@ invariant_of-self c =
     let was = written_is records chains c.args.key old is index in
     let last : chain_at c.write-written.new.chains c.write-written.result.0
     ≡ write_last c.args.t c.args.value (chain_at chains old.written) =
-    c.write-written.ensures.last
-    ∙ ap (λ v. write_last c.args.t v (chain_at chains old.written)) (to_z-of_z w64 c.args.value c.ranges.value) in
+    c.write-written.ensures.last ∙ ap (λ (v : Option ℤ). write_last c.args.t v (chain_at chains old.written)) c.of.ensures in
     record {
       is_index = index_told records (record_in c.put.new.self) c.args.key _ c.put.ensures.put chains c.write-written.new.chains index
           old.written was c.write-written.ensures.moves (subst IsChain (sym last) (chain_written c.args.t c.args.value _
@@ -38,8 +36,7 @@ returns-clause-chain c =
     let was = written_is records chains c.args.key old is index in
     let last : chain_at c.write-written.new.chains c.write-written.result.0
     ≡ write_last c.args.t c.args.value (chain_at chains old.written) =
-    c.write-written.ensures.last
-    ∙ ap (λ v. write_last c.args.t v (chain_at chains old.written)) (to_z-of_z w64 c.args.value c.ranges.value) in
+    c.write-written.ensures.last ∙ ap (λ (v : Option ℤ). write_last c.args.t v (chain_at chains old.written)) c.of.ensures in
     chain_by records (record_in c.put.new.self) c.args.key _ c.put.ensures.put chains c.write-written.new.chains index old.written was
     c.write-written.ensures.moves (write_last c.args.t c.args.value) last
 

@@ -1,5 +1,4 @@
-use Rattle.std.proofs.Common.{rules, ◌≡◌, ℤ, Some, None, option_map, w64, ap, sym, ◌∙◌}
-use Rattle.std.proofs.lemmas.Int.{to_z-of_z}
+use Rattle.std.proofs.Common.{rules, ◌≡◌, Some, None, option_map, ap, sym, ◌∙◌}
 use Rattle.std.proofs.lemmas.Iterator.Adapters.{YieldsList-from_rev_slice}
 use Rattle.std.proofs.lemmas.Iterator.Search.{find_from_yields_List}
 use Rattle.std.specs.List.{last_or}
@@ -14,7 +13,7 @@ returns-clause-last c =
     (YieldsList-from_rev_slice writes (search rules)) (λ x b q call. search rules) in
     let last : last_or None (chain_in writes c.args.key) ≡ Some (c.in_ok-write.write.now.by, c.in_ok-write.write.now.value) =
     last_found writes c.args.key _ (ap (λ o. option_map (λ x. x.now) o) (sym c.in_ok-write.was) ∙ found) in
-    sym (last ∙ ap (λ (v : ℤ). Some (c.in_ok-write.write.now.by, v)) (sym (to_z-of_z w64 c.in_ok-write.write.now.value (search rules))))
+    sym last
 
 pub returns-in_err-write-clause-last : goal.returns-in_err-write-clause-last
 returns-in_err-write-clause-last c =

@@ -1,6 +1,7 @@
-use Rattle.sgt_sched.proofs.Added.{added_kept}
+use Rattle.sgt_sched.proofs.Added.{pushed_kept}
 use Rattle.sgt_sched.proofs.sched.Sched.add_procedure.Goals as goal
 
-pub invariant_of-self-2 : goal.invariant_of-self-2
-invariant_of-self-2 g c = rw (c.push_reserved.ensures.items, c.reserve.ensures.items)
-    (record { kept = added_kept c.args.self.now.kept c.args.procedure })
+pub invariant_of-self : goal.invariant_of-self
+invariant_of-self g c = record {
+  kept = pushed_kept c.args.self.now.kept c.args.procedure c.push.result c.push.new.self c.push.ensures.ok c.push.ensures.err;
+}

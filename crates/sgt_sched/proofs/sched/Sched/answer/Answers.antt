@@ -23,6 +23,15 @@ returns-in-Step-clause-done g c = record {
   kept = c.answer_step.ensures.done.kept;
 }
 
+pub returns-in-Access-clause-done : goal.returns-in-Access-clause-done
+returns-in-Access-clause-done g c = record {
+  done = IfOk-weaker (with_reply c.answer_request.result c.answer_request.new.reply) _ _
+      (λ b done. (called (rules_of c.args.self.now) (state c.args.self.now) (reply_with b c.answer_request.new.lists)
+      (state c.answer_request.new.self) c.args.event.now _ c.in-Access.is) done) c.answer_request.ensures.done.done;
+  refused = c.answer_request.ensures.done.refused;
+  kept = c.answer_request.ensures.done.kept;
+}
+
 pub returns-in-Commit-clause-done : goal.returns-in-Commit-clause-done
 returns-in-Commit-clause-done g c = record {
   done = (called (rules_of c.args.self.now) (state c.args.self.now) (reply_with c.answer_commit.result c.answer_commit.new.lists)

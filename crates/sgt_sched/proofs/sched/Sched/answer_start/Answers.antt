@@ -1,5 +1,4 @@
-use Rattle.std.proofs.lemmas.Option.{slice_get_read}
-use Rattle.std.proofs.Common.{rules, refl, get_or, ◌≡◌, ◌<◌, Some, None, slice_get, length, ap, ◌∙◌, ◌++◌, ◌∷◌, []}
+use Rattle.std.proofs.Common.{refl, None, ap, ◌∙◌, ◌++◌, ◌∷◌, []}
 use Rattle.sgt_sched.proofs.Started.{start_new, is_named, start_room, start_done}
 use Rattle.sgt_sched.specs.Scheduler.{parts, state}
 use Rattle.sgt_sched.proofs.sched.Sched.answer_start.Goals as goal
@@ -7,46 +6,36 @@ use Rattle.sgt_sched.proofs.sched.Sched.answer_start.Goals as goal
 pub returns-in-Err : goal.returns-in-Err
 returns-in-Err g c = record { done = c.in-Err.ensures; refused = tt; kept = (refl, refl) }
 
-pub index-checked-requires : goal.index-checked-requires
-index-checked-requires g c =
-    let named : c.args.procedure < length c.args.self.now.procedures.items = is_named (parts c.args.self.now)
-    (state c.args.self.now) c.args.procedure c.in-Ok.t c.args.args.now c.in-Ok.ensures.0 in
-    search rules
+pub at-checked-requires : goal.at-checked-requires
+at-checked-requires g c = is_named (parts c.args.self.now) (state c.args.self.now) c.args.procedure c.in-Ok.t c.args.args.now
+    c.in-Ok.ensures.0
 
 pub add-requires-clause-new : goal.add-requires-clause-new
 add-requires-clause-new g c =
     let admitted = c.in-Ok.ensures.1 in
-    start_new c.args.self.now.kept c.args.procedure c.index-checked.result.now c.args.args.now c.in-Ok.t admitted.next
+    start_new c.args.self.now.kept c.args.procedure c.at-checked.result.now c.args.args.now c.in-Ok.t admitted.next
 
 pub add-requires-clause-room : goal.add-requires-clause-room
 add-requires-clause-room g c =
     let admitted = c.in-Ok.ensures.1 in
-    start_room c.args.self.now.kept c.args.procedure c.index-checked.result.now c.args.args.now c.in-Ok.t admitted.next admitted.live
+    start_room c.args.self.now.kept c.args.procedure c.at-checked.result.now c.args.args.now c.in-Ok.t admitted.next admitted.live
 
 pub invariant_of-self-2 : goal.invariant_of-self-2
 invariant_of-self-2 g c =
     let admitted = c.in-Ok.ensures.1 in
-    let named : slice_get c.args.self.now.procedures.items c.args.procedure ≡ Some c.index-checked.result.now = slice_get_read
-    c.args.self.now.procedures.items _ c.args.procedure c.index-checked.result.now refl
-    (is_named (parts c.args.self.now) (state c.args.self.now) c.args.procedure c.in-Ok.t c.args.args.now c.in-Ok.ensures.0)
-    (c.index-checked.ensures ∙ ap (λ n. get_or c.args.self.now.procedures.items n c.index-checked.result.now) c.from.ensures) in
     record {
-      kept = (start_done c.args.self.now.kept c.args.procedure c.index-checked.result.now c.args.args.now c.in-Ok.t admitted.next
+      kept = (start_done c.args.self.now.kept c.args.procedure c.at-checked.result.now c.args.args.now c.in-Ok.t admitted.next
           c.add.new.self c.start.new.self c.start-2.new.self.fates c.add.ensures.nodes c.add.ensures.pairs
-          c.in_ok-start.ensures.ok (c.start-2.ensures ∙ ap (λ l. l ++ None ∷ []) c.reserve.ensures.same) named admitted.live
+          c.in_ok-start.ensures.ok (c.start-2.ensures ∙ ap (λ l. l ++ None ∷ []) c.reserve.ensures.same) c.at-checked.ensures admitted.live
           admitted.begins).0;
     }
 
 pub returns : goal.returns
 returns g c =
     let admitted = c.in-Ok.ensures.1 in
-    let named : slice_get c.args.self.now.procedures.items c.args.procedure ≡ Some c.index-checked.result.now = slice_get_read
-    c.args.self.now.procedures.items _ c.args.procedure c.index-checked.result.now refl
-    (is_named (parts c.args.self.now) (state c.args.self.now) c.args.procedure c.in-Ok.t c.args.args.now c.in-Ok.ensures.0)
-    (c.index-checked.ensures ∙ ap (λ n. get_or c.args.self.now.procedures.items n c.index-checked.result.now) c.from.ensures) in
-    let done = start_done c.args.self.now.kept c.args.procedure c.index-checked.result.now c.args.args.now c.in-Ok.t admitted.next c.add.new.self
+    let done = start_done c.args.self.now.kept c.args.procedure c.at-checked.result.now c.args.args.now c.in-Ok.t admitted.next c.add.new.self
     c.start.new.self c.start-2.new.self.fates c.add.ensures.nodes c.add.ensures.pairs
-    c.in_ok-start.ensures.ok (c.start-2.ensures ∙ ap (λ l. l ++ None ∷ []) c.reserve.ensures.same) named admitted.live
+    c.in_ok-start.ensures.ok (c.start-2.ensures ∙ ap (λ l. l ++ None ∷ []) c.reserve.ensures.same) c.at-checked.ensures admitted.live
     admitted.begins in
     record {
       done = λ _. record { reply = c.in-Ok.ensures.0; does = done.1 };

@@ -1,4 +1,4 @@
-use Rattle.std.proofs.Common.{rules, refl, ap, sym, subst, ◌∙◌, w64, to_z, of_z, SFits}
+use Rattle.std.proofs.Common.{rules, Some, refl, ap, sym, subst, ◌∙◌, w64, to_z, of_z, SFits}
 use Rattle.std.proofs.lemmas.Int.{to_z-of_z}
 use Rattle.std.proofs.lemmas.Result.{IfOk-weaker}
 use Rattle.sgt_model.specs.declared.reply.Reply.TheVariants as reply
@@ -28,12 +28,12 @@ returns-in-Look-clause-done g c = record {
 pub returns-in-Put-clause-done : goal.returns-in-Put-clause-done
 returns-in-Put-clause-done g c =
     let fits : SFits w64 c.in-Put.value = search rules in
-    let next = ap (Puts c.in-Put.key) (to_z-of_z w64 c.in-Put.value fits) ∙ (ap (next_by (state c.args.self.now) c.args.t)
+    let next = ap (λ v. Puts c.in-Put.key (Some v)) (to_z-of_z w64 c.in-Put.value fits) ∙ (ap (next_by (state c.args.self.now) c.args.t)
     (sym c.in-Put.is) ∙ c.ahead_at.ensures.next) in
     record {
       done = IfOk-weaker (with_reply c.access-in-Put.result c.access-in-Put.new.reply) _ _ (λ b done.
           (steps_on c.args.self.now.limits.asks c.args.t (state c.args.self.now) (reply_with b c.access-in-Put.new.lists) _
-          (Puts c.in-Put.key (to_z w64 (of_z w64 c.in-Put.value)))
+          (Puts c.in-Put.key (Some (to_z w64 (of_z w64 c.in-Put.value))))
           (c.in-Some.ensures.unended.0 refl).begun (c.in-Some.ensures.unended.0 refl).unended next) done)
           c.access-in-Put.ensures.done.done;
       refused = c.access-in-Put.ensures.done.refused;

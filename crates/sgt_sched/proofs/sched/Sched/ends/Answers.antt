@@ -13,6 +13,11 @@ returns-in-Step g c =
     let by = ends_by (rules_of c.args.self.now) _ _ c.in-Step.is (state c.args.self.now) _ c.step_ends.ensures in
     record { exact = by.0; replies = by.1 }
 
+pub returns-in-Access : goal.returns-in-Access
+returns-in-Access g c =
+    let by = ends_by (rules_of c.args.self.now) _ _ c.in-Access.is (state c.args.self.now) _ c.request_ends.ensures in
+    record { exact = by.0; replies = by.1 }
+
 pub returns-in-Commit : goal.returns-in-Commit
 returns-in-Commit g c =
     let by = ends_by (rules_of c.args.self.now) _ _ c.in-Commit.is (state c.args.self.now) _ c.commit_ends.ensures in

@@ -1,7 +1,5 @@
-use Rattle.std.proofs.Common.{rules, inr, sym, subst, w64, SFits}
-use Rattle.std.proofs.lemmas.Int.{to_z-of_z}
+use Rattle.std.proofs.Common.{inr, sym, subst}
 use Rattle.sgt_model.specs.CallEffects.{StepOn, MakesLook, MakesStore}
-use Rattle.sgt_model.specs.Numbers.{IsValue}
 use Rattle.sgt_model.specs.Traces.{Looks, Puts}
 use Rattle.sgt_sched.specs.Replies.{WithAnyLists, with_reply}
 use Rattle.sgt_sched.specs.Operations.{kind_of, next_of, WritesValue}
@@ -19,9 +17,7 @@ make_store-requires-clause-rivals g c κs lives = subst
     (λ o. AreRivals (state c.args.self.now) c.args.t c.args.key (kind_of o) c.args.rivals.now) c.in-Store.is c.requires.rivals
 
 pub make_store-requires-clause-in_range : goal.make_store-requires-clause-in_range
-make_store-requires-clause-in_range g c κs lives =
-    let fits : SFits w64 c.in-Store.value = search rules in
-    subst IsValue (sym (to_z-of_z w64 c.in-Store.value fits)) (subst WritesValue c.in-Store.is c.requires.in_range)
+make_store-requires-clause-in_range g c κs lives = subst WritesValue c.in-Store.is c.requires.in_range
 
 pub returns-in-Look : goal.returns-in-Look
 returns-in-Look g c = subst
@@ -32,13 +28,9 @@ returns-in-Look g c = subst
     (λ _ _ _. inr) c.make_look.ensures)
 
 pub returns-in-Store : goal.returns-in-Store
-returns-in-Store g c =
-    let fits : SFits w64 c.in-Store.value = search rules in
-    subst (λ o. Tries (WithAnyLists (StepOn (asks_of c.args.self.now) c.args.t (next_of c.args.key o))) c.args.self.now
+returns-in-Store g c = subst
+    (λ o. Tries (WithAnyLists (StepOn (asks_of c.args.self.now) c.args.t (next_of c.args.key o))) c.args.self.now
     (with_reply c.make_store.result c.make_store.new.reply) c.make_store.new.self) (sym c.in-Store.is)
     (made (MakesStore c.args.t c.args.key c.in-Store.value) (StepOn (asks_of c.args.self.now) c.args.t
     (Puts c.args.key c.in-Store.value)) (with_reply c.make_store.result c.make_store.new.reply)
-    (λ _ _ _. inr) (subst
-    (λ v. Tries (WithAnyLists (MakesStore c.args.t c.args.key v)) c.args.self.now (with_reply c.make_store.result c.make_store.new.reply)
-    c.make_store.new.self)
-    (to_z-of_z w64 c.in-Store.value fits) c.make_store.ensures))
+    (λ _ _ _. inr) c.make_store.ensures)

@@ -47,7 +47,7 @@ invariant_of-self g c = record {
 pub invariant_of-self-in-Break-branch-2 : goal.invariant_of-self-in-Break-branch-2
 invariant_of-self-in-Break-branch-2 g c = record {
   kept = subst (λ reads. IsKept g.R.Records.chain g.R.Records.settled g.A.Accesses.list g.G.Graph.nodes g.G.Graph.pairs
-      (view c.args.self.now.procedures.items c.args.self.now.limits c.args.self.now.records c.reserve.new.self c.args.self.now.graph
+      (view c.args.self.now.procedures c.args.self.now.limits c.args.self.now.records c.reserve.new.self c.args.self.now.graph
       c.args.self.now.live reads c.args.self.now.fates.fates)) (sym c.reserve-2.ensures.items)
       (kept_reserved c.args.self.now.kept c.args.self.now.records c.reserve.new.self (λ k. refl) c.reserve.ensures.same);
 }

@@ -1,5 +1,4 @@
-use Rattle.std.proofs.Common.{refl, ◌≡◌, false, cond, ap, ◌∙◌, sym, subst, ◌<◌, ◌++◌, ◌∷◌, [], length, w64}
-use Rattle.std.proofs.lemmas.Int.{to_z-of_z}
+use Rattle.std.proofs.Common.{refl, ◌≡◌, false, cond, ap, ◌∙◌, sym, subst, ◌<◌, ◌++◌, ◌∷◌, [], length}
 use Rattle.sgt_model.specs.declared.kind.Kind.TheVariants.{Store}
 use Rattle.sgt_model.specs.Contents.{key_eq}
 use Rattle.sgt_model.specs.Chains.{write_last, writes_in}
@@ -26,10 +25,8 @@ invariant_of-self-2 g c = record {
   kept = kept_store refl c.args.self.now.kept c.args.t c.requires.live c.args.key c.args.rivals.now c.requires.free c.requires.rivals
       c.args.value
       c.write.new.self c.note.new.self c.follow.new.graph c.store.new.self
-      (λ j. c.write.ensures.chain j ∙ (ap (λ z. cond (key_eq c.args.key j)
-      (write_last c.args.t z (g.R.Records.chain c.reserve.new.self j)) (g.R.Records.chain c.reserve.new.self j))
-      (to_z-of_z w64 c.args.value c.ranges.value) ∙ ap (λ l. cond (key_eq c.args.key j) (write_last c.args.t c.args.value l) l)
-      (c.reserve.ensures.chain j)))
+      (λ j. c.write.ensures.chain j ∙ ap (λ l. cond (key_eq c.args.key j) (write_last c.args.t c.args.value l) l)
+      (c.reserve.ensures.chain j))
       (λ j. c.write.ensures.settled j ∙ c.reserve.ensures.settled j)
       (c.note.ensures.noted ∙ ap (λ l. l ++ record { by = c.args.t; key = c.args.key; kind = Store } ∷ []) c.reserve-2.ensures.same)
       c.follow.ensures.nodes
@@ -42,15 +39,13 @@ returns g c = record {
   done = λ lists. makes_store refl c.args.self.now.kept c.args.t c.requires.live c.args.key c.args.rivals.now c.requires.free
       c.requires.rivals c.args.value
       c.write.new.self c.note.new.self c.follow.new.graph c.store.new.self
-      (λ j. c.write.ensures.chain j ∙ (ap (λ z. cond (key_eq c.args.key j)
-      (write_last c.args.t z (g.R.Records.chain c.reserve.new.self j)) (g.R.Records.chain c.reserve.new.self j))
-      (to_z-of_z w64 c.args.value c.ranges.value) ∙ ap (λ l. cond (key_eq c.args.key j) (write_last c.args.t c.args.value l) l)
-      (c.reserve.ensures.chain j)))
+      (λ j. c.write.ensures.chain j ∙ ap (λ l. cond (key_eq c.args.key j) (write_last c.args.t c.args.value l) l)
+      (c.reserve.ensures.chain j))
       (λ j. c.write.ensures.settled j ∙ c.reserve.ensures.settled j)
       (c.note.ensures.noted ∙ ap (λ l. l ++ record { by = c.args.t; key = c.args.key; kind = Store } ∷ []) c.reserve-2.ensures.same)
       c.follow.ensures.nodes
       c.follow.ensures.pairs
-      c.store.ensures _ (to_z-of_z w64 c.args.value c.ranges.value);
+      c.store.ensures;
   refused = tt;
   kept = (refl, refl);
 }

@@ -20,17 +20,17 @@ not_bad x bad e i = cc
 pub returns : goal.returns
 returns g c = record {
   new = record {
-    live = ap numbers c.new.ensures;
+    live = ap numbers c.new-2.ensures;
     nodes = c.empty-2.ensures.nodes;
     pairs = c.empty-2.ensures.pairs;
     accesses = c.empty.ensures;
     chain = c.in_ok-build.ensures.chain;
     settled = c.in_ok-build.ensures.settled;
-    read_from = c.new-2.ensures.items;
-    fates = λ t. ap (λ l. fate_at l t) c.new-3.ensures;
-    start_count = ap length c.new-3.ensures;
+    read_from = c.new-3.ensures.items;
+    fates = λ t. ap (λ l. fate_at l t) c.new-4.ensures;
+    start_count = ap length c.new-4.ensures;
   };
-  procedures = refl;
+  procedures = c.new.ensures;
   limits = refl;
   bad_limits = ((λ e. absurd (not_bad _ _ e refl)), (λ n. absurd (n (c.if-not-are_in_range.ensures.0 refl))));
 }

@@ -1,0 +1,146 @@
+"""A transaction of a shared engine whose caller decides the accesses."""
+
+from __future__ import annotations
+
+import ctypes
+import functools
+import time
+import weakref
+from typing import TYPE_CHECKING, Callable, Optional, TypeVar
+
+from ._ended import Ticket, ticket_of
+from ._errors import Aborted, Error, NotStarted
+from ._interrupts import interruptible
+from ._library import ABANDON, FREE, LEAST, MOST, NONE, OK, UNDONE, CTransaction, CTransactOptions, check, nanoseconds, whole
+from ._replies import Kind, Reply, reply_of
+
+if TYPE_CHECKING:
+    from ._shared import SharedEngine
+
+_Result = TypeVar("_Result")
+
+
+def _left(deadline: Optional[float]) -> int:
+    """Returns the nanoseconds that are left until then."""
+    return nanoseconds(None if deadline is None else deadline - time.monotonic())
+
+
+class OwnTransaction:
+    """A transaction whose accesses you decide, of `SharedEngine.transaction` or `SharedEngine.transact`.
+
+    The end of a `with` block commits it, unless it has ended before; an exception in the block quits it. So does the loss of the last
+    reference to it, wherever an interrupt comes. Each call raises Aborted if the transaction has been aborted, NoMemory, or BadCall if a
+    number is out of range.
+
+    What it reads may be uncommitted, and be undone afterwards. So act on it only after the commit.
+    """
+
+    _guard: Optional[weakref.ref[OwnTransaction]] = None  # aborts it; no Python code runs then, in which an interrupt could come
+
+    def __init__(self, engine: SharedEngine) -> None:
+        self._engine, self._told = engine, CTransaction(size=ctypes.sizeof(CTransaction))
+        self._ticket = self._told.ticket  # in the same memory: always that of the last try
+        self._guard = weakref.ref(self, functools.partial(ABANDON, engine._shared, self._ticket))
+
+    @property
+    def ticket(self) -> Ticket:
+        return ticket_of(self._ticket)
+
+    @property
+    def tries(self) -> int:
+        """How many transactions were started for it, this one included."""
+        return self._told.tries
+
+    def read(self, table: int, number: int) -> Optional[int]:
+        """Returns the value of a record, or None if there is no such record."""
+        value = ctypes.c_int64()
+        status = self._ask(FREE.sgt_transaction_read, whole(table, 0, 7), whole(number, LEAST, MOST), value)
+        if status == NONE:
+            return None
+        self._check(status)
+        return value.value
+
+    def write(self, table: int, number: int, value: int) -> None:
+        """Writes a record."""
+        words = whole(table, 0, 7), whole(number, LEAST, MOST), whole(value, LEAST, MOST)
+        self._check(self._ask(FREE.sgt_transaction_write, *words))
+
+    def remove(self, table: int, number: int) -> None:
+        """Removes a record. Does nothing if there is none."""
+        self._check(self._ask(FREE.sgt_transaction_remove, whole(table, 0, 7), whole(number, LEAST, MOST)))
+
+    def commit(self, timeout: Optional[float] = None) -> Reply:
+        """Commits it, and waits for its predecessors. Raises TimedOut if the deadline comes first, or SelfWait; then it was quit."""
+        if not self._commits(nanoseconds(timeout)):
+            raise self._aborted()
+        self._engine._tell(self._ticket)
+        return self._reply()
+
+    def quit(self) -> None:
+        """Aborts it, unless it has ended."""
+        if self._told.is_live:
+            self._ends_undone()
+
+    def _ask(self, function: Callable[..., int], *words: object) -> int:
+        """Makes a call for it and returns its status."""
+        self._engine._check_place()
+        return function(self._told, *words)
+
+    def _check(self, status: int) -> None:
+        """Raises what the status says, unless it is OK."""
+        if status == UNDONE:
+            raise self._aborted()
+        check(status)
+
+    def _reply(self) -> Reply:
+        return reply_of(self._told.reply, self._told.reply)
+
+    def _aborted(self) -> Error:
+        return Aborted(self._reply(), self._told.status == UNDONE)
+
+    def _start(self, tries: int, wait_ns: int) -> None:
+        """Starts the next try: alone after so many. Raises NotStarted if no start is left."""
+        options = CTransactOptions(ctypes.sizeof(CTransactOptions), wait_ns, tries)
+        check(self._engine._wait(FREE.sgt_shared_try, self._told, options))
+        if self._told.reply.kind != Kind.STARTED:
+            raise NotStarted(self._reply())
+
+    def _run(self, body: Callable[[OwnTransaction], _Result], tries: int, deadline: Optional[float]) -> _Result:
+        """Runs the body, again after each conflict, and commits. Raises Aborted if somebody quit it."""
+        while True:
+            self._start(tries, _left(deadline))
+            try:
+                result = body(self)
+                if self._commits(_left(deadline)):
+                    return result
+            except Exception:
+                if not self._ends_undone():
+                    raise
+
+    def _commits(self, wait_ns: int) -> bool:
+        """Commits it. False if it was aborted by a conflict. Raises Aborted if somebody quit it."""
+        self._engine._check_place()
+        status = interruptible(FREE.sgt_transaction_commit, self._told, wait_ns)
+        if status == UNDONE:
+            return False
+        check(status)
+        if self._told.reply.kind != Kind.COMMITTED:
+            raise self._aborted()
+        return True
+
+    def _ends_undone(self) -> bool:
+        """Quits it, unless it has ended. Whether it was aborted by a conflict."""
+        return FREE.sgt_transaction_quit(self._told) == UNDONE
+
+    def _abandon(self) -> None:
+        """Aborts it, unless it has ended. It may also have been aborted in cascade and cut off, or the engine closed."""
+        FREE.sgt_shared_abandon(self._engine._shared, self._ticket)
+
+    def __enter__(self) -> OwnTransaction:
+        return self
+
+    def __exit__(self, kind: Optional[type[BaseException]], *_: object) -> None:
+        if kind is not None:
+            self._abandon()
+        elif self._told.is_live or self._told.status != OK or self._told.reply.kind == Kind.OVER:
+            self.commit()

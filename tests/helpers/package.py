@@ -1,0 +1,78 @@
+"""The package for Python: how it is loaded, how its calls end, and how a signal interrupts them."""
+
+import contextlib
+import signal
+import sys
+import threading
+import time
+
+from .cases import Differs, same
+from .library import BINDINGS
+
+
+def module():
+    """The package for Python."""
+    sys.path.insert(0, str(BINDINGS / "python"))
+    import sgt
+
+    return sgt
+
+
+class Interrupted(BaseException):
+    """What the handler of a signal raises here."""
+
+
+@contextlib.contextmanager
+def interrupts(seconds):
+    """A signal raises Interrupted after so many seconds, unless the block has ended by then."""
+    is_on = True
+
+    def handle(*_):
+        if is_on:
+            raise Interrupted
+
+    before = signal.signal(signal.SIGALRM, handle)
+    signal.setitimer(signal.ITIMER_REAL, seconds)
+    try:
+        yield
+    finally:
+        is_on = False
+        signal.setitimer(signal.ITIMER_REAL, 0)
+        signal.signal(signal.SIGALRM, before)
+
+
+def interrupted(call, seconds=0.2):
+    """Makes a call that waits, and that a signal has to end."""
+    began = time.monotonic()
+    try:
+        with interrupts(seconds):
+            call()
+    except Interrupted:
+        same("that the call ends soon", True, time.monotonic() - began < seconds + 2)
+        return
+    raise Differs("a call went on when a signal came")
+
+
+def elsewhere(call):
+    """Makes a call on another thread, and returns its result. So a transaction in it is not of this thread."""
+    told = []
+    thread = threading.Thread(target=lambda: told.append(call()))
+    thread.start()
+    thread.join()
+    return told[0]
+
+
+def what(error, call, told):
+    """Returns how a call ended: with this error, or with its result."""
+    try:
+        return call()
+    except error:
+        return told
+
+
+def refusal(call):
+    """Whether the call is refused, by an error or by its result."""
+    try:
+        return call()
+    except (ValueError, IndexError):
+        return "refused"

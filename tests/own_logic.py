@@ -1,0 +1,474 @@
+#!/usr/bin/env python3
+"""Calls the library with logic of one's own: transactions whose caller decides the accesses, from C, C++, Rust and Python.
+
+    tests/own_logic.py
+
+It takes the library that `bindings/build` has made. Each case is reported, the last line counts them; where something is missing on
+this machine, what was left out is reported.
+"""
+
+import os
+import pathlib
+import random
+import shutil
+import signal
+import sys
+import tempfile
+import threading
+import time
+
+sys.dont_write_bytecode = True
+from helpers.cases import C_SOURCES, TESTS, Differs, same, tell  # noqa: E402
+from helpers.library import (  # noqa: E402
+    BINDINGS,
+    C_FLAGS,
+    CPP_FLAGS,
+    OUT,
+    SANITIZERS,
+    SHARED,
+    THREAD_SANITIZER,
+    built,
+    can,
+    compiled,
+    run,
+)
+from helpers.package import Interrupted, elsewhere, interrupted, interrupts, module, refusal, what  # noqa: E402
+
+THREADS, CALLS, SANITIZED_CALLS = 16, 20_000, 2_000
+TABLE, RECORDS = 2, (101, 102, 103)
+STORE = TESTS.parent / "examples" / "store"
+DOCTORS = "Bo, off call after Ada: nobody else is on call\nsomebody is on call in each of 5 wards, and the index has all rows\n"
+
+# C
+
+
+def all_held(told):
+    """How many checks a program made, all of which held."""
+    same("what is told", f"{told.split()[0]} checks, 0 failed\n", told)
+
+
+def tells_the_status_of_each_call(room):
+    all_held(run([built(room, "cc", C_FLAGS, C_SOURCES / "shared_own.c")]))
+
+
+def transacts(program, calls, seed, wanted=()):
+    """Runs the threads on three records: what they count. The program compares what they did with a plain map."""
+    counts = dict(line.rsplit(" ", 1) for line in run([program, THREADS, calls, seed]).splitlines())
+    same("what did not come", [], [name for name in wanted if counts[name] == "0"])
+    return ", ".join(f"{name} {count}" for name, count in counts.items())
+
+
+def threads_share_three_records(room):
+    program = built(room, "cc", C_FLAGS, C_SOURCES / "shared_transact.c")
+    return transacts(program, CALLS, 1, ("committed", "quit", "tried again", "alone"))
+
+
+def sanitized(room, flags):
+    """The same under a sanitizer, which also sees the code of the shared engine."""
+    compiler = next((name for name in ("cc", "clang", "clang-14") if shutil.which(name) and can(room, name, flags)), None)
+    if not compiler:
+        return f"left out: no compiler here has {flags[1]}"
+    all_held(run([built(room, compiler, C_FLAGS, C_SOURCES / "shared_own.c", flags, [SHARED])]))
+    told = transacts(built(room, compiler, C_FLAGS, C_SOURCES / "shared_transact.c", flags, [SHARED]), SANITIZED_CALLS, 2)
+    if compiler == "cc" and shutil.which("c++"):
+        shared = compiled(room, "cc", C_FLAGS, SHARED, flags)
+        all_held(run([built(room, "c++", CPP_FLAGS, C_SOURCES / "shared_own.cpp", flags, [shared])]))
+    return f"{compiler}: {told}"
+
+
+def threads_do_not_race(room):
+    return sanitized(room, THREAD_SANITIZER)
+
+
+def threads_stay_within_their_memory(room):
+    return sanitized(room, SANITIZERS)
+
+
+# C++ and Rust
+
+
+def commits_quits_and_throws_in_cpp(room):
+    if not shutil.which("c++"):
+        return "left out: no c++ here"
+    all_held(run([built(room, "c++", CPP_FLAGS, C_SOURCES / "shared_own.cpp")]))
+    return None
+
+
+def rust_program(room, source):
+    """Builds a program in Rust with the crates of the library."""
+    rust, find = BINDINGS / "rust", ["-L", f"native={OUT}", "-L", room]
+    words = ["rustc", "--edition", "2021", "-O", "-D", "warnings"]
+    if not (room / "libsgt.rlib").exists():
+        lib = [*words, "--crate-type", "lib", "--out-dir", room]
+        run([*lib, "--crate-name", "sgt_sys", *find, "-l", "static=sgt", rust / "sgt-sys" / "src" / "lib.rs"])
+        run([*lib, "--crate-name", "sgt", *find, "--extern", "sgt_sys", rust / "src" / "lib.rs"])
+    program = room / f"{source.stem}_rust"
+    run([*words, *find, "--extern", "sgt", "-o", program, source])
+    return program
+
+
+def commits_quits_and_panics_in_rust(room):
+    if not shutil.which("rustc"):
+        return "left out: no rustc here"
+    same("what is told", "all held\n", run([rust_program(room, C_SOURCES / "shared_own.rs")]))
+    return None
+
+
+def keeps_a_store_of_ones_own(room):
+    """The example, in Python and in Rust, some times."""
+    env = dict(os.environ, PYTHONPATH=str(BINDINGS / "python"), PYTHONDONTWRITEBYTECODE="1")
+    for _ in range(3):
+        same("what it tells in Python", DOCTORS, run([sys.executable, "-W", "error", STORE / "doctors.py"], env=env))
+    if not shutil.which("rustc"):
+        return "but for that in Rust: no rustc here"
+    program = rust_program(room, STORE / "doctors.rs")
+    for _ in range(3):
+        same("what it tells in Rust", DOCTORS, run([program]))
+    return None
+
+
+# Python
+
+
+def bank_of(sgt, **options):
+    """An engine with the values 10, 20, 30 in three records. Four may be live."""
+    rows = [(TABLE, number, 10 * place) for place, number in enumerate(RECORDS, 1)]
+    return sgt.SharedEngine(limits=(4, 1_000_000, 1), rows=rows, **options)
+
+
+def values(bank):
+    return {row.number: row.value for row in bank.rows(TABLE)}
+
+
+def reads_writes_and_removes_in_python(_):
+    sgt = module()
+    with bank_of(sgt) as bank:
+
+        def body(t):
+            same("what is read", (10, None), (t.read(TABLE, 101), t.read(TABLE, 109)))
+            t.write(TABLE, 101, 11)
+            t.remove(TABLE, 102)
+            same("what is read then", (11, None), (t.read(TABLE, 101), t.read(TABLE, 102)))
+            return t.ticket
+
+        ticket = bank.transact(body)
+        same("the records", {101: 11, 103: 30}, values(bank))
+        read, write, remove = sgt.Asked.READ, sgt.Asked.WRITE, sgt.Asked.REMOVE
+        wanted = [(read, 101, 10), (read, 109, None), (write, 101, 11), (remove, 102, None), (read, 101, 11), (read, 102, None)]
+        same("the accesses", [sgt.Access(kind, TABLE, number, value) for kind, number, value in wanted], bank.accesses(ticket))
+        with bank.transaction() as t:
+            t.write(TABLE, 101, t.read(TABLE, 101) + 1)
+        same("the block's end", 12, bank.get(TABLE, 101))
+        same("a value that an exception undoes", "no", what(KeyError, lambda: quits_by_exception(bank), "no"))
+        same("its record", 12, bank.get(TABLE, 101))
+        same("who is live", [], bank.live())
+        bank.cut()
+        same("the accesses of another part", "stale", what(sgt.Stale, lambda: bank.accesses(ticket), "stale"))
+
+
+def quits_by_exception(bank):
+    with bank.transaction() as t:
+        t.write(TABLE, 101, 99)
+        raise KeyError
+
+
+def answers_single_calls_in_python(_):
+    """The calls of the engine for one thread, and its entries and calls."""
+    sgt = module()
+    Asked, Event, Kind = sgt.Asked, sgt.Event, sgt.Kind
+    with sgt.Engine(limits=(4, 100, 1), rows=[(TABLE, 101, 10)]) as engine:
+        tid = engine.begin().tid
+        same("a read", (Kind.LOOKED, 101, 10), (engine.read(tid, TABLE, 101)[0], 101, engine.read(tid, TABLE, 101).value))
+        same("a write", (Kind.WROTE, 5), (engine.write(tid, TABLE, 102, 5).kind, engine.get(TABLE, 102) or 5))
+        removed = engine.remove(tid, TABLE, 101)
+        same("a removal", (Kind.WROTE, None), (removed.kind, removed.value))
+        same("a value out of range", Kind.BAD_ARGS, engine.write(tid, TABLE, 101, sgt.MOST + 1).kind)
+        for call in (lambda: engine.read(tid, 8, 1), lambda: engine.remove(tid, 0, sgt.MOST + 1), lambda: engine.write(-1, 0, 1, 1)):
+            same("a record out of range", "refused", refusal(call))
+        same("the accesses", [Asked.READ, Asked.READ, Asked.WRITE, Asked.REMOVE], [access.kind for access in engine.accesses(tid)])
+        same("the commit", Kind.COMMITTED, engine.commit(tid).kind)
+        same("the rows", [(TABLE, 102, 5)], engine.rows())
+        same("an entry", Event(Asked.WRITE, tid, table=TABLE, number=102, value=5), engine.entry(3)[0])
+        same("another", Event(Asked.REMOVE, tid, table=TABLE, number=101), engine.entry(4)[0])
+        same("the call", [sgt.Call(tid, 65535, (), (), None, 4)], engine.calls()[0])
+
+
+def says_why_in_python(_):
+    """Each error of a transaction whose caller decides."""
+    sgt = module()
+    with bank_of(sgt) as bank:
+        writer, reader = bank.transaction(), bank.transaction()
+        writer.write(TABLE, 101, 11)
+        same("an uncommitted value", 11, reader.read(TABLE, 101))
+        same("a commit that waits for its own thread", "self", what(sgt.SelfWait, reader.commit, "self"))
+        reader = bank.transaction()
+        same("an uncommitted value", 11, reader.read(TABLE, 101))
+        same("a commit that waits", "timed out", what(sgt.TimedOut, lambda: reader.commit(0.01), "timed out"))
+        same("who is live", [writer.ticket], [live.ticket for live in bank.live()])
+        reader = bank.transaction()
+        reader.read(TABLE, 101)
+        writer.quit()
+        removal = lambda: reader.remove(TABLE, 101)  # noqa: E731
+        for call in (lambda: reader.read(TABLE, 101), lambda: reader.write(TABLE, 101, 1), removal, reader.commit):
+            why = caught(sgt.Aborted, call)
+            same("why", (True, sgt.Kind.OVER, sgt.Cause.FALL), (why.is_conflict, why.reply.kind, why.reply.cause))
+        quit_by_another = bank.transaction()
+        bank.quit(quit_by_another.ticket)
+        why = caught(sgt.Aborted, quit_by_another.commit)
+        same("why", (False, sgt.Cause.QUIT), (why.is_conflict, why.reply.cause))
+        for call in (lambda t: t.read(8, 1), lambda t: t.write(0, 1, sgt.MOST + 1), lambda t: t.remove(0, sgt.LEAST - 1)):
+            same("a number out of range", "bad", what(sgt.BadCall, lambda: bank.transact(call), "bad"))
+        same("who is live", [], bank.live())
+        with_quit = bank.transaction()
+        with with_quit as t:
+            t.quit()
+    same("a closed engine", "closed", what(sgt.Closed, lambda: bank.transact(lambda t: None), "closed"))
+    with sgt.SharedEngine(limits=(4, 1, 1)) as bank:
+        bank.transact(lambda t: t.write(0, 1, 1))
+        same("no start is left", sgt.Kind.SPENT, caught(sgt.NotStarted, lambda: bank.transact(lambda t: None)).reply.kind)
+
+
+def caught(error, call):
+    try:
+        call()
+    except error as why:
+        return why
+    raise Differs(f"no {error.__name__}")
+
+
+def tries_again_in_python(_):
+    """A body is run again after a cycle and after a cascading abort, also if it raises something of what was undone."""
+    sgt = module()
+    with bank_of(sgt) as bank:
+        for ends in ("returns", "raises", "ignores"):
+            tries = []
+
+            def body(t, ends=ends, tries=tries):
+                tries.append(t.tries)
+                other = bank.transaction() if len(tries) < 4 else None
+                if other:
+                    other.write(TABLE, 101, 99)
+                value = t.read(TABLE, 101)
+                if other:
+                    other.quit()
+                if other and ends == "raises":
+                    raise ValueError(value)
+                if not (other and ends == "ignores"):
+                    t.write(TABLE, 102, value)
+                return value
+
+            same(f"the result if it {ends}", (10, [1, 2, 3, 4]), (bank.transact(body), tries))
+        same("the records", {101: 10, 102: 10, 103: 30}, values(bank))
+        same("who is live", [], bank.live())
+
+
+def runs_alone_at_last_in_python(_):
+    sgt = module()
+    with bank_of(sgt) as bank:
+        tries, begun = [], []
+
+        def body(t):
+            tries.append(t.tries)
+            t.write(TABLE, 101, len(tries))
+            if len(tries) == 4:
+                late = threading.Thread(target=lambda: begun.append(bank.transaction().quit()))
+                late.start()
+                late.join(0.1)
+                same("that another start waits", ([], 1), (begun, len(bank.live())))
+                return late
+            with bank.transaction() as other:
+                other.write(TABLE, 102, 1)
+                other.read(TABLE, 101)
+                caught(sgt.Aborted, lambda: t.read(TABLE, 102))
+                other.quit()
+            return None
+
+        bank.transact(body, tries=3).join()
+        same("the tries", [1, 2, 3, 4], tries)
+        same("that it waited no longer", [None], begun)
+        same("the deadline of a try that waits to be alone", "timed out", times_out_alone(sgt, bank))
+
+
+def times_out_alone(sgt, bank):
+    """A try that is to be alone at once, while another thread has something live."""
+    first = elsewhere(bank.transaction)
+    told = what(sgt.TimedOut, lambda: bank.transact(lambda t: None, timeout=0.01, tries=0), "timed out")
+    first.quit()
+    same("the next one", 10, bank.transact(lambda t: t.read(TABLE, 101) and 10, tries=0))
+    return told
+
+
+def is_told_of_commits_in_python(_):
+    """The hook is called for each commit, may not call the engine, and what it raises is raised by the call."""
+    sgt = module()
+    heard = []
+
+    def hook(ended):
+        heard.append(ended)
+        same("a call in the hook", "misuse", what(sgt.Misuse, lambda: bank.transact(lambda t: None), "misuse"))
+        if len(heard) == 2:
+            raise ZeroDivisionError
+
+    with bank_of(sgt, ended=hook) as bank:
+        ticket = bank.transact(lambda t: (t.write(TABLE, 101, 1), t.ticket)[1])
+        same("what the hook was told", (ticket, 1, 65535), (heard[0].ticket, heard[0].call.accesses, heard[0].call.procedure))
+        same("what the hook raised", "raised", what(ZeroDivisionError, lambda: bank.transact(lambda t: t.write(TABLE, 101, 2)), "raised"))
+        same("the record", 2, bank.get(TABLE, 101))
+
+
+def ends_at_a_signal_in_python(_):
+    """A signal ends a body, and a wait for a start, for being alone, and for a commit. It leaves nothing live."""
+    sgt = module()
+
+    with bank_of(sgt) as bank:
+        interrupted(lambda: bank.transact(lambda t: (t.write(TABLE, 101, 1), time.sleep(5))))
+        same("who is live after the body", [], bank.live())
+        writer = elsewhere(bank.transaction)
+        elsewhere(lambda: writer.write(TABLE, 101, 1))
+        interrupted(lambda: bank.transact(lambda t: t.read(TABLE, 101)))
+        interrupted(lambda: bank.transact(lambda t: None, tries=0))
+        same("who is live after the commit", [writer.ticket], [live.ticket for live in bank.live()])
+        more = elsewhere(lambda: [bank.transaction() for _ in range(3)])
+        interrupted(lambda: bank.transact(lambda t: None))
+        interrupted(lambda: with_block(bank))
+        same("who is live after the start", 4, len(bank.live()))
+        for t in (writer, *more):
+            t.quit()
+        same("who is live", [], bank.live())
+
+
+def with_block(bank):
+    with bank.transaction():
+        pass
+
+
+def leaves_nothing_live_at_signals(_):
+    """Wherever a signal comes, nothing stays live, and each value was added once or not at all."""
+    if sys.version_info[:2] < (3, 11):
+        return "left out: it is for Python 3.11 and later"
+    sgt = module()
+    draw, signals, made = random.Random(1), 0, 0
+    with sgt.SharedEngine(limits=(4, 4_000_000, 1), rows=[(TABLE, 101, 0)], cut_after=10_000) as bank:
+        end = time.monotonic() + 2
+        while time.monotonic() < end:
+            try:
+                with interrupts(draw.uniform(0.0001, 0.002)):
+                    while time.monotonic() < end:
+                        bank.transact(lambda t: t.write(TABLE, 101, t.read(TABLE, 101) + 1))
+                        made += 1
+            except Interrupted:
+                signals += 1
+            same("who is live", [], bank.live())
+        total = bank.get(TABLE, 101)
+        same("that the call which a signal ended was made or not", True, made <= total <= made + signals)
+    return f"{signals} signals"
+
+
+def stops_at_ctrl_c(_):
+    """Ctrl-C ends a program in a body, in which a thread has a transaction too, and its engine is closed."""
+    sgt = module()
+    with bank_of(sgt) as bank:
+        before = signal.signal(signal.SIGINT, signal.default_int_handler)
+        threading.Timer(0.2, lambda: os.kill(os.getpid(), signal.SIGINT)).start()
+        body = lambda t: (t.write(TABLE, 101, 1), time.sleep(5))  # noqa: E731
+        same("how the call ends", "interrupted", what(KeyboardInterrupt, lambda: bank.transact(body), "interrupted"))
+        signal.signal(signal.SIGINT, before)
+        same("the record", (10, []), (bank.get(TABLE, 101), bank.live()))
+
+
+def mixed(draw, noted):
+    """A body that reads and writes some of the three records, and notes each."""
+
+    def body(t):
+        noted.clear()
+        total = 1
+        for _ in range(draw.randrange(2, 6)):
+            number, kind = draw.choice(RECORDS), draw.randrange(8)
+            if kind < 4:
+                value = t.read(TABLE, number)
+                noted.append(("read", number, value))
+                total += value or 0
+            elif kind < 7:
+                total = total * 3 % 1_000_003
+                t.write(TABLE, number, total)
+                noted.append(("write", number, total))
+            else:
+                t.remove(TABLE, number)
+                noted.append(("write", number, None))
+            if draw.randrange(3) == 0:
+                time.sleep(0)
+        return t.ticket
+
+    return body
+
+
+def threads_share_three_records_in_python(_):
+    """What each read is that of a plain map, on which the transactions are run in the order of `ended`."""
+    sgt = module()
+    done, order, again = {}, [], []
+    with bank_of(sgt, ended=lambda ended: order.append(ended.ticket), cut_after=2_000, cut_wait=0.001) as bank:
+
+        def works(number):
+            draw = random.Random(number)
+            for _ in range(300):
+                noted, tries = [], []
+                body = mixed(draw, noted)
+                ticket = bank.transact(lambda t, body=body, tries=tries: (tries.append(1), body(t))[1], tries=3)
+                done[ticket] = list(noted)
+                again.append(len(tries) > 1)
+
+        threads = [threading.Thread(target=works, args=(number,)) for number in range(THREADS)]
+        for thread in threads:
+            thread.start()
+        for thread in threads:
+            thread.join()
+        rows = {number: 10 * place for place, number in enumerate(RECORDS, 1)}
+        same("how many ended", (len(done), len(done)), (len(order), THREADS * 300))
+        for ticket in order:
+            for kind, number, value in done[ticket]:
+                if kind == "read":
+                    same(f"what {ticket} read", rows.get(number), value)
+                else:
+                    rows[number] = value
+        same("the records", {number: value for number, value in rows.items() if value is not None}, values(bank))
+    return f"{sum(again)} of {len(again)} were tried again"
+
+
+CASES = [
+    tells_the_status_of_each_call,
+    threads_share_three_records,
+    threads_do_not_race,
+    threads_stay_within_their_memory,
+    commits_quits_and_throws_in_cpp,
+    commits_quits_and_panics_in_rust,
+    reads_writes_and_removes_in_python,
+    answers_single_calls_in_python,
+    says_why_in_python,
+    tries_again_in_python,
+    runs_alone_at_last_in_python,
+    is_told_of_commits_in_python,
+    ends_at_a_signal_in_python,
+    leaves_nothing_live_at_signals,
+    stops_at_ctrl_c,
+    threads_share_three_records_in_python,
+    keeps_a_store_of_ones_own,
+]
+
+
+def main():
+    if sys.argv[1:]:
+        sys.exit(__doc__)
+    if not shutil.which("cc"):
+        print("left out: no cc here")
+        print("0 passed, 0 failed")
+        return 0
+    if not (OUT / "libsgt.a").exists():
+        print("FAILED: no library: bindings/build makes it")
+        print(f"0 passed, {len(CASES)} failed")
+        return 1
+    with tempfile.TemporaryDirectory() as room:
+        return tell(CASES, pathlib.Path(room), of="own logic")
+
+
+if __name__ == "__main__":
+    sys.exit(main())
