@@ -511,6 +511,9 @@ shape 1 0: [0,[["look",0,0,0]]]
 shape 1 0: [0,[["look",0,0,0,1,1]]]
 shape 1 0: [0,[["find",0,0,0]]]
 shape 1 0: [0,[["find",0,0,0,1,1]]]
+shape 1 0: [0,[["remove",0]]]
+shape 1 0: [0,[["remove",0,0,0]]]
+shape 1 0: [0,[["Remove",0,0]]]
 shape 1 0: [0,[["if",["less",0,1],[]]]]
 shape 1 0 1: [0,[["answer",["less",0,1]]]]
 shape 1 0 1: [0,[["if",["sum",0,1],[],[]]]]
@@ -550,6 +553,9 @@ shape 1 0 1: [0,[["ask",65536]]]
 shape 1 0 1: [0,[["ask",-1]]]
 shape 1 0 1: [0,[["let",256,0]]]
 shape 1 0 1: [0,[["put",256,0,0]]]
+shape 1 0 1: [0,[["remove",256,"x"]]]
+shape 1 0 2: [0,[["remove",0,"x"]]]
+shape 1 0 2 1: [0,[["remove",0,["reg",256]]]]
 shape 1 0 1: [0,[["look",256,0,0,0]]]
 shape 1 0 2: [0,[["look",0,256,0,0]]]
 shape 1 0 4: [0,[["look",0,0,0,65536]]]
@@ -590,6 +596,12 @@ flaw 2: [0,[["let",0,["product",["reg",0],1]]]]
 flaw 3: [0,[["let",0,["quotient",["arg",0],1]]]]
 flaw 10: [0,[["let",0,["quotient",1,1000000000000000]]]]
 no flaw: [0,[["let",0,["quotient",1,0]]]]
+flaw 1: [0,[["remove",8,["reg",16]]]]
+flaw 2: [0,[["remove",8,["reg",0]]]]
+flaw 3: [0,[["remove",8,["arg",0]]]]
+flaw 4: [0,[["remove",8,1000000000000000]]]
+flaw 10: [0,[["remove",7,1000000000000000]]]
+no flaw: [1,[["remove",7,["arg",0]]]]
 flaw 1: [0,[["find",16,0,0,0]]]
 flaw 2: [0,[["find",0,0,["reg",0],0]]]
 flaw 2: [0,[["find",0,0,0,["reg",0]]]]
@@ -730,6 +742,10 @@ EXPLAINED_PROCEDURES = (
     ('[0,[["if",true,[],[]]]]', "shape 1 0 1", "at 1 0 1: expected a condition, found true"),
     ('[0,[["if",["sum",1,2],[],[]]]]', "shape 1 0 1", 'at 1 0 1: "sum" does not begin a condition'),
     ('[0,[["let",256,0]]]', "shape 1 0 1", "at 1 0 1: expected a register from 0 to 255, found 256"),
+    ('[0,[["remove",0,1,2]]]', "shape 1 0", 'at 1 0: expected ["remove",table,expression], found ["remove",0,1,2]'),
+    ('[0,[["remove",256,0]]]', "shape 1 0 1", "at 1 0 1: expected a table from 0 to 255, found 256"),
+    ('[0,[["remove",0,["reg",0]]]]', "flaw 2", "at 1 0 2 1: register 0 is not set on every path that leads here"),
+    ('[0,[["remove",8,0]]]', "flaw 4", "at 1 0 1: table 8 is over 7"),
     ('[0,[["put",-1,0,0]]]', "shape 1 0 1", "at 1 0 1: expected a table from 0 to 255, found -1"),
     ('[0,[["look",0,0,0,65536]]]', "shape 1 0 4", "at 1 0 4: expected a code from 0 to 65535, found 65536"),
     ('[0,[["answer",["arg",256]]]]', "shape 1 0 1 1", "at 1 0 1 1: expected an argument from 0 to 255, found 256"),
@@ -1047,6 +1063,15 @@ STOPS = (
     '["let",4,["sum",["arg",0],999999999999999]],["put",0,4,["reg",4]]]]'
 )
 
+# It removes record 7 of table 3, finds that it is gone, makes it again where its argument is 1, and looks for it.
+GONE = (
+    '[1,[["remove",3,7],["find",0,3,7,-5],["if",["same",["arg",0],1],[["put",3,7,["reg",0]]],[]],["look",1,3,7,6],'
+    '["answer",["reg",1]]]]'
+)
+
+# It removes the record that its first argument less its second one names.
+GONE_AT = '[2,[["remove",3,["diff",["arg",0],["arg",1]]]]]'
+
 UPSERTS = """
 40;: read 3/7 none, wrote 3/7 41, ended, committed 41
 40; 3/7 9: read 3/7 9, wrote 3/7 9, ended, committed 9
@@ -1090,6 +1115,20 @@ CODES = """
 """
 
 
+REMOVALS = """
+1; 3/7 9: removed 3/7, read 3/7 none, wrote 3/7 -5, read 3/7 -5, ended, committed -5
+1;: removed 3/7, read 3/7 none, wrote 3/7 -5, read 3/7 -5, ended, committed -5
+0; 3/7 9: removed 3/7, read 3/7 none, read 3/7 none, aborted asked 6 fell none
+0;: removed 3/7, read 3/7 none, read 3/7 none, aborted asked 6 fell none
+"""
+
+REMOVED_KEYS = """
+7,0; 3/7 9: removed 3/7, ended, committed none
+0,7; 3/-7 9: removed 3/-7, ended, committed none
+999999999999999,-1;: aborted asked 1000 fell none
+"""
+
+
 def replies(sgt, procedure, args, records, wanted):
     """What a transaction of this procedure is answered, after another one has stored the records. Each reply is to a step, but that of
     the commit."""
@@ -1126,6 +1165,27 @@ def uses_a_key_once(sgt):
 
 def lets_finds_follow_one_another(sgt):
     reply(sgt, AGAIN, FINDS)
+
+
+def removes_a_record(sgt):
+    """Its own procedure finds none, whether there was one or not."""
+    reply(sgt, GONE, REMOVALS)
+    reply(sgt, GONE_AT, REMOVED_KEYS)
+
+
+def removed_records_are_not_told(sgt):
+    """Neither at the end, nor after a cut, nor of one that was undone."""
+    records = '["record",3,7,1]\n["record",3,8,2]\n["record",3,9,3]\n'
+    events = '["start",5,[8,0]]\n["step",0]\n["start",5,[9,0]]\n["step",1]\n["quit",1]\n["commit",0]\n'
+    told = "started 0\nremoved 3/8\nstarted 1\nremoved 3/9\naborted quit fell none\ncommitted none\n"
+    left = "3/7 1\n3/9 3\n"
+    given = opening("[2,9]", procedures=GONE_AT) + "\n" + records + events
+    same("at the end", (0, told + left, ""), sgt.run("script", given=given))
+    same("after a cut", (0, told + "cut 6\n" + left, ""), sgt.run("script", given=given + '["cut"]\n'))
+    again = '["cut"]\n["begin"]\n["read",0,3,8]\n["commit",0]\n'
+    same("in the next part", (0, told + "cut 6\nstarted 0\nread 3/8 none\ncommitted none\n" + left, ""), sgt.run("script", given=given + again))
+    jobs = opening("[1,9]", procedures=GONE_AT) + "\n" + records + '["job",5,[8,0]]\n["job",5,[9,1]]\n'
+    same("of a bank", (0, "0 committed none\n1 committed none\n" + "3/7 1\n3/9 3\n", ""), sgt.run("bank", "--workers", "1", given=jobs))
 
 
 def enters_and_leaves_branches(sgt):
@@ -1364,6 +1424,8 @@ CASES = [
     asks_1000_before_the_look,
     uses_a_key_once,
     lets_finds_follow_one_another,
+    removes_a_record,
+    removed_records_are_not_told,
     enters_and_leaves_branches,
     ends_by_a_code,
     leaves_the_deepest_branch_step_by_step,

@@ -17,11 +17,13 @@ import subprocess
 import sys
 import tempfile
 import time
+from collections import Counter
 from itertools import permutations
 
 sys.dont_write_bytecode = True
 from helpers import explained  # noqa: E402
 from helpers.cases import SECONDS, TESTS, Differs, same, tell  # noqa: E402
+from helpers.legal import Illegal, judge  # noqa: E402
 from helpers.worked import PROGRAMS, Bank, drawn  # noqa: E402
 
 EXAMPLES = TESTS.parent / "examples"
@@ -597,6 +599,23 @@ def explains_drawn_scripts(sgt):
     return f"{edges} edges, {falls} that fell"
 
 
+def judges_drawn_scripts(sgt):
+    """Procedures and callers that remove, with cascades, cuts, and codes at the step or at the commit: each reply is one that the
+    definitions allow, and the records at each cut and at the end are those of the serial run."""
+    came = Counter()
+    for seed in range(120):
+        given = explained.drawn(seed, 600)
+        status, wrote, told = sgt.run("script", given=given)
+        same(f"script {seed}: standard error and status", ("", 0), (told, status))
+        try:
+            came += judge(given, wrote)
+        except Illegal as why:
+            raise Differs(f"script {seed}: {why}") from None
+    wanted = ("cut", "refused", "aborted", "waits", "removed", "removals kept", "removals undone", "removals read by another")
+    same("what did not come", [], [what for what in wanted if not came[what]])
+    return ", ".join(f"{came[what]} {what}" for what in wanted)
+
+
 def tells_who_is_live_at_the_end(sgt):
     starts = OPENING + '["start",0,[1]]\n' * 4
     replies = "".join(f"started {t}\n" for t in range(4))
@@ -841,6 +860,7 @@ CASES = [
     explains_each_example,
     explains_each_input,
     explains_drawn_scripts,
+    judges_drawn_scripts,
     tells_how_often_each_job_was_tried,
     tells_how_often_each_job_of_the_examples_was_tried,
     tells_by_whom_tries_were_aborted,

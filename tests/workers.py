@@ -14,7 +14,7 @@ from collections import Counter
 
 sys.dont_write_bytecode = True
 from helpers.cases import Differs, same, tell_failing  # noqa: E402
-from helpers.legal import IN_TWO_STEPS, Checker, Illegal, database_text, rows_of  # noqa: E402
+from helpers.legal import IN_TWO_STEPS, REMOVERS, Checker, Illegal, database_text, rows_of  # noqa: E402
 
 ALL = 10**18
 DEPOSITS = ((1, 100), (2, 1), (1, 1))
@@ -240,6 +240,24 @@ def refusals_are_those_of_the_serial_run(_, program):
     return ", ".join(f"{number} {kind}" for kind, number in sorted(total.items()))
 
 
+def removals_are_those_of_the_serial_run(_, program):
+    """Jobs that remove records and make them anew, some of which ask behind their removal. With codes at the commit, it is undone there."""
+    opened, total = opening("32,100000,1", f"{IN_TWO_STEPS},{REMOVERS}"), Counter()
+    for seed in range(BANKS):
+        draw = random.Random(seed)
+        customers = [100 + draw.randrange(ACCOUNTS) for _ in range(4)]
+        jobs = [f'["job",7,[{draw.choice(customers)}]]\n' for _ in range(300)] + ['["job",8,[]]\n', '["job",5,[]]\n'] * 50
+        jobs += [f'["job",9,[{draw.choice(customers)}]]\n' for _ in range(50)]
+        jobs += [f'["job",2,[{draw.choice(customers) - 100},{-draw.randrange(600)}]]\n' for _ in range(100)]
+        draw.shuffle(jobs)
+        status, out, told = program.run("bank", str(WORKERS), "100", str(seed), str((NEVER, 1_000)[seed % 2]), given=opened + "".join(jobs))
+        same(f"bank {seed}", (0, ""), (status, told))
+        lines = out.splitlines()
+        total += check_told(lines, opened, len(jobs), WORKERS) + Counter(removed=sum(line.startswith("removed ") for line in lines))
+    same("what did not come", [], [kind for kind in ("committed", "asked", "fell", "waits", "removed") if not total[kind]])
+    return ", ".join(f"{number} {kind}" for kind, number in sorted(total.items()))
+
+
 def refused_at(events, replies):
     """The place of the first reply that is not legal."""
     checker = Checker(opening())
@@ -276,6 +294,7 @@ CASES = [
     replays_banks_whose_workers_leave,
     presses_five_accounts,
     refusals_are_those_of_the_serial_run,
+    removals_are_those_of_the_serial_run,
     knows_a_changed_reply,
 ]
 

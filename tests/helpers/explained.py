@@ -8,15 +8,15 @@ import json
 import random
 import re
 
-from helpers.legal import EMPTY, IN_TWO_STEPS, REQUESTS, Run, key_text
+from helpers.legal import EMPTY, IN_TWO_STEPS, REMOVERS, REQUESTS, Run, key_text
 
-OPENING = '{{"limits":[8,100000{asks}],"accounts":[[1,101,500,1000],[2,102,300,200],[3,103,0,90]],"procedures":[' + IN_TWO_STEPS + "]}}\n"
+OPENING = '{{"limits":[8,100000{asks}],"accounts":[[1,101,500,1000],[2,102,300,200],[3,103,0,90]],"procedures":[' + f"{IN_TWO_STEPS},{REMOVERS}" + "]}}\n"
 
 # What lines may put after line 1: the account that transfers miss, and what the two steps store.
 RECORDS = ((0, -60, 104), (1, 104, 70), (2, 104, -7), (3, 7, 100))
 
 # How many arguments each procedure takes.
-ARGUMENTS = (1, 2, 2, 2, 2, 0, 0)
+ARGUMENTS = (1, 2, 2, 2, 2, 0, 0, 1, 0, 1)
 
 
 def drawn(seed, events):
@@ -32,8 +32,8 @@ def drawn(seed, events):
             lines.append('["begin"]\n')
             started += 1
         elif draw < 0.15:
-            procedure = dice.randrange(7)
-            args = [dice.choice((1, 1, 2)), dice.choice((1, 2, 2, -60))][: ARGUMENTS[procedure]]
+            procedure = dice.randrange(10)
+            args = [dice.choice((101, 102) if procedure > 6 else (1, 1, 2)), dice.choice((1, 2, 2, -60))][: ARGUMENTS[procedure]]
             lines.append(f'["start",{procedure},{json.dumps(args)}]\n')
             started += 1
         elif draw < 0.7:

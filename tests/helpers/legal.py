@@ -5,6 +5,7 @@ It knows entries by their texts alone: an event as `["step",0]`, a reply as `wro
 """
 
 import json
+from collections import Counter
 
 MOST = 999_999_999_999_999
 
@@ -107,15 +108,49 @@ def find_all():
     return value
 
 
+def found(table, number, otherwise):
+    """The value that is read, or another one where there is none."""
+    value = yield "look", (table, number), None
+    return otherwise if value is None else value
+
+
+def open_or_remove(customer):
+    """Removes a checking, or makes one where there is none, and answers what was there, or -1."""
+    checking = yield from found(2, customer, -1)
+    yield "store", (2, customer), 100 if checking == -1 else None
+    return checking
+
+
+def remove_and_find():
+    """Removes a record, and answers what it finds of it, which is none: then it answers 5. It writes that to another one."""
+    yield "store", (3, 7), None
+    value = yield from found(3, 7, 5)
+    yield "store", (3, 8), value
+    return value
+
+
+def remove_and_look(customer):
+    """Removes a saving and looks for it, which asks. So the removal is undone, at the step or at the commit."""
+    yield "store", (1, customer), None
+    value = yield from look(1, customer, 77)
+    return value
+
+
 def nothing():
     """Accesses nothing, and has no answer. What such a transaction accesses its caller decides."""
     yield from ()
 
 
-# The trees of the last two before it, which an opening has to bring.
+# The trees of those beyond SmallBank's, which an opening has to bring.
 IN_TWO_STEPS = (
     '[0,[["put",3,7,0],["put",3,7,100]]],'
     '[0,[["look",0,3,7,6],["if",["less",["reg",0],100],[["ask",99]],[]],["answer",["reg",0]]]]'
+)
+
+REMOVERS = (
+    '[1,[["find",0,2,["arg",0],-1],["if",["same",["reg",0],-1],[["put",2,["arg",0],100]],[["remove",2,["arg",0]]]],["answer",["reg",0]]]],'
+    '[0,[["remove",3,7],["find",0,3,7,5],["put",3,8,["reg",0]],["answer",["reg",0]]]],'
+    '[1,[["remove",1,["arg",0]],["look",0,1,["arg",0],77],["answer",["reg",0]]]]'
 )
 
 # Each with how many arguments it takes.
@@ -127,6 +162,9 @@ PROCEDURES = (
     (write_check, 2),
     (store_in_two_steps, 0),
     (find_all, 0),
+    (open_or_remove, 1),
+    (remove_and_find, 0),
+    (remove_and_look, 1),
 )
 
 
@@ -199,12 +237,13 @@ def database_text(rows):
 class Checker:
     """Takes the entries of a history one after another, and reports the first that is not legal."""
 
-    def __init__(self, opening):
+    def __init__(self, opening, rows=None):
+        """Takes the records from the opening, or these after a cut."""
         first = json.loads(opening.splitlines()[0])
         self.most_live, self.begins, *asks = first["limits"]
         self.asks_at_commit = asks == [1]
         self.procedures = 5 + len(first["procedures"])
-        self.opened = rows_of(opening)
+        self.opened = rows_of(opening) if rows is None else rows
         self.settled = dict(self.opened)
         self.runs = []  # of each transaction that was started
         self.fates = {}  # of each that has ended, as a reply behind `over`
@@ -213,6 +252,7 @@ class Checker:
         self.pairs = set()  # among those that are live: of two accesses in conflict the first one's, the second one's
         self.reads = set()  # who read from whom, while both are live
         self.busiest = 0
+        self.removals = Counter()  # how many were kept, undone, read by another one before their commit
 
     def live(self):
         return [t for t in range(len(self.runs)) if t not in self.fates]
@@ -291,6 +331,7 @@ class Checker:
             if kind == "store" and at == key:
                 if u != t:
                     self.reads.add((t, u))
+                    self.removals["read by another"] += value is None
                 return value
         return self.settled.get(key)
 
@@ -342,6 +383,8 @@ class Checker:
         return run.told()
 
     def end(self, t, fate):
+        removed = sum(u == t and kind == "store" and value is None for u, kind, _, value in self.accesses)
+        self.removals["kept" if fate == "committed" else "undone"] += removed
         self.fates[t] = fate
         self.accesses = [access for access in self.accesses if access[0] != t]
         self.pairs = {pair for pair in self.pairs if t not in pair}
@@ -367,3 +410,35 @@ class Checker:
             if run.code is None:
                 rows = own
         return rows
+
+
+def judge(script, wrote):
+    """Takes the replies of a script, whose last lines are its records, and gives how many came to what. At each cut and at the end
+    the serial run has to leave what is committed. After a cut transactions are numbered anew."""
+    first, *lines = script.splitlines()
+    records = [line for line in lines if line.startswith('["record",')]
+    events, replies = lines[len(records) :], wrote.splitlines()
+    opening = "\n".join([first, *records])
+    checker, count, came = Checker(opening), 0, Counter()
+    for event, reply in zip(events, replies):
+        came[reply.split()[0]] += 1
+        if event != '["cut"]':
+            checker.take(event, reply)
+            count += 1
+            continue
+        wanted = "still live" if checker.live() else f"cut {count}"
+        if reply != wanted:
+            raise Illegal(f"a cut was answered {reply}, in place of {wanted}")
+        if not checker.live():
+            came += ended(checker)
+            checker, count = Checker(opening, checker.settled), 0
+    if database_text(checker.settled) != replies[len(events) :]:
+        raise Illegal(f"the records at the end are {replies[len(events):]}, and not {database_text(checker.settled)}")
+    return came + ended(checker)
+
+
+def ended(checker):
+    """What came of removals, where the serial run leaves what is committed."""
+    if checker.serial() != checker.settled:
+        raise Illegal(f"the serial run leaves {checker.serial()}, and not {checker.settled}")
+    return Counter({f"removals {what}": number for what, number in checker.removals.items()})

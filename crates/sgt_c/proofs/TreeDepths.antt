@@ -3,7 +3,7 @@ use Rattle.std.proofs.Common.{◌≡◌, refl, ◌≤◌, ◌+◌, ◌*◌, ℕ,
 use Rattle.std.specs.Prelude.{⊤, Ok, option_and_then, codes, IsUtf8}
 use Rattle.serde_json.specs.Data.{Data, null, boolean, number, string, array, object, Items, no_items, item, depth, items_depth}
 use Rattle.serde_json.specs.Read.{read, max_depth}
-use Rattle.sgt_model.specs.Syntax.{ExprText, num, arg, reg, sum, diff, product, quotient, CondText, less, at_most, equal, Block, empty, look, find, put, save, ask, choose, answer, ProcedureText}
+use Rattle.sgt_model.specs.Syntax.{ExprText, num, arg, reg, sum, diff, product, quotient, CondText, less, at_most, equal, Block, empty, look, find, put, remove, save, ask, choose, answer, ProcedureText}
 use Rattle.sgt_proc.specs.Flaws.{expr_depth, cond_depth, exprs_depth, depth as block_depth, IsFlawless}
 use Rattle.sgt_proc.specs.declared.flaw.Flaw.TheVariants.{TooDeep}
 use Rattle.sgt_proc_json.specs.Readings.{reading}
@@ -136,6 +136,14 @@ block_items (put table id value b) items e =
       row_depth (codes "put") (Byte table ∷ SpellsTerm id ∷ SpellsTerm value ∷ [])
           (max (expr_depth id) (expr_depth value))
           (byte_depth table _, (term_within id _ (omega arith), (term_within value _ (omega arith), tt))) tree e,
+    ))
+    (λ items e. omega (arith, block_items b items e)) items e
+block_items (remove table id b) items e =
+    first_depth _ _ (SpellsBlock b)
+    (λ tree e. omega (
+      arith,
+      row_depth (codes "remove") (Byte table ∷ SpellsTerm id ∷ []) (expr_depth id)
+          (byte_depth table _, (term_within id _ (omega arith), tt)) tree e,
     ))
     (λ items e. omega (arith, block_items b items e)) items e
 block_items (save to value b) items e =

@@ -110,6 +110,7 @@ fn behind_statement(word: &str) -> Option<&'static [Part]> {
             Part::Expression,
         ]),
         "put" => Some(&[Part::Table, Part::Expression, Part::Expression]),
+        "remove" => Some(&[Part::Table, Part::Expression]),
         "let" => Some(&[Part::Register, Part::Expression]),
         "ask" => Some(&[Part::Code]),
         "if" => Some(&[Part::Condition, Part::Block, Part::Block]),

@@ -4,12 +4,12 @@ use Rattle.std.specs.Ordering.{int_eq}
 use Rattle.std.proofs.Common.{refl, ◌∙◌}
 use Rattle.sgt_model.specs.Numbers.{is_value}
 use Rattle.sgt_model.specs.Contents.{Key, Contents}
-use Rattle.sgt_model.specs.Syntax.{ExprText, num, arg, reg, sum, diff, product, quotient, CondText, less, at_most, equal, Block, empty, look, find, put, save, ask, choose, answer}
+use Rattle.sgt_model.specs.Syntax.{ExprText, num, arg, reg, sum, diff, product, quotient, CondText, less, at_most, equal, Block, empty, look, find, put, remove, save, ask, choose, answer}
 use Rattle.sgt_model.specs.Runs.{Run, Outcome, Asked, serial}
 use Rattle.sgt_model.specs.Ways.{Way, onto}
 use Rattle.sgt_model.specs.Ways as way
 use Rattle.sgt_model.specs.Meaning.{Got, is, over, missing, got, bounded, divided, both, value_of, Truth, holds, too_far, unknown, compared, truth_of, wrong, with_value, with_condition, is_key, if_found, run}
-use Rattle.sgt_model.specs.Executions.{OrCode, and_then, provided, Workspace, workspace_of, in_turn, value_or_overflow, quotient_or_overflow, evaluate, decide, look_at_record, find_record, put_record, let_register, give_answer, execute, outcome_of, SerialIsExecution}
+use Rattle.sgt_model.specs.Executions.{OrCode, and_then, provided, Workspace, workspace_of, in_turn, value_or_overflow, quotient_or_overflow, evaluate, decide, look_at_record, find_record, put_record, remove_record, let_register, give_answer, execute, outcome_of, SerialIsExecution}
 
 -- expressions
 
@@ -147,6 +147,10 @@ block_is args (put table id value b) behind w =
     (value_is value args w)
     (λ v. key_step (is_key table n) (table, n) _ w.working _ (along args (onto b behind))
     (last_step (is_value v) _ _ w.working (along args (onto b behind)) refl))))
+block_is args (remove table id b) behind w =
+    behind_first args b behind (remove_record args table id w) _ (block_is args b behind)
+    (value_step (value_of id args w.registers) (evaluate id args w) _ w.working _ (along args (onto b behind)) (value_is id args w)
+    (λ n. key_step (is_key table n) (table, n) _ w.working _ (along args (onto b behind)) refl))
 block_is args (save to value b) behind w =
     behind_first args b behind (let_register args to value w) _ (block_is args b behind)
     (value_step (value_of value args w.registers) (evaluate value args w) _ w.working _ (along args (onto b behind))

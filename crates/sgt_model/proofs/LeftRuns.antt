@@ -3,7 +3,7 @@ use Rattle.std.specs.Prelude.{◌≡◌, ℕ, zero, suc, ◌+◌, ◌≤◌, ℤ
 use Rattle.std.proofs.Common.{refl, sym, ap, ◌∙◌, arith}
 use Rattle.sgt_model.specs.Numbers.{is_value}
 use Rattle.sgt_model.specs.Contents.{Key}
-use Rattle.sgt_model.specs.Syntax.{Block, empty, look, find, put, save, ask, choose, answer}
+use Rattle.sgt_model.specs.Syntax.{Block, empty, look, find, put, remove, save, ask, choose, answer}
 use Rattle.sgt_model.specs.Runs.{Run, looks, puts, ends, raises}
 use Rattle.sgt_model.specs.Traces.{Used, Next, Looks, Puts, Ends, Raises, trace, next_at}
 use Rattle.sgt_model.specs.Ways.{Way, onto}
@@ -19,6 +19,7 @@ onto_followed empty more behind = refl
 onto_followed (look to table id absent b) more behind = ap (way.look to table id absent) (onto_followed b more behind)
 onto_followed (find to table id absent b) more behind = ap (way.find to table id absent) (onto_followed b more behind)
 onto_followed (put table id value b) more behind = ap (way.put table id value) (onto_followed b more behind)
+onto_followed (remove table id b) more behind = ap (way.remove table id) (onto_followed b more behind)
 onto_followed (save to value b) more behind = ap (way.save to value) (onto_followed b more behind)
 onto_followed (ask code b) more behind = refl
 onto_followed (choose test ys ns b) more behind = ap (λ w. way.fork test (onto ys w) (onto ns w)) (onto_followed b more behind)
@@ -89,6 +90,9 @@ reach_is args (put table id value b) behind registers answers =
     value_step args behind (value_of id args registers) _ _
     (λ n. value_step args behind (value_of value args registers) _ _
     (λ v. provided_step args behind (is_key table n) (table, n) _ _ (last_step args behind (is_value v) _ _ refl)))
+reach_is args (remove table id b) behind registers answers =
+    value_step args behind (value_of id args registers) _ _
+    (λ n. provided_step args behind (is_key table n) (table, n) _ _ refl)
 reach_is args (save to value b) behind registers answers =
     value_step args behind (value_of value args registers) _ _ (λ v. reach_is args b behind (slice_set registers to (Some v)) answers)
 reach_is args (ask code b) behind registers answers = refl

@@ -66,6 +66,8 @@ stores_along args (way.put table id value rest) regs answers =
     (λ v. with_key table n (λ k. with_stored v (puts k (Some v) onwards))))
     (λ n. stores_with (value_of value args regs) (λ v. with_key table n (λ k. with_stored v (puts k (Some v) onwards)))
     (λ v. stores_where (is_key table n) _ (λ e. stores_value (table, n) v onwards (stores_along args rest regs answers))))
+stores_along args (way.remove table id rest) regs answers =
+    stores_with _ _ (λ n. stores_where (is_key table n) _ (λ e. (tt, stores_along args rest regs answers)))
 stores_along args (way.save to value rest) regs answers =
     stores_with _ _ (λ v. stores_along args rest _ answers)
 stores_along args (way.ask code) regs answers = tt

@@ -5,7 +5,7 @@ use Rattle.std.proofs.Common.{refl}
 use Rattle.std.specs.Coded.{Coded, code_by, coded×, coded_ℕ}
 use base.Stored.{Gv, gnil, gnum, gcons}
 use denote.Struct.Codes.{itself}
-use Rattle.sgt_model.specs.Syntax.{ProcedureText, Block, empty, look, find, put, save, ask, choose, answer, ExprText, num, arg, reg, sum, diff, product, quotient, CondText, less, at_most, equal}
+use Rattle.sgt_model.specs.Syntax.{ProcedureText, Block, empty, look, find, put, remove, save, ask, choose, answer, ExprText, num, arg, reg, sum, diff, product, quotient, CondText, less, at_most, equal}
 
 -- a number with sign: 0 or 1 for the sign, and its size
 abbrev pub int_tree : ℤ → Gv
@@ -83,6 +83,7 @@ abbrev pub block_tree : Block → Gv
 block_tree empty = gnil
 block_tree (look to table id absent b) = gcons (gnum 0) (gcons (gcons (gcons (gnum to) (gnum table)) (gcons (expr_tree id) (gnum absent))) (block_tree b))
 block_tree (put table id value b) = gcons (gnum 1) (gcons (gcons (gnum table) (gcons (expr_tree id) (expr_tree value))) (block_tree b))
+block_tree (remove table id b) = gcons (gnum 7) (gcons (gcons (gnum table) (expr_tree id)) (block_tree b))
 block_tree (save to value b) = gcons (gnum 2) (gcons (gcons (gnum to) (expr_tree value)) (block_tree b))
 block_tree (ask code b) = gcons (gnum 3) (gcons (gnum code) (block_tree b))
 block_tree (choose test ys ns b) = gcons (gnum 4) (gcons (gcons (cond_tree test) (gcons (block_tree ys) (block_tree ns))) (block_tree b))
@@ -98,6 +99,7 @@ block_in (gcons (gnum (suc (suc (suc zero)))) (gcons (gnum code) b)) = ask code 
 block_in (gcons (gnum (suc (suc (suc (suc zero))))) (gcons (gcons test (gcons ys ns)) b)) = choose (cond_in test) (block_in ys) (block_in ns) (block_in b)
 block_in (gcons (gnum (suc (suc (suc (suc (suc zero)))))) (gcons value b)) = answer (expr_in value) (block_in b)
 block_in (gcons (gnum (suc (suc (suc (suc (suc (suc zero))))))) (gcons (gcons (gcons (gnum to) (gnum table)) (gcons id absent)) b)) = find to table (expr_in id) (expr_in absent) (block_in b)
+block_in (gcons (gnum (suc (suc (suc (suc (suc (suc (suc zero)))))))) (gcons (gcons (gnum table) id) b)) = remove table (expr_in id) (block_in b)
 block_in _ = empty
 
 -- the same statements are read back
@@ -105,6 +107,7 @@ pub block_back : (b : Block) → block_in (block_tree b) ≡ b
 block_back empty = refl
 block_back (look to table id absent b) = λ i. look to table (expr_back id i) absent (block_back b i)
 block_back (put table id value b) = λ i. put table (expr_back id i) (expr_back value i) (block_back b i)
+block_back (remove table id b) = λ i. remove table (expr_back id i) (block_back b i)
 block_back (save to value b) = λ i. save to (expr_back value i) (block_back b i)
 block_back (ask code b) = λ i. ask code (block_back b i)
 block_back (choose test ys ns b) = λ i. choose (cond_back test i) (block_back ys i) (block_back ns i) (block_back b i)

@@ -5,7 +5,7 @@ use Rattle.std.specs.Prelude.{◌≡◌, ℕ, ℤ, ◌+ℤ◌, ◌-ℤ◌, ◌*�
 use Rattle.std.specs.Ordering.{int_eq}
 use Rattle.sgt_model.specs.Numbers.{is_value}
 use Rattle.sgt_model.specs.Contents.{Key, Contents, set_in}
-use Rattle.sgt_model.specs.Syntax.{ExprText, num, arg, reg, sum, diff, product, quotient, CondText, less, at_most, equal, Block, empty, look, find, put, save, ask, choose, answer, ProcedureText}
+use Rattle.sgt_model.specs.Syntax.{ExprText, num, arg, reg, sum, diff, product, quotient, CondText, less, at_most, equal, Block, empty, look, find, put, remove, save, ask, choose, answer, ProcedureText}
 use Rattle.sgt_model.specs.Runs.{Outcome, Done, Asked, serial}
 use Rattle.sgt_model.specs.Meaning.{found_or, run_with}
 
@@ -117,6 +117,13 @@ put_record args table id value w =
     and_then (key_of table n) (λ key.
     provided (is_value v) (into_record key (Some v) w) stuck)))
 
+-- Remove: the record is removed
+abbrev pub remove_record : List ℤ → (table : ℕ) → (id : ExprText) → Workspace → OrCode Workspace
+remove_record args table id w =
+    and_then (evaluate id args w) (λ n.
+    and_then (key_of table n) (λ key.
+    Ok (into_record key None w)))
+
 -- Let: the register gets the value
 abbrev pub let_register : List ℤ → (to : ℕ) → (value : ExprText) → Workspace → OrCode Workspace
 let_register args to value w = and_then (evaluate value args w) (λ v. Ok (into_register to v w))
@@ -132,6 +139,7 @@ execute args empty w = Ok w
 execute args (look to table id absent rest) w = and_then (look_at_record args to table id absent w) (λ next. execute args rest next)
 execute args (find to table id absent rest) w = and_then (find_record args to table id absent w) (λ next. execute args rest next)
 execute args (put table id value rest) w = and_then (put_record args table id value w) (λ next. execute args rest next)
+execute args (remove table id rest) w = and_then (remove_record args table id w) (λ next. execute args rest next)
 execute args (save to value rest) w = and_then (let_register args to value w) (λ next. execute args rest next)
 execute args (ask code rest) w = Err code
 execute args (choose test ys ns rest) w =

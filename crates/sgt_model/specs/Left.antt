@@ -4,7 +4,7 @@
 use Rattle.std.specs.Prelude.{◌≡◌, ℕ, zero, suc, ◌+◌, ℤ, Bool, cond, nat_lt, List, [], ◌∷◌, ◌++◌, length, Option, Some, None, Ok, Err, slice_set}
 use Rattle.sgt_model.specs.Numbers.{is_value}
 use Rattle.sgt_model.specs.Contents.{Key}
-use Rattle.sgt_model.specs.Syntax.{Block, empty, look, find, put, save, ask, choose, answer, ProcedureText}
+use Rattle.sgt_model.specs.Syntax.{Block, empty, look, find, put, remove, save, ask, choose, answer, ProcedureText}
 use Rattle.sgt_model.specs.Traces.{Used, Next, Looks, Puts, Ends, Raises, trace, next_at}
 use Rattle.sgt_model.specs.Meaning.{Got, is, over, missing, Truth, holds, too_far, unknown, Registers, fresh, value_of, truth_of, found_or, run_with}
 use Rattle.sgt_model.specs.Executions.{OrCode, and_then, provided, overflow, stuck, key_of}
@@ -35,6 +35,7 @@ followed_by empty more = more
 followed_by (look to table id absent rest) more = look to table id absent (followed_by rest more)
 followed_by (find to table id absent rest) more = find to table id absent (followed_by rest more)
 followed_by (put table id value rest) more = put table id value (followed_by rest more)
+followed_by (remove table id rest) more = remove table id (followed_by rest more)
 followed_by (save to value rest) more = save to value (followed_by rest more)
 followed_by (ask code rest) more = ask code (followed_by rest more)
 followed_by (choose test ys ns rest) more = choose test ys ns (followed_by rest more)
@@ -91,6 +92,10 @@ reach (put table id value rest) args registers answers =
     and_then (number_or_code (value_of value args registers)) (λ v.
     and_then (key_of table n) (λ key.
     provided (is_value v) (AtStore key (Some v) (record { statements = rest; args = args; registers = registers; answers = answers })) stuck)))
+reach (remove table id rest) args registers answers =
+    and_then (number_or_code (value_of id args registers)) (λ n.
+    and_then (key_of table n) (λ key.
+    Ok (AtStore key None (record { statements = rest; args = args; registers = registers; answers = answers }))))
 reach (save to value rest) args registers answers =
     and_then (number_or_code (value_of value args registers)) (λ v.
     reach rest args (slice_set registers to (Some v)) answers)

@@ -125,6 +125,8 @@ run args (way.find to table id absent rest) regs answers =
     with_value (value_of id args regs) (λ n. with_value (value_of absent args regs) (λ v. with_key table n (λ k. looks k (λ found. run args rest (slice_set regs to (Some (found_or v found))) answers))))
 run args (way.put table id value rest) regs answers =
     with_value (value_of id args regs) (λ n. with_value (value_of value args regs) (λ v. with_key table n (λ k. with_stored v (puts k (Some v) (run args rest regs answers)))))
+run args (way.remove table id rest) regs answers =
+    with_value (value_of id args regs) (λ n. with_key table n (λ k. puts k None (run args rest regs answers)))
 run args (way.save to value rest) regs answers =
     with_value (value_of value args regs) (λ v. run args rest (slice_set regs to (Some v)) answers)
 run args (way.ask code) regs answers = raises code

@@ -5,9 +5,9 @@ use Rattle.sgt_model.specs.declared.procedure.Expr.TheVariants.{Num, Arg, Reg, S
 use Rattle.sgt_model.specs.declared.procedure.Cond.{Cond}
 use Rattle.sgt_model.specs.declared.procedure.Cond.TheVariants.{Less, AtMost, Equal}
 use Rattle.sgt_model.specs.declared.procedure.Statement.{Statement, Row_of-Statement, end_of-Statement, more_of-Statement}
-use Rattle.sgt_model.specs.declared.procedure.Statement.TheVariants.{Look, Find, Put, Let, Ask, If', Answer}
+use Rattle.sgt_model.specs.declared.procedure.Statement.TheVariants.{Look, Find, Put, Remove, Let, Ask, If', Answer}
 use Rattle.sgt_model.specs.declared.procedure.Procedure.{Procedure}
-use Rattle.sgt_model.specs.Syntax.{ExprText, num, arg, reg, sum, diff, product, quotient, CondText, less, at_most, equal, Block, empty, look, find, put, save, ask, choose, answer, ProcedureText}
+use Rattle.sgt_model.specs.Syntax.{ExprText, num, arg, reg, sum, diff, product, quotient, CondText, less, at_most, equal, Block, empty, look, find, put, remove, save, ask, choose, answer, ProcedureText}
 
 -- the text of an expression
 abbrev pub expr_text : Expr → ExprText
@@ -31,6 +31,7 @@ abbrev mutual
   in_front (Look to table id absent) rest = look to table (expr_text id) absent rest
   in_front (Find to table id absent) rest = find to table (expr_text id) (expr_text absent) rest
   in_front (Put table id value) rest = put table (expr_text id) (expr_text value) rest
+  in_front (Remove table id) rest = remove table (expr_text id) rest
   in_front (Let to value) rest = save to (expr_text value) rest
   in_front (Ask code) rest = ask code rest
   in_front (If' cond s ys t ns) rest = choose (cond_text cond) (row_block ys) (row_block ns) rest

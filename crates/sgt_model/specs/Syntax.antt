@@ -23,6 +23,7 @@ pub data Block : Type 0 where
   look : (to table : ℕ) → (id : ExprText) → (absent : ℕ) → Block → Block
   find : (to table : ℕ) → (id absent : ExprText) → Block → Block
   put : (table : ℕ) → (id value : ExprText) → Block → Block
+  remove : (table : ℕ) → (id : ExprText) → Block → Block
   save : (to : ℕ) → (value : ExprText) → Block → Block
   ask : (code : ℕ) → Block → Block
   choose : CondText → (ys ns : Block) → Block → Block

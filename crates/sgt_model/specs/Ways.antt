@@ -9,6 +9,7 @@ pub data Way : Type 0 where
   look : (to table : ℕ) → (id : ExprText) → (absent : ℕ) → Way → Way
   find : (to table : ℕ) → (id absent : ExprText) → Way → Way
   put : (table : ℕ) → (id value : ExprText) → Way → Way
+  remove : (table : ℕ) → (id : ExprText) → Way → Way
   save : (to : ℕ) → (value : ExprText) → Way → Way
   ask : (code : ℕ) → Way
   fork : CondText → (ys ns : Way) → Way
@@ -20,6 +21,7 @@ onto text.empty rest = rest
 onto (text.look to table id absent b) rest = look to table id absent (onto b rest)
 onto (text.find to table id absent b) rest = find to table id absent (onto b rest)
 onto (text.put table id value b) rest = put table id value (onto b rest)
+onto (text.remove table id b) rest = remove table id (onto b rest)
 onto (text.save to value b) rest = save to value (onto b rest)
 onto (text.ask code b) rest = ask code
 onto (text.choose test ys ns b) rest = fork test (onto ys (onto b rest)) (onto ns (onto b rest))

@@ -40,6 +40,12 @@ pub enum Statement {
         id: Expr,
         value: Expr,
     },
+    /// Removes the record of the table whose number is `id`: a write of no value. If the record does not exist, it stays
+    /// absent, and the access is the same.
+    Remove {
+        table: u8,
+        id: Expr,
+    },
     /// Sets the register to the value.
     Let {
         reg: u8,

@@ -23,6 +23,7 @@ in_way so (way.look to table id absent rest) =
 in_way so (way.find to table id absent rest) =
     (so (Register to) || (so (Table table) || (in_expr so id || in_expr so absent))) || in_way so rest
 in_way so (way.put table id value rest) = (so (Table table) || (in_expr so id || in_expr so value)) || in_way so rest
+in_way so (way.remove table id rest) = (so (Table table) || in_expr so id) || in_way so rest
 in_way so (way.save to value rest) = (so (Register to) || in_expr so value) || in_way so rest
 in_way so (way.ask code) = so (Code code)
 in_way so (way.fork test ys ns) = in_cond so test || (in_way so ys || in_way so ns)
@@ -39,6 +40,7 @@ in_onto so text.empty rest h r = r
 in_onto so (text.look to table id absent b) rest h r = let p = or_parts _ (in_block so b) h in or_none _ _ p.0 (in_onto so b rest p.1 r)
 in_onto so (text.find to table id absent b) rest h r = let p = or_parts _ (in_block so b) h in or_none _ _ p.0 (in_onto so b rest p.1 r)
 in_onto so (text.put table id value b) rest h r = let p = or_parts _ (in_block so b) h in or_none _ _ p.0 (in_onto so b rest p.1 r)
+in_onto so (text.remove table id b) rest h r = let p = or_parts _ (in_block so b) h in or_none _ _ p.0 (in_onto so b rest p.1 r)
 in_onto so (text.save to value b) rest h r = let p = or_parts _ (in_block so b) h in or_none _ _ p.0 (in_onto so b rest p.1 r)
 in_onto so (text.ask code b) rest h r = (or_parts (so (Code code)) (in_block so b) h).0
 in_onto so (text.choose test ys ns b) rest h r =
@@ -69,6 +71,7 @@ in_nothing text.empty = refl
 in_nothing (text.look to table id absent b) = or_none _ _ (or_none _ _ (term_nothing id) refl) (in_nothing b)
 in_nothing (text.find to table id absent b) = or_none _ _ (or_none _ _ (term_nothing id) (term_nothing absent)) (in_nothing b)
 in_nothing (text.put table id value b) = or_none _ _ (or_none _ _ (term_nothing id) (term_nothing value)) (in_nothing b)
+in_nothing (text.remove table id b) = or_none _ _ (term_nothing id) (in_nothing b)
 in_nothing (text.save to value b) = or_none _ _ (term_nothing value) (in_nothing b)
 in_nothing (text.ask code b) = in_nothing b
 in_nothing (text.choose test ys ns b) =

@@ -1,7 +1,7 @@
 -- Statements that others follow.
-use Rattle.std.proofs.Common.{◌≡◌, refl, sym, ap, ◌+◌, ℤ, Bool, true, false, cond, List, [], ◌∷◌, ◌++◌, length, nat_lt, slice_set, Some, Ok, Err, arith}
+use Rattle.std.proofs.Common.{◌≡◌, refl, sym, ap, ◌+◌, ℤ, Bool, true, false, cond, List, [], ◌∷◌, ◌++◌, length, nat_lt, slice_set, Some, None, Ok, Err, arith}
 use Rattle.sgt_model.specs.Numbers.{is_value}
-use Rattle.sgt_model.specs.Syntax.{Block, empty, look, find, put, save, ask, choose, answer}
+use Rattle.sgt_model.specs.Syntax.{Block, empty, look, find, put, remove, save, ask, choose, answer}
 use Rattle.sgt_model.specs.Meaning.{Registers, value_of, truth_of}
 use Rattle.sgt_model.specs.Executions.{OrCode, and_then, provided, key_of, stuck}
 use Rattle.sgt_model.specs.Left.{Rest, Reached, AtLook, AtFind, AtStore, AtEnd, followed_by, then_behind, number_or_code, choice_or_code, reach}
@@ -12,6 +12,7 @@ followed_empty empty = refl
 followed_empty (look to table id absent b) = ap (look to table id absent) (followed_empty b)
 followed_empty (find to table id absent b) = ap (find to table id absent) (followed_empty b)
 followed_empty (put table id value b) = ap (put table id value) (followed_empty b)
+followed_empty (remove table id b) = ap (remove table id) (followed_empty b)
 followed_empty (save to value b) = ap (save to value) (followed_empty b)
 followed_empty (ask code b) = ap (ask code) (followed_empty b)
 followed_empty (choose test ys ns b) = ap (choose test ys ns) (followed_empty b)
@@ -22,6 +23,7 @@ followed_twice empty b c = refl
 followed_twice (look to table id absent a) b c = ap (look to table id absent) (followed_twice a b c)
 followed_twice (find to table id absent a) b c = ap (find to table id absent) (followed_twice a b c)
 followed_twice (put table id value a) b c = ap (put table id value) (followed_twice a b c)
+followed_twice (remove table id a) b c = ap (remove table id) (followed_twice a b c)
 followed_twice (save to value a) b c = ap (save to value) (followed_twice a b c)
 followed_twice (ask code a) b c = ap (ask code) (followed_twice a b c)
 followed_twice (choose test ys ns a) b c = ap (choose test ys ns) (followed_twice a b c)
@@ -32,6 +34,7 @@ followed_size empty b = omega arith
 followed_size (look to table id absent a) b = omega (arith, followed_size a b)
 followed_size (find to table id absent a) b = omega (arith, followed_size a b)
 followed_size (put table id value a) b = omega (arith, followed_size a b)
+followed_size (remove table id a) b = omega (arith, followed_size a b)
 followed_size (save to value a) b = omega (arith, followed_size a b)
 followed_size (ask code a) b = omega (arith, followed_size a b)
 followed_size (choose test ys ns a) b = omega (arith, followed_size a b)
@@ -95,6 +98,10 @@ reach_followed (put table id value b) more args registers answers =
     (AtStore key (Some v) (rest_with (followed_by b more) args registers answers)) stuck) (λ key.
     last_then (is_value v) (AtStore key (Some v) (rest_with b args registers answers))
     (AtStore key (Some v) (rest_with (followed_by b more) args registers answers)) (then_behind more (reach more args)) refl)))
+reach_followed (remove table id b) more args registers answers =
+    then_then (number_or_code (value_of id args registers)) _ _ _ (λ n.
+    then_then (key_of table n) (λ key. Ok (AtStore key None (rest_with b args registers answers))) (then_behind more (reach more args))
+    (λ key. Ok (AtStore key None (rest_with (followed_by b more) args registers answers))) (λ key. refl))
 reach_followed (save to value b) more args registers answers =
     then_then (number_or_code (value_of value args registers)) _ _ _
     (λ v. reach_followed b more args (slice_set registers to (Some v)) answers)

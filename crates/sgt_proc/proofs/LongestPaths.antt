@@ -77,6 +77,10 @@ within_onto (text.put table id value b) rest n h args regs answers =
     (λ v. within_value (suc (accesses_in b + n)) (value_of value args regs) _
     (λ x. within_cond (suc (accesses_in b + n)) (is_key table v) _
     (within_cond (suc (accesses_in b + n)) (is_value x) _ (within_onto b rest n h args regs answers)))))
+within_onto (text.remove table id b) rest n h args regs answers =
+    within_more _ (suc (accesses_in b + n)) (1 + accesses_in b + n) (omega arith)
+    (within_value (suc (accesses_in b + n)) (value_of id args regs) _
+    (λ v. within_cond (suc (accesses_in b + n)) (is_key table v) _ (within_onto b rest n h args regs answers)))
 within_onto (text.save to value b) rest n h args regs answers =
     within_value (accesses_in b + n) (value_of value args regs) _ (λ x. within_onto b rest n h args (slice_set regs to (Some x)) answers)
 within_onto (text.ask code b) rest n h args regs answers = tt
@@ -104,6 +108,7 @@ accesses_few text.empty = omega arith
 accesses_few (text.look to table id absent b) = let h = accesses_few b in omega arith
 accesses_few (text.find to table id absent b) = let h = accesses_few b in omega arith
 accesses_few (text.put table id value b) = let h = accesses_few b in omega arith
+accesses_few (text.remove table id b) = let h = accesses_few b in omega arith
 accesses_few (text.save to value b) = let h = accesses_few b in omega arith
 accesses_few (text.ask code b) = omega arith
 accesses_few (text.choose test ys ns b) = let h = accesses_few b in let y = accesses_few ys in let n = accesses_few ns in omega arith

@@ -1,5 +1,5 @@
 -- What is left once a cursor has moved on.
-use Rattle.std.proofs.Common.{◌≡◌, refl, ap, ◌∙◌, ℕ, ◌+◌, ℤ, List, [], Some}
+use Rattle.std.proofs.Common.{◌≡◌, refl, ap, ◌∙◌, ℕ, ◌+◌, ℤ, List, [], Option, Some}
 use Rattle.sgt_model.specs.Contents.{Key}
 use Rattle.sgt_model.specs.Syntax.{Block, ProcedureText}
 use Rattle.sgt_model.specs.Meaning.{fresh}
@@ -51,7 +51,7 @@ module _ (b : Block) (behind now : Place) where
       ∙ ap (λ o. behind_look (Some v) o (left_behind b behind (stop.Look key to absent))) same)
 
   -- after a write
-  pub stored_on : (key : Key) (v : ℤ) (m : Place) (s : Stop)
+  pub stored_on : (key : Key) (v : Option ℤ) (m : Place) (s : Stop)
       → reached_at b now (stop.Put key v) ≡ reached (left_behind b behind (stop.Put key v)) → m ≡ record now { at = now.at + 1 }
       → HasFound s → left_behind b m s ≡ after_store (left_behind b behind (stop.Put key v))
   stored_on key v m s same is found =

@@ -2,8 +2,8 @@
 use Rattle.std.proofs.Common.{◌≡◌, refl, sym, ap, ◌∙◌, ℕ, zero, suc, ◌+◌, ◌<◌, ◌≤◌, Bool, true, false, cond, List, [], ◌∷◌, ◌++◌, length, get_or, drop, arith}
 use Rattle.std.proofs.lemmas.List.{drop_all}
 use Rattle.sgt_model.specs.declared.procedure.Statement.{Statement}
-use Rattle.sgt_model.specs.declared.procedure.Statement.TheVariants.{Look, Find, Put, Let, Ask, If', Answer}
-use Rattle.sgt_model.specs.Syntax.{Block, empty, look, find, put, save, ask, choose, answer}
+use Rattle.sgt_model.specs.declared.procedure.Statement.TheVariants.{Look, Find, Put, Remove, Let, Ask, If', Answer}
+use Rattle.sgt_model.specs.Syntax.{Block, empty, look, find, put, remove, save, ask, choose, answer}
 use Rattle.sgt_model.specs.ProcedureTexts.{in_front, block_of}
 use Rattle.sgt_model.specs.Left.{followed_by}
 use Rattle.sgt_proc.specs.declared.place.Turn.{Turn}
@@ -18,6 +18,7 @@ behind_before : (n : ℕ) (s : Statement) (b : Block) → behind (suc n) (in_fro
 behind_before n (Look to table id absent) b = refl
 behind_before n (Find to table id absent) b = refl
 behind_before n (Put table id value) b = refl
+behind_before n (Remove table id) b = refl
 behind_before n (Let to value) b = refl
 behind_before n (Ask code) b = refl
 behind_before n (If' cond p ys q ns) b = refl
@@ -32,6 +33,7 @@ before_size : (s : Statement) (b : Block) → size b + 1 ≤ size (in_front s b)
 before_size (Look to table id absent) b = omega arith
 before_size (Find to table id absent) b = omega arith
 before_size (Put table id value) b = omega arith
+before_size (Remove table id) b = omega arith
 before_size (Let to value) b = omega arith
 before_size (Ask code) b = omega arith
 before_size (If' cond p ys q ns) b = omega arith
@@ -41,6 +43,7 @@ pub before_depth : (s : Statement) (b : Block) → 1 ≤ depth (in_front s b)
 before_depth (Look to table id absent) b = omega arith
 before_depth (Find to table id absent) b = omega arith
 before_depth (Put table id value) b = omega arith
+before_depth (Remove table id) b = omega arith
 before_depth (Let to value) b = omega arith
 before_depth (Ask code) b = omega arith
 before_depth (If' cond p ys q ns) b = omega arith
@@ -67,6 +70,7 @@ behind_size (suc n) empty = omega arith
 behind_size (suc n) (look to table id absent b) = omega (arith, behind_size n b)
 behind_size (suc n) (find to table id absent b) = omega (arith, behind_size n b)
 behind_size (suc n) (put table id value b) = omega (arith, behind_size n b)
+behind_size (suc n) (remove table id b) = omega (arith, behind_size n b)
 behind_size (suc n) (save to value b) = omega (arith, behind_size n b)
 behind_size (suc n) (ask code b) = omega (arith, behind_size n b)
 behind_size (suc n) (choose test ys ns b) = omega (arith, behind_size n b)
@@ -77,6 +81,7 @@ branch_size held empty = omega arith
 branch_size held (look to table id absent b) = omega arith
 branch_size held (find to table id absent b) = omega arith
 branch_size held (put table id value b) = omega arith
+branch_size held (remove table id b) = omega arith
 branch_size held (save to value b) = omega arith
 branch_size held (ask code b) = omega arith
 branch_size true (choose test ys ns b) = omega arith
@@ -96,6 +101,7 @@ behind_depth (suc n) empty = omega arith
 behind_depth (suc n) (look to table id absent b) = omega (arith, behind_depth n b)
 behind_depth (suc n) (find to table id absent b) = omega (arith, behind_depth n b)
 behind_depth (suc n) (put table id value b) = omega (arith, behind_depth n b)
+behind_depth (suc n) (remove table id b) = omega (arith, behind_depth n b)
 behind_depth (suc n) (save to value b) = omega (arith, behind_depth n b)
 behind_depth (suc n) (ask code b) = omega (arith, behind_depth n b)
 behind_depth (suc n) (choose test ys ns b) = omega (arith, behind_depth n b)
@@ -106,6 +112,7 @@ branch_depth held empty h = absurd h
 branch_depth held (look to table id absent b) h = absurd h
 branch_depth held (find to table id absent b) h = absurd h
 branch_depth held (put table id value b) h = absurd h
+branch_depth held (remove table id b) h = absurd h
 branch_depth held (save to value b) h = absurd h
 branch_depth held (ask code b) h = absurd h
 branch_depth true (choose test ys ns b) h = omega arith

@@ -21,7 +21,7 @@ use Rattle.sgt_proc.specs.declared.numbers.Number.{Number}
 use Rattle.sgt_proc.specs.declared.numbers.Number.TheVariants.{Register, Argument, Table, Code, Literal}
 use Rattle.sgt_proc.specs.Flaws.{in_expr, in_cond, in_block, uses, cond_uses, uses_unset, most_answers, IsFlawless}
 use Rattle.sgt_proc.specs.NumberFlaws.{is_bad}
-use Rattle.sgt_proc.specs.Sound.{MayBeFound, IsSomeValue, IsSound, FlawlessIsSound}
+use Rattle.sgt_proc.specs.Sound.{IsValueOrNone, IsSound, FlawlessIsSound}
 use Rattle.sgt_proc.proofs.Clean.{in_way, in_onto, in_nothing, value_from, allowed_number}
 
 -- a number, if there is one, is a value
@@ -63,6 +63,11 @@ compared_known op (is a) missing f f' = absurd f'
 compared_known op over h f f' = tt
 compared_known op missing h f f' = absurd f
 
+-- a register that is set, to a value
+abbrev IsSomeValue : Option ℤ → Type 0
+IsSomeValue None = ⊥
+IsSomeValue (Some v) = IsValue v
+
 got_fine : (o : Option ℤ) → IsSomeValue o → IsFine (got o)
 got_fine None h = absurd h
 got_fine (Some v) h = h
@@ -103,12 +108,12 @@ with_key_sound table id f t h s = let e : nat_le table 7 ≡ true = grind (arith
 with_stored_sound : (v : ℤ) (f : Run) → IsValue v → IsSound f → IsSound (with_stored v f)
 with_stored_sound v f h s = rw (is_value_yes v h) s
 
-found_sound : (absent : ℕ) (v : Option ℤ) (f : ℤ → Run) → (1 ≤ absent) × (absent ≤ 999) → MayBeFound v
+found_sound : (absent : ℕ) (v : Option ℤ) (f : ℤ → Run) → (1 ≤ absent) × (absent ≤ 999) → IsValueOrNone v
     → ((x : ℤ) → IsValue x → IsSound (f x)) → IsSound (if_found absent v f)
 found_sound absent None f c h s = (c.0, omega (arith, c.1))
 found_sound absent (Some v) f c h s = s v h
 
-found_or_value : (absent : ℤ) (found : Option ℤ) → IsValue absent → MayBeFound found → IsValue (found_or absent found)
+found_or_value : (absent : ℤ) (found : Option ℤ) → IsValue absent → IsValueOrNone found → IsValue (found_or absent found)
 found_or_value absent None h may = h
 found_or_value absent (Some v) h may = may
 
@@ -219,6 +224,14 @@ module _ (args : List ℤ) (all_values : All IsValue args) where
       (λ v h. with_key_sound table n (λ k. with_stored v (puts k (Some v) (run args rest regs answers))) is_table g
       (with_stored_sound v (puts (table, n) (Some v) (run args rest regs answers)) h
       ((is_table, g), (h, run_sound rest regs answers behind l (λ r k e. assigned r k (or_right _ _ e)) m all)))))
+  run_sound (way.remove table id rest) regs answers c l assigned m all =
+      let here = (λ (f : Flaw). (or_parts _ _ (c f)).0) in
+      let behind = (λ (f : Flaw). (or_parts _ _ (c f)).1) in
+      let is_table = allowed_number (length args) (Table table) (λ f. (or_parts _ _ (here f)).0) in
+      with_value_sound (value_of id args regs) _ (value_fine regs id (λ f. (or_parts _ _ (here f)).1)
+      (λ r h e. assigned r h (or_left _ _ e)))
+      (λ n g. with_key_sound table n (λ k. puts k None (run args rest regs answers)) is_table g
+      ((is_table, g), (tt, run_sound rest regs answers behind l (λ r k e. assigned r k (or_right _ _ e)) m all)))
   run_sound (way.save to value rest) regs answers c l assigned m all =
       let here = (λ (f : Flaw). (or_parts _ _ (c f)).0) in
       let behind = (λ (f : Flaw). (or_parts _ _ (c f)).1) in

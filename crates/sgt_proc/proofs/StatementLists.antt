@@ -1,7 +1,7 @@
 -- Facts of a list of statements, from those of one statement and of the ones after it.
 use Rattle.std.proofs.Common.{◌≡◌, refl, ap, ◌∙◌, ℕ, ◌+◌, ◌<◌, max, length, get_or, drop, Bool, true, false, ◌||◌, List, arith}
 use Rattle.sgt_model.specs.declared.procedure.Statement.{Statement}
-use Rattle.sgt_model.specs.declared.procedure.Statement.TheVariants.{Look, Find, Put, Let, Ask, If', Answer}
+use Rattle.sgt_model.specs.declared.procedure.Statement.TheVariants.{Look, Find, Put, Remove, Let, Ask, If', Answer}
 use Rattle.sgt_model.specs.Syntax.{Block, empty}
 use Rattle.sgt_model.specs.ProcedureTexts.{expr_text, cond_text, in_front, row_block, block_of}
 use Rattle.sgt_proc.specs.declared.numbers.Number.{Number}
@@ -21,6 +21,7 @@ in_before so (Find to table id absent) b =
     or_first (so (Register to) || (so (Table table) || (in_expr so (expr_text id) || in_expr so (expr_text absent)))) (in_block so b)
 in_before so (Put table id value) b = or_first (so (Table table) || (in_expr so (expr_text id) || in_expr so (expr_text value)))
     (in_block so b)
+in_before so (Remove table id) b = or_first (so (Table table) || in_expr so (expr_text id)) (in_block so b)
 in_before so (Let to value) b = or_first (so (Register to) || in_expr so (expr_text value)) (in_block so b)
 in_before so (Ask code) b = or_first (so (Code code)) (in_block so b)
 in_before so (If' cond p ys q ns) b =
@@ -31,6 +32,7 @@ size_before : (s : Statement) (b : Block) → size (in_front s b) ≡ size (in_f
 size_before (Look to table id absent) b = omega arith
 size_before (Find to table id absent) b = omega arith
 size_before (Put table id value) b = omega arith
+size_before (Remove table id) b = omega arith
 size_before (Let to value) b = omega arith
 size_before (Ask code) b = omega arith
 size_before (If' cond p ys q ns) b = omega arith
@@ -40,6 +42,7 @@ depth_before : (s : Statement) (b : Block) → depth (in_front s b) ≡ max (dep
 depth_before (Look to table id absent) b = omega arith
 depth_before (Find to table id absent) b = omega arith
 depth_before (Put table id value) b = omega arith
+depth_before (Remove table id) b = omega arith
 depth_before (Let to value) b = omega arith
 depth_before (Ask code) b = omega arith
 depth_before (If' cond p ys q ns) b = omega arith
@@ -49,6 +52,7 @@ terms_before : (s : Statement) (b : Block) → exprs_depth (in_front s b) ≡ ma
 terms_before (Look to table id absent) b = omega arith
 terms_before (Find to table id absent) b = omega arith
 terms_before (Put table id value) b = omega arith
+terms_before (Remove table id) b = omega arith
 terms_before (Let to value) b = omega arith
 terms_before (Ask code) b = omega arith
 terms_before (If' cond p ys q ns) b = omega arith

@@ -5,7 +5,7 @@ use Rattle.std.proofs.lemmas.List.{take_all}
 use Rattle.std.specs.declared.vec.Vec.{Vec}
 use Rattle.std.specs.declared.alloc.Global.{Global}
 use Rattle.sgt_model.specs.declared.procedure.Statement.{Statement}
-use Rattle.sgt_model.specs.declared.procedure.Statement.TheVariants.{Look, Find, Put, Let, Ask, If', If, Answer}
+use Rattle.sgt_model.specs.declared.procedure.Statement.TheVariants.{Look, Find, Put, Remove, Let, Ask, If', If, Answer}
 use Rattle.sgt_model.specs.declared.procedure.Cond.{Cond}
 use Rattle.sgt_model.specs.Syntax.{Block, empty}
 use Rattle.sgt_model.specs.ProcedureTexts.{cond_text, in_front, block_of}
@@ -16,6 +16,7 @@ onto_before : (s : Statement) (b : Block) (rest : Way) → onto (in_front s b) r
 onto_before (Look to table id absent) b rest = refl
 onto_before (Find to table id absent) b rest = refl
 onto_before (Put table id value) b rest = refl
+onto_before (Remove table id) b rest = refl
 onto_before (Let to value) b rest = refl
 onto_before (Ask code) b rest = refl
 onto_before (If' cond s ys t ns) b rest = refl

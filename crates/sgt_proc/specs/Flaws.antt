@@ -1,7 +1,7 @@
 -- The flaws that a procedure's text can have.
 use Rattle.std.specs.Prelude.{ℕ, ◌+◌, ◌<◌, max, Bool, false, not, ◌&&◌, ◌||◌, nat_eq, nat_lt, nat_le, IsTrue}
 use Rattle.sgt_model.specs.Numbers.{is_value}
-use Rattle.sgt_model.specs.Syntax.{ExprText, num, arg, reg, sum, diff, product, quotient, CondText, less, at_most, equal, Block, empty, look, find, put, save, ask, choose, answer, ProcedureText}
+use Rattle.sgt_model.specs.Syntax.{ExprText, num, arg, reg, sum, diff, product, quotient, CondText, less, at_most, equal, Block, empty, look, find, put, remove, save, ask, choose, answer, ProcedureText}
 use Rattle.sgt_model.specs.Ways.{Way, onto}
 use Rattle.sgt_model.specs.Ways as way
 use Rattle.sgt_proc.specs.declared.flaw.Flaw.{Flaw}
@@ -31,6 +31,7 @@ in_block so empty = false
 in_block so (look to table id absent b) = (so (Register to) || (so (Table table) || (in_expr so id || so (Code absent)))) || in_block so b
 in_block so (find to table id absent b) = (so (Register to) || (so (Table table) || (in_expr so id || in_expr so absent))) || in_block so b
 in_block so (put table id value b) = (so (Table table) || (in_expr so id || in_expr so value)) || in_block so b
+in_block so (remove table id b) = (so (Table table) || in_expr so id) || in_block so b
 in_block so (save to value b) = (so (Register to) || in_expr so value) || in_block so b
 in_block so (ask code b) = so (Code code) || in_block so b
 in_block so (choose test ys ns b) = (in_cond so test || (in_block so ys || in_block so ns)) || in_block so b
@@ -83,6 +84,7 @@ uses_unset r way.end = false
 uses_unset r (way.look to table id absent rest) = uses r id || (not (nat_eq to r) && uses_unset r rest)
 uses_unset r (way.find to table id absent rest) = (uses r id || uses r absent) || (not (nat_eq to r) && uses_unset r rest)
 uses_unset r (way.put table id value rest) = (uses r id || uses r value) || uses_unset r rest
+uses_unset r (way.remove table id rest) = uses r id || uses_unset r rest
 uses_unset r (way.save to value rest) = uses r value || (not (nat_eq to r) && uses_unset r rest)
 uses_unset r (way.ask code) = false
 uses_unset r (way.fork test ys ns) = cond_uses r test || (uses_unset r ys || uses_unset r ns)
@@ -98,6 +100,7 @@ most_answers way.end = 0
 most_answers (way.look to table id absent rest) = most_answers rest
 most_answers (way.find to table id absent rest) = most_answers rest
 most_answers (way.put table id value rest) = most_answers rest
+most_answers (way.remove table id rest) = most_answers rest
 most_answers (way.save to value rest) = most_answers rest
 most_answers (way.ask code) = 0
 most_answers (way.fork test ys ns) = max (most_answers ys) (most_answers ns)
@@ -109,6 +112,7 @@ size empty = 0
 size (look to table id absent b) = 1 + size b
 size (find to table id absent b) = 1 + size b
 size (put table id value b) = 1 + size b
+size (remove table id b) = 1 + size b
 size (save to value b) = 1 + size b
 size (ask code b) = 1 + size b
 size (choose test ys ns b) = 1 + (size ys + size ns) + size b
@@ -136,6 +140,7 @@ exprs_depth empty = 0
 exprs_depth (look to table id absent b) = max (expr_depth id) (exprs_depth b)
 exprs_depth (find to table id absent b) = max (max (expr_depth id) (expr_depth absent)) (exprs_depth b)
 exprs_depth (put table id value b) = max (max (expr_depth id) (expr_depth value)) (exprs_depth b)
+exprs_depth (remove table id b) = max (expr_depth id) (exprs_depth b)
 exprs_depth (save to value b) = max (expr_depth value) (exprs_depth b)
 exprs_depth (ask code b) = exprs_depth b
 exprs_depth (choose test ys ns b) = max (max (cond_depth test) (max (exprs_depth ys) (exprs_depth ns))) (exprs_depth b)
@@ -147,6 +152,7 @@ depth empty = 0
 depth (look to table id absent b) = max 1 (depth b)
 depth (find to table id absent b) = max 1 (depth b)
 depth (put table id value b) = max 1 (depth b)
+depth (remove table id b) = max 1 (depth b)
 depth (save to value b) = max 1 (depth b)
 depth (ask code b) = max 1 (depth b)
 depth (choose test ys ns b) = max (1 + max (depth ys) (depth ns)) (depth b)

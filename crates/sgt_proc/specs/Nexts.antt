@@ -1,5 +1,5 @@
 -- The next step of a procedure, as the code represents it.
-use Rattle.std.specs.Prelude.{ℤ, List, [], Some}
+use Rattle.std.specs.Prelude.{ℤ, List, [], IfSome}
 use Rattle.sgt_model.specs.Numbers.{IsValue}
 use Rattle.sgt_model.specs.Traces as trace
 use Rattle.sgt_proc.specs.declared.next.Ahead.{Ahead}
@@ -10,14 +10,14 @@ use Rattle.sgt_proc.specs.declared.next.Next.TheVariants.{Look, Put, Ends, Asks}
 -- the same, as the definitions represent it
 abbrev pub seen : Next → trace.Next
 seen (Look k) = trace.Looks k
-seen (Put k v) = trace.Puts k (Some v)
+seen (Put k v) = trace.Puts k v
 seen (Ends answers) = trace.Ends answers
 seen (Asks code) = trace.Raises code
 
--- what is written next is a value
+-- what is written next is a value, or none
 abbrev pub StoresValue : Next → Type 0
 StoresValue (Look k) = Unit {0}
-StoresValue (Put k v) = IsValue v
+StoresValue (Put k v) = IfSome v IsValue
 StoresValue (Ends answers) = Unit {0}
 StoresValue (Asks code) = Unit {0}
 
@@ -36,11 +36,11 @@ answers_at _ = []
 -- a next step without its answers, as the definitions represent it, if the answers at the end are these
 abbrev pub seen_with : List ℤ → Ahead → trace.Next
 seen_with answers (ahead.Look k) = trace.Looks k
-seen_with answers (ahead.Put k v) = trace.Puts k (Some v)
+seen_with answers (ahead.Put k v) = trace.Puts k v
 seen_with answers ahead.Ends = trace.Ends answers
 seen_with answers (ahead.Asks code) = trace.Raises code
 
--- what is written next is a value
+-- what is written next is a value, or none
 abbrev pub PutsValue : Ahead → Type 0
-PutsValue (ahead.Put k v) = IsValue v
+PutsValue (ahead.Put k v) = IfSome v IsValue
 PutsValue _ = Unit {0}

@@ -1,7 +1,7 @@
 -- A path into a procedure's text: the Ifs that a position is inside of, outermost first, each with the branch that
 -- was taken.
 use Rattle.std.specs.Prelude.{ℕ, zero, suc, ◌+◌, ◌<◌, Bool, cond, List, [], ◌∷◌}
-use Rattle.sgt_model.specs.Syntax.{Block, empty, look, find, put, save, ask, choose, answer}
+use Rattle.sgt_model.specs.Syntax.{Block, empty, look, find, put, remove, save, ask, choose, answer}
 use Rattle.sgt_model.specs.Left.{followed_by}
 use Rattle.sgt_proc.specs.declared.place.Turn.{Turn}
 
@@ -12,6 +12,7 @@ behind (suc n) empty = empty
 behind (suc n) (look to table id absent b) = behind n b
 behind (suc n) (find to table id absent b) = behind n b
 behind (suc n) (put table id value b) = behind n b
+behind (suc n) (remove table id b) = behind n b
 behind (suc n) (save to value b) = behind n b
 behind (suc n) (ask code b) = behind n b
 behind (suc n) (choose test ys ns b) = behind n b

@@ -1,5 +1,5 @@
 -- The rest of a procedure at a position, and how a cursor moves from position to position.
-use Rattle.std.specs.Prelude.{◌≡◌, ℕ, ℤ, ◌+◌, ◌*◌, ◌<◌, ◌≤◌, length, Some, Ok, Err, slice_set}
+use Rattle.std.specs.Prelude.{◌≡◌, ℕ, ℤ, ◌+◌, ◌*◌, ◌<◌, ◌≤◌, length, Some, IfSome, Ok, Err, slice_set}
 use Rattle.sgt_model.specs.Numbers.{IsValue}
 use Rattle.sgt_model.specs.Syntax.{Block}
 use Rattle.sgt_model.specs.Executions.{OrCode}
@@ -35,7 +35,7 @@ reach_from b m = reach (to_come m.path.items m.at b) m.args m.registers m.answer
 abbrev pub reached_at : Block → Place → Stop → OrCode Reached
 reached_at b m (stop.Look key to absent) = Ok (AtLook key to absent (rest_from b m (m.at + 1)))
 reached_at b m (stop.Find key to absent) = Ok (AtFind key to absent (rest_from b m (m.at + 1)))
-reached_at b m (stop.Put key v) = Ok (AtStore key (Some v) (rest_from b m (m.at + 1)))
+reached_at b m (stop.Put key v) = Ok (AtStore key v (rest_from b m (m.at + 1)))
 reached_at b m stop.End = Ok (AtEnd m.registers m.answers)
 reached_at b m (stop.Asks code) = Err code
 reached_at b m (stop.Absent code) = Err code
@@ -47,9 +47,9 @@ StopsBefore m (stop.Find key to absent) = m.at < 64
 StopsBefore m (stop.Put key v) = m.at < 64
 StopsBefore m _ = Unit {0}
 
--- what is to be written is a value
+-- what is to be written is a value, or none
 abbrev pub StopsAtValue : Stop → Type 0
-StopsAtValue (stop.Put key v) = IsValue v
+StopsAtValue (stop.Put key v) = IfSome v IsValue
 StopsAtValue _ = Unit {0}
 
 -- it has not stopped for a read that found no record

@@ -11,21 +11,16 @@ use Rattle.sgt_proc.specs.Flaws.{IsFlawless}
 abbrev pub IsKey : Key → Type 0
 IsKey k = (k.0 ≤ 7) × IsValue k.1
 
--- what a read may return: no record, or a value
-abbrev pub MayBeFound : Option ℤ → Type 0
-MayBeFound None = Unit {0}
-MayBeFound (Some v) = IsValue v
+-- what a read may return and what a write may write: none, or a value
+abbrev pub IsValueOrNone : Option ℤ → Type 0
+IsValueOrNone None = Unit {0}
+IsValueOrNone (Some v) = IsValue v
 
--- what a write writes: a value, never none
-abbrev pub IsSomeValue : Option ℤ → Type 0
-IsSomeValue None = ⊥
-IsSomeValue (Some v) = IsValue v
-
--- whatever the reads return: all keys are valid, only values are written, at most 8 values are answered, and a code
--- that is raised is from 1 to 1000, never 0
+-- whatever the reads return: all keys are valid, each write is of a value or of none, at most 8 values are answered, and a
+-- code that is raised is from 1 to 1000, never 0
 abbrev pub IsSound : Run → Type 0
-IsSound (looks k go) = IsKey k × ((found : Option ℤ) → MayBeFound found → IsSound (go found))
-IsSound (puts k v rest) = IsKey k × (IsSomeValue v × IsSound rest)
+IsSound (looks k go) = IsKey k × ((found : Option ℤ) → IsValueOrNone found → IsSound (go found))
+IsSound (puts k v rest) = IsKey k × (IsValueOrNone v × IsSound rest)
 IsSound (ends answers) = (length answers ≤ 8) × All IsValue answers
 IsSound (raises code) = (1 ≤ code) × (code ≤ 1000)
 

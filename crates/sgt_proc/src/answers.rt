@@ -33,6 +33,7 @@ fn most_answers_from(statement: &Statement, behind: u8) -> u8
         Statement::Look { .. }
         | Statement::Find { .. }
         | Statement::Put { .. }
+        | Statement::Remove { .. }
         | Statement::Let { .. } => behind,
     }
 }

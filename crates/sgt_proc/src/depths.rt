@@ -30,6 +30,7 @@ fn depth_of(statement: &Statement) -> u8
         Statement::Look { .. }
         | Statement::Find { .. }
         | Statement::Put { .. }
+        | Statement::Remove { .. }
         | Statement::Let { .. }
         | Statement::Ask { .. }
         | Statement::Answer { .. } => 1,
@@ -53,7 +54,7 @@ fn exprs_depth_of(statement: &Statement) -> u8
     ensures { result ≡ min 17 (exprs_depth (in_front statement.now empty)) }
 {
     match statement {
-        Statement::Look { id, .. } => expr_depth(id),
+        Statement::Look { id, .. } | Statement::Remove { id, .. } => expr_depth(id),
         Statement::Find { id, absent, .. } => expr_depth(id).max(expr_depth(absent)),
         Statement::Put { id, value, .. } => expr_depth(id).max(expr_depth(value)),
         Statement::Ask { .. } => 0,

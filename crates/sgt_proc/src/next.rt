@@ -6,8 +6,8 @@ use sgt_model::{Answers, Key};
 pub enum Ahead {
     /// It reads the record.
     Look(Key),
-    /// It writes the value to the record.
-    Put(Key, i64),
+    /// It writes the value to the record, or none: then it removes the record.
+    Put(Key, Option<i64>),
     /// It ends.
     Ends,
     /// It aborts with the code: one of its own from 1 to 999, or 1000 from arithmetic.
@@ -19,8 +19,8 @@ pub enum Ahead {
 pub enum Next {
     /// It reads the record.
     Look(Key),
-    /// It writes the value to the record.
-    Put(Key, i64),
+    /// It writes the value to the record, or none: then it removes the record.
+    Put(Key, Option<i64>),
     /// It ends, with these answers.
     Ends(Answers),
     /// It aborts with the code: one of its own from 1 to 999, or 1000 from arithmetic.

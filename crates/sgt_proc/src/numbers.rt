@@ -101,6 +101,9 @@ impl Rule {
                     || self.is_broken_in(id)
                     || self.is_broken_in(value)
             }
+            Statement::Remove { table, id } => {
+                self.is_broken(Number::Table(*table)) || self.is_broken_in(id)
+            }
             Statement::Let { reg, value } => {
                 self.is_broken(Number::Register(*reg)) || self.is_broken_in(value)
             }

@@ -32,8 +32,8 @@ pub enum Stop {
     Look { key: Key, reg: u8, absent: u16 },
     /// At a read, which sets the register to the value, or to `absent` if there is no record.
     Find { key: Key, reg: u8, absent: i64 },
-    /// At a write.
-    Put(Key, i64),
+    /// At a write: of the value, or of none, which removes the record.
+    Put(Key, Option<i64>),
     /// At its end.
     End,
     /// It aborts with the code.
@@ -167,8 +167,12 @@ impl Place {
                     if !is_value(stored) {
                         return stop.stand(Stop::Asks(WRONG));
                     }
-                    stop.stand(Stop::Put(key, stored))
+                    stop.stand(Stop::Put(key, Some(stored)))
                 }
+                Err(code) => stop.stand(Stop::Asks(code)),
+            },
+            Statement::Remove { table, id } => match self.key(*table, id) {
+                Ok(key) => stop.stand(Stop::Put(key, None)),
                 Err(code) => stop.stand(Stop::Asks(code)),
             },
             Statement::Let { reg, value } => match self.value(value) {
@@ -290,6 +294,7 @@ fn branch_of<'a>(statement: &'a Statement, held: bool) -> &'a [Statement]
         Statement::Look { .. }
         | Statement::Find { .. }
         | Statement::Put { .. }
+        | Statement::Remove { .. }
         | Statement::Let { .. }
         | Statement::Ask { .. }
         | Statement::Answer { .. } => &[],

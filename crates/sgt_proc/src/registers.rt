@@ -48,6 +48,7 @@ fn is_live_before(statement: &Statement, register: u8, behind: bool) -> bool
             ..
         } => uses(id, register) || uses(absent, register) || *reg != register && behind,
         Statement::Put { id, value, .. } => uses(id, register) || uses(value, register) || behind,
+        Statement::Remove { id, .. } => uses(id, register) || behind,
         Statement::Let { reg, value } => uses(value, register) || *reg != register && behind,
         Statement::Ask { .. } => false,
         Statement::If { cond, yes, no } => {

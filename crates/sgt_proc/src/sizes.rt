@@ -30,6 +30,7 @@ fn size_of(statement: &Statement) -> u8
         Statement::Look { .. }
         | Statement::Find { .. }
         | Statement::Put { .. }
+        | Statement::Remove { .. }
         | Statement::Let { .. }
         | Statement::Ask { .. }
         | Statement::Answer { .. } => 1,

@@ -4,7 +4,7 @@ use Rattle.std.specs.Prelude.{codes, cond, option_and_then}
 use Rattle.std.proofs.lemmas.Slice.Eq.{bytes_eq-Decides}
 use Rattle.serde_json.specs.Data.{Data, null, boolean, number, array, string, object, Items, no_items, item}
 use Rattle.serde_json.specs.Find.{as_str}
-use Rattle.sgt_model.specs.Syntax.{ExprText, num, arg, reg, sum, diff, product, quotient, CondText, less, at_most, equal, Block, empty, look, find, put, save, ask, choose, answer, ProcedureText}
+use Rattle.sgt_model.specs.Syntax.{ExprText, num, arg, reg, sum, diff, product, quotient, CondText, less, at_most, equal, Block, empty, look, find, put, remove, save, ask, choose, answer, ProcedureText}
 use Rattle.sgt_proc_json.specs.Trees.{whole, natural}
 use Rattle.sgt_proc_json.specs.Spelling.{WordAnd, Byte, Short, SpellsTerm, SpellsTest, Listed, SpellsBlock, Spells}
 use Rattle.sgt_proc_json.specs.Readings.{Reading, here, at, one, two, three, four, or_here, is_word, byte, short, expression, condition, statement, block, statements, reading, one_item, two_items, three_items, four_items}
@@ -188,12 +188,18 @@ one_found w a f is =
 
 two_found : (w a b : Data) (f : Block → Block) → two_items (as_str w) a b ≡ Ok f → Front f (array (item w (item a (item b no_items))))
 two_found w a b f is =
-    elim (chosen (is_word (as_str w) (codes "let")) _ here f is) [
+    elim (chosen (is_word (as_str w) (codes "let")) _ _ f is) [
       | inl h ↦ (let o = two_read (λ to value rest. save to value rest) (at 1 (byte a)) (at 2 (expression b)) f h.1 in
           subst (λ g. Front g (array (item w (item a (item b no_items))))) o.4
           (λ rest items others. rw (the_word w (codes "let") h.0)
           ((refl, (byte_read 1 o.0 a o.2, (term_read b o.1 (at_read 2 (expression b) o.1 o.3), tt))), others)))
-      | inr none ↦ absurd (cc)
+      | inr other ↦ elim (chosen (is_word (as_str w) (codes "remove")) _ here f other) [
+        | inl h ↦ (let o = two_read (λ table id rest. remove table id rest) (at 1 (byte a)) (at 2 (expression b)) f h.1 in
+            subst (λ g. Front g (array (item w (item a (item b no_items))))) o.4
+            (λ rest items others. rw (the_word w (codes "remove") h.0)
+            ((refl, (byte_read 1 o.0 a o.2, (term_read b o.1 (at_read 2 (expression b) o.1 o.3), tt))), others)))
+        | inr none ↦ absurd (cc)
+      ]
     ]
 
 three_found : (w a b c : Data) (f : Block → Block) → three_items (as_str w) a b c ≡ Ok f

@@ -2,7 +2,7 @@
 use Rattle.std.proofs.Common.{◌≡◌, refl, ap, ◌∙◌, ℕ, ◌+◌, List, [], ◌∷◌, Ok}
 use Rattle.std.specs.Prelude.{codes}
 use Rattle.serde_json.specs.Data.{Data, null, boolean, number, array, string, object, Items, no_items, item}
-use Rattle.sgt_model.specs.Syntax.{ExprText, num, arg, reg, sum, diff, product, quotient, CondText, less, at_most, equal, Block, empty, look, find, put, save, ask, choose, answer, ProcedureText}
+use Rattle.sgt_model.specs.Syntax.{ExprText, num, arg, reg, sum, diff, product, quotient, CondText, less, at_most, equal, Block, empty, look, find, put, remove, save, ask, choose, answer, ProcedureText}
 use Rattle.sgt_proc_json.specs.Spelling.{Shape, Each, WordAnd, Byte, Short, SpellsTerm, SpellsTest, Listed, SpellsBlock, Spells}
 use Rattle.sgt_proc_json.specs.Readings.{at, one, or_here, byte, short, expression, condition, statement, block, statements, reading}
 
@@ -173,6 +173,11 @@ read_block (put table id value b) n (item d rest) is =
     let r = three_are (codes "put") (Byte table) (SpellsTerm id) (SpellsTerm value) d is.0 in
     read_first n d rest (λ b. put table id value b) b (rw r.3
     (rw (read_byte table 1 r.0 r.4, read_term id r.1 r.5, read_term value r.2 r.6) refl)) (read_block b (n + 1) rest is.1)
+read_block (remove table id b) n no_items is = absurd is
+read_block (remove table id b) n (item d rest) is =
+    let r = two_are (codes "remove") (Byte table) (SpellsTerm id) d is.0 in
+    read_first n d rest (λ b. remove table id b) b (rw r.2 (rw (read_byte table 1 r.0 r.3, read_term id r.1 r.4) refl))
+    (read_block b (n + 1) rest is.1)
 read_block (save to value b) n no_items is = absurd is
 read_block (save to value b) n (item d rest) is =
     let r = two_are (codes "let") (Byte to) (SpellsTerm value) d is.0 in

@@ -4,7 +4,7 @@ use Rattle.std.specs.Prelude.{ℕ, ◌+◌, take, Bool, false, cond, List, [], �
 use Rattle.std.specs.Str.{bytes_eq}
 use Rattle.serde_json.specs.Data.{Data, array, Items, no_items, item}
 use Rattle.serde_json.specs.Find.{as_str}
-use Rattle.sgt_model.specs.Syntax.{ExprText, num, arg, reg, sum, diff, product, quotient, CondText, less, at_most, equal, Block, empty, look, find, put, save, ask, choose, answer, ProcedureText}
+use Rattle.sgt_model.specs.Syntax.{ExprText, num, arg, reg, sum, diff, product, quotient, CondText, less, at_most, equal, Block, empty, look, find, put, remove, save, ask, choose, answer, ProcedureText}
 use Rattle.sgt_proc_json.specs.Trees.{whole, natural}
 
 -- a value that is spelled, or the position of a shape error: indexes from the top, counted from 0
@@ -98,7 +98,9 @@ one_item word a =
 
 -- the same for two items
 abbrev pub two_items : Option (List ℕ) → Data → Data → Reading (Block → Block)
-two_items word a b = cond (is_word word (codes "let")) (two (λ to value rest. save to value rest) (at 1 (byte a)) (at 2 (expression b))) here
+two_items word a b =
+    cond (is_word word (codes "let")) (two (λ to value rest. save to value rest) (at 1 (byte a)) (at 2 (expression b)))
+    (cond (is_word word (codes "remove")) (two (λ table id rest. remove table id rest) (at 1 (byte a)) (at 2 (expression b))) here)
 
 -- the same for three
 abbrev pub three_items : Option (List ℕ) → Data → Data → Data → Reading (Block → Block)

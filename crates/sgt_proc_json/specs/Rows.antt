@@ -2,7 +2,7 @@
 use Rattle.std.specs.Prelude.{Bool, false, codes}
 use Rattle.serde_json.specs.Data.{Data, Items, no_items, item}
 use Rattle.serde_json.specs.Find.{as_str}
-use Rattle.sgt_model.specs.Syntax.{CondText, Block, look, find, put, save, ask, choose, answer}
+use Rattle.sgt_model.specs.Syntax.{CondText, Block, look, find, put, remove, save, ask, choose, answer}
 use Rattle.sgt_proc_json.specs.Readings.{Reading, here, at, one, two, three, four, is_word, byte, short, expression, condition, block, one_item, two_items, three_items, four_items}
 
 -- after `ask`
@@ -16,6 +16,10 @@ answer_of a = one (λ value rest. answer value rest) (at 1 (expression a))
 -- after `let`
 abbrev pub let_of : Data → Data → Reading (Block → Block)
 let_of a b = two (λ to value rest. save to value rest) (at 1 (byte a)) (at 2 (expression b))
+
+-- after `remove`
+abbrev pub remove_of : Data → Data → Reading (Block → Block)
+remove_of a b = two (λ table id rest. remove table id rest) (at 1 (byte a)) (at 2 (expression b))
 
 -- after `put`
 abbrev pub put_of : Data → Data → Data → Reading (Block → Block)

@@ -2,7 +2,7 @@
 -- and expression.
 use Rattle.std.specs.Prelude.{◌≡◌, ⊤, ℕ, ℤ, List, [], ◌∷◌, Some, option_and_then, codes}
 use Rattle.serde_json.specs.Data.{Data, array, string, Items, no_items, item}
-use Rattle.sgt_model.specs.Syntax.{ExprText, num, arg, reg, sum, diff, product, quotient, CondText, less, at_most, equal, Block, empty, look, find, put, save, ask, choose, answer, ProcedureText}
+use Rattle.sgt_model.specs.Syntax.{ExprText, num, arg, reg, sum, diff, product, quotient, CondText, less, at_most, equal, Block, empty, look, find, put, remove, save, ask, choose, answer, ProcedureText}
 use Rattle.sgt_proc_json.specs.Trees.{whole, natural}
 
 -- a property of trees
@@ -66,6 +66,7 @@ SpellsBlock empty (item tree items) = ⊥
 SpellsBlock (look to table id absent b) items = First (WordAnd (codes "look") (Byte to ∷ Byte table ∷ SpellsTerm id ∷ Short absent ∷ [])) (SpellsBlock b) items
 SpellsBlock (find to table id absent b) items = First (WordAnd (codes "find") (Byte to ∷ Byte table ∷ SpellsTerm id ∷ SpellsTerm absent ∷ [])) (SpellsBlock b) items
 SpellsBlock (put table id value b) items = First (WordAnd (codes "put") (Byte table ∷ SpellsTerm id ∷ SpellsTerm value ∷ [])) (SpellsBlock b) items
+SpellsBlock (remove table id b) items = First (WordAnd (codes "remove") (Byte table ∷ SpellsTerm id ∷ [])) (SpellsBlock b) items
 SpellsBlock (save to value b) items = First (WordAnd (codes "let") (Byte to ∷ SpellsTerm value ∷ [])) (SpellsBlock b) items
 SpellsBlock (ask code b) items = First (WordAnd (codes "ask") (Short code ∷ [])) (SpellsBlock b) items
 SpellsBlock (choose test ys ns b) items = First (WordAnd (codes "if") (SpellsTest test ∷ Listed (SpellsBlock ys) ∷ Listed (SpellsBlock ns) ∷ [])) (SpellsBlock b) items

@@ -7,7 +7,7 @@ ghost use Rattle.sgt_model.specs.ProcedureTexts.{in_front, block_of};
 ghost use Rattle.sgt_proc_json.specs.Readings.{at, is_word, statement, block, one_item, two_items, three_items, four_items};
 ghost use Rattle.sgt_proc_json.specs.Refusals.{Tells, IsList};
 ghost use Rattle.sgt_proc_json.specs.declared.errors.ReadError.TheVariants.{NoMemory};
-ghost use Rattle.sgt_proc_json.specs.Rows.{is_if, if_row, branches, other_row, ask_of, answer_of, let_of, put_of, look_of, find_of};
+ghost use Rattle.sgt_proc_json.specs.Rows.{is_if, if_row, branches, other_row, ask_of, answer_of, let_of, remove_of, put_of, look_of, find_of};
 
 use crate::errors::ReadError;
 use crate::read_cond::cond_at;
@@ -122,7 +122,7 @@ fn one_item(alloc: Global, word: &Value, a: &Value) -> Result<Statement, ReadErr
     }
 }
 
-/// The statement that a word and two items spell: `let`.
+/// The statement that a word and two items spell: `let` or `remove`.
 fn two_items(alloc: Global, word: &Value, a: &Value, b: &Value) -> Result<Statement, ReadError>
     ensures ok { IfOk result (λ s.
         two_items (as_str (view word.now)) (view a.now) (view b.now) ≡ Ok (in_front s)) }
@@ -131,6 +131,7 @@ fn two_items(alloc: Global, word: &Value, a: &Value, b: &Value) -> Result<Statem
 {
     match word.as_str() {
         Some("let") => let_of(alloc, a, b),
+        Some("remove") => remove_of(alloc, a, b),
         _ => Err(ReadError::here()),
     }
 }
@@ -206,6 +207,17 @@ fn let_of(alloc: Global, a: &Value, b: &Value) -> Result<Statement, ReadError>
     Ok(Statement::Let {
         reg: byte_at(1, a)?,
         value: expr_at(alloc, 2, b)?,
+    })
+}
+
+/// The Remove that these items spell.
+fn remove_of(alloc: Global, a: &Value, b: &Value) -> Result<Statement, ReadError>
+    ensures ok { IfOk result (λ s. remove_of (view a.now) (view b.now) ≡ Ok (in_front s)) }
+    ensures err { IfErr result (Tells (remove_of (view a.now) (view b.now))) }
+{
+    Ok(Statement::Remove {
+        table: byte_at(1, a)?,
+        id: expr_at(alloc, 2, b)?,
     })
 }
 

@@ -34,6 +34,7 @@ fn write_statement(alloc: Global, statement: &Statement) -> Result<Value, NoMemo
             absent,
         } => write_find(alloc, *reg, *table, id, absent),
         Statement::Put { table, id, value } => write_put(alloc, *table, id, value),
+        Statement::Remove { table, id } => write_remove(alloc, *table, id),
         Statement::Let { reg, value } => write_let(alloc, *reg, value),
         Statement::Ask { code } => write_ask(alloc, *code),
         Statement::If { cond, yes, no } => {
@@ -92,6 +93,15 @@ fn write_put(alloc: Global, table: u8, id: &Expr, value: &Expr) -> Result<Value,
     let id = write_expr(alloc, id)?;
     let value = write_expr(alloc, value)?;
     row_of_three(alloc, "put", write_byte(table), id, value)
+}
+
+/// The tree of a remove.
+fn write_remove(alloc: Global, table: u8, id: &Expr) -> Result<Value, NoMemory>
+    ensures { IfOk result (λ v. WordAnd (codes "remove")
+        (Byte table ∷ SpellsTerm (expr_text id.now) ∷ []) (view v)) }
+{
+    let id = write_expr(alloc, id)?;
+    row_of_two(alloc, "remove", write_byte(table), id)
 }
 
 /// The tree of a Let.

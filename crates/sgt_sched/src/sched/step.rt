@@ -68,7 +68,7 @@ impl<R: Records, A: Accesses, G: Graph> Sched<R, A, G> {
         match self.ahead_at(t, index) {
             Ahead::Look(key) => self.access(t, index, key, Operation::Look, lists, reply),
             Ahead::Put(key, value) => {
-                self.access(t, index, key, Operation::Store(Some(value)), lists, reply)
+                self.access(t, index, key, Operation::Store(value), lists, reply)
             }
             Ahead::Ends => {
                 *reply = ShortReply::Ended;

@@ -15,6 +15,10 @@ pub write_statement-returns-in-Put : goal.write_statement-returns-in-Put
 write_statement-returns-in-Put t c =
     rw c.in-Put.is (ok_then c.write_put.result _ _ (λ v is b items others. (is, others)) c.write_put.ensures)
 
+pub write_statement-returns-in-Remove : goal.write_statement-returns-in-Remove
+write_statement-returns-in-Remove t c =
+    rw c.in-Remove.is (ok_then c.write_remove.result _ _ (λ v is b items others. (is, others)) c.write_remove.ensures)
+
 pub write_statement-returns-in-Let : goal.write_statement-returns-in-Let
 write_statement-returns-in-Let t c =
     rw c.in-Let.is (ok_then c.write_let.result _ _ (λ v is b items others. (is, others)) c.write_let.ensures)

@@ -1,4 +1,4 @@
-use Rattle.std.proofs.Common.{arith, subst, Some, None}
+use Rattle.std.proofs.Common.{arith, subst, None}
 use Rattle.sgt_model.specs.Traces.{Ends, Raises}
 use Rattle.sgt_proc.specs.declared.next.Next.TheVariants.{Look}
 use Rattle.sgt_proc.specs.Nexts.{seen}
@@ -33,7 +33,7 @@ loop-preserved c = elim c.match-next.branch [
       c.loop.used c.loop.counter c.loop.cursor c.loop.invariant w.in-Look.key None w.in-Look.ensures.next
       (omega (arith, w.if-used-read.false, c.loop.invariant.few)))
   | in-Put w ↦ rw (w.used-is, w.cursor-is, w.stored.ensures) (store_passed c.args.self.now c.args.args.now c.args.read.now
-      c.loop.used c.loop.counter c.loop.cursor c.loop.invariant w.in-Put.field-0 (Some w.in-Put.field-1) w.in-Put.ensures.next)
+      c.loop.used c.loop.counter c.loop.cursor c.loop.invariant w.in-Put.field-0 w.in-Put.field-1 w.in-Put.ensures.next)
 ]
 
 pub returns-clause-next : goal.returns-clause-next

@@ -1,8 +1,7 @@
-use Rattle.std.proofs.Common.{rules, Some, refl, ap, sym, subst, ◌∙◌, w64, to_z, of_z, SFits}
-use Rattle.std.proofs.lemmas.Int.{to_z-of_z}
+use Rattle.std.proofs.Common.{refl, ap, sym, subst, ◌∙◌}
 use Rattle.std.proofs.lemmas.Result.{IfOk-weaker}
 use Rattle.sgt_model.specs.declared.reply.Reply.TheVariants as reply
-use Rattle.sgt_model.specs.Traces.{Puts, Ends, Raises}
+use Rattle.sgt_model.specs.Traces.{Ends, Raises}
 use Rattle.sgt_model.specs.ShortReplies.{reply_with}
 use Rattle.sgt_model.specs.Left.{next_left}
 use Rattle.sgt_proc.specs.Nexts.{answers_at}
@@ -26,19 +25,16 @@ returns-in-Look-clause-done g c = record {
 }
 
 pub returns-in-Put-clause-done : goal.returns-in-Put-clause-done
-returns-in-Put-clause-done g c =
-    let fits : SFits w64 c.in-Put.value = search rules in
-    let next = ap (λ v. Puts c.in-Put.key (Some v)) (to_z-of_z w64 c.in-Put.value fits) ∙ (ap (next_by (state c.args.self.now) c.args.t)
-    (sym c.in-Put.is) ∙ c.ahead_at.ensures.next) in
-    record {
-      done = IfOk-weaker (with_reply c.access-in-Put.result c.access-in-Put.new.reply) _ _ (λ b done.
-          (steps_on c.args.self.now.limits.asks c.args.t (state c.args.self.now) (reply_with b c.access-in-Put.new.lists) _
-          (Puts c.in-Put.key (Some (to_z w64 (of_z w64 c.in-Put.value))))
-          (c.in-Some.ensures.unended.0 refl).begun (c.in-Some.ensures.unended.0 refl).unended next) done)
-          c.access-in-Put.ensures.done.done;
-      refused = c.access-in-Put.ensures.done.refused;
-      kept = c.access-in-Put.ensures.done.kept;
-    }
+returns-in-Put-clause-done g c = record {
+  done = IfOk-weaker (with_reply c.access-in-Put.result c.access-in-Put.new.reply) _ _
+      (λ b done. (steps_on c.args.self.now.limits.asks c.args.t _ (reply_with b c.access-in-Put.new.lists) _ _
+      (c.in-Some.ensures.unended.0 refl).begun
+      (c.in-Some.ensures.unended.0 refl).unended (ap (next_by (state c.args.self.now) c.args.t) (sym c.in-Put.is)
+      ∙ c.ahead_at.ensures.next)) done)
+      c.access-in-Put.ensures.done.done;
+  refused = c.access-in-Put.ensures.done.refused;
+  kept = c.access-in-Put.ensures.done.kept;
+}
 
 pub returns-in-Ends-clause-done : goal.returns-in-Ends-clause-done
 returns-in-Ends-clause-done g c = record {
