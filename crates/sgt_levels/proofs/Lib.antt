@@ -1,0 +1,12 @@
+pub mod Times
+pub mod Split
+pub mod Chosen
+pub mod Fronts
+pub mod Wrong
+pub mod Commits
+pub mod Reading
+pub mod Order
+pub mod Raises
+pub mod Lates
+pub mod Rounds
+pub mod Examples

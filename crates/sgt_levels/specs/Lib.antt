@@ -1,0 +1,9 @@
+pub mod Snapshots
+pub mod Levels
+pub mod Commits
+pub mod Order
+pub mod Raises
+pub mod Lates
+pub mod Rounds
+pub mod Ruled
+pub mod Examples

@@ -1,0 +1,26 @@
+//! Levels of isolation of what clients saw, in the list-append model.
+//!
+//! Snapshot isolation (`specs/Snapshots.antt`) and read committed (`specs/Commits.antt`), beside the serial runs of
+//! `sgt_appends`, each by its runs and by the edges between transactions.
+//!
+//! Proved, for snapshot isolation and for read committed:
+//! - each edge goes forward in each run, so a cycle of the level's kind, or a fault of a read, leaves no run
+//! - times that rise along the edges are a run, if no read has a fault; a linear number of edges suffices
+//! - what is serializable is snapshot isolated, and what is snapshot isolated is read committed
+//! - write skew is snapshot isolated and not serializable; lost update is not snapshot isolated
+//!
+//! Not decided by edges alone: in which order two transactions come that append to one key, if neither append was seen.
+#![tactic(auto)]
+
+mod laws;
+mod ruling;
+
+pub use laws::{
+    commit_orders_are_enough, commit_raised_are_enough, commits_are_obeyed,
+    committed_cycles_are_enough, committed_faults_are_enough, decided_splits_are_enough,
+    lost_update_is_no_snapshot, no_miss_cycles_are_enough, seen_are_decided, serial_is_snapshot,
+    snapshot_cycles_are_enough, snapshot_faults_are_enough, snapshot_is_committed,
+    spaced_cycles_are_enough, split_is_obeyed, split_raised_are_enough, splits_are_enough,
+    tails_depend, write_skew_is_between,
+};
+pub use ruling::{Level, ruled_out};
