@@ -95,6 +95,8 @@ struct sgt_shared {
     atomic_bool is_claimed;      /* whether it is owed to the first that waits in line */
     atomic_uint asleep;          /* threads that have rested, and sleep for the lock */
     atomic_uint waiting;         /* threads that wait for the lock and have not rested */
+    atomic_uint closing;         /* threads that close: while there are any, those that have not rested leave the lock alone */
+    atomic_bool is_hooked;       /* whether the thread that holds the lock is in a hook */
     atomic_uint forks;           /* how many forks this process comes from, as of the opening */
     alignas(APART) struct line line;
     alignas(APART) pthread_mutex_t lock; /* of all that follows */
@@ -232,6 +234,7 @@ static void relax(void)
 static bool is_free(const sgt_shared *s, bool claims)
 {
     return !atomic_load_explicit(&s->is_held, memory_order_relaxed) && !atomic_load_explicit(&s->is_owed, memory_order_relaxed)
+        && atomic_load_explicit(&s->closing, memory_order_relaxed) == 0
         && (claims || !atomic_load_explicit(&s->is_claimed, memory_order_relaxed));
 }
 
@@ -302,6 +305,29 @@ static void await_lock(sgt_shared *s)
 static inline void lock(sgt_shared *s)
 {
     if (!is_free(s, false) || !try_lock(s)) await_lock(s);
+}
+
+/* Sleeps for a moment. A thread that is cancelled meanwhile goes on. */
+static void nap(void)
+{
+    const struct timespec moment = {0, NAP};
+    int cancels = 0;
+    pthread_setcancelstate(PTHREAD_CANCEL_DISABLE, &cancels);
+    nanosleep(&moment, 0);
+    pthread_setcancelstate(cancels, &cancels);
+}
+
+/*
+ * Takes the lock to close the engine, before all that have not rested. Whether it did: it does not wait for a hook, which may wait for
+ * this thread. Else the lock is released soon, and only threads that had looked before, or have rested, take it meanwhile, once each.
+ */
+static bool lock_to_close(sgt_shared *s)
+{
+    bool has = false;
+    atomic_fetch_add_explicit(&s->closing, 1, memory_order_relaxed);
+    while (!(has = try_lock(s)) && !atomic_load_explicit(&s->is_hooked, memory_order_relaxed)) nap();
+    atomic_fetch_sub_explicit(&s->closing, 1, memory_order_relaxed);
+    return has;
 }
 
 /* Counts a call that came before those of threads that sleep for the lock. */
@@ -475,6 +501,7 @@ static void begin_hook(struct hook *hook, sgt_shared *s)
     *hook = (struct hook){.shared = s, .outer = hooks};
     pthread_setcancelstate(PTHREAD_CANCEL_DISABLE, &hook->cancels);
     hooks = hook;
+    atomic_store_explicit(&s->is_hooked, true, memory_order_relaxed);
 }
 
 /* Ends it, and aborts what it has abandoned. */
@@ -482,6 +509,7 @@ static void end_hook(struct hook *hook)
 {
     hooks = hook->outer;
     pthread_setcancelstate(hook->cancels, &hook->cancels);
+    atomic_store_explicit(&hook->shared->is_hooked, false, memory_order_relaxed);
     if (hook->shared->abandons) quit_abandoned(hook->shared);
 }
 
@@ -816,12 +844,12 @@ static sgt_shared *allocated(void)
     return s;
 }
 
-/* The memory of an engine that was closed long ago, or null. */
+/* The memory of an engine that was closed long ago, and for whose lock nobody waits, or null. */
 static sgt_shared *reused(void)
 {
     sgt_shared *s = 0;
     hold_closed();
-    if (closed.count > SET_ASIDE) s = closed.first, closed.first = s->next, closed.count--;
+    if (closed.count > SET_ASIDE && atomic_load(&closed.first->waiting) == 0) s = closed.first, closed.first = s->next, closed.count--;
     release_closed();
     return s;
 }
@@ -887,11 +915,8 @@ uint32_t sgt_shared_take(sgt_shared **shared, sgt_engine *engine, const sgt_shar
     return SGT_OK;
 }
 
-/* Whether another thread is in a call. This one has the lock. */
-static bool is_used(const sgt_shared *s)
-{
-    return s->changed.resting > 0 || s->queued.resting > 0 || s->asked > 0 || atomic_load_explicit(&s->waiting, memory_order_relaxed) > 0;
-}
+/* Whether another thread rests in a call, or is asked there. This one has the lock. Those that wait for it will find the engine closed. */
+static bool is_used(const sgt_shared *s) { return s->changed.resting > 0 || s->queued.resting > 0 || s->asked > 0; }
 
 /* Closes it, unless it is closed already, or used. */
 static uint32_t shut(sgt_shared *s)
@@ -909,7 +934,7 @@ uint32_t sgt_shared_close(sgt_shared **shared)
     sgt_shared *s = shared ? *shared : 0;
     if (!s) return SGT_CLOSED;
     if (is_in_hook(s) || is_in_child(s)) return SGT_MISUSE;
-    if (!is_free(s, false) || !try_lock(s)) return SGT_BUSY; /* a caller that asks again and again leaves the lock to those that wait */
+    if (!lock_to_close(s)) return SGT_BUSY;
     const uint32_t status = shut(s);
     unlock(s);
     if (status == SGT_OK) set_aside(s), *shared = 0;

@@ -16,7 +16,7 @@
  *
  * STATUSES are those of sgt.h, and these:
  *
- *   SGT_BUSY       another thread is in a call, so the engine can't be closed
+ *   SGT_BUSY       another thread waits in a call, or is in a hook, so the engine can't be closed
  *   SGT_SELF_WAIT  the call would wait, without a deadline, for a transaction that its own thread has to end
  *   SGT_TIMED_OUT  the deadline came
  *   SGT_STALE      the ticket is of a part of the history that was cut off: its transaction has ended
@@ -190,11 +190,13 @@ uint32_t sgt_shared_open(sgt_shared **shared, const uint8_t *opening, size_t len
 uint32_t sgt_shared_take(sgt_shared **shared, sgt_engine *engine, const sgt_shared_config *config);
 
 /*
- * Closes the engine, and makes the pointer null. Its live transactions are gone, and so is what sgt_shared_drain has not taken. No
- * thread may begin a call to it afterwards. A call that has just begun makes the close SGT_BUSY, or is SGT_CLOSED itself. The memory of
- * the engine's struct, less than 4 kilobytes, is kept for engines that are opened later.
+ * Closes the engine, and makes the pointer null. Its live transactions are gone, and so is what sgt_shared_drain has not taken. It waits
+ * for the lock, but never for a hook, and takes it before the calls that wait for it: these are SGT_CLOSED, and so is a call that has just
+ * begun. No thread may begin a call to it afterwards. The memory of the engine's struct, less than 4 kilobytes, is kept for engines that
+ * are opened later.
  *
- * SGT_BUSY if a thread is in a call; SGT_CLOSED if the pointer is null, or another thread has just closed the engine.
+ * SGT_BUSY if another thread is in a call that waits for more than the lock, or in a hook of this engine; SGT_CLOSED if the pointer is
+ * null, or another thread has just closed the engine.
  */
 uint32_t sgt_shared_close(sgt_shared **shared);
 

@@ -603,7 +603,7 @@ public:
         check(status);
     }
 
-    // If a thread is in a call, or this is one of the engine's hooks or a forked child, the engine and its hooks stay as they are.
+    // If a thread waits in a call, or is in a hook, or this is a forked child, the engine and its hooks stay as they are.
     ~SharedEngine()
     {
         auto status = sgt_shared_close(&shared);

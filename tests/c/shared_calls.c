@@ -27,7 +27,7 @@ static void check(int holds, const char *text, int line)
     printf("line %d: %s\n", line, text);
 }
 
-enum { MS = 1000000 };
+enum { MS = 1000000, LONGEST = 600 /* seconds for which something is waited for that has to come */ };
 
 static const char opening[] = "{\"limits\":[2,100,1],\"accounts\":[[1,101,500,1000],[2,102,0,0]],\"procedures\":[]}";
 static const char shape[] = "{\"limits\":[8,100],\"accounts\":[],\"procedures\":[[0,[7]]]}";
@@ -189,12 +189,20 @@ static void in_a_thread(struct later *it)
 
 static void pause_for(long ns) { nanosleep(&(struct timespec){0, ns}, 0); }
 
+/* The seconds of a clock that never jumps. */
+static int64_t seconds(void)
+{
+    struct timespec at;
+    clock_gettime(CLOCK_MONOTONIC, &at);
+    return at.tv_sec;
+}
+
 /* Until a thread waits for a commit, on however busy a machine. */
 static void until_one_waits(sgt_shared *shared)
 {
     sgt_live live[32];
     uint64_t count = 0;
-    for (int tried = 0; tried < 20000; tried++) {
+    for (const int64_t end = seconds() + LONGEST; seconds() < end;) {
         if (sgt_shared_live(shared, live, 32, &count) != SGT_OK) break;
         for (uint64_t i = 0; i < count; i++) {
             if (live[i].waits) return;
@@ -208,7 +216,7 @@ static void until_one_waits(sgt_shared *shared)
 static void until_entries(sgt_shared *shared, uint64_t wanted)
 {
     uint64_t count = 0;
-    for (int tried = 0; tried < 20000; tried++) {
+    for (const int64_t end = seconds() + LONGEST; seconds() < end;) {
         if (sgt_shared_entries(shared, &count, 0) != SGT_OK || count >= wanted) return;
         pause_for(MS);
     }
@@ -266,14 +274,14 @@ static void a_commit_waits(void)
     }
 }
 
-/* A thread that reads what another one has written, and commits, again and again. */
+/* A thread that reads what another one has written, and commits, again and again, until a round is written that is none. */
 struct reader {
     sgt_shared *shared;
     atomic_int written, committed; /* how often */
     atomic_bool is_ended;
 };
 
-enum { ROUNDS = 2000 };
+enum { ROUNDS = 2000, FEW_ROUNDS = 100, ROUNDS_SECONDS = 10, NO_ROUND = ROUNDS + 1 };
 
 static void *reads_on(void *of)
 {
@@ -282,6 +290,7 @@ static void *reads_on(void *of)
         sgt_ticket ticket = {0};
         sgt_reply reply = {0};
         while (it->written < round) sched_yield();
+        if (it->written == NO_ROUND) return 0;
         uint32_t status = sgt_shared_start(it->shared, 0, name, 1, SGT_FOREVER, &ticket, &reply);
         for (int step = 0; step < 4 && status == SGT_OK; step++) status = sgt_shared_step(it->shared, &ticket, &reply);
         it->is_ended = true;
@@ -292,28 +301,35 @@ static void *reads_on(void *of)
     return 0;
 }
 
-/* Nobody else is there, so a wake-up that is lost is one for ever. */
+/* A round: the writer's commit comes before the commit that waits for it, in it or after it. Whether that goes on. */
+static bool is_woken(struct reader *reader, int round)
+{
+    sgt_reply reply = {0};
+    const sgt_ticket writer = begins(reader->shared, 4);
+    reader->is_ended = false;
+    reader->written = round;
+    while (!reader->is_ended) sched_yield();
+    for (int i = 0; i < round % 50; i++) sched_yield();
+    CHECK(sgt_shared_commit(reader->shared, &writer, 0, &reply) == SGT_OK && reply.kind == SGT_COMMITTED);
+    for (const int64_t end = seconds() + LONGEST; reader->committed < round && seconds() < end;) sched_yield();
+    return reader->committed == round;
+}
+
+/* Nobody else is there, so a wake-up that is lost is one for ever. Where each round takes long, there are fewer. */
 static void no_wake_up_is_lost(void)
 {
     static const char long_one[] = "{\"limits\":[2,10000,1],\"accounts\":[[1,101,500,1000]],\"procedures\":[]}";
     struct reader reader = {0};
     sgt_fault fault = {0};
-    sgt_reply reply = {0};
     pthread_t id;
+    int round = 1;
     CHECK(opens(&reader.shared, long_one, 0, &fault) == SGT_OK);
     CHECK(pthread_create(&id, 0, reads_on, &reader) == 0);
-    for (int round = 1; round <= ROUNDS; round++) {
-        const sgt_ticket writer = begins(reader.shared, 4);
-        reader.is_ended = false;
-        reader.written = round;
-        while (!reader.is_ended) sched_yield();
-        for (int i = 0; i < round % 50; i++) sched_yield(); /* it comes before the commit that waits, in it and after it */
-        CHECK(sgt_shared_commit(reader.shared, &writer, 0, &reply) == SGT_OK && reply.kind == SGT_COMMITTED);
-        for (int tried = 0; reader.committed < round && tried < 2000000; tried++) sched_yield();
-        if (reader.committed < round) break;
-    }
-    CHECK(reader.committed == ROUNDS);
-    if (reader.committed == ROUNDS) pthread_join(id, 0), closes(reader.shared);
+    const int64_t end = seconds() + ROUNDS_SECONDS;
+    while ((round <= FEW_ROUNDS || seconds() < end) && round <= ROUNDS && is_woken(&reader, round)) round++;
+    CHECK(reader.committed == round - 1);
+    reader.written = NO_ROUND;
+    if (reader.committed == round - 1) pthread_join(id, 0), closes(reader.shared);
 }
 
 /* A run that read from a transaction that is quit is run anew. */
@@ -495,42 +511,6 @@ static void hooks_are_told(void)
     CHECK(sgt_shared_run(shared, 1, deposit, 2, 0, &outcome) == SGT_OK && heard.last.sequence == 3 && heard.last.ticket.part == 1);
     closes(shared);
     closes(heard.other);
-}
-
-/* A hook that holds the lock up for a while, when it is told of the first call. */
-static void dawdles(void *context, const sgt_ended *call)
-{
-    atomic_bool *is_in = context;
-    if (call->sequence > 0) return;
-    *is_in = true;
-    pause_for(50 * MS);
-}
-
-/* A deadline that comes while the lock is held: the run is not started. One of 0 waits for nobody, but for the lock. */
-static void a_run_is_not_started_late(void)
-{
-    static const int64_t waits[] = {5 * MS, 1, 0, SGT_FOREVER};
-    for (int i = 0; i < 4; i++) {
-        atomic_bool is_in = false;
-        sgt_shared_config config = SGT_SHARED_CONFIG;
-        sgt_run_options options = SGT_RUN_OPTIONS;
-        sgt_shared_outcome outcome = SGT_SHARED_OUTCOME;
-        uint64_t entries = 0;
-        config.ended = dawdles, config.context = &is_in;
-        sgt_shared *shared = bank(&config);
-        struct later first = {.shared = shared, .call = runs};
-        in_a_thread(&first);
-        while (!is_in) pause_for(MS / 10);
-        options.wait_ns = waits[i];
-        const int is_late = i < 2;
-        CHECK(sgt_shared_run(shared, 1, deposit, 2, &options, &outcome) == (is_late ? SGT_TIMED_OUT : SGT_OK));
-        CHECK(outcome.tries == (is_late ? 0 : 1) && outcome.waits == 0 && outcome.size == sizeof outcome);
-        CHECK(outcome.reply.kind == (is_late ? 0 : SGT_COMMITTED));
-        CHECK(sgt_shared_entries(shared, &entries, 0) == SGT_OK && entries == (is_late ? 6 : 12));
-        pthread_join(first.id, 0);
-        CHECK(first.status == SGT_OK && first.outcome.reply.kind == SGT_COMMITTED);
-        closes(shared);
-    }
 }
 
 /* Threads that pay in as quickly as they can. */
@@ -752,7 +732,6 @@ int main(void)
     a_full_engine_is_waited_for();
     the_history_is_cut_off();
     hooks_are_told();
-    a_run_is_not_started_late();
     hooks_are_told_of_all_threads();
     all_get_their_turn();
     ended_calls_are_drained();

@@ -1,8 +1,11 @@
 /*
- * What may go wrong around a shared engine: a close beside calls that begin, threads that are cancelled or end in a hook, transactions
- * that are abandoned in a hook, and calls that are interrupted while they wait. Each check that fails is told; the last line counts them.
+ * What may go wrong around a shared engine: a close beside calls and hooks, calls that come late, threads that are cancelled or end in a
+ * hook, transactions that are abandoned in a hook, and calls that are interrupted while they wait. Each check that fails is told; the last
+ * line counts them.
  *
- * It is linked with --wrap=pthread_mutex_trylock, so that a call can be held up just before it takes the lock.
+ * No check depends on how soon a thread goes on: what a loop here waits for comes, and stays until the loop has seen it.
+ *
+ * It is linked with --wrap=pthread_mutex_trylock, so that a call can be held up just before it takes the lock, or after.
  */
 #include <pthread.h>
 #include <sched.h>
@@ -25,7 +28,7 @@ static void check(int holds, const char *text, int line)
     printf("line %d: %s\n", line, text);
 }
 
-enum { CLOSES = 300, SECOND = 1000000000, SLICE = SECOND / 5 };
+enum { CLOSES = 100, SECOND = 1000000000, SLICE = SECOND / 5 };
 
 /* Procedure 5 writes a record, 7 reads it, and 6 writes another one. Two may be live. */
 static const char opening[] = "{\"limits\":[2,100000,1],\"accounts\":[],\"procedures\":"
@@ -67,13 +70,6 @@ static uint64_t lives(sgt_shared *shared)
 
 static void sleep_for(long ns) { nanosleep(&(struct timespec){0, ns}, 0); }
 
-static int64_t now(void)
-{
-    struct timespec at;
-    clock_gettime(CLOCK_MONOTONIC, &at);
-    return (int64_t)at.tv_sec * SECOND + at.tv_nsec;
-}
-
 /* Whether a transaction waits for its commit. */
 static int waits(sgt_shared *shared)
 {
@@ -83,28 +79,37 @@ static int waits(sgt_shared *shared)
     return rows[0].waits || rows[1].waits;
 }
 
-/* A call that is held up just before it takes the lock. */
+/* Calls that are held up around the lock, and a close beside them */
 
-static _Thread_local int is_slow;
+/* Where the next call of this thread is held up: until it may go on, or, if it is late, for a while. */
+enum place { NOWHERE, BEFORE, BEHIND, LATE };
+
+static _Thread_local enum place held_up;
 static atomic_int is_held_up, may_go_on;
 
 int __real_pthread_mutex_trylock(pthread_mutex_t *lock);
 int __wrap_pthread_mutex_trylock(pthread_mutex_t *lock);
 
+static void hold_up(void)
+{
+    held_up = NOWHERE;
+    is_held_up = 1;
+    while (!may_go_on) sched_yield();
+}
+
 int __wrap_pthread_mutex_trylock(pthread_mutex_t *lock)
 {
-    if (is_slow) {
-        is_slow = 0;
-        is_held_up = 1;
-        while (!may_go_on) sched_yield();
-    }
-    return __real_pthread_mutex_trylock(lock);
+    if (held_up == BEFORE) hold_up();
+    if (held_up == LATE) held_up = NOWHERE, sleep_for(SLICE / 10);
+    const int failed = __real_pthread_mutex_trylock(lock);
+    if (held_up == BEHIND && !failed) hold_up();
+    return failed;
 }
 
 static void *runs_slowly(void *of)
 {
     sgt_shared_outcome outcome = SGT_SHARED_OUTCOME;
-    is_slow = 1;
+    held_up = BEFORE;
     CHECK(sgt_shared_run(of, WRITE, 0, 0, 0, &outcome) == SGT_CLOSED && outcome.tries == 0);
     return 0;
 }
@@ -132,18 +137,122 @@ static void *counts(void *of)
     return 0;
 }
 
-static void a_close_beside_calls_is_busy_or_closes(void)
+/* However often threads come back for the lock, the close takes it. */
+static void a_close_beside_calls_closes(void)
 {
-    const struct timespec moment = {0, 50000}; /* for the calls that wait */
     for (int made = 0; made < CLOSES; made++) {
         sgt_shared *shared = opened(0), *same = shared;
         pthread_t threads[2];
-        uint32_t status;
         for (int i = 0; i < 2; i++) CHECK(pthread_create(&threads[i], 0, counts, shared) == 0);
-        while ((status = sgt_shared_close(&same)) == SGT_BUSY) nanosleep(&moment, 0);
-        CHECK(status == SGT_OK && !same);
+        if (made % 2) sleep_for(SLICE / 2000);
+        CHECK(sgt_shared_close(&same) == SGT_OK && !same);
         for (int i = 0; i < 2; i++) pthread_join(threads[i], 0);
         CHECK(sgt_shared_close(&shared) == SGT_CLOSED);
+    }
+}
+
+/* Makes a call that holds the lock until it may go on. */
+static void *counts_slowly(void *of)
+{
+    uint64_t count = 0;
+    held_up = BEHIND;
+    CHECK(sgt_shared_entries(of, &count, 0) == SGT_OK);
+    return 0;
+}
+
+static void *closes_beside(void *of)
+{
+    closes(of);
+    return 0;
+}
+
+/* Threads that wait for the lock already, and for longer than the close, find the engine closed. */
+static void a_close_comes_before_calls_that_wait(void)
+{
+    sgt_shared *shared = opened(0);
+    pthread_t threads[4];
+    is_held_up = may_go_on = 0;
+    CHECK(pthread_create(&threads[0], 0, counts_slowly, shared) == 0);
+    while (!is_held_up) sched_yield();
+    for (int i = 1; i < 3; i++) CHECK(pthread_create(&threads[i], 0, counts, shared) == 0);
+    sleep_for(SLICE / 10);
+    CHECK(pthread_create(&threads[3], 0, closes_beside, shared) == 0);
+    sleep_for(SLICE / 10);
+    may_go_on = 1;
+    for (int i = 0; i < 4; i++) pthread_join(threads[i], 0);
+}
+
+/* A close on another thread, for which a hook waits. */
+struct closing {
+    sgt_shared *shared;
+    pthread_t thread;
+    int has_begun; /* whether the close began before the hook */
+    uint32_t status;
+};
+
+static void *closes_for_hook(void *of)
+{
+    struct closing *it = of;
+    sgt_shared *same = it->shared;
+    it->status = sgt_shared_close(&same);
+    return 0;
+}
+
+static void awaits_close(void *context, const sgt_ended *ended)
+{
+    struct closing *it = context;
+    (void)ended;
+    if (!it->has_begun) CHECK(pthread_create(&it->thread, 0, closes_for_hook, it) == 0);
+    pthread_join(it->thread, 0);
+}
+
+static void *runs_behind_lock(void *of)
+{
+    sgt_shared_outcome outcome = SGT_SHARED_OUTCOME;
+    held_up = BEHIND;
+    CHECK(sgt_shared_run(of, WRITE, 0, 0, 0, &outcome) == SGT_OK);
+    return 0;
+}
+
+static void a_close_never_waits_for_a_hook(void)
+{
+    for (int has_begun = 0; has_begun < 2; has_begun++) {
+        sgt_shared_config config = SGT_SHARED_CONFIG;
+        struct closing it = {.has_begun = has_begun};
+        pthread_t thread;
+        config.ended = awaits_close;
+        config.context = &it;
+        it.shared = opened(&config);
+        is_held_up = 0;
+        may_go_on = !has_begun;
+        CHECK(pthread_create(&thread, 0, runs_behind_lock, it.shared) == 0);
+        while (!is_held_up) sched_yield();
+        if (has_begun) CHECK(pthread_create(&it.thread, 0, closes_for_hook, &it) == 0);
+        sleep_for(SLICE / 10);
+        may_go_on = 1;
+        pthread_join(thread, 0);
+        CHECK(it.status == SGT_BUSY);
+        closes(it.shared);
+    }
+}
+
+/* A deadline that comes before the lock: the run is not started. One of 0 waits for nobody, but for the lock. */
+static void a_run_is_not_started_late(void)
+{
+    static const int64_t waits[] = {SLICE / 20, 1, 0, SGT_FOREVER};
+    for (int i = 0; i < 4; i++) {
+        sgt_shared *shared = opened(0);
+        sgt_run_options options = SGT_RUN_OPTIONS;
+        sgt_shared_outcome outcome = SGT_SHARED_OUTCOME;
+        const int is_late = i < 2;
+        uint64_t count = 77;
+        options.wait_ns = waits[i];
+        held_up = LATE;
+        CHECK(sgt_shared_run(shared, WRITE, 0, 0, &options, &outcome) == (is_late ? SGT_TIMED_OUT : SGT_OK) && held_up == NOWHERE);
+        CHECK(outcome.tries == (is_late ? 0 : 1) && outcome.waits == 0 && outcome.size == sizeof outcome);
+        CHECK(outcome.reply.kind == (is_late ? 0 : SGT_COMMITTED));
+        CHECK(sgt_shared_entries(shared, &count, 0) == SGT_OK && count == (is_late ? 0 : 4));
+        closes(shared);
     }
 }
 
@@ -174,11 +283,19 @@ static void a_cancelled_thread_holds_nothing(void)
     pthread_t thread;
     void *ended = 0;
     CHECK(pthread_create(&thread, 0, commits, &it) == 0);
-    while (!waits(shared)) sched_yield();
+    sleep_for(SLICE / 4);
     pthread_cancel(thread);
     pthread_join(thread, &ended);
     CHECK(ended == PTHREAD_CANCELED && it.status == SGT_TIMED_OUT && lives(shared) == 2);
+    it.wait_ns = SGT_FOREVER;
+    CHECK(pthread_create(&thread, 0, commits, &it) == 0);
+    while (!waits(shared)) sched_yield();
+    pthread_cancel(thread);
+    sleep_for(SLICE / 10);
+    CHECK(waits(shared)); /* it goes on */
     quits(shared, &writer);
+    pthread_join(thread, &ended);
+    CHECK(ended == PTHREAD_CANCELED && it.status == SGT_OK && it.reply.kind == SGT_OVER && it.reply.cause == SGT_BY_FALL);
     CHECK(lives(shared) == 0);
     closes(shared);
 }
@@ -393,7 +510,7 @@ static void waiting_calls_are_interrupted(void)
     it.asked = 0;
     CHECK(sgt_shared_run(it.shared, READ, 0, 0, 0, &outcome) == SGT_TIMED_OUT && it.asked == 2 && lives(it.shared) == 1);
     it.asked = 0;
-    CHECK(sgt_shared_cut(it.shared, SLICE * 2) == SGT_TIMED_OUT && it.asked == 2);
+    CHECK(sgt_shared_cut(it.shared, INT64_C(3600) * SECOND) == SGT_TIMED_OUT && it.asked == 2);
     sgt_shared_watch(0, 0);
     it.asked = 0;
     CHECK(sgt_shared_cut(it.shared, SLICE) == SGT_TIMED_OUT && it.asked == 0);
@@ -418,49 +535,54 @@ static void a_start_is_interrupted_before_a_cut(void)
     closes(it.shared);
 }
 
-/* Keeps a transaction live, and starts the next one as soon as it has ended. */
-struct keeper {
+/* A cut that waits for the writer, and what is started meanwhile. */
+struct place_of_cut {
     sgt_shared *shared;
-    long delay;
-    atomic_int *is_over;
+    sgt_ticket writer, second;
+    pthread_t starter;
+    int asked;
 };
 
-static void *keeps_one_live(void *of)
+static void *starts_after_cut(void *of)
 {
-    struct keeper *it = of;
-    sleep_for(it->delay);
-    while (!*it->is_over) {
-        sgt_ticket ticket = {0};
-        sgt_reply reply = {0};
-        CHECK(sgt_shared_start(it->shared, READ, 0, 0, SGT_FOREVER, &ticket, &reply) == SGT_OK);
-        sleep_for(2 * SLICE);
-        quits(it->shared, &ticket);
-    }
+    struct place_of_cut *it = of;
+    sgt_reply reply = {0};
+    CHECK(sgt_shared_start(it->shared, READ, 0, 0, SGT_FOREVER, &it->second, &reply) == SGT_OK && reply.kind == SGT_STARTED);
+    return 0;
+}
+
+/* While the thread that waits for the cut is asked, no start comes past the cut. When it has been asked twice, the cut may come. */
+static uint32_t starts_when_asked(void *context)
+{
+    struct place_of_cut *it = context;
+    sgt_ticket ticket = {0};
+    sgt_reply reply = {0};
+    CHECK(sgt_shared_start(it->shared, READ, 0, 0, 0, &ticket, &reply) == SGT_TIMED_OUT && lives(it->shared) == 1);
+    if (++it->asked == 1) CHECK(pthread_create(&it->starter, 0, starts_after_cut, it) == 0);
+    if (it->asked == 2) quits(it->shared, &it->writer);
     return 0;
 }
 
 /* A thread that is asked keeps its place: no start comes past the cut that it waits for. */
 static void a_watched_cut_holds_starts_up(void)
 {
-    atomic_int is_over = 0;
-    struct watch it = {.shared = opened(0)};
-    struct keeper keepers[] = {{it.shared, 0, &is_over}, {it.shared, SLICE, &is_over}};
-    pthread_t threads[2];
-    for (int i = 0; i < 2; i++) CHECK(pthread_create(&threads[i], 0, keeps_one_live, &keepers[i]) == 0);
-    sleep_for(SLICE + SLICE / 2);
-    const int64_t begin = now();
-    sgt_shared_watch(is_interrupted, &it);
-    CHECK(sgt_shared_cut(it.shared, INT64_C(5) * SECOND) == SGT_OK && now() - begin < 2 * (int64_t)SECOND && it.asked > 0);
+    struct place_of_cut it = {.shared = opened(0)};
+    it.writer = begins_elsewhere(it.shared);
+    sgt_shared_watch(starts_when_asked, &it);
+    CHECK(sgt_shared_cut(it.shared, SGT_FOREVER) == SGT_OK && it.asked == 2);
     sgt_shared_watch(0, 0);
-    is_over = 1;
-    for (int i = 0; i < 2; i++) pthread_join(threads[i], 0);
+    CHECK(pthread_join(it.starter, 0) == 0 && it.second.part == 1);
+    quits(it.shared, &it.second);
     closes(it.shared);
 }
 
 int main(void)
 {
     a_call_that_has_begun_finds_the_engine_closed();
-    a_close_beside_calls_is_busy_or_closes();
+    a_close_beside_calls_closes();
+    a_close_comes_before_calls_that_wait();
+    a_close_never_waits_for_a_hook();
+    a_run_is_not_started_late();
     a_cancelled_thread_holds_nothing();
     a_thread_that_is_cancelled_in_a_hook_holds_nothing();
     a_thread_that_ends_in_a_hook_holds_nothing();

@@ -1,11 +1,10 @@
 /*
- * Threads that come back for the lock of a shared engine at once, for tests/threads.py: each gets its turns, and does not sleep for each
- * call.
+ * Threads that come back for the lock of a shared engine at once, for tests/threads.py: each gets its turns.
  *
- *     shared_turns THREADS CALLS
+ *     shared_turns THREADS RUNS
  *
- * In all, CALLS runs are made. It prints how many the thread with the fewest made, and how often all threads have slept, as `name count`
- * lines. It stops after a minute, and says then how many runs were made.
+ * Each thread goes on until all have made so many runs. It prints how many were made in all, and how often threads have slept, as
+ * `name count` lines. It stops after ten minutes, with status 1.
  */
 #include <pthread.h>
 #include <stdatomic.h>
@@ -17,13 +16,13 @@
 
 #include "sgt_shared.h"
 
-enum { MOST_THREADS = 64, LONGEST = 60 };
+enum { MOST_THREADS = 64, LONGEST = 600 };
 
 static const char opening[] = "{\"limits\":[8,4000000000],\"accounts\":[[1,101,500,1000]],\"procedures\":[]}";
 
 static sgt_shared *shared;
 static long wanted;
-static atomic_long made;
+static atomic_int left; /* threads that have not made so many */
 static pthread_barrier_t begin;
 static struct timespec opened;
 
@@ -52,10 +51,11 @@ static void *runs(void *of)
     struct thread *it = of;
     sgt_shared_outcome outcome = SGT_SHARED_OUTCOME;
     pthread_barrier_wait(&begin);
-    while (atomic_fetch_add(&made, 1) < wanted && !(it->runs % 16 == 0 && is_late())) {
+    while (left > 0) {
         must(sgt_shared_run(shared, 1, deposit, 2, 0, &outcome) == SGT_OK, "a run failed");
         must(outcome.reply.kind == SGT_COMMITTED, "a deposit was not committed");
-        it->runs++;
+        left -= ++it->runs == wanted;
+        must(it->runs % 16 || !is_late(), "a thread gets no turns");
     }
     return 0;
 }
@@ -64,22 +64,21 @@ int main(int argc, char **argv)
 {
     static struct thread threads[MOST_THREADS];
     const int many = argc == 3 ? atoi(argv[1]) : 0;
-    must(many >= 1 && many <= MOST_THREADS, "shared_turns THREADS CALLS");
-    wanted = atol(argv[2]);
+    must(many >= 1 && many <= MOST_THREADS, "shared_turns THREADS RUNS");
+    wanted = atol(argv[2]), left = many;
     sgt_fault fault = {0};
     must(sgt_shared_open(&shared, (const uint8_t *)opening, sizeof opening - 1, 0, 0, 0, &fault) == SGT_OK, "no engine");
     must(pthread_barrier_init(&begin, 0, (unsigned)many) == 0, "no barrier");
     clock_gettime(CLOCK_MONOTONIC, &opened);
     for (int i = 0; i < many; i++) must(pthread_create(&threads[i].id, 0, runs, &threads[i]) == 0, "no thread");
-    long fewest = wanted, all = 0;
+    long all = 0;
     for (int i = 0; i < many; i++) {
         pthread_join(threads[i].id, 0);
         all += threads[i].runs;
-        if (threads[i].runs < fewest) fewest = threads[i].runs;
     }
     struct rusage usage;
     must(getrusage(RUSAGE_SELF, &usage) == 0, "no usage");
-    printf("runs %ld\nfewest %ld\nsleeps %ld\n", all, fewest, usage.ru_nvcsw);
+    printf("runs %ld\nsleeps %ld\n", all, usage.ru_nvcsw);
     pthread_barrier_destroy(&begin);
     return sgt_shared_close(&shared) == SGT_OK ? 0 : 1;
 }

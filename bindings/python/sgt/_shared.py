@@ -277,7 +277,7 @@ class SharedEngine(Uncopied):
             raise
 
     def close(self) -> None:
-        """Closes the engine. Later calls raise Closed. Raises Busy if a call is under way."""
+        """Closes the engine. Later calls raise Closed, and calls that wait for its lock do. Raises Busy if one waits for something else."""
         if self._teller and not self._teller.is_here():
             self._teller.tell()
         status = self._ask(FREE.sgt_shared_close)
