@@ -25,7 +25,7 @@ from collections import Counter
 sys.dont_write_bytecode = True
 from helpers.cases import C_SOURCES, TESTS, Differs, same, tell  # noqa: E402
 from helpers.library import BINDINGS, C_FLAGS, CPP_FLAGS, OUT, SANITIZERS, WRAPS, built, can, run  # noqa: E402
-from helpers.package import Interrupted, elsewhere, interrupted, interrupts, module, refusal, what  # noqa: E402
+from helpers.package import SOON, Interrupted, elsewhere, interrupted, interrupted_beside, interrupts, module, refusal, what  # noqa: E402
 
 TOP = TESTS.parent
 STORY = (BINDINGS / "bank.out").read_text()
@@ -468,8 +468,8 @@ def waits_with_deadlines_in_python(_):
             same("a commit", "timed out", what(sgt.TimedOut, lambda: reader.commit(0.01), "timed out"))
             began = time.monotonic()
             threading.Timer(0.05, writer.commit).start()
-            same("its answers", (1600,), reader.commit(5).answers)
-            same("that it waited", True, 0.04 < time.monotonic() - began < 4)
+            same("its answers", (1600,), reader.commit(SOON).answers)
+            same("that it waited", True, time.monotonic() - began > 0.04)
         same("who is live", [], bank.live())
         same("a refused start", "no procedure", what(sgt.NotStarted, lambda: bank.transaction(99), "no procedure"))
         bank.cut()
@@ -511,18 +511,14 @@ def ends_a_wait_at_a_signal(_):
         reader = stepped(bank.transaction(0, 1))
         interrupted(reader.commit)
         same("who is live after the commit", [writer.ticket, reader.ticket], [live.ticket for live in bank.live()])
-        threading.Timer(0.25, reader.quit).start()  # so the start succeeds in the wait in which the signal comes
-        interrupted(lambda: bank.transaction(0, 1))
+        interrupted_beside(lambda: bank.transaction(0, 1), reader.quit)
         interrupted(lambda: [bank.transaction(0, 1), bank.transaction(0, 1)])
         writer.commit()
         same("who is live after the starts", [], bank.live())
         same("what was drained", [0], [ended.sequence for ended in bank.drain()])
-        later = threading.Timer(0.25, lambda: bank.run(1, 1, 5))  # and so does the drain
-        later.start()
-        interrupted(bank.drain)
-        later.join()
+        interrupted_beside(bank.drain, lambda: bank.run(1, 1, 5))
         bank.run(1, 1, 5)
-        rest = [ended.sequence for ended in bank.drain(1, timeout=5) + bank.drain(1, timeout=5)]
+        rest = [ended.sequence for ended in bank.drain(1, timeout=0) + bank.drain(1, timeout=0)]
         same("what was drained then", [1, 2], rest)
 
 
@@ -591,7 +587,7 @@ def keeps_the_place_of_a_wait(_):
             for keeper in keepers:
                 keeper.start()
             time.sleep(0.5)
-            bank.cut(timeout=6)
+            bank.cut(timeout=SOON)
             over.set()
             for keeper in keepers:
                 keeper.join()
@@ -600,7 +596,7 @@ def keeps_the_place_of_a_wait(_):
         busy = threading.Thread(target=lambda: all(sum(range(1000)) for _ in iter(over.is_set, True)), daemon=True)
         busy.start()
         for number in range(8):
-            same("the reply to a commit that is quit", sgt.Kind.OVER, reply_to_quit_commit(sgt, 0.3 + 0.05 * number))
+            same("the reply to a commit that is quit", sgt.Kind.OVER, reply_to_quit_commit(sgt, 0.05 * number))
     finally:
         over.set()
         sys.setswitchinterval(switch)
@@ -618,6 +614,8 @@ def reply_to_quit_commit(sgt, seconds):
         told = []
         waiting = threading.Thread(target=lambda: told.append(what(sgt.Stale, reader.commit, "stale")))
         waiting.start()
+        while not any(live.waits for live in bank.live()):
+            time.sleep(0.001)
         time.sleep(seconds)
         bank.quit(reader.ticket)
         writer.quit()
@@ -649,7 +647,7 @@ def raises_what_a_hook_raises(_):
         same("what the hook heard", [0, 1, 2, 2, 3], heard)
         same("what was drained", [0, 1, 2, 3], [ended.sequence for ended in bank.drain()])
         threading.Timer(0.1, lambda: bank.run(1, 1, 1)).start()
-        same("what was waited for", [4], [ended.sequence for ended in bank.drain(timeout=5)])
+        same("what was waited for", [4], [ended.sequence for ended in bank.drain(timeout=SOON)])
     same("a drain of a closed engine", "closed", what(sgt.Closed, bank.drain, "closed"))
     with sgt.SharedEngine(limits=(8, 1000)) as bank:
         same("a drain of an engine that stores none", "refused", refusal(lambda: bank.drain(timeout=0)))

@@ -32,7 +32,7 @@ from helpers.library import (  # noqa: E402
     compiled,
     run,
 )
-from helpers.package import Interrupted, elsewhere, interrupted, interrupts, module, refusal, what  # noqa: E402
+from helpers.package import LONG, Interrupted, elsewhere, interrupted, interrupts, module, refusal, what  # noqa: E402
 
 THREADS, CALLS, SANITIZED_CALLS = 16, 20_000, 2_000
 TABLE, RECORDS = 2, (101, 102, 103)
@@ -321,7 +321,7 @@ def ends_at_a_signal_in_python(_):
     sgt = module()
 
     with bank_of(sgt) as bank:
-        interrupted(lambda: bank.transact(lambda t: (t.write(TABLE, 101, 1), time.sleep(5))))
+        interrupted(lambda: bank.transact(lambda t: (t.write(TABLE, 101, 1), time.sleep(LONG))))
         same("who is live after the body", [], bank.live())
         writer = elsewhere(bank.transaction)
         elsewhere(lambda: writer.write(TABLE, 101, 1))
@@ -369,8 +369,8 @@ def stops_at_ctrl_c(_):
     sgt = module()
     with bank_of(sgt) as bank:
         before = signal.signal(signal.SIGINT, signal.default_int_handler)
-        threading.Timer(0.2, lambda: os.kill(os.getpid(), signal.SIGINT)).start()
-        body = lambda t: (t.write(TABLE, 101, 1), time.sleep(5))  # noqa: E731
+        later = threading.Timer(0.2, lambda: os.kill(os.getpid(), signal.SIGINT))
+        body = lambda t: (t.write(TABLE, 101, 1), later.start(), time.sleep(LONG))  # noqa: E731
         same("how the call ends", "interrupted", what(KeyboardInterrupt, lambda: bank.transact(body), "interrupted"))
         signal.signal(signal.SIGINT, before)
         same("the record", (10, []), (bank.get(TABLE, 101), bank.live()))

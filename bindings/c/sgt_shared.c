@@ -844,12 +844,15 @@ static sgt_shared *allocated(void)
     return s;
 }
 
+/* Whether a thread waits for the lock that has not rested. */
+static bool is_awaited(sgt_shared *s) { return atomic_load(&s->waiting) > 0 || atomic_load(&s->closing) > 0; }
+
 /* The memory of an engine that was closed long ago, and for whose lock nobody waits, or null. */
 static sgt_shared *reused(void)
 {
     sgt_shared *s = 0;
     hold_closed();
-    if (closed.count > SET_ASIDE && atomic_load(&closed.first->waiting) == 0) s = closed.first, closed.first = s->next, closed.count--;
+    if (closed.count > SET_ASIDE && !is_awaited(closed.first)) s = closed.first, closed.first = s->next, closed.count--;
     release_closed();
     return s;
 }

@@ -1,5 +1,6 @@
 """What the test programs share: how cases run and are reported, and a program of which calls fail."""
 
+import faulthandler
 import os
 import pathlib
 import subprocess
@@ -7,7 +8,11 @@ import tempfile
 
 TESTS = pathlib.Path(__file__).resolve().parent.parent
 C_SOURCES = TESTS / "c"
-SECONDS = 60
+
+# Limits of time, which only what has no end passes, on any machine: of a run of a program, and of a case. A case that passes its limit
+# ends the test program with status 1, and with no counts in its last line.
+SECONDS = 600
+CASE_SECONDS = 4_000
 
 # No program makes so many allocations.
 FOREVER = 10**18
@@ -27,12 +32,14 @@ def tell(cases, *given, of="sgt"):
     failed = 0
     for case in cases:
         name = case.__name__.replace("_", " ")
+        faulthandler.dump_traceback_later(CASE_SECONDS, exit=True)
         try:
             told = case(*given)
             print(f"{of} {name}" + (f": {told}" if told else ""), flush=True)
         except (Differs, OSError) as why:
             failed += 1
             print(f"FAILED: {of} {name}: {why}", flush=True)
+    faulthandler.cancel_dump_traceback_later()
     print(f"{len(cases) - failed} passed, {failed} failed")
     return 1 if failed else 0
 

@@ -41,16 +41,39 @@ def interrupts(seconds):
         signal.signal(signal.SIGALRM, before)
 
 
+# Seconds: what takes less ends soon, on however busy a machine, and what takes longer has not ended by itself.
+SOON, LONG = 300, 900
+
+
 def interrupted(call, seconds=0.2):
-    """Makes a call that waits, and that a signal has to end."""
+    """Makes a call that waits for longer than `LONG`, and that a signal has to end."""
     began = time.monotonic()
     try:
         with interrupts(seconds):
             call()
     except Interrupted:
-        same("that the call ends soon", True, time.monotonic() - began < seconds + 2)
+        same("that the call ends soon", True, time.monotonic() - began < seconds + SOON)
         return
     raise Differs("a call went on when a signal came")
+
+
+def interrupted_beside(call, action):
+    """The same, and another thread does this as soon as the signal has come: so the call may succeed in the wait that the signal ends."""
+    begun = threading.Event()
+
+    def acts():
+        begun.wait()
+        while signal.getitimer(signal.ITIMER_REAL)[0] > 0:
+            time.sleep(0.001)
+        action()
+
+    thread = threading.Thread(target=acts)
+    thread.start()
+    try:
+        interrupted(lambda: (begun.set(), call()))
+    finally:
+        begun.set()
+        thread.join()
 
 
 def elsewhere(call):
