@@ -1,13 +1,13 @@
 #!/usr/bin/env python3
 """Tests the durable queue of payments of `examples/payments`.
 
-    tests/payments.py [ROUNDS [SEED]]
+    tests/payments.py [ROUNDS [SEED]] [CASE..]
 
 It runs the server as a user does, with the library of `bindings/out`, which has to be made: the replies; a crash under load, ROUNDS
 times (30), or one of its front processes, with what no fsync had kept taken away or garbled; a journal cut at each byte and with a flipped
 bit in each, and one with a damaged tail, or without its newest file; a full disk; an fsync that fails; large snapshots, and one that fails;
 a clock that jumps; another program's procedures; a forged journal; clients that vanish, or ask nothing; what administrators ask; and
-failovers over Redis, if the machine has it. Each case is reported, and the last line counts them.
+failovers over etcd, Redis and PostgreSQL, where the machine has them. Each case is reported, and the last line counts them.
 """
 
 import contextlib
@@ -29,14 +29,17 @@ import time
 
 sys.dont_write_bytecode = True
 from helpers.cases import C_SOURCES, TESTS, Differs, same, tell  # noqa: E402
+from helpers.machines import Etcd, Postgres, Redis, running, wait_until  # noqa: E402
 
 PAYMENTS = TESTS.parent / "examples" / "payments"
 sys.path.insert(0, str(PAYMENTS))
 from administration import ask  # noqa: E402
-from bank import ROW, Bank, Unusable, load_procedures  # noqa: E402
+from bank import ROW, Unusable, load_procedures  # noqa: E402
+from chain import Chain, seal_batch  # noqa: E402
+from file_journal import FileJournal  # noqa: E402
 from front import FRONTS, OTHER_FILES  # noqa: E402
-from journal import FileJournal, seal_batch, unseal  # noqa: E402
-from redis_journal import RedisJournal  # noqa: E402
+from journal import Store, unseal  # noqa: E402
+from lines import LONGEST  # noqa: E402
 
 SECONDS = 60
 PROCEDURES = {name: it.text for name, it in load_procedures(PAYMENTS / "procedures").items()}
@@ -48,8 +51,8 @@ LIMIT = 1_000_000
 class Server:
     """A server, killed at the end."""
 
-    def __init__(self, *words, port=0, before=None, env=None, wrapper=(), program="payments.py"):
-        command = [sys.executable, *wrapper, str(PAYMENTS / program), *map(str, words), "--port", str(port)]
+    def __init__(self, *words, port=0, before=None, env=None, wrapper=(), python=sys.executable):
+        command = [python, *wrapper, str(PAYMENTS / "payments.py"), *map(str, words), "--port", str(port)]
         self.process = subprocess.Popen(
             command, stdout=subprocess.PIPE, stderr=subprocess.PIPE, text=True, preexec_fn=before, env={**os.environ, **(env or {})}
         )
@@ -100,9 +103,9 @@ def room():
         yield pathlib.Path(folder)
 
 
-def run(*words, program="payments.py"):
+def run(*words, python=sys.executable):
     """Status, standard output and standard error of a command."""
-    ran = subprocess.run([sys.executable, str(PAYMENTS / program), *map(str, words)], capture_output=True, text=True, timeout=SECONDS, check=False)
+    ran = subprocess.run([python, str(PAYMENTS / "payments.py"), *map(str, words)], capture_output=True, text=True, timeout=SECONDS, check=False)
     return ran.returncode, ran.stdout, ran.stderr
 
 
@@ -140,8 +143,21 @@ def recovered(folder):
     """The number of the last call, and the records by table, as a start recovers them from a copy of the journal. And what was cut off."""
     with room() as aside:
         shutil.copytree(folder, aside / "copy", symlinks=True, ignore=shutil.ignore_patterns("admin"))
-        bank, cut_off = FileJournal(aside / "copy").start(Bank(0, PROCEDURES, b""))
-        return bank.seq, tables(bank.rows()), int(re.match(r"cut off (\d+) bytes", cut_off)[1]) if cut_off else 0
+        journal = FileJournal(aside / "copy")
+        bank = bank_of(aside / "copy", journal)
+        return bank.seq, tables(bank.rows()), int(re.match(r"cut off (\d+) bytes", journal.report)[1]) if journal.report else 0
+
+
+def bank_of(folder, journal):
+    """The bank as a start recovers it from the snapshots of a folder and from a journal."""
+    chain = Chain(Store(folder), journal, {"procedures": PROCEDURES, "accounts": ACCOUNTS, "cents": CENTS}, "test")
+    chain.start()
+    return chain.bank
+
+
+def as_lines(number, seq, calls):
+    """A batch as the bytes in a file."""
+    return b"\n%b\n" % seal_batch(number, seq, calls)
 
 
 def replies():
@@ -161,28 +177,33 @@ def replies():
             (pay(18, 1, 2, LIMIT - 250), {"id": 18, "paid": True, "from_has": 990_001, "to_has": 3_000_000}),
             ({"balance": 0}, {"balance": 0, "has": 2_009_999}),
             ({"balance": 9}, {"balance": 9, "refused": "there is no such account"}),
+        ]
+        asked(server, wanted)
+        opened = [
             ({"open": 9, "amount": 70}, {"open": 9, "opened": True, "has": 70}),
             ({"open": 9, "amount": 70}, {"open": 9, "refused": "there is such an account already"}),
             ({"open": 8, "amount": -1}, {"open": 8, "refused": "the amount is below zero"}),
             ({"open": -1, "amount": 1}, {"open": -1, "refused": "an account has a number from 0 to 999999999"}),
             ({"open": 10, "amount": 999_999_999_999_999}, {"open": 10, "opened": True, "has": 999_999_999_999_999}),
-            (pay(19, 2, 10, 1), {"id": 19, "refused": "a balance would pass fifteen digits"}),
-            ({"balance": 9}, {"balance": 9, "has": 70}),
         ]
-        asked(server, wanted)
-        no_request = [b"", b"7", b"[1]", b'[["balance",1]]', b'{"id":1}', b'{"balance":"x"}', b'{"balance":1.0}', b'{"balance":true}', b'{"day":1}', b"\xff", b'{"balance":1} x', b'{"balance":1}{"balance":1}', b'{"balance":1000000000000000}', b'{"balance":1,"balance":2}', b'{"balance":1,"balance":1}']
+        for request, reply in opened:  # administrators alone open accounts
+            same(f"{request} at the port", [{"error"}], [set(it) for it in server.ask(request)])
+            same(str(request), reply, ask(folder / "j" / "admin", *[it for it in request.items()][0], amount=request["amount"]))
+        asked(server, [(pay(19, 2, 10, 1), {"id": 19, "refused": "a balance would pass fifteen digits"}), ({"balance": 9}, {"balance": 9, "has": 70})])
+        no_request = [b"", b"7", b"[]", b'{"id":1}', b'{"balance":"x"}', b'{"balance":1.0}', b'{"balance":true}', b'{"day":1}', b"\xff", b'{"balance":1} x', b'{"balance":1}{"balance":1}', b'{"balance":1000000000000000}', b'{"balance":1,"balance":2}', b'{"balance":1,"balance":1}']
         if any("error" not in reply for reply in server.ask(*no_request)):
             raise Differs("a line that is no request was taken")
         same("the payments", [20, 21], [reply["id"] for reply in server.ask(pay(20, 2, 1, 1), pay(21, 2, 1, 1))])
-        good, long = {"balance": 9, "has": 70}, {"error": "a line has at most 1000 bytes"}
-        lines = [b'{"balance":9' + b" " * length + b"}" for length in (987, 988, 0, 10**6, 0)]
+        good, long = {"balance": 9, "has": 70}, {"error": f"a line has at most {LONGEST} bytes"}
+        lines = [b'{"balance":9' + b" " * length + b"}" for length in (LONGEST - 13, LONGEST - 12, 0, 10**6, 0)]
         same("lines that are too long, between others", [good, long, good, long, good], server.ask(*lines))
         same("verify", (0, "calls 1 to 7 give the rows of the server\n", ""), run("verify", folder / "j"))
-        same("a second server", (1, f"payments: {folder / 'j'}: another server has this journal\n"), (lambda r: (r[0], r[2]))(run("serve", folder / "j")))
+        same("a second server", (1, f"payments: {folder / 'j'}: another server has this folder\n"), (lambda r: (r[0], r[2]))(run("serve", folder / "j")))
         same("the end", (0, ""), server.end())
         same("verify without a server", (0, "calls 1 to 7 give the rows of each snapshot\n", ""), run("verify", folder / "j"))
         shown = run("show", folder / "j")[1].splitlines()
-        same("show", ["# snapshot after call 0", "2 pay id=17 from=1 to=2 amount=250", "4 open open=9 amount=70"], [shown[0], shown[2], shown[4]])
+        procedures = f"# batch 1: from here on with the procedures {', '.join(sorted(PROCEDURES))}"
+        same("show", [procedures, "2 pay id=17 from=1 to=2 amount=250", "4 open open=9 amount=70"], [shown[0], shown[2], shown[4]])
     return f"{len(wanted)} replies"
 
 
@@ -197,14 +218,14 @@ def administration():
             asked(server, [(pay(1, 1, 2, 5), {"id": 1, "paid": True, "from_has": 99_995, "to_has": 100_005})])
             same("rows", (2, 64), (ask(admin, "rows")["seq"], len(ask(admin, "rows")["sha256"])))
             same("verify", (0, "calls 1 to 2 give the rows of the server\n", ""), run("verify", folder / "j"))
-            same("health", {"health": "ok", "seq": 2}, ask(admin, "health"))
+            same("health", {"health": "ok", "leads": True, "seq": 2}, {key: value for key, value in ask(admin, "health").items() if key != "batch"})
             figures = ask(admin, "figures")
             same("the figures", {"seq": 2, "calls": 2, "records": 3 + 1 + 1 + 5}, {key: figures[key] for key in ("seq", "calls", "records")})
             same("an unknown word", [{"error"}] * 2, [set(ask(admin, word)) for word in ("nothing", "promote")])
             same("a second server", 1, run(*words)[0])
             same("health beside a second server", "ok", ask(admin, "health")["health"])
         with Server(*words) as server:  # the first one was killed, and left its socket
-            same("health", {"health": "ok", "seq": 2}, ask(admin, "health"))
+            same("health", {"health": "ok", "leads": True, "seq": 2}, {key: value for key, value in ask(admin, "health").items() if key != "batch"})
             same("the end", (0, ""), server.end())
             same("whether the socket is there", False, admin.exists())
 
@@ -298,9 +319,9 @@ class Load:
 
 def lose_power(folder, safe, draw):
     """What a loss of power may do to the bytes that were written, but were not on disk. Whether it did."""
-    newest = sorted(folder.glob("*.journal"))[-1]
+    newest = sorted(folder.glob("*.batches"))[-1]
     data = bytearray(newest.read_bytes())
-    start = safe.get(newest.stem, 0)
+    start = safe.get(newest.name, 0)
     if len(data) <= start:
         # All was on disk. The beginning of a next batch may be there, too.
         data += draw.randbytes(draw.randrange(80))
@@ -317,12 +338,12 @@ def lose_power(folder, safe, draw):
 
 
 def synced(path):
-    """The length of each file when its last fsync returned, as tests/helpers/noting_fsync.py writes it. A snapshot has another suffix at first."""
+    """The length of each file when its last fsync returned, as tests/helpers/noting_fsync.py writes it."""
     found = {}
     for line in path.read_text().splitlines() if path.exists() else []:
         name, _, size = line.rpartition(" ")
         if name and size.isdigit():
-            found[pathlib.Path(name).stem] = int(size)
+            found[pathlib.Path(name).name] = int(size)
     return found
 
 
@@ -372,7 +393,7 @@ def a_journal(folder):
         for number in range(4, 11):
             server.ask(pay(number, 1, 2, 100 + number))
         server.end()
-    calls = sorted(folder.glob("*.journal"))[-1]
+    calls = sorted(folder.glob("*.batches"))[-1]
     return calls, calls.read_bytes()
 
 
@@ -382,7 +403,7 @@ def torn_tails():
         calls, data = a_journal(folder / "j")
         whole = data[: data.rindex(b"\n\n") + 1]  # without the mark that the end made
         last = whole.rindex(b"\n\n") + 1
-        first, call = unseal(whole[last + 1 : -1])
+        batch_number, first, (call,) = unseal(whole[last + 1 : -1])
         for length in range(last, len(whole) + 1):
             calls.write_bytes(whole[:length])
             seq, found, torn = recovered(folder / "j")
@@ -391,7 +412,7 @@ def torn_tails():
             same(f"cut at byte {length}: what was cut off", 0 if is_whole else max(0, length - last - 1), torn)
             same(f"cut at byte {length}: the payment", is_whole, call[1] in found[2])
         # Of a batch that was not safe any part may be there.
-        batch = seal_batch(first + 2, [("pay", 100 + more, 1, 2, 5) for more in (1, 2)])
+        batch = as_lines(batch_number + 1, first, [("pay", 100 + more, 1, 2, 5) for more in (1, 2)])
         for at in range(1, len(batch)):
             for garbled in (batch[:at] + bytes(len(batch) - at), bytes(at) + batch[at:], batch[:at] + b"\n" + batch[at + 1 :]):
                 calls.write_bytes(whole + garbled)
@@ -417,7 +438,7 @@ def damaged_tails():
                 said = "".join(server.said)
             lost.append(11 - server.seq)
             told = r"if power was lost, .*; else damage to at most (\d+) that were safe. Kept in (.*)\n"
-            found = re.fullmatch(rf"cut off (\d+) bytes after call {server.seq}: {told}", said)
+            found = re.fullmatch(rf"cut off (\d+) bytes after batch \d+: {told}", said)
             if not found or int(found[2]) < lost[-1]:
                 raise Differs(f"of {size} bytes that held {lost[-1]} batches it says {said}")
             same("what is kept", (whole[:-size] + bytes(size))[-int(found[1]) :], pathlib.Path(found[3]).read_bytes())
@@ -429,10 +450,10 @@ def damage():
     draw, refused = random.Random(5), 0
     with room() as folder:
         calls, data = a_journal(folder / "j")
-        head, mark = data.index(b"\n") + 1, data.rindex(b"\n\n") + 1
-        snapshot = head + unseal(data[: head - 1])[2]
+        mark = data.rindex(b"\n\n") + 1
         wanted = recovered(folder / "j")[:2]
-        later = seal_batch(wanted[0] + 1, [("pay", 100, 1, 2, 5)])
+        number = unseal(data[mark + 1 : -1])[0]
+        later = as_lines(number + 1, wanted[0], [("pay", 100, 1, 2, 5)])
         for at in range(len(data)):
             flipped = bytearray(data)
             flipped[at] ^= 1 << draw.randrange(8)
@@ -442,15 +463,27 @@ def damage():
                     came = recovered(folder / "j")[:2]
                 except Unusable as why:
                     refused += 1
-                    found = re.search(r"journal: the line at byte (\d+) is damaged", str(why))
-                    is_right = int(found[1]) <= at <= data.find(b"\n", int(found[1]) + 1) if found else "the snapshot is damaged" in str(why)
-                    if not is_right or bool(found) != (at >= snapshot):
+                    found = re.search(r"batches: the line at byte (\d+) is damaged", str(why))
+                    if not found or not int(found[1]) <= at <= data.find(b"\n", int(found[1]) + 1):
                         raise Differs(f"byte {at}: {why}") from None
                     continue
                 if at < mark or after:
                     raise Differs(f"a flipped bit in byte {at} of {len(data)} was not found")
                 same(f"a flipped bit in byte {at}, of the last mark", wanted, came)
-        calls.write_bytes(b"x" + data[1:])
+        calls.write_bytes(data)
+        with Server("serve", folder / "j", **adjusted(CUT_AFTER=1)) as server:
+            server.ask(pay(100, 1, 2, 5), pay(101, 1, 2, 5))
+            server.ask({"balance": 1})  # a snapshot is taken after replies
+            server.process.kill()
+        (snapshot,) = (folder / "j").glob("*.snapshot")
+        data = snapshot.read_bytes()
+        for at in range(0, len(data), 7):
+            flipped = bytearray(data)
+            flipped[at] ^= 1 << draw.randrange(8)
+            snapshot.write_bytes(flipped)
+            with contextlib.suppress(Unusable):
+                Store(folder / "j").load(int(snapshot.stem))
+                raise Differs(f"a flipped bit in byte {at} of a snapshot was not found")
         status, out, error = run("serve", folder / "j")
         if status != 1 or out or "the snapshot is damaged" not in error:
             raise Differs(f"a server on a damaged snapshot: {status} {out} {error}")
@@ -510,7 +543,7 @@ def large_snapshots():
             server.process.kill()
         load.judge(*recovered(folder / "j")[:2])
         same("verify", 0, run("verify", folder / "j")[0])
-        largest = max(path.read_bytes().index(b"\n\n") for path in (folder / "j").glob("*.journal"))
+        largest = max(path.stat().st_size for path in (folder / "j").glob("*.snapshot"))
     if largest < 20_000:
         raise Differs(f"the largest snapshot has only {largest} bytes")
     return f"the largest has {largest} bytes"
@@ -532,11 +565,14 @@ def failed_snapshot():
             health = ask(admin, "health")["health"]
             if not re.search(r"no snapshot after call \d+: .*\.new: .*too large", health):
                 raise Differs(f"health is {health}")
-            same("the files", ["000000000000000.journal", "admin", "newest"], names_in(folder / "j"))
+            same("the files", ["000000000000001.batches", "admin", "newest"], names_in(folder / "j"))
             resource.prlimit(server.process.pid, resource.RLIMIT_FSIZE, limits)
             pay_some(server)
             same("health", "ok", ask(admin, "health")["health"])
-            same("the files", [f"{2 * count + 1:015}.journal", "admin", "newest"], names_in(folder / "j"))
+            number = ask(admin, "health")["batch"]
+            (batches,) = (folder / "j").glob("*.batches")
+            same("the files", [f"{int(batches.stem) - 1:015}.snapshot", batches.name, "admin", "newest"], names_in(folder / "j"))
+            same("whether it goes on in the new file", True, 1 < int(batches.stem) <= number + 1)
             server.process.kill()
         same("the payments", [(it["id"], it["from_has"], it["to_has"]) for it in paid], payments_in(folder / "j"))
 
@@ -549,7 +585,7 @@ def begun_snapshots():
             (folder / "j" / f"{number:015}.new").write_bytes(b"12345678 [")
         (folder / "j" / "notes").write_text("of a user")
         with Server("serve", folder / "j") as server:
-            same("the files", ["000000000000000.journal", "admin", "newest", "notes"], names_in(folder / "j"))
+            same("the files", ["000000000000001.batches", "admin", "newest", "notes"], names_in(folder / "j"))
             same("the last call", 11, server.seq)
 
 
@@ -562,10 +598,10 @@ def newest_file_gone():
                 for number in range(20):
                     server.ask(pay(number, 1, 2, 1))
                 server.end()
-            *older, newest = sorted(journal.glob("*.journal"))
+            *older, newest = sorted(journal.glob("*.batches"))
             same("older files", bool(options), bool(older))
             newest.rename(folder / "aside")
-            wanted = f"payments: {newest}: this file is gone, and with it what was acknowledged after its snapshot\n"
+            wanted = f"payments: {newest}: this file is gone, and with it what was acknowledged in it\n"
             same("a start without the newest file", (1, "", wanted), run("serve", journal))
             (folder / "aside").rename(newest)
             with Server("serve", journal) as server:
@@ -674,9 +710,9 @@ def bad_procedures():
 def forged(data, amount):
     """A journal whose second line of calls has another amount, with a checksum that fits."""
     lines = data.split(b"\n")
-    at = [place for place, line in enumerate(lines) if place > 0 and len(unseal(line) or []) > 1][1]
-    first, call = unseal(lines[at])
-    lines[at] = seal_batch(first, [[*call[:4], amount(call[4])]]).strip()
+    at = [place for place, line in enumerate(lines) if place > 3 and (unseal(line) or [0, 0, 0])[2]][1]
+    number, first, (call, *_) = unseal(lines[at])
+    lines[at] = seal_batch(number, first - 1, [[*call[:4], amount(call[4])]])
     return b"\n".join(lines)
 
 
@@ -697,7 +733,7 @@ def forged_journal():
         missing = data.split(b"\n\n")
         calls.write_bytes(b"\n\n".join(missing[:2] + missing[3:]))
         status, _, error = run("serve", folder / "j")
-        if status != 1 or "is damaged; call 5 stood there" not in error:
+        if status != 1 or "where batch" not in error:
             raise Differs(f"a start on a journal without a line: {status} {error}")
 
 
@@ -777,119 +813,231 @@ def idle_clients():
     return f"{most + 100} of them, at most {most} at a time"
 
 
-def rows_of_stream(name, port):
-    """The number of the last call, and the records by table, as a follower recovers them."""
-    bank = RedisJournal(name, port, True).start(Bank(0, PROCEDURES, b""))
-    return bank.seq, tables(bank.rows())
+# A program that writes the number of the last call, and then the rows, as a server recovers them from its folder and from a journal.
+RECOVERS = """
+import argparse, pathlib, sys
+sys.path.insert(0, sys.argv[1])
+from payments import open_journal
+from chain import Chain
+from journal import Store
+folder = pathlib.Path(sys.argv[3])
+chain = Chain(Store(folder), open_journal(argparse.Namespace(journal=sys.argv[2], folder=folder, keep=True)), {}, "test")
+chain.insist(chain.catch_up)
+sys.stdout.buffer.write(b"%d " % chain.bank.seq + chain.bank.rows())
+"""
 
 
-def failovers():
-    """A follower takes over: from a primary that was killed, one that was stopped and wakes later, and one that clients still pay at."""
-    redis = shutil.which("redis-server")
-    if redis is None:
-        return "left out: there is no redis-server on this machine"
-    load, cases = Load(random.Random(9)), (take_over_killed, take_over_stopped, take_over_busy)
-    with room() as folder, redis_server(redis, folder, "--appendonly", "yes", "--appendfsync", "always") as port:
-        own = ("queue", "--redis-port", port, "--accounts", ACCOUNTS, "--cents", CENTS, "--admin")
+def rows_behind(journal, folder):
+    """The number of the last call, and the records by table, as a follower with this folder recovers them."""
+    ran = subprocess.run([journal.python, "-c", RECOVERS, PAYMENTS, journal.address, folder], capture_output=True, timeout=SECONDS, check=False)
+    if ran.returncode:
+        raise Differs(f"a recovery ends with {ran.stderr.decode()}")
+    seq, _, rows = ran.stdout.partition(b" ")
+    return int(seq), tables(rows)
+
+
+class Group:
+    """Three servers on one journal, each with a folder of its own. One that has ended is started again, as its supervisor would do."""
+
+    def __init__(self, journal, folder, stack):
+        self.journal, self.folder, self.servers, self.stack = journal, folder, [None] * 3, stack
+        for number in range(3):
+            self.start(number)
+
+    def start(self, number):
+        words = ("serve", self.folder / f"{number}", "--journal", self.journal.address, "--accounts", ACCOUNTS, "--cents", CENTS)
         # With snapshots now and then, in many chunks.
-        small = {"program": "replicated.py", **adjusted(CUT_AFTER=40_000, CHUNK=5000)}
-        for case in cases:
-            with Server(*own, folder / "1", **small) as primary, Server(*own, folder / "2", "--follow", **small) as follower:
-                asked(follower, [(pay(10**9, 1, 2, 1), {"id": 10**9, "error": "this server does not run it"})])
-                same("whether it follows", True, ask(folder / "2", "health")["follows"])
-                case(load, primary, follower, folder / "2")
-                same("whether it follows", False, ask(folder / "2", "health")["follows"])
-            load.judge(*rows_of_stream("queue", port))
-    return f"{len(cases)} failovers, {len(load.acknowledged)} payments acknowledged, each there once"
+        self.servers[number] = self.stack.enter_context(Server(*words, python=self.journal.python, **adjusted(CUT_AFTER=20_000, CHUNK=5000)))
+
+    def health(self, number):
+        return ask(self.folder / f"{number}" / "admin", "health", timeout=2)
+
+    def primary(self, but=None):
+        """The server that leads, once one does. Those that have ended are started before."""
+
+        def found():
+            for number in range(3):
+                if number != but and self.servers[number].process.poll() is not None:
+                    self.start(number)
+            return [number for number in range(3) if number != but and self.health(number)["leads"]]
+
+        return wait_until(found, "a server that leads")[0]
+
+    def judge(self, load):
+        """What is in the journal is what was acknowledged, for each of the servers."""
+        for server in self.servers:
+            server.process.kill()
+        for number in range(3):
+            load.judge(*rows_behind(self.journal, self.folder / f"{number}"))
+
+
+def follower_answers(group, primary, load):
+    """A follower answers what does not write, and says how old that is. It has what was acknowledged before, soon."""
+    follower = group.servers[(primary + 1) % 3]
+    number = 10**9
+    same("a payment at a follower", {"error": "this server does not run it"}, {"error": fresh_of(follower.ask(pay(number, 1, 2, 1))[0])["error"]})
+    (told,) = group.servers[primary].ask({"balance": 1})
+
+    def has_it():
+        reply = follower.ask({"balance": 1})[0]
+        return fresh_of(reply)["has"] == told["has"]
+
+    wait_until(has_it, "a follower that has what the primary has")
+
+
+def fresh_of(reply):
+    """The reply of a follower, which says how old it is."""
+    if not 0 <= reply["seconds_old"] < SECONDS:
+        raise Differs(f"a follower replies {reply}")
+    return reply
+
+
+def failover(kind):
+    """The primary is killed; then the next one is stopped, and wakes; then the journal is away for some time."""
+    if why := kind.missing():
+        return f"left out: {why}"
+    load = Load(random.Random(9))
+    with room() as folder, running(kind, folder) as journal, contextlib.ExitStack() as stack:
+        group = Group(journal, folder, stack)
+        for event in (kill_primary, stop_primary, journal_away):
+            primary = group.primary()
+            load.run(group.servers[primary], 0.3)
+            follower_answers(group, primary, load)
+            event(group, primary, load)
+        load.run(group.servers[group.primary()], 0.3)
+        group.judge(load)
+    return f"{len(load.acknowledged)} payments acknowledged, each there once"
+
+
+def kill_primary(group, primary, load):
+    threading.Timer(0.2, group.servers[primary].process.kill).start()
+    load.run(group.servers[primary], 5)
+    load.run(group.servers[group.primary(primary)], 0.3)
+
+
+def stop_primary(group, primary, load):
+    """A primary that was stopped is replaced, and when it wakes it acknowledges nothing, and ends."""
+    old = group.servers[primary]
+    threading.Timer(0.2, old.process.send_signal, (signal.SIGSTOP,)).start()
+    load.run(old, 0.5)
+    load.run(group.servers[group.primary(primary)], 0.3)
+    before = dict(load.acknowledged)
+    threading.Timer(0.1, old.process.send_signal, (signal.SIGCONT,)).start()
+    load.run(old, 5)  # until it ends
+    same("what a replaced primary acknowledges", before, load.acknowledged)
+    error = old.process.communicate(timeout=SECONDS)[1]
+    if old.process.returncode != 1 or "another primary leads" not in error:
+        raise Differs(f"a replaced primary ends with {old.process.returncode} and {error}")
+
+
+def journal_away(group, primary, load):
+    """Clients wait, and the servers go on. Whether another one has become the primary meanwhile depends on the journal."""
+    away = threading.Thread(target=group.journal.away, args=(2,))
+    away.start()
+    load.run(group.servers[primary], 3)
+    away.join()
+    load.run(group.servers[group.primary()], 0.3)
+
+
+def over_etcd():
+    """The primary is killed, and stopped and wakes; etcd is away for two seconds."""
+    return failover(Etcd)
+
+
+def nodes_die(rounds, seed):
+    """Nodes of etcd, its leader, two of three and the primary are killed and stopped under load, in turns. Clients pay at whoever leads."""
+    if why := Etcd.missing():
+        return f"left out: {why}"
+    draw = random.Random(seed)
+    load, fenced = Load(draw), 0
+    with room() as folder, running(Etcd, folder) as etcd, contextlib.ExitStack() as stack:
+        group = Group(etcd, folder, stack)
+        for number in range(rounds):
+            primary = group.primary()
+            event = (node_killed, node_stopped, kill_primary, leader_killed, leader_stopped, stop_primary, two_stopped)[number % 7]
+            fenced += event is stop_primary
+            if event in (kill_primary, stop_primary):
+                event(group, primary, load)
+                continue
+            trouble = threading.Thread(target=event, args=(etcd, draw))
+            trouble.start()
+            load.run(group.servers[primary], 1.5)
+            trouble.join()
+        load.run(group.servers[group.primary()], 0.3)
+        group.judge(load)
+    return f"{rounds} events, {fenced} primaries fenced; {len(load.acknowledged)} payments acknowledged, each there once"
+
+
+def node_killed(etcd, draw):
+    node_lost(etcd, draw.randrange(3))
+
+
+def leader_killed(etcd, draw):
+    node_lost(etcd, wait_until(lambda: (etcd.leader() or 0) + 1, "an etcd that has a leader") - 1)
+
+
+def node_lost(etcd, number):
+    time.sleep(0.2)
+    etcd.kill(number)
+    time.sleep(0.5)
+    etcd.start(number)
+
+
+def node_stopped(etcd, draw):
+    with etcd.stopped(draw.randrange(3)):
+        time.sleep(1)
+
+
+def leader_stopped(etcd, draw):
+    with etcd.stopped(etcd.leader() or 0):
+        time.sleep(1)
+
+
+def two_stopped(etcd, draw):
+    with etcd.stopped(*draw.sample(range(3), 2)):
+        time.sleep(1.5)
+
+
+def over_redis():
+    """As over etcd."""
+    return failover(Redis)
+
+
+def over_postgresql():
+    """As over etcd."""
+    return failover(Postgres)
 
 
 def forgetful_redis():
     """A Redis that may forget what it has accepted is refused, whether all its configuration is wrong or a part of it."""
-    redis = shutil.which("redis-server")
-    if redis is None:
-        return "left out: there is no redis-server on this machine"
-    for options in ((), ("--appendonly", "yes"), ("--appendfsync", "always"), ("--appendonly", "yes", "--appendfsync", "no")):
-        with room() as folder, redis_server(redis, folder, *options) as port:
-            wanted = "replicated: Redis: it must run with appendonly yes and appendfsync always\n"
-            came = run("queue", "--redis-port", port, "--admin", folder / "admin", program="replicated.py")
+    if why := Redis.missing():
+        return f"left out: {why}"
+    for options in (("--appendonly", "yes"), ("--appendfsync", "always"), ("--appendonly", "yes", "--appendfsync", "no")):
+        with room() as folder, running(Redis, folder, *options) as journal:
+            wanted = "payments: Redis: it must run with appendonly yes and appendfsync always\n"
+            came = run("serve", folder / "j", "--journal", journal.address, python=journal.python)
             same(f"a start on Redis with {options}", (1, "", wanted), came)
 
 
-def take_over_killed(load, primary, follower, admin):
-    threading.Timer(0.4, primary.process.kill).start()
-    load.run(primary, 0.8)
-    same("what a promotion tells", {"promoted"}, set(ask(admin, "promote")))
-    load.run(follower, 0.4)
-
-
-def take_over_stopped(load, primary, follower, admin):
-    threading.Timer(0.4, primary.process.send_signal, (signal.SIGSTOP,)).start()
-    load.run(primary, 0.8)
-    same("what a promotion tells", {"promoted"}, set(ask(admin, "promote")))
-    load.run(follower, 0.4)
-    primary.process.send_signal(signal.SIGCONT)
-    before = dict(load.acknowledged)
-    load.run(primary, 0.5)
-    same("what a replaced primary acknowledges", before, load.acknowledged)
-    ends_replaced(primary)
-
-
-def take_over_busy(load, primary, follower, admin):
-    promoted = []
-    threading.Timer(0.3, lambda: promoted.append(ask(admin, "promote"))).start()
-    load.run(primary, SECONDS)  # until it is replaced, and ends
-    ends_replaced(primary)
-    same("what a promotion tells", [{"promoted"}], [set(it) for it in promoted])
-    load.run(follower, 0.4)
-
-
-def ends_replaced(primary):
-    """A primary that was replaced ends, and says why."""
-    error = primary.process.communicate(timeout=SECONDS)[1]
-    same("the status of a replaced primary", 1, primary.process.returncode)
-    if "Redis: another primary has appended" not in error:
-        raise Differs(f"a replaced primary says {error}")
-
-
-@contextlib.contextmanager
-def redis_server(program, folder, *words):
-    """A Redis with these options. Its port."""
-    with socket.create_server(("127.0.0.1", 0)) as free:
-        port = free.getsockname()[1]
-    process = subprocess.Popen([program, "--port", str(port), "--dir", str(folder), "--save", "", *words], stdout=subprocess.DEVNULL)
-    try:
-        wait_for(port)
-        yield port
-    finally:
-        process.kill()
-        process.wait()
-
-
-def wait_for(port):
-    """Waits until somebody listens there."""
-    for _ in range(100):
-        with contextlib.suppress(OSError):
-            socket.create_connection(("127.0.0.1", port)).close()
-            return
-        time.sleep(0.05)
-    raise Differs("redis-server did not start")
-
-
 def main():
-    numbers = [int(word) for word in sys.argv[1:]]
+    numbers = [int(word) for word in sys.argv[1:] if word.isdigit()]
+    names = [word for word in sys.argv[1:] if not word.isdigit()]
     rounds, seed = (numbers + [30, 1][len(numbers) :])[:2]
 
     def crash_test():
         return crashes(rounds, seed)
 
-    crash_test.__name__ = "crashes"
+    def dying_nodes():
+        return nodes_die(max(7, rounds // 4), seed)
+
+    crash_test.__name__, dying_nodes.__name__ = "crashes", "nodes_die"
     cases = [replies, administration]
     cases += [torn_tails, damaged_tails, damage, newest_file_gone, forged_journal]
     cases += [full_disk, failing_fsync, large_snapshots, failed_snapshot, begun_snapshots]
     cases += [jumping_clock, other_procedures, bad_procedures]
     cases += [killed_fronts, vanished_clients, idle_clients]
-    cases += [failovers, forgetful_redis, crash_test]
-    return tell(cases, of="payments")
+    cases += [over_etcd, dying_nodes, over_redis, forgetful_redis, over_postgresql, crash_test]
+    return tell([case for case in cases if not names or case.__name__ in names], of="payments")
 
 
 if __name__ == "__main__":

@@ -128,7 +128,8 @@ def main():
             (room / f"redis{number}").mkdir()
             server = subprocess.Popen([redis, "--port", port, "--dir", room / f"redis{number}", "--appendonly", "yes", "--appendfsync", "always", "--save", ""], stdout=subprocess.DEVNULL)
             time.sleep(0.5)
-            served("sgt, Redis stream, appendfsync always", load, seconds, PAYMENTS / "replicated.py", "bench", "--redis-port", port, "--admin", room / "admin", "--cents", CENTS)
+            words = ("serve", room / f"store{number}", "--journal", f"redis://127.0.0.1:{port}/bank", "--cents", CENTS)
+            served("sgt, Redis stream, appendfsync always", load, seconds, PAYMENTS / "payments.py", *words)
             server.kill()
             server.wait()
         if postgres.is_there:

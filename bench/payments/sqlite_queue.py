@@ -16,8 +16,8 @@ from typing import NamedTuple
 PAYMENTS = pathlib.Path(__file__).resolve().parents[2] / "examples" / "payments"
 sys.path.insert(0, str(PAYMENTS))
 from bank import load_procedures  # noqa: E402
-from front import start_fronts  # noqa: E402
-from payments import Server, run  # noqa: E402
+from front import Options, start_fronts  # noqa: E402
+from server import Server, end_by_signals, run  # noqa: E402
 from sgt import Kind, unpack_calls  # noqa: E402
 
 # An outcome as the library has it, for the fronts: whether it wrote, and of its reply the kind, the code and the answers.
@@ -98,15 +98,18 @@ class Bank:
         return False
 
 
-class Journal:
+class Chain:
     """In place of the journal: the batch is one transaction."""
 
-    def __init__(self, database: sqlite3.Connection) -> None:
-        self.database = database
+    def __init__(self, bank: Bank) -> None:
+        self.bank, self.leads, self.ends, self.number = bank, True, False, 0
 
-    def append(self, _seq: int, _calls: list) -> None:
-        if self.database.in_transaction:
-            self.database.execute("commit")
+    def append(self, _calls: list) -> None:
+        if self.bank.database.in_transaction:
+            self.bank.database.execute("commit")
+
+    def check(self) -> None:
+        pass
 
 
 def worker(path: str, seconds: float, seed: int, queue: multiprocessing.Queue) -> None:
@@ -123,9 +126,11 @@ def worker(path: str, seconds: float, seed: int, queue: multiprocessing.Queue) -
 def main() -> None:
     command, path = sys.argv[1:3]
     if command == "serve":
-        port, fronts = start_fronts(0, {"pay": load_procedures(PAYMENTS / "procedures")["pay"]})
-        database = made(path)
-        run(Server(Bank(database), Journal(database), fronts), port, pathlib.Path(path + ".admin"), time.perf_counter())
+        procedures = {"pay": load_procedures(PAYMENTS / "procedures")["pay"]}
+        port, fronts = start_fronts(Options(), procedures)
+        chain = Chain(Bank(made(path)))
+        end_by_signals(chain)
+        run(Server(chain, fronts, procedures), port, pathlib.Path(path + ".admin"), time.perf_counter())
         return
     made(path)
     clients, seconds = int(sys.argv[3]), float(sys.argv[4])

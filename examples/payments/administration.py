@@ -4,7 +4,7 @@ import json
 import os
 import pathlib
 import socket
-from typing import Any
+from typing import Any, Optional
 
 
 def listen_at(path: pathlib.Path) -> socket.socket:
@@ -24,11 +24,12 @@ def listen_at(path: pathlib.Path) -> socket.socket:
     return listener
 
 
-def ask(path: pathlib.Path, word: str, value: int = True) -> dict[str, Any]:
-    """What the server replies to a word. An OSError if none listens there, or it ends."""
+def ask(path: pathlib.Path, word: str, value: int = True, timeout: Optional[float] = None, **more: int) -> dict[str, Any]:
+    """What the server replies to a word, or to a request. An OSError if none listens there, it ends, or is late."""
     with socket.socket(socket.AF_UNIX) as server:
+        server.settimeout(timeout)
         server.connect(str(path))
-        server.sendall(json.dumps({word: value}).encode() + b"\n")
+        server.sendall(json.dumps({word: value, **more}).encode() + b"\n")
         line = server.makefile().readline()
         if not line:
             raise ConnectionError(f"{path}: the server has ended")

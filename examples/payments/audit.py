@@ -4,39 +4,59 @@ import argparse
 import contextlib
 import hashlib
 import sys
-from typing import Optional
+from typing import Iterator, Union
 
 from administration import ask
-from bank import Bank, Unusable, load_procedures
-from journal import FileJournal
+from bank import Bank, Call, Unusable, load_procedures
+from chain import Opening, applied, unseal_batch
+from journal import Journal, Missing, Store
+
+Batch = Union[list[Call], Opening]
 
 
-def show(words: argparse.Namespace) -> None:
+def batches(store: Store, journal: Journal) -> Iterator[tuple[Bank, int, Batch]]:
+    """The bank after each batch, the batch's number, and what follows. They begin with batch 0, or if the first are gone with a snapshot."""
+    number = 0
+    try:
+        journal.read(1)
+    except Missing:
+        number = min(store.numbers(), default=0)
+    bank = store.load(number)
+    while lines := journal.read(number + 1):
+        for line in lines:
+            calls = unseal_batch(line, number + 1, bank.seq)
+            yield bank, number, calls
+            bank, number = applied(bank, calls), number + 1
+    yield bank, number, []
+
+
+def show(words: argparse.Namespace, journal: Journal) -> None:
     """Prints the journal, which is the serial history."""
-    procedures, journal = load_procedures(words.procedures), FileJournal(words.folder)
-    for bank, calls, _ in map(journal.load, journal.paths()):
-        print(f"# snapshot after call {bank.seq}")
+    procedures = load_procedures(words.procedures)
+    for bank, number, calls in batches(Store(words.folder), journal):
+        if isinstance(calls, dict):
+            print(f"# batch {number + 1}: from here on with the procedures {', '.join(calls['procedures'])}")
+            continue
         for seq, (name, *args) in enumerate(calls, bank.seq + 1):
             keys = procedures[name].request if name in procedures else ()
             print(seq, name, *(f"{key}={value}" for key, value in zip(keys or ("arg",) * 4, args)))
 
 
-def verify(words: argparse.Namespace) -> None:
+def verify(words: argparse.Namespace, journal: Journal) -> None:
     """Replays the journal in a second engine, and compares every row with each snapshot, and with those of its server, if one runs."""
-    last, wanted, first = sys.maxsize, "", 0
-    replayed: Optional[Bank] = None
+    last, wanted, first, store = sys.maxsize, "", 0, Store(words.folder)
     with contextlib.suppress(FileNotFoundError, ConnectionRefusedError):
         last, wanted = ask(words.admin or words.folder / "admin", "rows").values()
-    journal = FileJournal(words.folder)
-    for bank, calls, _ in map(journal.load, journal.paths()):
-        if bank.seq > last:
+    snapshots = set(store.numbers())
+    for bank, number, calls in batches(store, journal):
+        first = first or bank.seq + 1
+        if number in snapshots and (lambda it: (it.seq, it.rows()))(store.load(number)) != (bank.seq, bank.rows()):
+            raise Unusable(f"the calls up to {bank.seq} do not give the snapshot after batch {number}")
+        if bank.seq + len(calls) > last and isinstance(calls, list):
+            bank.replay(calls[: last - bank.seq])
             break
-        if replayed is not None and (replayed.seq, replayed.rows()) != (bank.seq, bank.rows()):
-            raise Unusable(f"the calls up to {replayed.seq} do not give the snapshot after call {bank.seq}")
-        first, replayed = bank.seq if replayed is None else first, bank
-        replayed.replay(calls[: last - bank.seq])
-    if replayed is None:
+    if not bank.texts:
         raise Unusable(f"{words.folder}: there is no journal")
-    if wanted and (last, wanted) != (replayed.seq, hashlib.sha256(replayed.rows()).hexdigest()):
-        raise Unusable(f"the calls up to {replayed.seq} do not give what is served after call {last}")
-    print(f"calls {first + 1} to {replayed.seq} give the rows of {'the server' if wanted else 'each snapshot'}")
+    if wanted and (last, wanted) != (bank.seq, hashlib.sha256(bank.rows()).hexdigest()):
+        raise Unusable(f"the calls up to {bank.seq} do not give what is served after call {last}")
+    print(f"calls {first} to {bank.seq} give the rows of {'the server' if wanted else 'each snapshot'}")

@@ -12,6 +12,8 @@ from sgt import Engine, Kind, Reply, pack_calls, unpack_calls, wrote  # noqa: E4
 
 ENTRIES = 4_000_000  # the history is cut after so many entries, or as many as there are records; a payment makes 20, in 800 bytes
 ROW = struct.Struct("<I4xqq")  # table, number and value of a row
+AT_ONCE = 10_000  # calls that are replayed: an outcome takes 392 bytes
+NO_PROCEDURE = 65_535  # the number of none
 Call = Sequence[Any]  # the name of a procedure, and its arguments
 
 
@@ -29,24 +31,31 @@ class Procedure:
     def __init__(self, name: str, file: dict[str, Any]) -> None:
         self.name, self.text = name, file["procedure"]  # the text is as docs/FORMATS.md has it
         self.request: list[str] = file.get("request", [])  # clients can't ask for a procedure without any keys
+        self.is_for_administrators: bool = file.get("administration", False)
+        self.rights: dict[str, str] = file.get("rights", {})  # by the key that has the account: pay, or read
+        self.writes = any(f'["{word}"' in json.dumps(self.text) for word in ("put", "remove"))
         # The parts of a reply, in which %d stands for a number. To put JSON together by `dumps` takes four times as long.
         keys = [*(self.request or [""])[:1], *file.get("reply", [])]
         self._begin, *self._answers = [json.dumps(key).replace("%", "%%") + ": %d" for key in keys]
         self._done = f", {json.dumps(file['done'])}: true" if "done" in file else ""
         self._reasons = {int(code): reason for code, reason in file.get("refused", {}).items()}
+        self._remembers: bool = file.get("remembers", False)  # that a first answer -N is a refusal by code N
         Engine.bare(1, 1).procedure(self.text)  # says what is wrong with it
         if self.request and len(self.request) != self.text[0]:
             raise ValueError(f"the request has {len(self.request)} keys, and the procedure takes {self.text[0]} arguments")
 
-    def line(self, first: int, reply: Reply) -> str:
-        """The line that a client gets: its first argument, and the answers, or why it was refused."""
-        if reply.kind is Kind.COMMITTED:
-            told = self._done + "".join([", " + key % value for key, value in zip(self._answers, reply.answers)])
-        elif reply.kind is Kind.REFUSED:
-            told = ', "refused": ' + json.dumps(self._reasons.get(reply.code or 0, f"code {reply.code}"))
+    def reply(self, first: int, reply: Reply, age: str) -> str:
+        """What a client gets: its first argument, and the answers, or why it was refused; and how old that is, if a follower says it."""
+        code, answers = reply.code or 0, reply.answers
+        if self._remembers and answers and answers[0] < 0:
+            code = -answers[0]
+        if code:
+            told = ', "refused": ' + json.dumps(self._reasons.get(code, f"code {code}"))
+        elif reply.kind is Kind.COMMITTED:
+            told = self._done + "".join([", " + key % value for key, value in zip(self._answers, answers)])
         else:
             told = ', "error": "this server does not run it"'  # as it follows another one
-        return "{" + self._begin % first + told + "}\n"
+        return "{" + self._begin % first + told + age + "}"
 
 
 def load_procedures(folder: pathlib.Path) -> dict[str, Procedure]:
@@ -72,7 +81,7 @@ class Bank:
         self.seq, self.texts = seq, texts
         self._engine = Engine.bare(1, 4_000_000_000)
         self._engine.put_bytes(rows)
-        self.numbers = {name: self._engine.procedure(text) for name, text in texts.items()}
+        self.numbers = {name: self._engine.procedure(text) for name, text in sorted(texts.items())}
         self._names = {number: name for name, number in self.numbers.items()}
         self._records = len(rows) // ROW.size
 
@@ -83,10 +92,13 @@ class Bank:
 
     def replay(self, calls: Sequence[Call]) -> None:
         """Runs the next calls of the journal. They committed when they were journaled, so they commit again, or it is not this bank's."""
-        for name, *args in calls:
-            if name not in self.numbers or not self.run(pack_calls([(self.numbers[name], *args)]))[1]:
-                raise Unusable(f"call {self.seq + 1} of the journal, {name} {args}, does not commit")
-            self.seq += 1
+        for at in range(0, len(calls), AT_ONCE):
+            part = calls[at : at + AT_ONCE]
+            packed = pack_calls([(self.numbers.get(name, NO_PROCEDURE), *args) for name, *args in part])
+            for has_written, call in zip(wrote(self._engine.run_bytes(packed)), part):
+                if not has_written:
+                    raise Unusable(f"call {self.seq + 1} of the journal, {call}, does not commit")
+                self.seq += 1
 
     def rows(self) -> bytes:
         """The committed database: 24 bytes a row."""

@@ -1,0 +1,130 @@
+"""The bank that the batches of a journal make: replay, appends and promotion, whatever the journal is."""
+
+import logging
+import time
+from typing import Any, Callable, Sequence, TypeVar, Union
+
+from bank import Bank, Call, Unusable, first_rows
+from journal import Away, Journal, Store, seal, unseal
+
+PATIENCE = 60.0  # seconds that a primary waits for a journal that is away
+PAUSE = 0.05  # seconds between two times that a follower reads
+CALLS = 10_000  # of a batch, at most: no journal takes batches of any size
+Opening = dict[str, Any]  # what a batch has in place of calls: procedures, from there on; accounts and cents, if it is the first batch
+Result = TypeVar("Result")
+
+
+def seal_batch(number: int, seq: int, calls: Union[Sequence[Call], Opening]) -> bytes:
+    """A batch as bytes: its number, the number of its first call, which follows call `seq`, and its calls."""
+    return seal([number, seq + 1, calls])
+
+
+def unseal_batch(data: bytes, number: int, seq: int) -> Union[list[Call], Opening]:
+    """The calls of a batch, which stands where batch `number` is due, after call `seq`."""
+    found = unseal(data)
+    if found is None:
+        raise Unusable(f"batch {number} is damaged")
+    if found[:2] != [number, seq + 1]:
+        raise Unusable(f"where batch {number} with call {seq + 1} is due, there is batch {found[0]} with call {found[1]}")
+    calls: Union[list[Call], Opening] = found[2]
+    return calls
+
+
+def applied(bank: Bank, calls: Union[list[Call], Opening]) -> Bank:
+    """The bank after a batch."""
+    if isinstance(calls, dict):
+        rows = bank.rows() if bank.texts else first_rows(calls["accounts"], calls["cents"])
+        return Bank(bank.seq, calls["procedures"], rows)
+    bank.replay(calls)
+    return bank
+
+
+class Chain:
+    """The bank after batch `number`. It follows until it leads."""
+
+    def __init__(self, store: Store, journal: Journal, opening: Opening, server: str) -> None:
+        self.store, self.journal, self.opening, self.server = store, journal, opening, server
+        self.leads = self.ends = False
+        self.number = max(store.numbers(), default=0)
+        self.bank = store.load(self.number)
+        self.fresh = self._next = time.monotonic()  # when the bank was as the journal; when to read on
+
+    def start(self) -> None:
+        """Recovers. Returns once the bank is as the journal was, and has this server's procedures."""
+        self.insist(lambda: self.journal.stored(self.server, self.number))
+        self.insist(self._lead_or_read)
+        while not self.bank.texts:  # the primary has not begun yet
+            time.sleep(PAUSE)
+            self.insist(self._lead_or_read)
+        self._compare()
+
+    def insist(self, ask: Callable[[], Result]) -> Result:
+        """Asks until the journal answers. Meanwhile clients wait."""
+        end = time.monotonic() + PATIENCE
+        while True:
+            try:
+                return ask()
+            except Away as why:
+                if self.ends or time.monotonic() > end:
+                    raise Unusable(f"the journal is away: {why}") from None
+                time.sleep(PAUSE)
+
+    def catch_up(self) -> None:
+        """Runs the batches that were not read yet."""
+        while True:
+            now = time.monotonic()
+            batches = self.journal.read(self.number + 1)
+            for data in batches:
+                self.bank = applied(self.bank, unseal_batch(data, self.number + 1, self.bank.seq))
+                self.number += 1
+            if not batches:
+                self.fresh = now
+                return
+
+    def follow(self) -> None:
+        """A follower reads on now and then, and becomes the primary if there is none. It answers while the journal is away, too."""
+        if time.monotonic() < self._next:
+            return
+        try:
+            self._lead_or_read()
+            self._compare()
+        except Away as why:
+            logging.warning("the journal is away: %s", why)
+        self._next = time.monotonic() + PAUSE
+
+    def _lead_or_read(self) -> None:
+        """Becomes the primary, or reads on. A primary has read all before it begins, and begins with a batch.
+
+        The batch fences a primary before it, and makes safe what was read. It has this server's procedures, if they are other ones.
+        """
+        if not self.journal.lead():
+            return self.catch_up()
+        self.insist(self.catch_up)
+        self.append([] if self.bank.texts == self.opening["procedures"] else self.opening)
+        if self.bank.texts != self.opening["procedures"]:
+            self.bank = applied(self.bank, self.opening)
+        self.leads = True
+
+    def _compare(self) -> None:
+        if self.bank.texts != self.opening["procedures"]:
+            raise Unusable("the primary has other procedures")
+
+    def append(self, calls: Union[list[Call], Opening]) -> None:
+        """Returns once these calls are safe. They have run already, but for an opening."""
+        parts = [calls[at : at + CALLS] for at in range(0, len(calls), CALLS)] if isinstance(calls, list) else []
+        seq = self.bank.seq - sum(map(len, parts))
+        for part in parts or [calls]:
+            number, data = self.number + 1, seal_batch(self.number + 1, seq, part)
+            self.insist(lambda: self.journal.append(number, data))
+            seq += len(part) if isinstance(part, list) else 0
+            self.number += 1
+
+    def check(self) -> None:
+        """Before replies that rest on no new batch."""
+        self.insist(self.journal.check)
+
+    def cut(self) -> None:
+        """Stores a snapshot of the bank, so that older batches can be deleted. `NoSnapshot` if that fails: then nothing has changed."""
+        self.store.save(self.number, self.bank)
+        self.insist(lambda: self.journal.stored(self.server, self.number))
+        self.store.delete_before(self.number)

@@ -1,0 +1,112 @@
+"""The journal in etcd, by its JSON gateway: consensus of its nodes. The keys NAME/..:
+
+    leader         who leads, by a lease: the key goes LEASE seconds after its server was heard of last
+    batch/N        batch N
+    stored/SERVER  the batch after which a server has a snapshot
+
+A write is one transaction, which asks that `leader` was created by this server, and that the batch is not there. So a primary that was
+replaced writes nothing more. What etcd has accepted is on the disks of a majority of its nodes.
+"""
+
+import http.client
+import json
+import os
+from base64 import b64decode, b64encode
+from typing import Any, Sequence
+
+from bank import Unusable
+from journal import LEASE, Away, Fenced, from_number, keep_alive, needed
+
+TRY = 1.5  # seconds until another node is asked
+AT_ONCE = 200  # batches that are read
+REFUSED = {3, 9, 11, 12, 16}  # codes of errors that do not pass: the request is wrong, or there is no authority
+
+
+def coded(data: bytes) -> str:
+    return b64encode(data).decode()
+
+
+class Gateway:
+    """The JSON gateway of the nodes: one is asked until it fails, and then the next one."""
+
+    def __init__(self, nodes: Sequence[str]) -> None:
+        self.nodes, self._link = list(nodes), http.client.HTTPConnection(nodes[0], timeout=TRY)
+
+    def ask(self, path: str, **body: Any) -> dict[str, Any]:
+        """What etcd replies to a request. `Away` if no node does."""
+        why: object = ""
+        for _ in self.nodes:
+            try:
+                self._link.request("POST", f"/v3/{path}", json.dumps(body))
+                reply = json.loads(self._link.getresponse().read())
+                if "error" not in reply:
+                    return dict(reply)
+                why = reply["error"]
+                if reply.get("code") in REFUSED:
+                    raise Unusable(f"etcd: {why}")
+            except (OSError, http.client.HTTPException, ValueError) as error:
+                why = repr(error)
+            self._link.close()
+            self.nodes = self.nodes[1:] + self.nodes[:1]
+            self._link = http.client.HTTPConnection(self.nodes[0], timeout=TRY)
+        raise Away(f"etcd: {why}")
+
+
+class EtcdJournal:
+    """NAME in the etcd of these nodes, each an address with its port."""
+
+    def __init__(self, nodes: Sequence[str], name: str) -> None:
+        self.nodes, self.name, self.report, self.nonce = nodes, name, "", os.urandom(8).hex().encode()
+        self._etcd, self._term = Gateway(nodes), -1
+
+    def _key(self, *parts: str) -> str:
+        return coded("/".join((self.name, *parts)).encode())
+
+    def _batch(self, number: int) -> str:
+        return self._key("batch", f"{number:015}")
+
+    def _leader(self) -> dict[str, Any]:
+        found = self._etcd.ask("kv/range", key=self._key("leader")).get("kvs")
+        return dict(found[0]) if found else {}
+
+    def _is_ours(self) -> dict[str, Any]:
+        return {"key": self._key("leader"), "target": "CREATE", "create_revision": self._term}
+
+    def lead(self) -> bool:
+        leader = self._leader()
+        if not leader and self._term < 0:
+            lease = self._etcd.ask("lease/grant", TTL=LEASE)["ID"]
+            put = {"request_put": {"key": self._key("leader"), "value": coded(self.nonce), "lease": lease}}
+            none = {"key": self._key("leader"), "target": "CREATE", "create_revision": 0}
+            self._etcd.ask("kv/txn", compare=[none], success=[put])
+            leader = self._leader()
+        if self._term < 0 and leader.get("value") == coded(self.nonce):
+            self._term, lease, beat = int(leader["create_revision"]), leader["lease"], Gateway(self.nodes)
+            keep_alive(lambda: beat.ask("lease/keepalive", ID=lease), LEASE / 6)
+        if self._term >= 0:
+            self.check()
+        return self._term >= 0
+
+    def append(self, number: int, data: bytes) -> None:
+        key = self._batch(number)
+        absent = {"key": key, "target": "CREATE", "create_revision": 0}
+        put, there = {"request_put": {"key": key, "value": coded(data)}}, {"request_range": {"key": key}}
+        reply = self._etcd.ask("kv/txn", compare=[self._is_ours(), absent], success=[put], failure=[there])
+        if not reply.get("succeeded"):
+            found = reply["responses"][0]["response_range"].get("kvs")
+            if not found or found[0]["value"] != coded(data):  # else an earlier try has written it
+                raise Fenced(f"etcd: another primary leads, after batch {number - 1}")
+
+    def check(self) -> None:
+        if int(self._leader().get("create_revision", 0)) != self._term:
+            raise Fenced("etcd: another primary leads")
+
+    def read(self, number: int) -> list[bytes]:
+        found = self._etcd.ask("kv/range", key=self._batch(number), range_end=self._key("batch0"), limit=AT_ONCE)
+        return from_number(number, [b64decode(it["value"]) for it in found.get("kvs", ())])
+
+    def stored(self, server: str, number: int) -> None:
+        self._etcd.ask("kv/put", key=self._key("stored", server), value=coded(b"%d" % number))
+        found = self._etcd.ask("kv/range", key=self._key("stored", ""), range_end=self._key("stored0"))
+        keep = needed(int(b64decode(it["value"])) for it in found["kvs"])
+        self._etcd.ask("kv/deleterange", key=self._batch(0), range_end=self._batch(keep))

@@ -1,0 +1,113 @@
+"""The journal in the files of one machine: N.batches begins with batch N. The link `newest` leads to the last file."""
+
+import os
+import pathlib
+import time
+from bisect import bisect_right
+
+from bank import Unusable
+from journal import Missing, is_whole, seal, store, sync_names, write_all
+
+SHORTEST = len(seal([1, 1, [["a"]]])) + 2  # bytes of a batch that has a call
+
+
+class FileJournal:
+    """The batches of one server, who leads always: its folder is its own."""
+
+    def __init__(self, folder: pathlib.Path, keep: bool = False) -> None:
+        self.folder, self.keep, self._newest = folder, keep, folder / "newest"
+        self.report, self._file = "", -1
+
+    def paths(self) -> list[pathlib.Path]:
+        return sorted(self.folder.glob("*.batches"))
+
+    def lead(self) -> bool:
+        """Opens the last file, and cuts off its torn tail."""
+        if self._file < 0:
+            if self._newest.is_symlink() and not self._newest.exists():
+                gone = self.folder / os.readlink(self._newest)
+                raise Unusable(f"{gone}: this file is gone, and with it what was acknowledged in it")
+            if not self.paths():
+                self._begin(1)
+            path = self.paths()[-1]
+            lines, tail = whole_lines(path)
+            self.report = self._told_of(int(path.stem) + len(lines) - 1, tail)
+            self._open(path)
+            os.ftruncate(self._file, path.stat().st_size - len(tail))
+        return True
+
+    def _told_of(self, number: int, tail: bytes) -> str:
+        """What a tail after a batch may have held. A killed server leaves the beginning of a line. Anything else is kept in a file."""
+        begin = f"cut off {len(tail)} bytes after batch {number}: "
+        if tail.decode("latin-1").isprintable():
+            return begin + "the beginning of a batch that was not safe, and that nobody was told of" if tail else ""
+        path, most = self.folder / f"{number:015}-{time.time_ns()}.tail", (len(tail) + 1) // SHORTEST
+        store(path, [tail])
+        return begin + f"if power was lost, a batch that nobody was told of; else damage to at most {most} that were safe. Kept in {path}"
+
+    def append(self, number: int, data: bytes) -> None:
+        """An OSError must end the program: nobody knows what a failed fsync has kept. The newline before a line parts it from damage."""
+        write_all(self._file, b"\n%b\n" % data)
+        os.fsync(self._file)
+
+    def check(self) -> None:
+        """Nobody else can lead."""
+
+    def read(self, number: int) -> list[bytes]:
+        """The batches from this one on of the file that has it."""
+        paths = self.paths()
+        firsts = [int(path.stem) for path in paths]
+        at = bisect_right(firsts, number) - 1
+        if at < 0 and paths:
+            raise Missing(f"{self.folder}: batch {number} is missing; the first one is {firsts[0]}")
+        if at < 0:
+            return []
+        lines, tail = whole_lines(paths[at])
+        if at + 1 < len(paths) and (tail or firsts[at] + len(lines) != firsts[at + 1]):
+            raise Unusable(f"{paths[at]}: the end of this file is damaged, or gone")
+        return lines[number - firsts[at] :]
+
+    def stored(self, server: str, number: int) -> None:
+        """Goes on in a new file."""
+        if self._file < 0 or self.folder / f"{number + 1:015}.batches" in self.paths():
+            return
+        older = self.paths()
+        self._begin(number + 1)
+        for path in () if self.keep else older:
+            path.unlink()
+
+    def _begin(self, number: int) -> None:
+        path = self.folder / f"{number:015}.batches"
+        path.touch(0o600)
+        self._open(path)
+
+    def _open(self, path: pathlib.Path) -> None:
+        """Makes the file's name safe, and then the link to it. A start compares them: of a file that is gone nothing else would tell."""
+        if self._file >= 0:
+            os.close(self._file)
+        self._file = os.open(path, os.O_WRONLY | os.O_APPEND)
+        sync_names(self.folder)
+        new = self._newest.with_suffix(".new")
+        new.symlink_to(path.name)
+        new.rename(self._newest)
+        sync_names(self.folder)
+
+
+def whole_lines(path: pathlib.Path) -> tuple[list[bytes], bytes]:
+    """The batches of a file, and what is after them.
+
+    A line is written when the one before it is safe. So a bad line before a good one is damage, and `Unusable` names the place. What is bad
+    at the end may be a batch that a crash has torn, and that nobody was told of.
+    """
+    data, at = path.read_bytes(), 0
+    found: list[bytes] = []
+    lines = data.split(b"\n")[:-1]
+    for place, line in enumerate(lines):
+        if line and not is_whole(line):
+            if any(map(is_whole, lines[place:])):
+                number = int(path.stem) + len(found)
+                raise Unusable(f"{path}: the line at byte {at} is damaged; batch {number} stood there, and it was safe")
+            break
+        found += [line] if line else []
+        at += len(line) + 1
+    return found, data[at:]

@@ -1,0 +1,160 @@
+"""The process of the engine: it runs what the fronts have asked, makes it safe by one append, and only then replies."""
+
+import hashlib
+import json
+import logging
+import marshal
+import pathlib
+import select
+import signal
+import time
+from multiprocessing.connection import Connection
+from multiprocessing.reduction import send_handle
+from typing import Any, Callable, Sequence
+
+from administration import listen_at
+from bank import NO_PROCEDURE, Call, NoSnapshot, Procedure
+from chain import PAUSE, Chain
+from sgt import pack_calls, unpack_calls
+
+CALL_BYTES = len(pack_calls([(0,)]))
+IDLE = 0.1  # seconds without a request, after which the journal notes what is safe
+
+
+class Server:
+    """A primary, or a follower, which answers what does not write, and says how old its answers may be."""
+
+    def __init__(self, chain: Chain, fronts: list[Connection], procedures: dict[str, Procedure]) -> None:
+        self.chain, self.fronts = chain, fronts
+        self.batch: list[Call] = []  # calls that ran, and are not safe yet
+        self.is_marked, self.day = True, -1
+        self.began, self.calls, self.batches, self.appending = time.monotonic(), 0, 0, 0.0
+        self.trouble = ""  # of the last snapshot
+        self.words: dict[str, Callable[[int], dict[str, Any]]] = {
+            "rows": self.rows,
+            "health": self.health,
+            "figures": self.figures,
+            "day": self.set_day,
+        }
+        self.writers = {chain.bank.numbers[name] for name, it in procedures.items() if it.writes}
+        for front in fronts:
+            front.send_bytes(marshal.dumps(chain.bank.numbers))
+
+    def turn(self) -> None:
+        """Waits for requests, and replies to all that have come in. The next ones gather meanwhile."""
+        ready = select.select(self.fronts, (), (), IDLE if self.chain.leads else PAUSE)[0]
+        if not self.chain.leads:
+            self.chain.follow()
+        self.begin_day()
+        try:
+            replies = [self.run(*marshal.loads(front.recv_bytes())) for front in ready]
+            self.before_replies()
+            for front, (outcomes, words) in zip(ready, replies):
+                front.send_bytes(marshal.dumps((outcomes, words, self.age())))
+        except (EOFError, ConnectionError):
+            raise OSError("a front process has ended") from None
+        if self.chain.bank.cut_if_long():
+            self.take_snapshot()
+
+    def age(self) -> str:
+        """What a follower adds to a reply: payments that were acknowledged later may be missing in it."""
+        return "" if self.chain.leads else f', "seconds_old": {time.monotonic() - self.chain.fresh:.3f}'
+
+    def take_snapshot(self) -> None:
+        """Stores a snapshot. One that can't be stored ends nothing: the next cut tries again."""
+        try:
+            self.chain.cut()
+            self.trouble = ""
+        except NoSnapshot as why:
+            self.trouble = f"no snapshot after call {self.chain.bank.seq}: {why}"
+            logging.warning(self.trouble)
+
+    def before_replies(self) -> None:
+        """Makes the batch safe. Nothing is told before: a refusal or a balance may rest on a call of the same batch.
+
+        Once nobody asks, an empty batch notes that all is safe. Until then damage to the last batch looks like a torn tail.
+        """
+        if self.batch or not self.is_marked:
+            begin = time.monotonic()
+            self.chain.append(self.batch)
+            self.appending += time.monotonic() - begin
+            self.batches += 1
+            self.batch, self.is_marked = [], not self.batch
+        elif self.chain.leads:
+            self.chain.check()
+
+    def run(self, calls: bytes, words: Sequence[tuple[str, int]] = ()) -> tuple[bytes, list[str]]:
+        """Runs packed calls, and adds those that wrote to the batch. Their packed outcomes, and then the replies to words.
+
+        For what may write a follower has no procedure.
+        """
+        if not self.chain.leads:
+            calls = pack_calls([(NO_PROCEDURE if number in self.writers else number, *args) for number, *args in unpack_calls(calls)])
+        outcomes, wrote = self.chain.bank.run(calls)
+        self.batch += wrote
+        self.chain.bank.seq += len(wrote)
+        self.calls += len(calls) // CALL_BYTES
+        return outcomes, [json.dumps(self.words.get(word, self.unknown)(value)) for word, value in words]
+
+    def rows(self, _: int) -> dict[str, Any]:
+        """A digest of all rows. Nobody is served while it is made: a second for some ten million rows."""
+        return {"seq": self.chain.bank.seq, "sha256": hashlib.sha256(self.chain.bank.rows()).hexdigest()}
+
+    def health(self, _: int) -> dict[str, Any]:
+        """What an operator should look after, or ok. That there is a reply says that batches become safe, as each reply waits for that."""
+        told = "; ".join(filter(None, (self.trouble, self.trouble_of_clock()))) or "ok"
+        return {"health": told, "leads": self.chain.leads, "seq": self.chain.bank.seq, "batch": self.chain.number}
+
+    def figures(self, _: int) -> dict[str, Any]:
+        """Since the start: seconds, calls, batches, and seconds in which batches were made safe. And how large the bank is now."""
+        seconds = {"seconds": round(time.monotonic() - self.began, 3), "append_seconds": round(self.appending, 3)}
+        return {"seq": self.chain.bank.seq, "calls": self.calls, "batches": self.batches, **seconds, **self.chain.bank.sizes()}
+
+    def unknown(self, _: int) -> dict[str, Any]:
+        return {"error": "no word of this server"}
+
+    def begin_day(self) -> None:
+        """Tells the bank the day, as a call: a procedure has no clock, so the day stands in the journal.
+
+        The procedure takes the day after its own day alone. When the clock jumps, the bank keeps its day until an operator says another.
+        """
+        day = today()
+        if day != self.day and self.chain.leads and "day" in self.chain.bank.numbers:
+            self.day = day
+            self.run(pack_calls([(self.chain.bank.numbers["day"], day)]))
+            if self.chain.bank.day() != day:
+                logging.warning(self.trouble_of_clock())
+
+    def trouble_of_clock(self) -> str:
+        """Whether the bank has another day than the clock. A follower may get the next day a moment late."""
+        clock, day = today(), self.chain.bank.day()
+        return "" if day is None or clock - day in (0, 1) else f"the clock says day {clock}, and the bank has day {day}"
+
+    def set_day(self, day: int) -> dict[str, Any]:
+        """The day as an operator says it, whatever the clock says; with true in place of a number the day as it is."""
+        if not isinstance(day, bool) and "set_day" in self.chain.bank.numbers:
+            self.run(pack_calls([(self.chain.bank.numbers["set_day"], day)]))
+        return {"day": self.chain.bank.day()}
+
+
+def today() -> int:
+    """The day by the clock, in UTC, counted from 1970."""
+    return int(time.time() // 86_400)
+
+
+def run(server: Server, port: int, admin: pathlib.Path, begin: float) -> None:
+    """Runs a server until SIGTERM or SIGINT."""
+    with listen_at(admin) as listener:
+        send_handle(server.fronts[-1], listener.fileno(), None)
+    now = f"after call {server.chain.bank.seq}, started in {time.perf_counter() - begin:.2f} s"
+    print(f"serving on port {port} {now}", flush=True)
+    while not server.chain.ends:
+        server.turn()
+    server.before_replies()
+    admin.unlink(missing_ok=True)
+
+
+def end_by_signals(chain: Chain) -> None:
+    """From now on SIGTERM and SIGINT end a server well."""
+    for number in (signal.SIGTERM, signal.SIGINT):
+        signal.signal(number, lambda *_: setattr(chain, "ends", True))

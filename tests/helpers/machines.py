@@ -1,0 +1,192 @@
+"""What the tests of `examples/payments` run beside it: etcd, Redis and PostgreSQL, each in a folder of the test's own, and at free ports."""
+
+import contextlib
+import glob
+import json
+import os
+import pathlib
+import pwd
+import shutil
+import signal
+import socket
+import subprocess
+import sys
+import time
+import urllib.request
+
+from helpers.cases import Differs
+
+SECONDS = 60
+QUIET = {"stdout": subprocess.DEVNULL, "stderr": subprocess.DEVNULL}
+
+
+def free_ports(count):
+    """Ports that nobody listens at."""
+    with contextlib.ExitStack() as stack:
+        return [stack.enter_context(socket.create_server(("127.0.0.1", 0))).getsockname()[1] for _ in range(count)]
+
+
+def wait_until(is_so, what):
+    """Waits until this is so, for a minute at most."""
+    end = time.monotonic() + SECONDS
+    while time.monotonic() < end:
+        with contextlib.suppress(OSError, ValueError):
+            if found := is_so():
+                return found
+        time.sleep(0.05)
+    raise Differs(f"after {SECONDS} seconds: not {what}")
+
+
+def can_connect(port):
+    socket.create_connection(("127.0.0.1", port)).close()
+    return True
+
+
+def python_with(module):
+    """A Python that has this module: Debian's packages are for its own."""
+    for python in (sys.executable, "/usr/bin/python3"):
+        if os.path.exists(python) and subprocess.run([python, "-c", f"import {module}"], **QUIET, check=False).returncode == 0:
+            return python
+    return None
+
+
+class Etcd:
+    """Three nodes, whose journal has this address."""
+
+    python = sys.executable
+
+    def __init__(self, folder):
+        self.folder, self.ports = folder, free_ports(6)
+        self.processes = [None] * 3
+        for number in range(3):
+            self.start(number)
+        wait_until(lambda: self.leader() is not None, "an etcd that has a leader")
+        self.address = f"etcd://{','.join(f'127.0.0.1:{port}' for port in self.ports[:3])}/bank"
+
+    @staticmethod
+    def missing():
+        """What is missing here, if anything is."""
+        return None if shutil.which("etcd") else "there is no etcd on this machine"
+
+    def start(self, number):
+        own, peers = f"http://127.0.0.1:{self.ports[number]}", [f"http://127.0.0.1:{port}" for port in self.ports[3:]]
+        words = ["--name", f"n{number}", "--data-dir", self.folder / f"etcd{number}", "--log-level", "error", "--initial-cluster-state", "new"]
+        words += ["--listen-client-urls", own, "--advertise-client-urls", own]
+        words += ["--listen-peer-urls", peers[number], "--initial-advertise-peer-urls", peers[number]]
+        words += ["--initial-cluster", ",".join(f"n{at}={peer}" for at, peer in enumerate(peers))]
+        words += ["--auto-compaction-mode", "revision", "--auto-compaction-retention", "1000"]
+        self.processes[number] = subprocess.Popen(["etcd", *map(str, words)], **QUIET)
+
+    def leader(self):
+        """The node that leads, or None if there is none."""
+        for number, port in enumerate(self.ports[:3]):
+            with contextlib.suppress(OSError, ValueError, KeyError):
+                request = urllib.request.Request(f"http://127.0.0.1:{port}/v3/maintenance/status", b"{}")
+                with urllib.request.urlopen(request, timeout=1) as reply:
+                    status = json.load(reply)
+                if status.get("leader") == status["header"]["member_id"]:
+                    return number
+        return None
+
+    def away(self, seconds):
+        """Two of three nodes are stopped for so long."""
+        with self.stopped(0, 1):
+            time.sleep(seconds)
+
+    @contextlib.contextmanager
+    def stopped(self, *numbers):
+        for number in numbers:
+            self.processes[number].send_signal(signal.SIGSTOP)
+        try:
+            yield
+        finally:
+            for number in numbers:
+                self.processes[number].send_signal(signal.SIGCONT)
+
+    def kill(self, number):
+        self.processes[number].kill()
+        self.processes[number].wait()
+
+    def end(self):
+        for process in self.processes:
+            process.kill()
+            process.wait()
+
+
+class Redis:
+    """A Redis with these options, and the address of a journal in it."""
+
+    def __init__(self, folder, *words):
+        (port,) = free_ports(1)
+        options = words or ("--appendonly", "yes", "--appendfsync", "always")
+        self.process = subprocess.Popen(["redis-server", "--port", str(port), "--dir", str(folder), "--save", "", *options], **QUIET)
+        self.address, self.python = f"redis://127.0.0.1:{port}/bank", python_with("redis")
+        wait_until(lambda: can_connect(port), "a Redis that listens")
+
+    @staticmethod
+    def missing():
+        if not shutil.which("redis-server"):
+            return "there is no redis-server on this machine"
+        return None if python_with("redis") else "there is no python3-redis on this machine"
+
+    def away(self, seconds):
+        self.process.send_signal(signal.SIGSTOP)
+        time.sleep(seconds)
+        self.process.send_signal(signal.SIGCONT)
+
+    def end(self):
+        self.process.kill()
+        self.process.wait()
+
+
+class Postgres:
+    """A PostgreSQL, and the address of a journal in it."""
+
+    def __init__(self, folder):
+        self.folder, self.bin = folder / "postgres", sorted(glob.glob("/usr/lib/postgresql/*/bin"))[-1]
+        self.user = ["runuser", "-u", "postgres", "--"] if os.getuid() == 0 else []
+        self.folder.mkdir()
+        if self.user:
+            os.chown(self.folder, pwd.getpwnam("postgres").pw_uid, -1)
+            for it in (folder, *folder.parents):
+                if it.owner() == "root" and str(it).startswith("/tmp/"):
+                    it.chmod(0o755)
+        (port,) = free_ports(1)
+        self.options = f"-p {port} -k {self.folder} -c listen_addresses=127.0.0.1"
+        self.run("initdb", "-D", self.folder / "data", "-A", "trust", "--no-sync", "-U", "postgres")
+        self.begin()
+        self.address, self.python = f"postgresql://postgres@127.0.0.1:{port}/postgres", python_with("psycopg2")
+
+    @staticmethod
+    def missing():
+        if not glob.glob("/usr/lib/postgresql/*/bin/initdb"):
+            return "there is no PostgreSQL on this machine"
+        return None if python_with("psycopg2") else "there is no python3-psycopg2 on this machine"
+
+    def begin(self):
+        self.run("pg_ctl", "-D", self.folder / "data", "-o", self.options, "-l", self.folder / "log", "-w", "start")
+
+    def run(self, program, *words):
+        command = [*self.user, f"{self.bin}/{program}", *map(str, words)]
+        ran = subprocess.run(command, **QUIET, check=False, cwd=self.folder, timeout=2 * SECONDS)
+        if ran.returncode:
+            raise Differs(f"{program} ends with {ran.returncode}")
+
+    def away(self, seconds):
+        """It is killed, and begins anew after so long."""
+        self.end()
+        time.sleep(seconds)
+        self.begin()
+
+    def end(self):
+        self.run("pg_ctl", "-D", self.folder / "data", "-m", "immediate", "-w", "stop")
+
+
+@contextlib.contextmanager
+def running(kind, folder, *words):
+    """One of these, ended at the end."""
+    one = kind(pathlib.Path(folder), *words)
+    try:
+        yield one
+    finally:
+        one.end()
