@@ -41,14 +41,14 @@ pub enum Fault {
 }
 
 /// Whether the list ends with the other.
-pub(crate) fn ends_with(values: &[u32], end: &[u32]) -> bool
+pub fn ends_with(values: &[u32], end: &[u32]) -> bool
     ensures { IsTrue result ↔ ((front : List ℕ) × (values.now ≡ front ++ end.now)) }
 {
     end.len() <= values.len() && &values[values.len() - end.len()..] == end
 }
 
 /// Whether the other is a prefix of the list.
-pub(crate) fn starts_with(values: &[u32], start: &[u32]) -> bool
+pub fn starts_with(values: &[u32], start: &[u32]) -> bool
     ensures { IsTrue result ↔ IsPrefix start.now values.now }
 {
     start.len() <= values.len() && &values[..start.len()] == start

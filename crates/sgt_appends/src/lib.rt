@@ -45,13 +45,16 @@ mod witness;
 pub use anomaly::{Anomaly, name_of};
 pub use append_index::{AppendIndex, appends_once};
 pub use check::{Verdict, Witness, check_appends};
+pub use compatible::first_incompatible;
 pub use contents::Contents;
-pub use fault::Fault;
+pub use fault::{Fault, ends_with, starts_with};
 pub use laws::{
     cycles_are_enough, faults_are_enough, few_edges_are_enough, guides_are_enough,
     orders_are_enough, precedences_are_obeyed, raised_are_enough,
 };
-pub use order::is_serial_run;
+pub use order::{is_serial_run, names_each};
+pub use premises::unknown_read;
+pub use reads::{Read, first_fault, read_of};
 pub use sorting::{Link, Sorted, sort};
 pub use transaction::{Operation, Status, Transaction};
-pub use witness::{Edge, Reason, all_hold, is_cycle};
+pub use witness::{Edge, Reason, all_hold, append_at, has, is_cycle, read_at, stands_before};

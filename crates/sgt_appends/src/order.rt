@@ -39,7 +39,7 @@ fn runs(alloc: Global, history: &[Transaction], order: &[usize]) -> Result<bool,
 }
 
 /// Whether the order names each committed transaction, no aborted one, and none twice.
-fn names_each(alloc: Global, history: &[Transaction], order: &[usize]) -> Result<bool, NoMemory>
+pub fn names_each(alloc: Global, history: &[Transaction], order: &[usize]) -> Result<bool, NoMemory>
     ensures once { IfOk result (λ yes. IsTrue yes → IsOnce order.now) }
     ensures committed { IfOk result (λ yes. IsTrue yes → (t : ℕ) → Ended history.now t Committed → Has order.now t) }
     ensures may_run { IfOk result (λ yes. IsTrue yes → (t : ℕ) → Has order.now t → MayRun history.now t) }

@@ -139,11 +139,7 @@ fn were_seen(
 }
 
 /// The key and the value of the transaction's append at the position.
-pub(crate) fn append_at(
-    history: &[Transaction],
-    transaction: usize,
-    place: usize,
-) -> Option<(u32, u32)>
+pub fn append_at(history: &[Transaction], transaction: usize, place: usize) -> Option<(u32, u32)>
     ensures { IfSome result (λ appended. Appends history.now transaction appended.0 appended.1) }
 {
     let transaction = history.get(transaction)?;
@@ -154,7 +150,7 @@ pub(crate) fn append_at(
 }
 
 /// What the transaction, which committed, read at the position from the key.
-pub(crate) fn read_at<'a>(
+pub fn read_at<'a>(
     history: &'a [Transaction],
     transaction: usize,
     place: usize,
@@ -174,7 +170,7 @@ pub(crate) fn read_at<'a>(
 }
 
 /// Whether the value is in the list.
-pub(crate) fn has(values: &[u32], value: u32) -> bool
+pub fn has(values: &[u32], value: u32) -> bool
     ensures { IsTrue result ↔ Has values.now value }
 {
     for x in values {
@@ -186,7 +182,7 @@ pub(crate) fn has(values: &[u32], value: u32) -> bool
 }
 
 /// Whether the first stands before the second in the list.
-pub(crate) fn stands_before(values: &[u32], first: u32, second: u32) -> bool
+pub fn stands_before(values: &[u32], first: u32, second: u32) -> bool
     ensures { IsTrue result → StandsBefore values.now first second }
 {
     for (at, x) in values.iter().enumerate() {

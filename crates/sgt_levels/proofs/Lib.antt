@@ -10,3 +10,6 @@ pub mod Raises
 pub mod Lates
 pub mod Rounds
 pub mod Examples
+pub mod Grown
+pub mod Replayed
+pub mod Tied

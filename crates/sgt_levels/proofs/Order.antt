@@ -66,11 +66,11 @@ snapshot_committed h order begin commit run = record {
         first [] some all = absurd (some refl)
         first (x ∷ xs) some all = (x, all x (inl refl))
 
-rises_by : (rank : ℕ → ℕ) (xs : List ℕ) → ((t u : ℕ) → StandsBefore xs t u → rank t < rank u) → Rises rank xs
+pub rises_by : (rank : ℕ → ℕ) (xs : List ℕ) → ((t u : ℕ) → StandsBefore xs t u → rank t < rank u) → Rises rank xs
 rises_by rank [] all = tt
 rises_by rank (x ∷ xs) all = ((λ y has. all x y ([], xs, refl, has)), rises_by rank xs (λ t u it. all t u (StandsBefore-cons x xs t u it)))
 
-before_is : (commit : ℕ → ℕ) (time : ℕ) (front back : List ℕ) → ((x : ℕ) → Has front x → commit x < time)
+pub before_is : (commit : ℕ → ℕ) (time : ℕ) (front back : List ℕ) → ((x : ℕ) → Has front x → commit x < time)
     → ((y : ℕ) → Has back y → time ≤ commit y) → before_time commit time (front ++ back) ≡ front
 before_is commit time [] [] less more = refl
 before_is commit time [] (y ∷ back) less more =

@@ -6,4 +6,6 @@ pub mod Raises
 pub mod Lates
 pub mod Rounds
 pub mod Ruled
+pub mod Replays
+pub mod Ties
 pub mod Examples
