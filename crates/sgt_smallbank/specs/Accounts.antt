@@ -1,6 +1,6 @@
 -- The database rows of accounts, and the faults that accounts may have.
 use Rattle.std.specs.Prelude.{◌≡◌, ◌≢◌, ℕ, ℤ, Bool, ◌&&◌, cond, List, [], ◌∷◌, ◌++◌, Option, Some, None}
-use Rattle.std.specs.Option.{option_or}
+use Rattle.std.specs.Option.{is_some, option_or}
 use Rattle.std.specs.List.{list_any}
 use Rattle.std.specs.Ordering.{int_eq}
 use Rattle.sgt_model.specs.Numbers.{IsValue, is_value}
@@ -62,6 +62,13 @@ abbrev pub fault_behind : List Account → Account → Option OpeningFault
 fault_behind earlier a =
     cond (is_in_range a)
     (cond (has_name earlier a.name) (Some SameName) (cond (has_customer earlier a.customer) (Some SameCustomer) None))
+    (Some Range)
+
+-- the same, if the rows of those before it are at hand
+abbrev pub fault_among : Contents → Account → Option OpeningFault
+fault_among m a =
+    cond (is_in_range a)
+    (cond (is_some (m (name_key a))) (Some SameName) (cond (is_some (m (saving_key a))) (Some SameCustomer) None))
     (Some Range)
 
 -- the fault of the first account that has one, if these come before

@@ -1,12 +1,13 @@
 //! The accounts of a bank, and the database made from them.
-ghost use Rattle.std.specs.Prelude.{◌≡◌, ◌≢◌, ◌↔◌, [], All, None, IsSome, IfSome, OnOk, OnErr, IfOk, IfErr};
+ghost use Rattle.std.specs.Prelude.{◌≡◌, ◌≢◌, ◌↔◌, [], None, IsSome, IfSome, OnOk, IfOk, IfErr};
 ghost use Rattle.sgt_model.specs.Contents.{Key};
 ghost use Rattle.sgt_model.specs.Databases.{contents_of};
-ghost use Rattle.sgt_smallbank.specs.Accounts.{name_key, saving_key, checking_key, with_account, opened, IsInRange, has_name, has_customer, fault_behind, fault_of, AreRefused};
+ghost use Rattle.sgt_smallbank.specs.Accounts.{name_key, saving_key, checking_key, with_account, opened, IsInRange, has_name, has_customer, fault_among, fault_behind, fault_of, AreRefused};
 
 use crate::errors::{BadOpening, OpeningFault};
 use crate::tables::{ACCOUNT, CHECKING, SAVING};
 use sgt_model::{Database, Key, NoMemory, is_value};
+use sgt_rows::Rows;
 use std::alloc::Global;
 
 /// A bank account: its name, its customer, and the customer's two balances. `opening` accepts each of the four numbers
@@ -24,20 +25,35 @@ pub struct Account {
 }
 
 /// The database with the rows of these accounts and no others. Table 0 has the customer of each name. Table 1 has each
-/// customer's saving, and table 2 each customer's checking.
+/// customer's saving, and table 2 each customer's checking. The accounts may come in any order.
 ///
 /// The first account with a fault decides. Its faults are tested in this order: a number out of range, a name that an
-/// earlier account has, a customer that an earlier account has. All accounts are tested, each against all before it,
-/// before the first allocation. So `NoMemory` comes only if no account has a fault.
+/// earlier account has, a customer that an earlier account has. If an allocation failed, each account is compared with
+/// all before it instead, which takes no memory. So `NoMemory` comes only if no account has a fault.
 pub fn opening(alloc: Global, accounts: &[Account]) -> Result<Database, BadOpening>
     ensures contents { IfOk result (λ database. (k : Key) → contents_of database k ≡ opened accounts.now k) }
     ensures no_fault { OnOk result (fault_of accounts.now ≡ None) }
     ensures refused { IfErr result (AreRefused accounts.now) }
 {
-    if let Some(fault) = first_fault(accounts) {
-        return Err(BadOpening::Fault(fault));
+    if accounts.is_empty() {
+        return Ok(Database::empty(alloc));
     }
-    Ok(database_of(alloc, accounts)?)
+    match database_of(alloc, accounts) {
+        Ok(database) => Ok(database),
+        Err(BadOpening::Fault(fault)) => Err(BadOpening::Fault(fault)),
+        Err(BadOpening::NoMemory) => Err(without_memory(accounts)),
+    }
+}
+
+/// Why accounts are refused if an allocation failed.
+fn without_memory(accounts: &[Account]) -> BadOpening
+    requires { accounts.now ≢ [] }
+    ensures { AreRefused accounts.now result }
+{
+    match first_fault(accounts) {
+        Some(fault) => BadOpening::Fault(fault),
+        None => BadOpening::NoMemory,
+    }
 }
 
 /// The fault of the first account that has one.
@@ -95,31 +111,50 @@ fn has_customer(accounts: &[Account], customer: i64) -> bool
     false
 }
 
-/// The database with the rows of these accounts.
-fn database_of(alloc: Global, accounts: &[Account]) -> Result<Database, NoMemory>
-    requires { All IsInRange accounts.now }
+/// The database with the rows of these accounts, or the first fault. If an allocation failed, there may be a fault.
+fn database_of(alloc: Global, accounts: &[Account]) -> Result<Database, BadOpening>
     ensures contents { IfOk result (λ database. (k : Key) → contents_of database k ≡ opened accounts.now k) }
-    ensures some { OnErr result (accounts.now ≢ []) }
+    ensures no_fault { OnOk result (fault_of accounts.now ≡ None) }
+    ensures fault { IfErr result (λ error. error ≢ BadOpening.NoMemory → AreRefused accounts.now error) }
 {
-    let mut database = Database::empty(alloc);
+    let mut rows = Rows::of(alloc, Database::empty(alloc));
     for account in accounts {
-        put_rows(&mut database, account)?;
+        if let Some(fault) = fault_among(&rows, account) {
+            return Err(BadOpening::Fault(fault));
+        }
+        put_rows(&mut rows, account)?;
     }
-    Ok(database)
+    Ok(rows.database(alloc)?)
 }
 
-/// Writes the rows of an account into the database.
-fn put_rows(database: &mut Database, account: &Account) -> Result<(), NoMemory>
+/// The fault of an account that is added to the rows of those before it.
+fn fault_among(rows: &Rows, account: &Account) -> Option<OpeningFault>
+    ensures { result ≡ fault_among (contents_of rows.now) account.now }
+{
+    let Some((name, saving, _)) = keys(account) else {
+        return Some(OpeningFault::Range);
+    };
+    if rows.get(name).is_some() {
+        return Some(OpeningFault::SameName);
+    }
+    if rows.get(saving).is_some() {
+        return Some(OpeningFault::SameCustomer);
+    }
+    None
+}
+
+/// Writes the rows of an account.
+fn put_rows(rows: &mut Rows, account: &Account) -> Result<(), NoMemory>
     requires { IsInRange account.now }
     ensures { OnOk result
-        ((k : Key) → contents_of database.new k ≡ with_account (contents_of database.old) account.now k) }
+        ((k : Key) → contents_of rows.new k ≡ with_account (contents_of rows.old) account.now k) }
 {
     let Some((name, saving, checking)) = keys(account) else {
         unreachable!();
     };
-    database.put(name, account.customer)?;
-    database.put(saving, account.saving)?;
-    database.put(checking, account.checking)?;
+    rows.put(name, account.customer)?;
+    rows.put(saving, account.saving)?;
+    rows.put(checking, account.checking)?;
     Ok(())
 }
 
