@@ -156,20 +156,23 @@ def read(line):
 
 # Where a line stands
 
-UNKNOWN, DEPOSITED = "unknown\n", "committed 1100\n"
+UNKNOWN, DEPOSITED, REMOVED = "unknown\n", "committed 1100\n", "committed none\n"
 RECORDS = "0/1 101\n0/2 102\n1/101 500\n1/102 0\n2/101 1000\n2/102 200\n"
 ACCOUNTS = '"accounts":[[1,101,500,1000],[2,102,0,200]]'
 
 
 class Place:
     """A line 1 and events after it, and the next replies: to a valid start, and to the step, commit and quit of each transaction, by
-    its number. They were written by hand from the formats, for a few calls of SmallBank's procedures."""
+    its number. They were written by hand from the formats, for a few calls of SmallBank's procedures and of line 1's. `written` is what reads
+    find of records that have been written; `closing` has the writes that would close a cycle, by transaction and record, and their
+    replies."""
 
-    def __init__(self, limits, procedures, events, replies, arguments, started, transactions):
+    def __init__(self, limits, procedures, events, replies, arguments, started, transactions, written=None, closing=None):
         self.before = f'{{"limits":{limits},{ACCOUNTS},"procedures":{procedures}}}\n{events}'.encode()
         self.number = self.before.count(b"\n") + 1
         self.replies, self.arguments, self.started = replies, arguments, started
         self.transactions = transactions
+        self.written, self.closing = written or {}, closing or {}
 
     def taken(self, what):
         """What a record line is here, directly after line 1."""
@@ -196,8 +199,7 @@ class Place:
         return self.started
 
     def access(self, t, word, table, number, value=None):
-        """The reply to an access on which a caller decides. Only BUSY has transactions whose procedures have ended: 1, which has
-        written 2/101, and 2, which has read that and 0/1 and 1/101."""
+        """The reply to an access on which a caller decides. Only BUSY and GONE have transactions whose procedures have ended."""
         ended = self.transactions[t][0]
         if ended != "ended\n":
             return ended if ended.startswith("over") else "not ended\n"
@@ -205,14 +207,14 @@ class Place:
             return "bad args\n"
         key = f"{table}/{number}"
         if word == "read":
-            found = dict(row.split(" ") for row in RECORDS.splitlines()) | {"2/101": "1100"}
+            found = dict(row.split(" ") for row in RECORDS.splitlines()) | self.written
             return f"read {key} {found.get(key, 'none')}\n"
-        if t == 1 and key in ("0/1", "1/101", "2/101"):
-            return CYCLE
+        if (t, key) in self.closing:
+            return self.closing[t, key]
         return f"removed {key}\n" if word == "remove" else f"wrote {key} {value}\n"
 
 
-CYCLE = "aborted cycle 1 2 fell 2\n"
+CYCLE, CYCLE_OF_GONE = "aborted cycle 1 2 fell 2\n", "aborted cycle 0 1 fell 1\n"
 QUIT = "aborted quit fell none\n"
 OF_FIVE = (1, 2, 2, 2, 2)
 
@@ -228,7 +230,8 @@ FULL = Place(
     "[1,9]", '[[0,[["put",3,7,4]]]]', '["start",5,[]]\n', "started 0\n", (*OF_FIVE, 0), "full\n", (("wrote 3/7 4\n", "not ended\n", QUIT),)
 )
 
-# Transaction 0 is committed, 2 has read from 1, 3 has read one record, and 4 was aborted by its caller.
+# Transaction 0 is committed; 1 has written 2/101, and 2 has read that and 0/1 and 1/101; 3 has read one record, and 4 was aborted by its
+# caller.
 BUSY = Place(
     "[8,100]",
     "[]",
@@ -245,13 +248,32 @@ BUSY = Place(
         ("read 0/2 102\n", "not ended\n", QUIT),
         ("over aborted quit\n",) * 3,
     ),
+    {"2/101": "1100"},
+    {(1, key): CYCLE for key in ("0/1", "1/101", "2/101")},
+)
+
+# Transaction 0 has removed 2/101, and 1 has found that there is none.
+GONE = Place(
+    "[8,100]",
+    '[[0,[["remove",2,101]]],[1,[["find",0,2,["arg",0],7],["answer",["reg",0]]]]]',
+    '["start",5,[]]\n["step",0]\n["start",6,[101]]\n["step",1]\n',
+    "started 0\nremoved 2/101\nstarted 1\nread 2/101 none\n",
+    (*OF_FIVE, 0, 1),
+    "started 2\n",
+    (("ended\n", REMOVED, "aborted quit fell 1\n"), ("ended\n", "waits 0\n", QUIT)),
+    {"2/101": "none"},
+    {(0, "2/101"): CYCLE_OF_GONE},
 )
 
 REPLIES = {
     *("started 0\n", "started 5\n", "no procedure\n", "bad args\n", "spent\n", "full\n", UNKNOWN, "over committed\n"),
     *("over aborted quit\n", "read 0/1 101\n", "read 0/2 102\n", "wrote 3/7 4\n", "ended\n", "not ended\n", "waits 1\n"),
     *(DEPOSITED, QUIT, CYCLE, "aborted quit fell 2\n"),
+    *("started 2\n", "waits 0\n", REMOVED, CYCLE_OF_GONE, "aborted quit fell 1\n"),
 }
+
+# The records at the end, if such a commit is the last reply.
+LEFT = {DEPOSITED: RECORDS.replace(" 1000", " 1100"), REMOVED: RECORDS.replace("2/101 1000\n", "")}
 
 # A reply to an access of a caller counts by its first word.
 ACCESSED = re.compile("read|wrote|removed")
@@ -283,7 +305,7 @@ def expected(place, line, ending):
         return what, reply, f"{wrote}= line {place.number + 1}: not JSON\n"
     if ending == STEP:
         wrote += UNKNOWN
-    records = RECORDS.replace(" 1000", " 1100") if reply == DEPOSITED else RECORDS
+    records = LEFT.get(reply, RECORDS)
     return what, reply, wrote + (with_row(records, *row) if what == "record" else records) + "= done\n"
 
 
@@ -509,7 +531,7 @@ class Draws:
 
     def place(self):
         """Mostly directly after line 1."""
-        return (SPENT, FULL, BUSY, *(FRESH,) * 13)[self.below(16)]
+        return (SPENT, FULL, BUSY, GONE, *(FRESH,) * 12)[self.below(16)]
 
     def ending(self):
         """Mostly the line's end alone."""
