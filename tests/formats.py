@@ -744,7 +744,7 @@ EXPLAINED_PROCEDURES = (
     ('[0,[["let",256,0]]]', "shape 1 0 1", "at 1 0 1: expected a register from 0 to 255, found 256"),
     ('[0,[["remove",0,1,2]]]', "shape 1 0", 'at 1 0: expected ["remove",table,expression], found ["remove",0,1,2]'),
     ('[0,[["remove",256,0]]]', "shape 1 0 1", "at 1 0 1: expected a table from 0 to 255, found 256"),
-    ('[0,[["remove",0,["reg",0]]]]', "flaw 2", "at 1 0 2 1: register 0 is not set on every path that leads here"),
+    ('[0,[["remove",0,["reg",0]]]]', "flaw 2", "at 1 0 2: register 0 is not set on every path that leads here"),
     ('[0,[["remove",8,0]]]', "flaw 4", "at 1 0 1: table 8 is over 7"),
     ('[0,[["put",-1,0,0]]]', "shape 1 0 1", "at 1 0 1: expected a table from 0 to 255, found -1"),
     ('[0,[["look",0,0,0,65536]]]', "shape 1 0 4", "at 1 0 4: expected a code from 0 to 65535, found 65536"),

@@ -397,9 +397,9 @@ class Checker:
         for (procedure, args), told, requests in self.told:
             run, own = Run(procedure, args), dict(rows)
             while run.access is not None:
-                kind, key, value = run.access
+                kind, key, _ = run.access
                 if kind == "store":
-                    own[key] = value
+                    own = stored(own, [run.access])
                 run.go(own.get(key))
             if run.told() != told:
                 raise Illegal(f"the serial run of {procedure} {args} gives {run.told()}, and not {told}")
