@@ -41,7 +41,7 @@ from front import FRONTS, OTHER_FILES  # noqa: E402
 from journal import Store, unseal  # noqa: E402
 from lines import LONGEST  # noqa: E402
 
-SECONDS = 60
+SECONDS = 600  # of a command, a reply or an end: what comes takes less on any machine
 PROCEDURES = {name: it.text for name, it in load_procedures(PAYMENTS / "procedures").items()}
 FEE_OF = 100  # an amount has a fee of one of so many cents
 CLIENTS, ACCOUNTS, CENTS = 32, 200, 5_000
@@ -70,7 +70,7 @@ class Server:
     def __exit__(self, *_):
         self.process.kill()
         try:
-            self.process.communicate(timeout=20)  # until its front processes have ended, too
+            self.process.communicate(timeout=SECONDS)  # until its front processes have ended, too
         except subprocess.TimeoutExpired:
             raise Differs("a front process goes on without the server") from None
 
@@ -236,7 +236,7 @@ class Load:
     def __init__(self, draw):
         self.draw, self.ids = draw, 0
         self.acknowledged, self.asked, self.refused, self.unanswered = {}, {}, set(), []
-        self.again = self.gone = 0
+        self.again = self.gone = self.replies = 0
 
     def request(self):
         """A payment: a new one, or one that had no answer before a crash."""
@@ -250,8 +250,8 @@ class Load:
         self.asked[self.ids] = pay(self.ids, payer, payee, amount)
         return self.asked[self.ids]
 
-    def run(self, server, seconds):
-        """Pays until the server is gone, or the time is over."""
+    def run(self, server, seconds=SECONDS, until=lambda: False):
+        """Pays until the server is gone, or this is so, or the time is over."""
         clients, end = {}, time.monotonic() + seconds
         poll = select.epoll()
 
@@ -266,7 +266,7 @@ class Load:
                 poll.register(client, select.EPOLLIN)
                 clients[client.fileno()] = client, None
                 send(client)
-        while clients and time.monotonic() < end:
+        while clients and time.monotonic() < end and not until():
             for number, _ in poll.poll(0.1):
                 client, request = clients[number]
                 try:
@@ -289,8 +289,21 @@ class Load:
         if request is not None:
             self.unanswered.append(request)
 
+    def kills(self, victim, replies, delay):
+        """What `run` asks: whether it ends. It never does, but has this process killed a moment after so many replies."""
+        timers, wanted = [], self.replies + replies
+
+        def asked():
+            if self.replies >= wanted and not timers:
+                timers.append(threading.Timer(delay, os.kill, (victim, signal.SIGKILL)))
+                timers[0].start()
+            return False
+
+        return asked
+
     def note(self, request, reply):
         number = request["id"]
+        self.replies += 1
         same("the id of a reply", number, reply["id"])
         if "refused" in reply:
             self.refused.add(number)
@@ -369,8 +382,7 @@ def crashes(rounds, seed):
             with server:
                 # Of five kills one is of a front process.
                 victim = draw.choice(server.fronts()) if number % 5 == 2 else server.process.pid
-                threading.Timer(0.1 + draw.random() * 0.5, os.kill, (victim, signal.SIGKILL)).start()
-                load.run(server, SECONDS)
+                load.run(server, until=load.kills(victim, draw.randrange(20, 600), draw.random() / 50))
                 same("the status", 1 if number % 5 == 2 else -signal.SIGKILL, server.process.wait(SECONDS))
             torn += lose_power(journal, synced(notes), draw)
             if number % 5 == 4:
@@ -492,9 +504,14 @@ def damage():
 
 def ends_at_once(server, load):
     """The server ends with status 1 while clients pay. What it said."""
-    load.run(server, 10)
+    load.run(server)
+    return error_at_end(server)
+
+
+def error_at_end(server):
+    """The server has ended with status 1, or does so now. What it said."""
     try:
-        error = server.process.communicate(timeout=1)[1]
+        error = server.process.communicate(timeout=SECONDS)[1]
     except subprocess.TimeoutExpired:
         raise Differs("the server goes on") from None
     same("the status", 1, server.process.returncode)
@@ -539,7 +556,7 @@ def large_snapshots():
         words = ("serve", folder / "j", "--accounts", ACCOUNTS, "--cents", CENTS, "--keep")
         small = adjusted(CUT_AFTER=4000, CHUNK=5000, SHORT_WRITE=1000, **preloaded(folder, "short_write"))
         with Server(*words, **small) as server:
-            load.run(server, 0.5)
+            load.run(server, until=lambda: load.replies >= 2_000)
             server.process.kill()
         load.judge(*recovered(folder / "j")[:2])
         same("verify", 0, run("verify", folder / "j")[0])
@@ -630,7 +647,7 @@ def jumping_clock():
             pays_on(folder, server, ((1, False), (2, True)))
             for days in (3, 4):  # on which nobody asks
                 set_clock(folder, days)
-                time.sleep(0.5)
+                await_day(folder / "j", first + days)
             pays_on(folder, server, ((4, True),))
             same("verify", 0, run("verify", folder / "j")[0])
             server.process.kill()
@@ -638,6 +655,14 @@ def jumping_clock():
         with Server(*words, **skewed) as server:
             pays_on(folder, server, ((6, False),))
             same("the day after a start two days later", {"day": first + 4}, ask(admin, "day"))
+
+
+def await_day(journal, day):
+    """Waits until the journal has this day."""
+    end = time.monotonic() + SECONDS
+    while not re.search(rf"^\d+ day .*\b{day}$", run("show", journal)[1], re.MULTILINE):
+        if time.monotonic() > end:
+            raise Differs(f"the bank does not get day {day}")
 
 
 def set_clock(folder, days):
@@ -747,8 +772,8 @@ def killed_fronts():
             with Server(*words, port=port) as server:
                 port, fronts = server.port, server.fronts()  # the last one is of the administrators
                 same("how many front processes there are", FRONTS + 1, len(fronts))
-                threading.Timer(0.1 + draw.random() * 0.3, os.kill, (fronts[number % len(fronts)], signal.SIGKILL)).start()
-                error = ends_at_once(server, load)
+                load.run(server, until=load.kills(fronts[number % len(fronts)], draw.randrange(20, 300), draw.random() / 50))
+                error = error_at_end(server)
             same("what a server without one of its front processes says", "payments: a front process has ended\n", error)
             load.judge(*recovered(folder / "j")[:2])
         with Server(*words, port=port) as server:
@@ -768,12 +793,11 @@ def vanished_clients():
     with room() as folder:
         words = ("serve", folder / "j", "--accounts", ACCOUNTS, "--cents", CENTS)
         with Server(*words, env={**preloaded(folder, "vanishing"), "VANISH_ONE_IN": "50"}) as server:
-            for _ in range(8):
-                load.run(server, 0.2)
+            for _ in range(4):
+                load.run(server)
             same("the end", (0, ""), server.end())
         load.judge(*recovered(folder / "j")[:2])
-    if load.gone < CLIENTS:
-        raise Differs(f"only {load.gone} clients vanished")
+    same("clients that vanished", 4 * CLIENTS, load.gone)
     return f"{load.gone} of them, {len(load.acknowledged)} acknowledged"
 
 
@@ -802,7 +826,7 @@ def idle_clients():
         idle = [clients.enter_context(server.connect()) for _ in range(most + 100)]
         last = idle.pop()
         last.sendall(request)
-        end = time.monotonic() + 20
+        end = time.monotonic() + SECONDS
         while idle and time.monotonic() < end:
             idle = [client for client in idle if not is_dropped(client)]
             time.sleep(0.1)
