@@ -281,7 +281,7 @@ struct reader {
     atomic_bool is_ended;
 };
 
-enum { ROUNDS = 2000, FEW_ROUNDS = 100, ROUNDS_SECONDS = 10, NO_ROUND = ROUNDS + 1 };
+enum { ROUNDS = 2000, FEW_ROUNDS = 20, ROUNDS_SECONDS = 10, NO_ROUND = ROUNDS + 1 };
 
 static void *reads_on(void *of)
 {
