@@ -11,6 +11,7 @@ failovers over etcd, Redis and PostgreSQL, where the machine has them. Each case
 """
 
 import contextlib
+import hashlib
 import json
 import os
 import pathlib
@@ -133,7 +134,7 @@ def asked(server, wanted):
 
 def tables(rows):
     """The records of a database, by table."""
-    found = [{} for _ in range(8)]
+    found: list = [{} for _ in range(8)]
     for table, number, value in ROW.iter_unpack(rows):
         found[table][number] = value
     return found
@@ -163,6 +164,7 @@ def as_lines(number, seq, calls):
 def replies():
     """Each reply that a client can get."""
     with room() as folder, Server("serve", folder / "j", "--accounts", 3, "--cents", 2_000_000) as server:
+        day, much = "the payer has reached the limit of the day", "the payer does not have that much"
         wanted = [
             (pay(17, 1, 2, 250), {"id": 17, "paid": True, "from_has": 1_999_748, "to_has": 2_000_250}),
             (pay(17, 1, 2, 250), {"id": 17, "paid": True, "from_has": 1_999_748, "to_has": 2_000_250}),
@@ -170,13 +172,20 @@ def replies():
             (pay(17, 2, 1, 250), {"id": 17, "refused": "the id belongs to another payment"}),
             (pay(18, 1, 2, 0), {"id": 18, "refused": "the amount is not above zero"}),
             (pay(18, 1, 1, 5), {"id": 18, "refused": "payer and payee are the same account"}),
+            (pay(18, -2, 1, 5), {"id": 18, "refused": "there is no such payer"}),
+            (pay(18, 1, -2, 5), {"id": 18, "refused": "there is no such payee"}),
+            (pay(0, 1, 2, 5), {"id": 0, "refused": "an id is a number from 1 on"}),
+            (pay(18, 1, 2, 10**15 - 1), {"id": 18, "refused": "a number would pass fifteen digits"}),
             (pay(18, 7, 1, 5), {"id": 18, "refused": "there is no such payer"}),
-            (pay(18, 1, 7, 5), {"id": 18, "refused": "there is no such payee"}),
-            (pay(18, 1, 2, 1_990_000), {"id": 18, "refused": "the payer does not have that much"}),
-            (pay(18, 1, 2, LIMIT - 249), {"id": 18, "refused": "the payer has reached the limit of the day"}),
-            (pay(18, 1, 2, LIMIT - 250), {"id": 18, "paid": True, "from_has": 990_001, "to_has": 3_000_000}),
+            (pay(22, 1, 7, 5), {"id": 22, "refused": "there is no such payee"}),
+            (pay(23, 1, 2, 1_990_000), {"id": 23, "refused": much}),
+            (pay(24, 1, 2, LIMIT - 249), {"id": 24, "refused": day}),
+            (pay(25, 1, 2, LIMIT - 250), {"id": 25, "paid": True, "from_has": 990_001, "to_has": 3_000_000}),
+            (pay(24, 1, 2, LIMIT - 249), {"id": 24, "refused": day}),
+            (pay(24, 1, 2, LIMIT - 248), {"id": 24, "refused": "the id belongs to another payment"}),
             ({"balance": 0}, {"balance": 0, "has": 2_009_999}),
             ({"balance": 9}, {"balance": 9, "refused": "there is no such account"}),
+            ({"balance": -2}, {"balance": -2, "refused": "there is no such account"}),
         ]
         asked(server, wanted)
         opened = [
@@ -189,7 +198,12 @@ def replies():
         for request, reply in opened:  # administrators alone open accounts
             same(f"{request} at the port", [{"error"}], [set(it) for it in server.ask(request)])
             same(str(request), reply, ask(folder / "j" / "admin", *[it for it in request.items()][0], amount=request["amount"]))
-        asked(server, [(pay(19, 2, 10, 1), {"id": 19, "refused": "a balance would pass fifteen digits"}), ({"balance": 9}, {"balance": 9, "has": 70})])
+        more = [
+            (pay(19, 2, 10, 1), {"id": 19, "refused": "a balance would pass fifteen digits"}),
+            ({"balance": 9}, {"balance": 9, "has": 70}),
+            (pay(18, 7, 1, 5), {"id": 18, "refused": "there is no such payer"}),
+        ]
+        asked(server, more)
         no_request = [b"", b"7", b"[]", b'{"id":1}', b'{"balance":"x"}', b'{"balance":1.0}', b'{"balance":true}', b'{"day":1}', b"\xff", b'{"balance":1} x', b'{"balance":1}{"balance":1}', b'{"balance":1000000000000000}', b'{"balance":1,"balance":2}', b'{"balance":1,"balance":1}']
         if any("error" not in reply for reply in server.ask(*no_request)):
             raise Differs("a line that is no request was taken")
@@ -197,14 +211,14 @@ def replies():
         good, long = {"balance": 9, "has": 70}, {"error": f"a line has at most {LONGEST} bytes"}
         lines = [b'{"balance":9' + b" " * length + b"}" for length in (LONGEST - 13, LONGEST - 12, 0, 10**6, 0)]
         same("lines that are too long, between others", [good, long, good, long, good], server.ask(*lines))
-        same("verify", (0, "calls 1 to 7 give the rows of the server\n", ""), run("verify", folder / "j"))
+        same("verify", (0, "calls 1 to 12 give the rows of the server\n", ""), run("verify", folder / "j"))
         same("a second server", (1, f"payments: {folder / 'j'}: another server has this folder\n"), (lambda r: (r[0], r[2]))(run("serve", folder / "j")))
         same("the end", (0, ""), server.end())
-        same("verify without a server", (0, "calls 1 to 7 give the rows of each snapshot\n", ""), run("verify", folder / "j"))
+        same("verify without a server", (0, "calls 1 to 12 give the rows of each snapshot\n", ""), run("verify", folder / "j"))
         shown = run("show", folder / "j")[1].splitlines()
         procedures = f"# batch 1: from here on with the procedures {', '.join(sorted(PROCEDURES))}"
-        same("show", [procedures, "2 pay id=17 from=1 to=2 amount=250", "4 open open=9 amount=70"], [shown[0], shown[2], shown[4]])
-    return f"{len(wanted)} replies"
+        same("show", [procedures, "2 pay id=17 from=1 to=2 amount=250", "8 open open=9 amount=70"], [shown[0], shown[2], shown[8]])
+    return f"{len(wanted) + len(opened) + len(more)} replies"
 
 
 def administration():
@@ -220,7 +234,7 @@ def administration():
             same("verify", (0, "calls 1 to 2 give the rows of the server\n", ""), run("verify", folder / "j"))
             same("health", {"health": "ok", "leads": True, "seq": 2}, {key: value for key, value in ask(admin, "health").items() if key != "batch"})
             figures = ask(admin, "figures")
-            same("the figures", {"seq": 2, "calls": 2, "records": 3 + 1 + 1 + 5}, {key: figures[key] for key in ("seq", "calls", "records")})
+            same("the figures", {"seq": 2, "calls": 2, "records": 3 + 1 + 1 + 9}, {key: figures[key] for key in ("seq", "calls", "records")})
             same("an unknown word", [{"error"}] * 2, [set(ask(admin, word)) for word in ("nothing", "promote")])
             same("a second server", 1, run(*words)[0])
             same("health beside a second server", "ok", ask(admin, "health")["health"])
@@ -228,6 +242,139 @@ def administration():
             same("health", {"health": "ok", "leads": True, "seq": 2}, {key: value for key, value in ask(admin, "health").items() if key != "batch"})
             same("the end", (0, ""), server.end())
             same("whether the socket is there", False, admin.exists())
+
+
+def holds():
+    """Two-phase payments, refunds and notes: each the first time and again, whether it is allowed or not; and the money is all there."""
+    with room() as folder, Server("serve", folder / "j", "--accounts", 4) as server:
+
+        def hold(number, payer, payee, amount):
+            return {"hold": number, "from": payer, "to": payee, "amount": amount}
+
+        def done(word, number, payee):
+            return {word: number, "to": payee}
+
+        no_hold, no_payment = "there is no such hold for this payee", "there is no such payment to this payee"
+        wanted = [
+            (hold(1, 1, 2, 1000), {"hold": 1, "held": True, "from_has": 98_990}),
+            (hold(1, 1, 2, 1000), {"hold": 1, "held": True, "from_has": 98_990}),
+            (hold(1, 1, 2, 1001), {"hold": 1, "refused": "the id belongs to another payment"}),
+            (pay(1, 1, 2, 1000), {"id": 1, "refused": "the id belongs to another payment"}),
+            ({"balance": 2}, {"balance": 2, "has": 100_000}),
+            (done("refund", 1, 2), {"refund": 1, "refused": "it was held and not captured"}),
+            (done("capture", 1, 3), {"capture": 1, "refused": no_hold}),
+            (done("capture", 1, 2), {"capture": 1, "captured": True, "to_has": 101_000}),
+            (done("capture", 1, 2), {"capture": 1, "captured": True, "to_has": 101_000}),
+            (hold(1, 1, 2, 1000), {"hold": 1, "held": True, "from_has": 98_990}),
+            (done("void", 1, 2), {"void": 1, "refused": "the hold was captured"}),
+            (hold(2, 1, 2, 500), {"hold": 2, "held": True, "from_has": 98_485}),
+            (done("void", 2, 2), {"void": 2, "voided": True, "from_has": 98_990}),
+            (done("void", 2, 2), {"void": 2, "voided": True, "from_has": 98_990}),
+            (done("capture", 2, 2), {"capture": 2, "refused": "the hold was voided"}),
+            (done("refund", 2, 2), {"refund": 2, "refused": "it was held and not captured"}),
+            (hold(3, 1, 2, 99_000), {"hold": 3, "refused": "the payer does not have that much"}),
+            (hold(3, 1, 2, 99_000), {"hold": 3, "refused": "the payer does not have that much"}),
+            (done("capture", 3, 2), {"capture": 3, "refused": no_hold}),
+            (done("refund", 3, 2), {"refund": 3, "refused": no_payment}),
+            (done("refund", 1, 2), {"refund": 1, "refunded": True, "to_has": 100_000}),
+            (done("refund", 1, 2), {"refund": 1, "refunded": True, "to_has": 100_000}),
+            (done("capture", 1, 2), {"capture": 1, "refused": "the payment was refunded"}),
+            (pay(4, 2, 3, 90_000), {"id": 4, "paid": True, "from_has": 9_100, "to_has": 190_000}),
+            (pay(5, 3, 1, 150_000), {"id": 5, "paid": True, "from_has": 38_500, "to_has": 249_990}),
+            (done("refund", 4, 3), {"refund": 4, "refused": "the payee does not have that much"}),
+            (done("refund", 5, 1), {"refund": 5, "refunded": True, "to_has": 99_990}),
+            (pay(5, 3, 1, 150_000), {"id": 5, "paid": True, "from_has": 38_500, "to_has": 249_990}),
+            (done("capture", 4, 3), {"capture": 4, "refused": no_hold}),
+            (done("capture", -1, 2), {"capture": -1, "refused": no_hold}),
+            (done("refund", -1, 2), {"refund": -1, "refused": no_payment}),
+            (done("refund", 9, 2), {"refund": 9, "refused": no_payment}),
+        ]
+        wanted += [({"balance": account}, {"balance": account, "has": has}) for account, has in enumerate((102_410, 99_990, 9_100, 188_500))]
+        asked(server, wanted)
+        note, state = {"note": 4, "from": 2, "time": 1_764_288_000, "reference": 77}, {"from": 2, "to": 3, "amount": 90_000, "state": 0}
+        notes = [
+            ({"payment": 4, "account": 3}, {"payment": 4, **state, "time": 0, "reference": 0}),
+            ({**note, "from": 3}, {"note": 4, "refused": "there is no such payment of this payer"}),
+            (note, {"note": 4, "noted": True}),
+            (note, {"note": 4, "noted": True}),
+            ({**note, "reference": 78}, {"note": 4, "refused": "it has another note"}),
+            ({"payment": 4, "account": 3}, {"payment": 4, **state, "time": 1_764_288_000, "reference": 77}),
+            ({"payment": 4, "account": 1}, {"payment": 4, "refused": "there is no such payment of this account"}),
+        ]
+        notes += [({"payment": number, "account": 1}, {"payment": number, "from": payer, "to": 4 - 2 * (payer == 1) - payer * (payer == 3), "amount": amount, "state": is_so, "time": 0, "reference": 0}) for number, payer, amount, is_so in ((1, 1, 1000, 5), (2, 1, 500, 3), (3, 1, 99_000, -5), (5, 3, 150_000, 4))]
+        asked(server, notes)
+        same("the sum of all balances", 400_000, sum(it["has"] for it in server.ask(*[{"balance": account} for account in range(4)])))
+        same("verify", 0, run("verify", folder / "j")[0])
+    return f"{len(wanted) + len(notes)} replies"
+
+
+def statements():
+    """The payments of each account, newest first, by pages; no refused one."""
+    draw, own = random.Random(14), {account: [] for account in range(1, 5)}
+    with room() as folder, Server("serve", folder / "j", "--accounts", 5) as server:
+        for number in draw.sample(range(1, 10**15), 60):
+            payer, payee = draw.sample(range(1, 5), 2)
+            (reply,) = server.ask(pay(number, payer, payee, draw.choice((1, 10, 10**6))))
+            if "paid" in reply:
+                own[payer].insert(0, number)
+                own[payee].insert(0, number)
+        for account, wanted in own.items():
+            came, before = [], 0
+            while page := server.ask({"statement": account, "before": before})[0]["payments"]:
+                came += page
+                before = page[-1]
+            same(f"the statement of account {account}", wanted, came)
+        refused = [
+            ({"statement": 9, "before": 0}, {"statement": 9, "refused": "there is no such account"}),
+            ({"statement": 1, "before": 5}, {"statement": 1, "refused": "there is no such payment of this account"}),
+            ({"statement": 0, "before": own[1][0]}, {"statement": 0, "refused": "there is no such payment of this account"}),
+            ({"statement": 0, "before": 0}, {"statement": 0, "payments": []}),
+        ]
+        asked(server, refused)
+    return f"of {[len(it) for it in own.values()]} payments"
+
+
+def lists():
+    """A line may be a list of requests, which is answered by a list, in order; each request is a transaction of its own."""
+    with room() as folder, Server("serve", folder / "j", "--accounts", 3) as server:
+        request, has = {"balance": 1}, {"balance": 1, "has": 100_000}
+        error = server.ask(b"x")[0]
+        paid = {"id": 1, "paid": True, "from_has": 99_995, "to_has": 100_005}
+        wanted = [
+            ([request], [has]),
+            ([pay(1, 1, 2, 5), {"balance": 7}, [request], 7, {"rows": True}, pay(1, 1, 2, 5)], [paid, {"balance": 7, "refused": "there is no such account"}, error, error, error, paid]),
+            ([], error),
+            (request, {"balance": 1, "has": 99_995}),
+        ]
+        asked(server, wanted)
+        (replies,) = server.ask([pay(number, 2, 1, 1) for number in range(100, 300)])
+        same("the payments of a long list", list(range(100, 300)), [it["id"] for it in replies if "paid" in it])
+        same("verify", 0, run("verify", folder / "j")[0])
+
+
+def tokens():
+    """With tokens a client may ask for what its token has a right to, and without one for nothing. Administrators need none."""
+    rights = {"shop": {"pay": [[1, 2]], "read": [[0, 3]]}, "clerk": {"read": [[3, 3]]}}
+    with room() as folder:
+        file, own = folder / "tokens", {hashlib.sha256(token.encode()).hexdigest(): right for token, right in rights.items()}
+        file.write_text(json.dumps(own))
+        with Server("serve", folder / "j", "--accounts", 5, "--tokens", file) as server:
+            no, yes, gift = {"error": "no right to this"}, {"token": True}, pay(1, 3, 1, 5)
+            same("without a token", [no, no], server.ask({"balance": 1}, gift))
+            same("a wrong token", [no, no], server.ask({"token": "shops"}, {"balance": 1}))
+            wanted = [yes, {"id": 2, "paid": True, "from_has": 99_995, "to_has": 100_005}, no, {"balance": 3, "has": 100_005}, no, no, [no, {"balance": 0, "has": 100_000}]]
+            same("a shop", wanted, server.ask({"token": "shop"}, pay(2, 2, 3, 5), gift, {"balance": 3}, {"balance": 4}, {"capture": 2, "to": 3}, [gift, {"balance": 0}]))
+            same("a clerk", [yes, {"balance": 3, "has": 100_005}, no, no], server.ask({"token": "clerk"}, {"balance": 3}, {"balance": 1}, gift))
+            same("a token that is lost", [yes, no, no], server.ask({"token": "shop"}, {"token": "x"}, {"balance": 1}))
+            same("an administrator", {"balance": 4, "has": 100_000}, ask(folder / "j" / "admin", "balance", 4))
+        for bad in ("[]", "{", '{"x": null}', '{"x": {"pay": [[1]]}}', '{"x": {"pay": [["a", "b"]]}}'):
+            file.write_text(bad)
+            status, _, error = run("serve", folder / "j", "--tokens", file)
+            if status != 1 or "no file of tokens" not in error:
+                raise Differs(f"a start with {bad} for tokens: {status} {error}")
+        file.write_text("{}")
+        with Server("serve", folder / "j", "--tokens", file) as server:
+            same("with no tokens at all", [no], server.ask({"balance": 1}))
 
 
 class Load:
@@ -307,7 +454,9 @@ class Load:
         same("the id of a reply", number, reply["id"])
         if "refused" in reply:
             self.refused.add(number)
+            same(f"what payment {number} was answered before", None, self.acknowledged.get(number))
             return
+        same(f"whether payment {number} was refused before", False, number in self.refused)
         told = reply["from_has"], reply["to_has"]
         self.again += number in self.acknowledged
         same(f"the answer to payment {number}", self.acknowledged.get(number, told), told)
@@ -315,11 +464,15 @@ class Load:
 
     def judge(self, seq, found, opened=ACCOUNTS * CENTS):
         """Each acknowledged payment is there once, as it was asked and answered; no refused one is; and no money is lost."""
-        _, balance, payer, payee, amount, from_has, to_has, _ = found
+        # Negative numbers have the statements, which is another test's matter.
+        _, balance, payer, payee, amount, from_has, to_has, _ = [{key: value for key, value in it.items() if key >= 0} for it in found]
+        refused = {number for number, code in from_has.items() if code < 0}
         wanted = {account: CENTS for account in range(ACCOUNTS)}
         for number in payer:
             request = self.asked.get(number)
             same(f"payment {number}", request, pay(number, payer[number], payee[number], amount[number]))
+            if number in refused:
+                continue
             fee = amount[number] // FEE_OF
             for account, change in ((payer[number], -amount[number] - fee), (payee[number], amount[number]), (0, fee)):
                 wanted[account] += change
@@ -327,7 +480,7 @@ class Load:
         same("the sum of all balances", opened, sum(balance.values()))
         lost = [number for number, told in self.acknowledged.items() if (from_has.get(number), to_has.get(number)) != told]
         same("acknowledged payments that are not there", [], lost)
-        same("refused payments that are there", set(), self.refused & set(payer))
+        same("refused payments that are not there as refused", set(), self.refused - refused)
 
 
 def lose_power(folder, safe, draw):
@@ -1055,7 +1208,7 @@ def main():
         return nodes_die(max(7, rounds // 4), seed)
 
     crash_test.__name__, dying_nodes.__name__ = "crashes", "nodes_die"
-    cases = [replies, administration]
+    cases = [replies, holds, statements, lists, tokens, administration]
     cases += [torn_tails, damaged_tails, damage, newest_file_gone, forged_journal]
     cases += [full_disk, failing_fsync, large_snapshots, failed_snapshot, begun_snapshots]
     cases += [jumping_clock, other_procedures, bad_procedures]

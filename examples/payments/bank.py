@@ -35,7 +35,9 @@ class Procedure:
         self.rights: dict[str, str] = file.get("rights", {})  # by the key that has the account: pay, or read
         self.writes = any(f'["{word}"' in json.dumps(self.text) for word in ("put", "remove"))
         # The parts of a reply, in which %d stands for a number. To put JSON together by `dumps` takes four times as long.
-        keys = [*(self.request or [""])[:1], *file.get("reply", [])]
+        told = file.get("reply", [])
+        self._list = f", {json.dumps(told)}: " if isinstance(told, str) else ""  # of all answers, under one key
+        keys = [*(self.request or [""])[:1], *([] if self._list else told)]
         self._begin, *self._answers = [json.dumps(key).replace("%", "%%") + ": %d" for key in keys]
         self._done = f", {json.dumps(file['done'])}: true" if "done" in file else ""
         self._reasons = {int(code): reason for code, reason in file.get("refused", {}).items()}
@@ -53,6 +55,7 @@ class Procedure:
             told = ', "refused": ' + json.dumps(self._reasons.get(code, f"code {code}"))
         elif reply.kind is Kind.COMMITTED:
             told = self._done + "".join([", " + key % value for key, value in zip(self._answers, answers)])
+            told += self._list and self._list + str([*answers])
         else:
             told = ', "error": "this server does not run it"'  # as it follows another one
         return "{" + self._begin % first + told + age + "}"

@@ -22,12 +22,12 @@ FRONTS = 3  # processes: each waits while the server runs what it has asked, so 
 
 
 class Options(NamedTuple):
-    """How the fronts serve: where; after how many idle seconds a client is dropped; and the rights of tokens, or none."""
+    """How the fronts serve: where; after how many idle seconds a client is dropped; and the rights of tokens, if clients need some."""
 
     host: str = "127.0.0.1"
     port: int = 0
     idle: float = 60
-    tokens: dict[str, Rights] = {}
+    tokens: Optional[dict[str, Rights]] = None
 
 
 class Client:

@@ -2,9 +2,10 @@
 
 import hashlib
 import json
+import pathlib
 from typing import Any, Iterator, NamedTuple, Optional, Union
 
-from bank import Procedure
+from bank import Procedure, Unusable
 from sgt import LEAST, MOST, BatchOutcome
 
 LONGEST = 10_000  # bytes of a line
@@ -48,10 +49,10 @@ class Line(NamedTuple):
 class Reader:
     """Reads the lines of clients, or of administrators."""
 
-    def __init__(self, procedures: dict[str, Procedure], tokens: dict[str, Rights], is_for_administrators: bool) -> None:
-        """`tokens` has the rights of each client by the SHA-256 of its token. Without tokens clients may ask for all."""
+    def __init__(self, procedures: dict[str, Procedure], tokens: Optional[dict[str, Rights]], is_for_administrators: bool) -> None:
+        """`tokens` has the rights of each client by the SHA-256 of its token. With None clients may ask for all."""
         self.takes_words, self.tokens = is_for_administrators, tokens
-        self.first_rights: Rights = {} if tokens and not is_for_administrators else None
+        self.first_rights: Rights = None if tokens is None or is_for_administrators else {}
         served = [it for it in procedures.values() if it.request and (is_for_administrators or not it.is_for_administrators)]
         self.requests = {frozenset(it.request): it for it in served}
 
@@ -68,7 +69,7 @@ class Reader:
             return Line([NO_REQUEST]), rights
         if type(asked) is list and asked:
             return Line([self.request(it, rights) for it in asked], True), rights
-        if type(asked) is tuple and len(asked) == 1 and asked[0][0] == "token" and isinstance(asked[0][1], str) and self.tokens:
+        if type(asked) is tuple and len(asked) == 1 and asked[0][0] == "token" and isinstance(asked[0][1], str) and self.tokens is not None:
             found = self.tokens.get(hashlib.sha256(asked[0][1].encode()).hexdigest())
             return Line(['{"token": true}' if found else NO_RIGHT]), found or {}
         return Line([self.request(asked, rights)]), rights
@@ -93,3 +94,14 @@ def may(rights: dict[str, list[list[int]]], procedure: Procedure, asked: dict[st
     return bool(procedure.rights) and all(
         any(first <= asked[key] <= last for first, last in rights.get(right, ())) for key, right in procedure.rights.items()
     )
+
+
+def load_tokens(path: pathlib.Path) -> dict[str, Rights]:
+    """The file of tokens: for the SHA-256 of each token the rights, as {"pay": [[1, 9]], "read": [[1, 9], [20, 20]]}."""
+    try:
+        tokens: dict[str, Rights] = json.loads(path.read_text())
+        for first, last in [it for rights in tokens.values() for accounts in dict(rights or 0).values() for it in accounts]:
+            int(first), int(last)
+        return tokens
+    except (ValueError, TypeError, AttributeError) as why:
+        raise Unusable(f"{path}: no file of tokens: {why}") from None

@@ -2,7 +2,6 @@
 """A durable queue of payments on sgt. README.md beside this file has the idea, and how to run it."""
 
 import argparse
-import json
 import pathlib
 import socket
 import sys
@@ -15,6 +14,7 @@ from chain import Chain
 from file_journal import FileJournal
 from front import Options, start_fronts
 from journal import Journal, Store
+from lines import load_tokens
 from server import Server, end_by_signals, run
 
 
@@ -45,7 +45,7 @@ def open_journal(words: argparse.Namespace) -> Journal:
 def serve(words: argparse.Namespace) -> None:
     """Recovers what the journal has, and serves."""
     begin, procedures = time.perf_counter(), load_procedures(words.procedures)
-    tokens = json.loads(words.tokens.read_text()) if words.tokens else {}
+    tokens = load_tokens(words.tokens) if words.tokens else None
     port, fronts = start_fronts(Options(words.host, words.port, words.idle, tokens), procedures)
     store, journal = Store(words.folder, words.keep), open_journal(words)
     store.claim()
