@@ -619,7 +619,8 @@ def damage():
         wanted = recovered(folder / "j")[:2]
         number = unseal(data[mark + 1 : -1])[0]
         later = as_lines(number + 1, wanted[0], [("pay", 100, 1, 2, 5)])
-        for at in range(len(data)):
+        first = data.index(b"\n\n")  # the end of the first batch, which has the procedures
+        for at in (*range(0, first - 20, 97), *range(first - 20, len(data))):
             flipped = bytearray(data)
             flipped[at] ^= 1 << draw.randrange(8)
             for after in (b"", later):
@@ -642,7 +643,7 @@ def damage():
             server.process.kill()
         (snapshot,) = (folder / "j").glob("*.snapshot")
         data = snapshot.read_bytes()
-        for at in range(0, len(data), 7):
+        for at in range(0, len(data), 97):
             flipped = bytearray(data)
             flipped[at] ^= 1 << draw.randrange(8)
             snapshot.write_bytes(flipped)
@@ -765,7 +766,7 @@ def newest_file_gone():
         for options in ((), ("--keep",)):
             journal = folder / f"j{len(options)}"
             with Server("serve", journal, "--accounts", 3, *options, **adjusted(CUT_AFTER=100)) as server:
-                for number in range(20):
+                for number in range(1, 21):
                     server.ask(pay(number, 1, 2, 1))
                 server.end()
             *older, newest = sorted(journal.glob("*.batches"))
@@ -904,7 +905,7 @@ def forged_journal():
             status, _, error = run("verify", folder / "j")
             if status != 1 or "do not give what is served" not in error:
                 raise Differs(f"verify of a forged journal: {status} {error}")
-        calls.write_bytes(forged(data, lambda _: 10**12))
+        calls.write_bytes(forged(data, lambda _: 0))
         status, _, error = run("serve", folder / "j")
         if status != 1 or "does not commit" not in error:
             raise Differs(f"a start on a call that does not commit: {status} {error}")
