@@ -16,7 +16,7 @@ import urllib.request
 
 from helpers.cases import Differs
 
-SECONDS = 60
+SECONDS = 600  # what comes takes less on any machine
 QUIET = {"stdout": subprocess.DEVNULL, "stderr": subprocess.DEVNULL}
 
 
@@ -27,7 +27,7 @@ def free_ports(count):
 
 
 def wait_until(is_so, what):
-    """Waits until this is so, for a minute at most."""
+    """Waits until this is so, for ten minutes at most."""
     end = time.monotonic() + SECONDS
     while time.monotonic() < end:
         with contextlib.suppress(OSError, ValueError):
