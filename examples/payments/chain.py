@@ -45,6 +45,7 @@ class Chain:
     def __init__(self, store: Store, journal: Journal, opening: Opening, server: str) -> None:
         self.store, self.journal, self.opening, self.server = store, journal, opening, server
         self.leads = self.ends = False
+        self.trouble = ""  # of a follower with the journal
         self.number = max(store.numbers(), default=0)
         self.bank = store.load(self.number)
         self.fresh = self._next = time.monotonic()  # when the bank was as the journal; when to read on
@@ -85,11 +86,14 @@ class Chain:
         """A follower reads on now and then, and becomes the primary if there is none. It answers while the journal is away, too."""
         if time.monotonic() < self._next:
             return
+        was_away, self.trouble = self.trouble, ""
         try:
             self._lead_or_read()
             self._compare()
         except Away as why:
-            logging.warning("the journal is away: %s", why)
+            self.trouble = f"the journal is away: {why}"
+            if not was_away:
+                logging.warning(self.trouble)
         self._next = time.monotonic() + PAUSE
 
     def _lead_or_read(self) -> None:

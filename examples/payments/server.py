@@ -102,7 +102,7 @@ class Server:
 
     def health(self, _: int) -> dict[str, Any]:
         """What an operator should look after, or ok. That there is a reply says that batches become safe, as each reply waits for that."""
-        told = "; ".join(filter(None, (self.trouble, self.trouble_of_clock()))) or "ok"
+        told = "; ".join(filter(None, (self.chain.trouble, self.trouble, self.trouble_of_clock()))) or "ok"
         return {"health": told, "leads": self.chain.leads, "seq": self.chain.bank.seq, "batch": self.chain.number}
 
     def figures(self, _: int) -> dict[str, Any]:

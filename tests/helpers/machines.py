@@ -30,7 +30,7 @@ def wait_until(is_so, what):
     """Waits until this is so, for ten minutes at most."""
     end = time.monotonic() + SECONDS
     while time.monotonic() < end:
-        with contextlib.suppress(OSError, ValueError):
+        with contextlib.suppress(OSError, ValueError, LookupError):
             if found := is_so():
                 return found
         time.sleep(0.05)
