@@ -172,8 +172,8 @@ def replies():
             (pay(17, 2, 1, 250), {"id": 17, "refused": "the id belongs to another payment"}),
             (pay(18, 1, 2, 0), {"id": 18, "refused": "the amount is not above zero"}),
             (pay(18, 1, 1, 5), {"id": 18, "refused": "payer and payee are the same account"}),
-            (pay(18, -2, 1, 5), {"id": 18, "refused": "there is no such payer"}),
-            (pay(18, 1, -2, 5), {"id": 18, "refused": "there is no such payee"}),
+            (pay(26, -2, 1, 5), {"id": 26, "refused": "there is no such payer"}),
+            (pay(27, 1, -2, 5), {"id": 27, "refused": "there is no such payee"}),
             (pay(0, 1, 2, 5), {"id": 0, "refused": "an id is a number from 1 on"}),
             (pay(18, 1, 2, 10**15 - 1), {"id": 18, "refused": "a number would pass fifteen digits"}),
             (pay(18, 7, 1, 5), {"id": 18, "refused": "there is no such payer"}),
@@ -211,13 +211,13 @@ def replies():
         good, long = {"balance": 9, "has": 70}, {"error": f"a line has at most {LONGEST} bytes"}
         lines = [b'{"balance":9' + b" " * length + b"}" for length in (LONGEST - 13, LONGEST - 12, 0, 10**6, 0)]
         same("lines that are too long, between others", [good, long, good, long, good], server.ask(*lines))
-        same("verify", (0, "calls 1 to 12 give the rows of the server\n", ""), run("verify", folder / "j"))
+        same("verify", (0, "calls 1 to 14 give the rows of the server\n", ""), run("verify", folder / "j"))
         same("a second server", (1, f"payments: {folder / 'j'}: another server has this folder\n"), (lambda r: (r[0], r[2]))(run("serve", folder / "j")))
         same("the end", (0, ""), server.end())
-        same("verify without a server", (0, "calls 1 to 12 give the rows of each snapshot\n", ""), run("verify", folder / "j"))
+        same("verify without a server", (0, "calls 1 to 14 give the rows of each snapshot\n", ""), run("verify", folder / "j"))
         shown = run("show", folder / "j")[1].splitlines()
         procedures = f"# batch 1: from here on with the procedures {', '.join(sorted(PROCEDURES))}"
-        same("show", [procedures, "2 pay id=17 from=1 to=2 amount=250", "8 open open=9 amount=70"], [shown[0], shown[2], shown[8]])
+        same("show", [procedures, "2 pay id=17 from=1 to=2 amount=250", "10 open open=9 amount=70"], [shown[0], shown[2], shown[10]])
     return f"{len(wanted) + len(opened) + len(more)} replies"
 
 
@@ -234,7 +234,7 @@ def administration():
             same("verify", (0, "calls 1 to 2 give the rows of the server\n", ""), run("verify", folder / "j"))
             same("health", {"health": "ok", "leads": True, "seq": 2}, {key: value for key, value in ask(admin, "health").items() if key != "batch"})
             figures = ask(admin, "figures")
-            same("the figures", {"seq": 2, "calls": 2, "records": 3 + 1 + 1 + 9}, {key: figures[key] for key in ("seq", "calls", "records")})
+            same("the figures", {"seq": 2, "records": 3 + 2 + 8 + 2 + 1 + 1}, {key: figures[key] for key in ("seq", "records")})
             same("an unknown word", [{"error"}] * 2, [set(ask(admin, word)) for word in ("nothing", "promote")])
             same("a second server", 1, run(*words)[0])
             same("health beside a second server", "ok", ask(admin, "health")["health"])
@@ -332,6 +332,32 @@ def statements():
         ]
         asked(server, refused)
     return f"of {[len(it) for it in own.values()]} payments"
+
+
+def forgotten():
+    """An id is forgotten DAYS days later, some with each payment, but not one that is held. Then it can be paid again."""
+    days, paid = 90, 20
+    with room() as folder, Server("serve", folder / "j", "--accounts", 4) as server:
+        admin = folder / "j" / "admin"
+        records = ask(admin, "figures")["records"]
+        held = {"hold": 99, "from": 1, "to": 2, "amount": 100}
+        first = server.ask(*[pay(number, 1, 2, 100) for number in range(1, paid + 1)], held, pay(98, 3, 2, 10**9))
+        day = ask(admin, "day")["day"]
+        for after in (1, days):
+            same("the day", {"day": day + after}, ask(admin, "day", day + after))
+        same("the day before they are forgotten", first, server.ask(*[pay(number, 1, 2, 100) for number in range(1, paid + 1)], held, pay(98, 3, 2, 10**9)))
+        same("the day", {"day": day + days + 1}, ask(admin, "day", day + days + 1))
+        for number in range(100, 100 + paid):
+            same("a new payment", {"paid"}, {"paid"} & set(server.ask(pay(number, 3, 2, 1))[0]))
+        same("a forgotten one", "there is no such payment to this payee", server.ask({"refund": 5, "to": 2})[0]["refused"])
+        same("the statement", [], server.ask({"statement": 1, "before": 0})[0]["payments"][1:])
+        (again,) = server.ask(pay(5, 1, 2, 1))
+        same("one that is paid again", (True, first[-2]["from_has"] - 1), (again["paid"], again["from_has"]))
+        same("one that is held", {"capture": 99, "captured": True, "to_has": 102_121}, server.ask({"capture": 99, "to": 2})[0])
+        # Eight of each payment, and the state of the held one; the newest payment of three accounts; what two have paid today; three
+        # days that began; and how many ids came, and were forgotten.
+        same("records", records + 8 * (paid + 2) + 1 + 3 + 2 + 3 + 2, ask(admin, "figures")["records"])
+        same("verify", 0, run("verify", folder / "j")[0])
 
 
 def lists():
@@ -1240,7 +1266,7 @@ def main():
         return nodes_die(max(7, rounds // 4), seed)
 
     crash_test.__name__, dying_nodes.__name__ = "crashes", "nodes_die"
-    cases = [replies, holds, statements, lists, tokens, administration]
+    cases = [replies, holds, statements, forgotten, lists, tokens, administration]
     cases += [torn_tails, damaged_tails, damage, newest_file_gone, forged_journal]
     cases += [full_disk, failing_fsync, large_snapshots, failed_snapshot, begun_snapshots]
     cases += [jumping_clock, other_procedures, bad_procedures]

@@ -10,7 +10,7 @@ from typing import Any, Optional, Sequence
 sys.path.insert(0, str(pathlib.Path(__file__).resolve().parents[2] / "bindings" / "python"))
 from sgt import Engine, Kind, Reply, pack_calls, unpack_calls, wrote  # noqa: E402
 
-ENTRIES = 4_000_000  # the history is cut after so many entries, or as many as there are records; a payment makes 20, in 800 bytes
+ENTRIES = 4_000_000  # the history is cut after so many entries, or as many as there are records; a payment makes 29
 ROW = struct.Struct("<I4xqq")  # table, number and value of a row
 AT_ONCE = 10_000  # calls that are replayed: an outcome takes 392 bytes
 NO_PROCEDURE = 65_535  # the number of none

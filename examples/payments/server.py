@@ -48,6 +48,7 @@ class Server:
         self.begin_day()
         try:
             replies = [self.run(*marshal.loads(front.recv_bytes())) for front in ready]
+            self.forget()
             self.before_replies()
             for front, (outcomes, words) in zip(ready, replies):
                 front.send_bytes(marshal.dumps((outcomes, words, self.age())))
@@ -124,6 +125,14 @@ class Server:
             self.run(pack_calls([(self.chain.bank.numbers["day"], day)]))
             if self.chain.bank.day() != day:
                 logging.warning(self.trouble_of_clock())
+
+    def forget(self) -> None:
+        """Has the bank forget old ids, at most twice as many as calls of the batch. So they do not pile up, and nobody waits for long."""
+        number, calls = self.chain.bank.numbers.get("forget"), len(self.batch)
+        if calls and number is not None:
+            self.run(pack_calls([(number,)]))
+            if len(self.batch) > calls:
+                self.run(pack_calls([(number,)] * (2 * calls - 1)))
 
     def trouble_of_clock(self) -> str:
         """Whether the bank has another day than the clock. A follower may get the next day a moment late."""
