@@ -1,0 +1,3 @@
+pub mod Waking
+pub mod Starts
+pub mod Turns

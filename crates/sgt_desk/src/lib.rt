@@ -1,0 +1,60 @@
+//! The decisions of an engine that threads share under a lock of theirs: who rests and for which reason, who is woken, what a ticket
+//! names, when a cut may be made.
+//!
+//! A library for C may neither wait nor wake, but it may decide. So the threads' program keeps the lock, the condition and the clock,
+//! and each call is a number of turns. A turn takes the time and returns at once what comes next ([`Turn`]):
+//!
+//! - `Done`: the call returns its reply.
+//! - `Rest`: the thread sleeps, until all are woken or its deadline comes, and then makes the next turn of the same call.
+//! - `Late`: the deadline has come.
+//! - `Stale`: the ticket names a transaction of a part of the history that was cut off.
+//!
+//! Each turn is made under the lock, and so is the beginning of a sleep. If a turn has set `wakes`, all that sleep are woken.
+//!
+//! A call rests only for a [`Reason`] that holds at the end of its turn. No turn has a reason cease without setting `wakes`, whichever
+//! the reason and whoever rests for it. So however many turns come between, no wake is lost ([`no_wake_is_lost`]), but for what the
+//! program does with its condition.
+//!
+//! The desk knows its engine by the contracts of [`Answering`] alone. It keeps no list of the live transactions: the engine has it.
+//! It knows no threads, and does not promise that a thread is ever woken, which one comes next, or how long anything takes.
+//!
+//! ```
+//! /// A turn of a commit, under the lock. The thread that makes it sleeps if it is `Rest`.
+//! fn turn<E: Answering>(
+//!     desk: &mut Desk<E>,
+//!     ask: &mut Ask,           // Ask::new(Deadline::At(limit)) before the first turn
+//!     ticket: Ticket,          // of the start: desk.ticket(t)
+//!     now: u64,
+//!     all: &Sleepers,
+//! ) -> Result<Turn, NoMemory> {
+//!     let mut wakes = false;
+//!     let turn = commit(desk, ask, ticket, now, &mut wakes);
+//!     if wakes {
+//!         all.wake();
+//!     }
+//!     turn                     // Done: ask.reply is Committed, Refused, Over, Unknown or NotEnded, never Waits
+//! }
+//! ```
+#![tactic(auto)]
+
+mod answering;
+mod ask;
+mod committing;
+mod cutting;
+mod desk;
+mod laws;
+mod making;
+mod reason;
+mod running;
+mod starting;
+
+pub use answering::Answering;
+pub use ask::{Ask, Deadline, Ticket, Turn};
+pub use committing::{commit, commit_turn};
+pub use cutting::{cut, cut_turn};
+pub use desk::Desk;
+pub use laws::no_wake_is_lost;
+pub use making::{Asked, make};
+pub use reason::Reason;
+pub use running::{Run, is_conflict, run_procedure};
+pub use starting::start;

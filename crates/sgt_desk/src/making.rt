@@ -1,0 +1,57 @@
+//! Events of one transaction that never rest: its steps, the accesses that its caller decides, and its abort.
+ghost use Rattle.std.specs.Prelude.{◌≡◌, ◌≢◌, ◌↔◌, true, Ok};
+ghost use Rattle.sgt_desk.specs.Asks.{event_of};
+ghost use Rattle.sgt_desk.specs.Desks.{state, Adds, Wakes};
+
+use crate::answering::Answering;
+use crate::ask::{Ticket, Turn};
+use crate::desk::Desk;
+use sgt_model::{Event, NoMemory, Request, ShortReply, Tid};
+
+/// What is asked of a transaction.
+#[derive(Clone, Copy, Debug, PartialEq, Eq)]
+pub enum Asked {
+    /// The next access of its procedure.
+    Step,
+    /// An access on which its caller decided.
+    Access(Request),
+    /// Its abort.
+    Quit,
+}
+
+impl Asked {
+    /// The event that asks it of this transaction.
+    pub fn of(self, t: Tid) -> Event
+        ensures { result ≡ event_of self t }
+    {
+        match self {
+            Asked::Step => Event::Step(t),
+            Asked::Access(request) => Event::Access(t, request),
+            Asked::Quit => Event::Quit(t),
+        }
+    }
+}
+
+/// Makes an event of the transaction that a ticket names. It is done, or the ticket is stale, and nothing has happened.
+///
+/// `NoMemory` if an allocation failed; then nothing has changed.
+pub fn make<E: Answering>(
+    desk: &mut Desk<E>,
+    ticket: Ticket,
+    asked: Asked,
+    reply: &mut ShortReply,
+    wakes: &mut bool,
+) -> Result<Turn, NoMemory>
+    ensures done { result ≡ Ok Turn.Done → Adds (event_of asked ticket.tid) (state E.state desk.old) reply.new (state E.state desk.new) }
+    ensures stale { (result ≡ Ok Turn.Stale) ↔ (ticket.part ≢ (state E.state desk.old).part) }
+    ensures turns { (result ≢ Ok Turn.Again) × (result ≢ Ok Turn.Rest) × (result ≢ Ok Turn.Late) }
+    ensures unchanged { result ≢ Ok Turn.Done → state E.state desk.new ≡ state E.state desk.old }
+    ensures wakes { Wakes (state E.state desk.old) (state E.state desk.new) wakes.new }
+    ensures woken { wakes.old ≡ true → wakes.new ≡ true }
+{
+    if ticket.part != desk.part {
+        return Ok(Turn::Stale);
+    }
+    desk.answer(&asked.of(ticket.tid), reply, wakes)?;
+    Ok(Turn::Done)
+}

@@ -1,0 +1,382 @@
+//! Turns of a run: a procedure from its start to its commit, tried again after a conflict.
+ghost use Rattle.std.specs.Prelude.{◌≡◌, ◌≢◌, ◌≤◌, ◌<◌, ℕ, true, false, Ok, Some, None, IfOk, is_some};
+ghost use Rattle.sgt_model.specs.Fates.{live, start_count};
+ghost use Rattle.sgt_model.specs.Progress.{call_of};
+ghost use Rattle.sgt_model.specs.declared.event.Event.TheVariants.{Start};
+ghost use Rattle.sgt_desk.specs.Asks.{has_come, is_of_cut, Rests, SameButReply};
+ghost use Rattle.sgt_desk.specs.Desks.{state, SameHistory, Wakes};
+ghost use Rattle.sgt_desk.specs.Runs.{is_conflict, is_over, named, Begins, LeavesOnly, IsOutcome};
+
+use crate::answering::Answering;
+use crate::ask::{Ask, Deadline, Ticket, Turn};
+use crate::committing::commit_turn;
+use crate::desk::Desk;
+use crate::reason::Reason;
+use sgt_model::{Args, Event, NoMemory, ShortCause, ShortFate, ShortReply, Tid, replies_tell_who_is_live};
+
+/// A run under way.
+#[derive(Clone, Copy, Debug, PartialEq, Eq)]
+pub struct Run {
+    /// Its deadline, why it rests, and its newest reply.
+    pub ask: Ask,
+    /// The transaction of the attempt that rests in its commit, if one does.
+    pub attempt: Option<Tid>,
+    /// The ticket of the newest attempt.
+    pub ticket: Option<Ticket>,
+    /// How many attempts were begun.
+    pub tries: u64,
+    /// How many may be.
+    pub most: u64,
+}
+
+impl Run {
+    /// A run that has not begun. It makes so many attempts at most.
+    pub fn new(deadline: Deadline, most: u64) -> Self
+        ensures attempt { (result.attempt ≡ None) × (result.ticket ≡ None) }
+        ensures tries { (result.tries ≡ 0) × (result.most ≡ most) }
+        ensures deadline { result.ask.deadline ≡ deadline }
+    {
+        Run {
+            ask: Ask::new(deadline),
+            attempt: None,
+            ticket: None,
+            tries: 0,
+            most,
+        }
+    }
+
+    /// Whether no attempt may begin at this time, since the deadline has come.
+    pub fn is_over(&self, now: u64) -> bool
+        ensures { result ≡ is_over self.now.ask.deadline self.now.tries now }
+    {
+        match self.ask.deadline {
+            Deadline::Never => false,
+            Deadline::AtOnce => self.tries > 0,
+            Deadline::At(at) => at <= now,
+        }
+    }
+}
+
+/// Whether a reply is of a conflict, so that the call is tried again.
+pub fn is_conflict(reply: &ShortReply) -> bool
+    ensures { result ≡ is_conflict reply.now }
+{
+    matches!(
+        reply,
+        ShortReply::Aborted(ShortCause::Cycle) | ShortReply::Over(ShortFate::Fell(_))
+    )
+}
+
+/// Aborts the transaction, if it is live. This takes no memory.
+fn end<E: Answering>(desk: &mut Desk<E>, ask: &mut Ask, t: Tid, wakes: &mut bool)
+    ensures gone { live (state E.state desk.new).past t ≡ false }
+    ensures ask { SameButReply ask.old ask.new }
+    ensures outcome { IsOutcome ask.old.reply (Some t) (state E.state desk.old).past → IsOutcome ask.new.reply (Some t) (state E.state desk.new).past }
+    ensures starts { start_count (state E.state desk.new).past ≡ start_count (state E.state desk.old).past }
+    ensures calls { (u : ℕ) → u < start_count (state E.state desk.old).past → call_of (state E.state desk.new).past u ≡ call_of (state E.state desk.old).past u }
+    ensures wakes { Wakes (state E.state desk.old) (state E.state desk.new) wakes.new }
+    ensures woken { wakes.old ≡ true → wakes.new ≡ true }
+{
+    replies_tell_who_is_live();
+    if desk.engine.is_live(t) {
+        let mut reply = ShortReply::Unknown;
+        match desk.answer(&Event::Quit(t), &mut reply, wakes) {
+            Ok(()) => ask.reply = reply,
+            Err(NoMemory) => unreachable!(),
+        }
+    }
+}
+
+/// Steps a live transaction until a step makes no access, and returns the reply to that one.
+fn step_on<E: Answering>(
+    desk: &mut Desk<E>,
+    t: Tid,
+    wakes: &mut bool,
+) -> Result<ShortReply, NoMemory>
+    ensures outcome { IfOk result (λ r. IsOutcome r (Some t) (state E.state desk.new).past) }
+    ensures starts { start_count (state E.state desk.new).past ≡ start_count (state E.state desk.old).past }
+    ensures calls { (u : ℕ) → u < start_count (state E.state desk.old).past → call_of (state E.state desk.new).past u ≡ call_of (state E.state desk.old).past u }
+    ensures wakes { Wakes (state E.state desk.old) (state E.state desk.new) wakes.new }
+    ensures woken { wakes.old ≡ true → wakes.new ≡ true }
+{
+    let step = Event::Step(t);
+    let mut reply = ShortReply::Unknown;
+    for _ in 0..u64::MAX {
+        desk.answer(&step, &mut reply, wakes)?;
+        if !is_access(&reply) {
+            return Ok(reply);
+        }
+    }
+    // No memory can hold a history of so many entries.
+    Err(NoMemory)
+}
+
+fn is_access(reply: &ShortReply) -> bool {
+    matches!(reply, ShortReply::Looked { .. } | ShortReply::Wrote { .. })
+}
+
+/// Ends an attempt, whose newest reply this is: the run is done, or tries again, at once or after another transaction has ended.
+fn settle<E: Answering>(
+    desk: &mut Desk<E>,
+    run: &mut Run,
+    t: Tid,
+    now: u64,
+    wakes: &mut bool,
+) -> Turn
+    requires outcome { IsOutcome run.old.ask.reply (Some t) (state E.state desk.old).past }
+    ensures outcome { IsOutcome run.new.ask.reply (Some t) (state E.state desk.new).past }
+    ensures none { run.new.attempt ≡ None }
+    ensures gone { live (state E.state desk.new).past t ≡ false }
+    ensures starts { start_count (state E.state desk.new).past ≡ start_count (state E.state desk.old).past }
+    ensures calls { (u : ℕ) → u < start_count (state E.state desk.old).past → call_of (state E.state desk.new).past u ≡ call_of (state E.state desk.old).past u }
+    ensures kept { (run.new.tries ≡ run.old.tries) × (run.new.most ≡ run.old.most) × (run.new.ticket ≡ run.old.ticket) }
+    ensures deadline { run.new.ask.deadline ≡ run.old.ask.deadline }
+    ensures counted { run.new.ask.is_counted ≡ run.old.ask.is_counted }
+    ensures done { result ≡ Turn.Done → is_conflict run.new.ask.reply ≡ true → run.new.most ≤ run.new.tries }
+    ensures again { result ≡ Turn.Again → (is_conflict run.new.ask.reply ≡ true) × (run.new.tries < run.new.most) }
+    ensures rests { result ≡ Turn.Rest → Rests run.new.ask now (state E.state desk.new) }
+    ensures no_cut { result ≡ Turn.Rest → is_of_cut run.new.ask.reason ≡ false }
+    ensures late { result ≡ Turn.Late → has_come run.old.ask.deadline now ≡ true }
+    ensures stale { result ≢ Turn.Stale }
+    ensures wakes { Wakes (state E.state desk.old) (state E.state desk.new) wakes.new }
+    ensures woken { wakes.old ≡ true → wakes.new ≡ true }
+{
+    run.attempt = None;
+    run.ask.reason = None;
+    end(desk, &mut run.ask, t, wakes);
+    if !is_conflict(&run.ask.reply) || run.tries >= run.most {
+        return Turn::Done;
+    }
+    if is_over_by(&run.ask.reply) || !desk.holds(Reason::End(desk.ended)) {
+        return Turn::Again;
+    }
+    run.ask.reason = Some(Reason::End(desk.ended));
+    run.ask.turn(now)
+}
+
+/// Whether a reply says that the transaction has ended before, so that another one has just ended.
+fn is_over_by(reply: &ShortReply) -> bool {
+    matches!(reply, ShortReply::Over(_))
+}
+
+/// Commits an attempt, or has it rest. Where its deadline comes, or an allocation fails, its transaction is aborted.
+fn commit_attempt<E: Answering>(
+    desk: &mut Desk<E>,
+    run: &mut Run,
+    t: Tid,
+    now: u64,
+    wakes: &mut bool,
+) -> Result<Turn, NoMemory>
+    ensures outcome { result ≡ Ok Turn.Done → IsOutcome run.new.ask.reply (Some t) (state E.state desk.new).past }
+    ensures left { live (state E.state desk.new).past t ≡ true → run.new.attempt ≡ Some t }
+    ensures only { result ≢ Ok Turn.Rest → run.new.attempt ≡ None }
+    ensures starts { start_count (state E.state desk.new).past ≡ start_count (state E.state desk.old).past }
+    ensures calls { (u : ℕ) → u < start_count (state E.state desk.old).past → call_of (state E.state desk.new).past u ≡ call_of (state E.state desk.old).past u }
+    ensures kept { (run.new.tries ≡ run.old.tries) × (run.new.most ≡ run.old.most) × (run.new.ticket ≡ run.old.ticket) }
+    ensures deadline { run.new.ask.deadline ≡ run.old.ask.deadline }
+    ensures counted { run.new.ask.is_counted ≡ run.old.ask.is_counted }
+    ensures done { result ≡ Ok Turn.Done → is_conflict run.new.ask.reply ≡ true → run.new.most ≤ run.new.tries }
+    ensures again { result ≡ Ok Turn.Again → (is_conflict run.new.ask.reply ≡ true) × (run.new.tries < run.new.most) }
+    ensures rests { result ≡ Ok Turn.Rest → Rests run.new.ask now (state E.state desk.new) }
+    ensures no_cut { result ≡ Ok Turn.Rest → is_of_cut run.new.ask.reason ≡ false }
+    ensures late { result ≡ Ok Turn.Late → has_come run.old.ask.deadline now ≡ true }
+    ensures stale { result ≢ Ok Turn.Stale }
+    ensures wakes { Wakes (state E.state desk.old) (state E.state desk.new) wakes.new }
+    ensures woken { wakes.old ≡ true → wakes.new ≡ true }
+{
+    let made = commit_turn(desk, &mut run.ask, t, now, wakes);
+    match made {
+        Ok(Turn::Done) => Ok(settle(desk, run, t, now, wakes)),
+        Ok(Turn::Rest) => {
+            run.attempt = Some(t);
+            Ok(Turn::Rest)
+        }
+        _ => {
+            run.attempt = None;
+            run.ask.reason = None;
+            end(desk, &mut run.ask, t, wakes);
+            made
+        }
+    }
+}
+
+/// An attempt: it starts a transaction and runs it to its commit, unless it may not begin.
+fn try_once<E: Answering>(
+    desk: &mut Desk<E>,
+    run: &mut Run,
+    procedure: u16,
+    args: &Args,
+    now: u64,
+    wakes: &mut bool,
+) -> Result<Turn, NoMemory>
+    requires none { run.old.attempt ≡ None }
+    ensures outcome { result ≡ Ok Turn.Done → IsOutcome run.new.ask.reply (named run.new.ticket) (state E.state desk.new).past }
+    ensures left { LeavesOnly None (start_count (state E.state desk.old).past) (state E.state desk.new).past run.new.attempt }
+    ensures only { result ≢ Ok Turn.Rest → run.new.attempt ≡ None }
+    ensures call { Begins procedure args.now (state E.state desk.old).past run.new.ticket (state E.state desk.new).past }
+    ensures over { is_over run.old.ask.deadline run.old.tries now ≡ true → state E.state desk.new ≡ state E.state desk.old }
+    ensures cut { 0 < (state E.state desk.old).cutters → state E.state desk.new ≡ state E.state desk.old }
+    ensures most { run.new.most ≡ run.old.most }
+    ensures deadline { run.new.ask.deadline ≡ run.old.ask.deadline }
+    ensures counted { run.new.ask.is_counted ≡ run.old.ask.is_counted }
+    ensures done { result ≡ Ok Turn.Done → is_conflict run.new.ask.reply ≡ true → run.new.most ≤ run.new.tries }
+    ensures again { result ≡ Ok Turn.Again → (is_conflict run.new.ask.reply ≡ true) × (run.new.tries < run.new.most) }
+    ensures rests { result ≡ Ok Turn.Rest → Rests run.new.ask now (state E.state desk.new) }
+    ensures no_cut { result ≡ Ok Turn.Rest → is_of_cut run.new.ask.reason ≡ false }
+    ensures late { result ≡ Ok Turn.Late → has_come run.old.ask.deadline now ≡ true }
+    ensures stale { result ≢ Ok Turn.Stale }
+    ensures wakes { Wakes (state E.state desk.old) (state E.state desk.new) wakes.new }
+    ensures woken { wakes.old ≡ true → wakes.new ≡ true }
+{
+    if desk.holds_up(&run.ask) {
+        return Ok(run.ask.turn(now));
+    }
+    if run.is_over(now) {
+        return Ok(Turn::Late);
+    }
+    if desk.cutters > 0 {
+        run.ask.reason = Some(Reason::Cut);
+        return Ok(run.ask.turn(now));
+    }
+    run.ask.reason = None;
+    let mut reply = ShortReply::Unknown;
+    let event = Event::Start {
+        procedure,
+        args: args.copied(),
+    };
+    desk.answer(&event, &mut reply, wakes)?;
+    run.ask.reply = reply;
+    match reply {
+        ShortReply::Started(t) => {
+            let ticket = desk.ticket(t);
+            run.tries = run.tries.saturating_add(1);
+            run.ticket = Some(ticket);
+            attempt(desk, run, t, now, wakes)
+        }
+        ShortReply::Full => {
+            run.ask.reason = Some(Reason::Full(desk.engine.live_count()));
+            Ok(run.ask.turn(now))
+        }
+        _ => Ok(Turn::Done),
+    }
+}
+
+/// Steps a transaction that was just started to the end of its procedure, and commits it.
+fn attempt<E: Answering>(
+    desk: &mut Desk<E>,
+    run: &mut Run,
+    t: Tid,
+    now: u64,
+    wakes: &mut bool,
+) -> Result<Turn, NoMemory>
+    ensures outcome { result ≡ Ok Turn.Done → IsOutcome run.new.ask.reply (Some t) (state E.state desk.new).past }
+    ensures left { live (state E.state desk.new).past t ≡ true → run.new.attempt ≡ Some t }
+    ensures only { result ≢ Ok Turn.Rest → run.new.attempt ≡ None }
+    ensures starts { start_count (state E.state desk.new).past ≡ start_count (state E.state desk.old).past }
+    ensures calls { (u : ℕ) → u < start_count (state E.state desk.old).past → call_of (state E.state desk.new).past u ≡ call_of (state E.state desk.old).past u }
+    ensures kept { (run.new.tries ≡ run.old.tries) × (run.new.most ≡ run.old.most) × (run.new.ticket ≡ run.old.ticket) }
+    ensures deadline { run.new.ask.deadline ≡ run.old.ask.deadline }
+    ensures counted { run.new.ask.is_counted ≡ run.old.ask.is_counted }
+    ensures done { result ≡ Ok Turn.Done → is_conflict run.new.ask.reply ≡ true → run.new.most ≤ run.new.tries }
+    ensures again { result ≡ Ok Turn.Again → (is_conflict run.new.ask.reply ≡ true) × (run.new.tries < run.new.most) }
+    ensures rests { result ≡ Ok Turn.Rest → Rests run.new.ask now (state E.state desk.new) }
+    ensures no_cut { result ≡ Ok Turn.Rest → is_of_cut run.new.ask.reason ≡ false }
+    ensures late { result ≡ Ok Turn.Late → has_come run.old.ask.deadline now ≡ true }
+    ensures stale { result ≢ Ok Turn.Stale }
+    ensures wakes { Wakes (state E.state desk.old) (state E.state desk.new) wakes.new }
+    ensures woken { wakes.old ≡ true → wakes.new ≡ true }
+{
+    run.attempt = None;
+    match step_on(desk, t, wakes) {
+        Ok(ShortReply::Ended) => commit_attempt(desk, run, t, now, wakes),
+        Ok(reply) => {
+            run.ask.reply = reply;
+            Ok(settle(desk, run, t, now, wakes))
+        }
+        Err(NoMemory) => {
+            end(desk, &mut run.ask, t, wakes);
+            Err(NoMemory)
+        }
+    }
+}
+
+/// A turn of a run of a procedure from its start to its commit. An attempt that ends by a conflict is tried again, at once or after
+/// another transaction has ended, as often as the run says. No attempt begins after the deadline, or while a call waits for a cut.
+/// `run.ask.reply` is the newest reply, and `run.ticket` names the transaction of the newest attempt.
+///
+/// Nothing of a run stays live but the attempt that rests in its commit: where the deadline comes, or an allocation fails, its
+/// transaction is aborted.
+///
+/// `NoMemory` if an allocation failed.
+pub fn run_procedure<E: Answering>(
+    desk: &mut Desk<E>,
+    run: &mut Run,
+    procedure: u16,
+    args: &Args,
+    now: u64,
+    wakes: &mut bool,
+) -> Result<Turn, NoMemory>
+    ensures outcome { result ≡ Ok Turn.Done → IsOutcome run.new.ask.reply (named run.new.ticket) (state E.state desk.new).past }
+    ensures done { result ≡ Ok Turn.Done → is_conflict run.new.ask.reply ≡ true → run.new.most ≤ run.new.tries }
+    ensures call { Begins procedure args.now (state E.state desk.old).past run.new.ticket (state E.state desk.new).past }
+    ensures left { LeavesOnly run.old.attempt (start_count (state E.state desk.old).past) (state E.state desk.new).past run.new.attempt }
+    ensures only { result ≢ Ok Turn.Rest → run.new.attempt ≡ None }
+    ensures over { is_over run.old.ask.deadline run.old.tries now ≡ true
+        → start_count (state E.state desk.new).past ≡ start_count (state E.state desk.old).past }
+    ensures cut { 0 < (state E.state desk.old).cutters
+        → start_count (state E.state desk.new).past ≡ start_count (state E.state desk.old).past }
+    ensures again { result ≡ Ok Turn.Again → (is_conflict run.new.ask.reply ≡ true) × (run.new.tries < run.new.most) }
+    ensures rests { result ≡ Ok Turn.Rest → Rests run.new.ask now (state E.state desk.new) }
+    ensures counted { run.new.ask.is_counted ≡ is_some run.new.attempt }
+    ensures late { result ≡ Ok Turn.Late → has_come run.old.ask.deadline now ≡ true }
+    ensures stale { result ≢ Ok Turn.Stale }
+    ensures most { run.new.most ≡ run.old.most }
+    ensures deadline { run.new.ask.deadline ≡ run.old.ask.deadline }
+    ensures wakes { Wakes (state E.state desk.old) (state E.state desk.new) wakes.new }
+    ensures woken { wakes.old ≡ true → wakes.new ≡ true }
+{
+    let made = run_turn(desk, run, procedure, args, now, wakes);
+    if run.attempt.is_some() {
+        desk.begin_commit(&mut run.ask);
+    } else {
+        desk.end_commit(&mut run.ask, wakes);
+    }
+    made
+}
+
+/// The same, without the count of those that rest in a commit.
+fn run_turn<E: Answering>(
+    desk: &mut Desk<E>,
+    run: &mut Run,
+    procedure: u16,
+    args: &Args,
+    now: u64,
+    wakes: &mut bool,
+) -> Result<Turn, NoMemory>
+    ensures outcome { result ≡ Ok Turn.Done → IsOutcome run.new.ask.reply (named run.new.ticket) (state E.state desk.new).past }
+    ensures done { result ≡ Ok Turn.Done → is_conflict run.new.ask.reply ≡ true → run.new.most ≤ run.new.tries }
+    ensures call { Begins procedure args.now (state E.state desk.old).past run.new.ticket (state E.state desk.new).past }
+    ensures left { LeavesOnly run.old.attempt (start_count (state E.state desk.old).past) (state E.state desk.new).past run.new.attempt }
+    ensures only { result ≢ Ok Turn.Rest → run.new.attempt ≡ None }
+    ensures over { is_over run.old.ask.deadline run.old.tries now ≡ true
+        → start_count (state E.state desk.new).past ≡ start_count (state E.state desk.old).past }
+    ensures cut { 0 < (state E.state desk.old).cutters
+        → start_count (state E.state desk.new).past ≡ start_count (state E.state desk.old).past }
+    ensures again { result ≡ Ok Turn.Again → (is_conflict run.new.ask.reply ≡ true) × (run.new.tries < run.new.most) }
+    ensures rests { result ≡ Ok Turn.Rest → Rests run.new.ask now (state E.state desk.new) }
+    ensures no_cut { result ≡ Ok Turn.Rest → is_of_cut run.new.ask.reason ≡ false }
+    ensures late { result ≡ Ok Turn.Late → has_come run.old.ask.deadline now ≡ true }
+    ensures stale { result ≢ Ok Turn.Stale }
+    ensures most { run.new.most ≡ run.old.most }
+    ensures deadline { run.new.ask.deadline ≡ run.old.ask.deadline }
+    ensures wakes { Wakes (state E.state desk.old) (state E.state desk.new) wakes.new }
+    ensures woken { wakes.old ≡ true → wakes.new ≡ true }
+{
+    match run.attempt {
+        Some(t) => {
+            run.ticket = Some(desk.ticket(t));
+            commit_attempt(desk, run, t, now, wakes)
+        }
+        None => try_once(desk, run, procedure, args, now, wakes),
+    }
+}
