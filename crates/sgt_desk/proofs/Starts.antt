@@ -1,5 +1,5 @@
 -- What a start says of the limits, and which events start nothing.
-use Rattle.std.proofs.Common.{◌≡◌, ℕ, ◌+◌, ℤ, Bool, true, false, cond, nat_eq, List, [], ◌∷◌, length, Option, Some, None, refl, sym, ap, subst, ◌∙◌}
+use Rattle.std.proofs.Common.{◌≡◌, ℕ, ◌+◌, ℤ, Bool, true, false, cond, nat_eq, List, ◌∷◌, length, Option, Some, None, refl, sym, ap, subst, ◌∙◌}
 use Rattle.std.proofs.lemmas.Bool.{eqb-true}
 use Rattle.sgt_model.specs.declared.entry.Entry.{Entry}
 use Rattle.sgt_model.specs.declared.event.Event.{Event}
@@ -9,7 +9,7 @@ use Rattle.sgt_model.specs.declared.reply.Reply.{Reply}
 use Rattle.sgt_model.specs.declared.reply.Reply.TheVariants as reply
 use Rattle.sgt_model.specs.declared.short_reply.ShortReply.{ShortReply}
 use Rattle.sgt_model.specs.declared.short_reply.ShortReply.TheVariants as bare
-use Rattle.sgt_model.specs.Fates.{is_start, live, live_ones, start_count}
+use Rattle.sgt_model.specs.Fates.{is_start, live_ones, start_count}
 use Rattle.sgt_model.specs.Legality.{LegalReply}
 use Rattle.sgt_model.specs.Questions.{named_by}
 use Rattle.sgt_model.specs.Settings.{Setting, takes}

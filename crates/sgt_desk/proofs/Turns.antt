@@ -1,8 +1,7 @@
 -- No reason to rest ceases without a wake, by induction over turns.
-use Rattle.std.proofs.Common.{◌≡◌, Bool, true, false, ◌||◌, List, [], ◌∷◌, refl, sym, ◌∙◌}
-use Rattle.sgt_desk.specs.declared.reason.Reason.{Reason}
-use Rattle.sgt_desk.specs.Desks.{DeskState, holds}
-use Rattle.sgt_desk.specs.Turns.{AreTurns, Left, NoWakeIsLost, after, any_wakes}
+use Rattle.std.proofs.Common.{◌≡◌, Bool, true, false, ◌||◌, [], ◌∷◌, refl, sym, ◌∙◌}
+use Rattle.sgt_desk.specs.Desks.{holds}
+use Rattle.sgt_desk.specs.Turns.{NoWakeIsLost, any_wakes}
 
 or_left : (a b : Bool) → a ≡ true → (a || b) ≡ true
 or_left a b h = rw h refl

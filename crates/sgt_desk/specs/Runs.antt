@@ -1,7 +1,6 @@
 -- A run: attempts of one procedure with its arguments, until one ends otherwise than by a conflict.
-use Rattle.std.specs.Prelude.{◌≡◌, ◌⊎◌, ℕ, ◌+◌, ℤ, ◌≤◌, Bool, true, false, nat_le, nat_lt, List, [], ◌∷◌, Option, Some, None, Result, Ok}
+use Rattle.std.specs.Prelude.{◌≡◌, ◌⊎◌, ℕ, ◌+◌, ℤ, ◌≤◌, ◌<◌, Bool, true, false, nat_le, nat_lt, List, [], ◌∷◌, Option, Some, None}
 use Rattle.sgt_model.specs.declared.entry.Entry.{Entry}
-use Rattle.sgt_model.specs.declared.errors.NoMemory.{NoMemory}
 use Rattle.sgt_model.specs.declared.short_reply.ShortCause.TheVariants as why
 use Rattle.sgt_model.specs.declared.short_reply.ShortFate.TheVariants as fate
 use Rattle.sgt_model.specs.declared.short_reply.ShortReply.{ShortReply}
@@ -13,8 +12,6 @@ use Rattle.sgt_model.specs.ShortReplies.{short_reply}
 use Rattle.sgt_desk.specs.declared.ask.Deadline.{Deadline}
 use Rattle.sgt_desk.specs.declared.ask.Deadline.TheVariants.{Never, AtOnce, At}
 use Rattle.sgt_desk.specs.declared.ask.Ticket.{Ticket}
-use Rattle.sgt_desk.specs.declared.ask.Turn.{Turn}
-use Rattle.sgt_desk.specs.declared.ask.Turn.TheVariants as turn
 
 -- the reply is of a conflict, so that the call is tried again
 abbrev pub is_conflict : ShortReply → Bool
@@ -42,6 +39,10 @@ named (Some k) = Some k.tid
 abbrev pub IsOutcome : ShortReply → Option ℕ → List Entry → Type 0
 IsOutcome short ticket [] = ⊥
 IsOutcome short ticket (e ∷ past) = (short_reply e.reply ≡ short) × ((t : ℕ) → named_by e.event ≡ Some t → ticket ≡ Some t)
+
+-- what a transaction was started with stays
+abbrev pub KeepsCalls : List Entry → List Entry → Type 0
+KeepsCalls before after = (u : ℕ) → u < start_count before → call_of after u ≡ call_of before u
 
 -- at most one transaction was started, and if one was, the ticket names it, and it runs this procedure with these arguments
 abbrev pub Begins : ℕ → List ℤ → List Entry → Option Ticket → List Entry → Type 0

@@ -9,7 +9,8 @@ ghost use Rattle.sgt_desk.specs.Engines.{EngineState, Answered, setting_behind};
 use sgt_model::{Event, NoMemory, ShortReply, Tid};
 use std::alloc::Global;
 
-/// An engine that answers each event with a legal reply and keeps both as an entry of its history. `sgt_engine` has such an engine.
+/// An engine that answers each event with a legal reply, and keeps both as an entry of its history. The contracts are those of the
+/// `Engine` of `sgt_engine`, as far as a desk needs them; the implementation for it is not written yet.
 pub trait Answering: Drop {
     /// Its configuration, and its history, newest entry first.
     ghost state: { Self → EngineState };
@@ -18,7 +19,8 @@ pub trait Answering: Drop {
     ///
     /// `NoMemory` if an allocation failed; then nothing has changed. A quit of a live transaction allocates nothing.
     fn answer(&mut self, event: &Event, reply: &mut ShortReply) -> Result<(), NoMemory>
-        ensures adds { OnOk result (Answered (state self.old).setting event.now (state self.old).past reply.new (state self.new).past) }
+        ensures adds { OnOk result
+            (Answered (state self.old).setting event.now (state self.old).past reply.new (state self.new).past) }
         ensures unchanged { OnErr result ((state self.new).past ≡ (state self.old).past) }
         ensures setting { (state self.new).setting ≡ (state self.old).setting }
         ensures legal { Legal (state self.new).setting (state self.new).past }
@@ -38,7 +40,8 @@ pub trait Answering: Drop {
     fn cut(&mut self, alloc: Global) -> Result<(), NoMemory>
         requires { live_ones (state self.old).past ≡ [] }
         ensures past { OnOk result ((state self.new).past ≡ []) }
-        ensures setting { OnOk result ((state self.new).setting ≡ setting_behind (state self.old).setting (state self.old).past) }
+        ensures setting { OnOk result
+            ((state self.new).setting ≡ setting_behind (state self.old).setting (state self.old).past) }
         ensures unchanged { OnErr result ((state self.new).past ≡ (state self.old).past) }
         ensures kept { OnErr result ((state self.new).setting ≡ (state self.old).setting) };
 }

@@ -60,8 +60,8 @@ pub fn commit<E: Answering>(
     now: u64,
     wakes: &mut bool,
 ) -> Result<Turn, NoMemory>
-    ensures done { result ≡ Ok Turn.Done → Answered (state E.state desk.old).setting (Commit ticket.tid) (state E.state desk.old).past
-        ask.new.reply (state E.state desk.new).past }
+    ensures done { result ≡ Ok Turn.Done
+        → Answered (state E.state desk.old).setting (Commit ticket.tid) (state E.state desk.old).past ask.new.reply (state E.state desk.new).past }
     ensures no_wait { result ≡ Ok Turn.Done → IsNoWait ask.new.reply }
     ensures rests { result ≡ Ok Turn.Rest → Rests ask.new now (state E.state desk.new) }
     ensures counted { result ≡ Ok Turn.Rest → ask.new.is_counted ≡ true }

@@ -6,7 +6,8 @@ ghost use Rattle.sgt_model.specs.Fates.{live};
 ghost use Rattle.sgt_model.specs.Legality.{Legal};
 ghost use Rattle.sgt_desk.specs.Asks.{holds_up, is_held, is_of_cut, SameButCount};
 ghost use Rattle.sgt_desk.specs.declared.reason.Reason.{Reason};
-ghost use Rattle.sgt_desk.specs.Desks.{state, opened, Adds, Wakes, SameHistory, IsCutOff, holds, is_busy, next_number, ends_short, tells_short};
+ghost use Rattle.sgt_desk.specs.Desks.{state, opened, Adds, Wakes, SameHistory, IsCutOff, holds, is_busy};
+ghost use Rattle.sgt_desk.specs.Desks.{next_number, ends_short, tells_short};
 
 use crate::answering::Answering;
 use crate::ask::{Ask, Ticket, count, uncount};

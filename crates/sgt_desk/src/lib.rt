@@ -7,6 +7,7 @@
 //! - `Done`: the call returns its reply.
 //! - `Rest`: the thread sleeps, until all are woken or its deadline comes, and then makes the next turn of the same call.
 //! - `Late`: the deadline has come.
+//! - `Again`: the thread makes the next turn at once. Others may come between.
 //! - `Stale`: the ticket names a transaction of a part of the history that was cut off.
 //!
 //! Each turn is made under the lock, and so is the beginning of a sleep. If a turn has set `wakes`, all that sleep are woken.
@@ -14,6 +15,9 @@
 //! A call rests only for a [`Reason`] that holds at the end of its turn. No turn has a reason cease without setting `wakes`, whichever
 //! the reason and whoever rests for it. So however many turns come between, no wake is lost ([`no_wake_is_lost`]), but for what the
 //! program does with its condition.
+//!
+//! [`commit`], [`start`] and [`cut`] make the turns of these calls, [`run_procedure`] those of a procedure that is tried again after a
+//! conflict, and [`make`] an event that never rests.
 //!
 //! The desk knows its engine by the contracts of [`Answering`] alone. It keeps no list of the live transactions: the engine has it.
 //! It knows no threads, and does not promise that a thread is ever woken, which one comes next, or how long anything takes.

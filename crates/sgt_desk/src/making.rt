@@ -42,7 +42,8 @@ pub fn make<E: Answering>(
     reply: &mut ShortReply,
     wakes: &mut bool,
 ) -> Result<Turn, NoMemory>
-    ensures done { result ≡ Ok Turn.Done → Adds (event_of asked ticket.tid) (state E.state desk.old) reply.new (state E.state desk.new) }
+    ensures done { result ≡ Ok Turn.Done
+        → Adds (event_of asked ticket.tid) (state E.state desk.old) reply.new (state E.state desk.new) }
     ensures stale { (result ≡ Ok Turn.Stale) ↔ (ticket.part ≢ (state E.state desk.old).part) }
     ensures turns { (result ≢ Ok Turn.Again) × (result ≢ Ok Turn.Rest) × (result ≢ Ok Turn.Late) }
     ensures unchanged { result ≢ Ok Turn.Done → state E.state desk.new ≡ state E.state desk.old }

@@ -1,18 +1,19 @@
 //! Turns of a run: a procedure from its start to its commit, tried again after a conflict.
 ghost use Rattle.std.specs.Prelude.{◌≡◌, ◌≢◌, ◌≤◌, ◌<◌, ℕ, true, false, Ok, Some, None, IfOk, is_some};
 ghost use Rattle.sgt_model.specs.Fates.{live, start_count};
-ghost use Rattle.sgt_model.specs.Progress.{call_of};
 ghost use Rattle.sgt_model.specs.declared.event.Event.TheVariants.{Start};
 ghost use Rattle.sgt_desk.specs.Asks.{has_come, is_of_cut, Rests, SameButReply};
 ghost use Rattle.sgt_desk.specs.Desks.{state, SameHistory, Wakes};
-ghost use Rattle.sgt_desk.specs.Runs.{is_conflict, is_over, named, Begins, LeavesOnly, IsOutcome};
+ghost use Rattle.sgt_desk.specs.Runs.{is_conflict, is_over, named, Begins, KeepsCalls, LeavesOnly, IsOutcome};
 
 use crate::answering::Answering;
 use crate::ask::{Ask, Deadline, Ticket, Turn};
 use crate::committing::commit_turn;
 use crate::desk::Desk;
 use crate::reason::Reason;
-use sgt_model::{Args, Event, NoMemory, ShortCause, ShortFate, ShortReply, Tid, replies_tell_who_is_live};
+use sgt_model::{
+    Args, Event, NoMemory, ShortCause, ShortFate, ShortReply, Tid, replies_tell_who_is_live,
+};
 
 /// A run under way.
 #[derive(Clone, Copy, Debug, PartialEq, Eq)]
@@ -71,9 +72,10 @@ pub fn is_conflict(reply: &ShortReply) -> bool
 fn end<E: Answering>(desk: &mut Desk<E>, ask: &mut Ask, t: Tid, wakes: &mut bool)
     ensures gone { live (state E.state desk.new).past t ≡ false }
     ensures ask { SameButReply ask.old ask.new }
-    ensures outcome { IsOutcome ask.old.reply (Some t) (state E.state desk.old).past → IsOutcome ask.new.reply (Some t) (state E.state desk.new).past }
+    ensures outcome { IsOutcome ask.old.reply (Some t) (state E.state desk.old).past
+        → IsOutcome ask.new.reply (Some t) (state E.state desk.new).past }
     ensures starts { start_count (state E.state desk.new).past ≡ start_count (state E.state desk.old).past }
-    ensures calls { (u : ℕ) → u < start_count (state E.state desk.old).past → call_of (state E.state desk.new).past u ≡ call_of (state E.state desk.old).past u }
+    ensures calls { KeepsCalls (state E.state desk.old).past (state E.state desk.new).past }
     ensures wakes { Wakes (state E.state desk.old) (state E.state desk.new) wakes.new }
     ensures woken { wakes.old ≡ true → wakes.new ≡ true }
 {
@@ -95,7 +97,7 @@ fn step_on<E: Answering>(
 ) -> Result<ShortReply, NoMemory>
     ensures outcome { IfOk result (λ r. IsOutcome r (Some t) (state E.state desk.new).past) }
     ensures starts { start_count (state E.state desk.new).past ≡ start_count (state E.state desk.old).past }
-    ensures calls { (u : ℕ) → u < start_count (state E.state desk.old).past → call_of (state E.state desk.new).past u ≡ call_of (state E.state desk.old).past u }
+    ensures calls { KeepsCalls (state E.state desk.old).past (state E.state desk.new).past }
     ensures wakes { Wakes (state E.state desk.old) (state E.state desk.new) wakes.new }
     ensures woken { wakes.old ≡ true → wakes.new ≡ true }
 {
@@ -128,7 +130,7 @@ fn settle<E: Answering>(
     ensures none { run.new.attempt ≡ None }
     ensures gone { live (state E.state desk.new).past t ≡ false }
     ensures starts { start_count (state E.state desk.new).past ≡ start_count (state E.state desk.old).past }
-    ensures calls { (u : ℕ) → u < start_count (state E.state desk.old).past → call_of (state E.state desk.new).past u ≡ call_of (state E.state desk.old).past u }
+    ensures calls { KeepsCalls (state E.state desk.old).past (state E.state desk.new).past }
     ensures kept { (run.new.tries ≡ run.old.tries) × (run.new.most ≡ run.old.most) × (run.new.ticket ≡ run.old.ticket) }
     ensures deadline { run.new.ask.deadline ≡ run.old.ask.deadline }
     ensures counted { run.new.ask.is_counted ≡ run.old.ask.is_counted }
@@ -171,7 +173,7 @@ fn commit_attempt<E: Answering>(
     ensures left { live (state E.state desk.new).past t ≡ true → run.new.attempt ≡ Some t }
     ensures only { result ≢ Ok Turn.Rest → run.new.attempt ≡ None }
     ensures starts { start_count (state E.state desk.new).past ≡ start_count (state E.state desk.old).past }
-    ensures calls { (u : ℕ) → u < start_count (state E.state desk.old).past → call_of (state E.state desk.new).past u ≡ call_of (state E.state desk.old).past u }
+    ensures calls { KeepsCalls (state E.state desk.old).past (state E.state desk.new).past }
     ensures kept { (run.new.tries ≡ run.old.tries) × (run.new.most ≡ run.old.most) × (run.new.ticket ≡ run.old.ticket) }
     ensures deadline { run.new.ask.deadline ≡ run.old.ask.deadline }
     ensures counted { run.new.ask.is_counted ≡ run.old.ask.is_counted }
@@ -273,7 +275,7 @@ fn attempt<E: Answering>(
     ensures left { live (state E.state desk.new).past t ≡ true → run.new.attempt ≡ Some t }
     ensures only { result ≢ Ok Turn.Rest → run.new.attempt ≡ None }
     ensures starts { start_count (state E.state desk.new).past ≡ start_count (state E.state desk.old).past }
-    ensures calls { (u : ℕ) → u < start_count (state E.state desk.old).past → call_of (state E.state desk.new).past u ≡ call_of (state E.state desk.old).past u }
+    ensures calls { KeepsCalls (state E.state desk.old).past (state E.state desk.new).past }
     ensures kept { (run.new.tries ≡ run.old.tries) × (run.new.most ≡ run.old.most) × (run.new.ticket ≡ run.old.ticket) }
     ensures deadline { run.new.ask.deadline ≡ run.old.ask.deadline }
     ensures counted { run.new.ask.is_counted ≡ run.old.ask.is_counted }
@@ -319,7 +321,8 @@ pub fn run_procedure<E: Answering>(
     ensures outcome { result ≡ Ok Turn.Done → IsOutcome run.new.ask.reply (named run.new.ticket) (state E.state desk.new).past }
     ensures done { result ≡ Ok Turn.Done → is_conflict run.new.ask.reply ≡ true → run.new.most ≤ run.new.tries }
     ensures call { Begins procedure args.now (state E.state desk.old).past run.new.ticket (state E.state desk.new).past }
-    ensures left { LeavesOnly run.old.attempt (start_count (state E.state desk.old).past) (state E.state desk.new).past run.new.attempt }
+    ensures left { LeavesOnly run.old.attempt (start_count (state E.state desk.old).past) (state E.state desk.new).past
+        run.new.attempt }
     ensures only { result ≢ Ok Turn.Rest → run.new.attempt ≡ None }
     ensures over { is_over run.old.ask.deadline run.old.tries now ≡ true
         → start_count (state E.state desk.new).past ≡ start_count (state E.state desk.old).past }
@@ -356,7 +359,8 @@ fn run_turn<E: Answering>(
     ensures outcome { result ≡ Ok Turn.Done → IsOutcome run.new.ask.reply (named run.new.ticket) (state E.state desk.new).past }
     ensures done { result ≡ Ok Turn.Done → is_conflict run.new.ask.reply ≡ true → run.new.most ≤ run.new.tries }
     ensures call { Begins procedure args.now (state E.state desk.old).past run.new.ticket (state E.state desk.new).past }
-    ensures left { LeavesOnly run.old.attempt (start_count (state E.state desk.old).past) (state E.state desk.new).past run.new.attempt }
+    ensures left { LeavesOnly run.old.attempt (start_count (state E.state desk.old).past) (state E.state desk.new).past
+        run.new.attempt }
     ensures only { result ≢ Ok Turn.Rest → run.new.attempt ≡ None }
     ensures over { is_over run.old.ask.deadline run.old.tries now ≡ true
         → start_count (state E.state desk.new).past ≡ start_count (state E.state desk.old).past }

@@ -21,7 +21,8 @@ pub fn start<E: Answering>(
     now: u64,
     wakes: &mut bool,
 ) -> Result<Turn, NoMemory>
-    ensures done { result ≡ Ok Turn.Done → Adds (Start procedure args.now) (state E.state desk.old) ask.new.reply (state E.state desk.new) }
+    ensures done { result ≡ Ok Turn.Done
+        → Adds (Start procedure args.now) (state E.state desk.old) ask.new.reply (state E.state desk.new) }
     ensures not_full { result ≡ Ok Turn.Done → IsNotFull ask.new.reply }
     ensures rests { result ≡ Ok Turn.Rest → Rests ask.new now (state E.state desk.new) }
     ensures why { StartsWhy (state E.state desk.old) ask.old.reason ask.new.reason }

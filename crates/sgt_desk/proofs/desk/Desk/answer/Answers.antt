@@ -1,5 +1,5 @@
-use Rattle.std.proofs.Common.{◌≡◌, true, false, sym, ap, ◌∙◌}
-use Rattle.sgt_desk.specs.Desks.{state, holds}
+use Rattle.std.proofs.Common.{sym, ap, ◌∙◌}
+use Rattle.sgt_desk.specs.Desks.{state}
 use Rattle.sgt_desk.proofs.Waking.{answered_stays}
 use Rattle.sgt_desk.proofs.desk.Desk.answer.Goals as goal
 use Rattle.sgt_desk.proofs.desk.Desk.answer.Goals.{then-ends, else-ends}
