@@ -13,3 +13,5 @@ pub mod Examples
 pub mod Grown
 pub mod Replayed
 pub mod Tied
+pub mod Nodes
+pub mod Answered

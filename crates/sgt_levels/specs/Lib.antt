@@ -8,4 +8,5 @@ pub mod Rounds
 pub mod Ruled
 pub mod Replays
 pub mod Ties
+pub mod Answers
 pub mod Examples

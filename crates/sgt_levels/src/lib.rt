@@ -8,15 +8,21 @@
 //! - times that rise along the edges are a run, if no read has a fault; a linear number of edges suffices
 //! - what is serializable is snapshot isolated, and what is snapshot isolated is read committed
 //! - write skew is snapshot isolated and not serializable; lost update is not snapshot isolated
-//! - an order that the tests of `replay.rt` accept is a run, and a cycle that those of `tie.rt` accept leaves none
+//! - `levels_of` answers `Run` only with a run, and *no* only if there is none: an order that the tests of `replay.rt`
+//!   accept is a run, and a cycle that those of `tie.rt` accept leaves none
+//!
+//! Tested, not proved: when `levels_of` leaves a level open (`survey.rt` and `search.rt`), and the time: n log n.
 //!
 //! Not decided by edges alone: in which order two transactions come that append to one key, if neither append was seen.
 #![tactic(auto)]
 
 mod columns;
 mod laws;
+mod levels;
 mod replay;
 mod ruling;
+mod search;
+mod survey;
 mod tie;
 
 pub use laws::{
@@ -27,6 +33,9 @@ pub use laws::{
     spaced_cycles_are_enough, split_is_obeyed, split_raised_are_enough, splits_are_enough,
     tails_depend, write_skew_is_between,
 };
+pub use levels::{Committed, Levels, Snapshot, levels_of};
 pub use replay::{is_committed_run, is_snapshot_run};
 pub use ruling::{Level, ruled_out};
-pub use tie::{Ground, Tie, rules_out_committed, rules_out_snapshot};
+pub use search::Snapshots;
+pub use survey::Partial;
+pub use tie::{Ground, Tie, rules_out_committed, rules_out_partial, rules_out_snapshot};

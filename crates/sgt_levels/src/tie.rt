@@ -6,6 +6,7 @@ ghost use Rattle.sgt_levels.specs.Snapshots.{IsSnapshotIsolated};
 ghost use Rattle.sgt_levels.specs.Commits.{IsReadCommitted};
 ghost use Rattle.sgt_levels.specs.Ties.{IsPending};
 
+use crate::survey::Partial;
 use sgt_appends::{Transaction, append_at, has, read_at, stands_before};
 
 /// Why one transaction comes before another. Operations are named by their positions in their transactions.
@@ -109,6 +110,30 @@ fn step(history: &[Transaction], tie: &Tie, waits: bool) -> Option<bool>
         }
     }
     None
+}
+
+/// Whether the read saw one append of another transaction and missed another one at the same key: this leaves no run of
+/// committed reads.
+pub fn rules_out_partial(history: &[Transaction], partial: &Partial) -> bool
+    requires { AppendsOnce history.now }
+    ensures { IsTrue result → ¬ IsReadCommitted history.now }
+{
+    if partial.by == partial.reader {
+        return false;
+    }
+    let Some((key, value)) = append_at(history, partial.by, partial.seen) else {
+        return false;
+    };
+    let Some((other_key, other)) = append_at(history, partial.by, partial.missed) else {
+        return false;
+    };
+    if key != other_key {
+        return false;
+    }
+    match read_at(history, partial.reader, partial.read, key) {
+        Some(seen) => has(seen, value) && !has(seen, other),
+        None => false,
+    }
 }
 
 /// Whether the later one of the tie follows the earlier one.

@@ -1,0 +1,31 @@
+-- The claims of the answers for the levels.
+use Rattle.std.specs.Prelude.{ℕ, List}
+use Rattle.sgt_appends.specs.declared.transaction.Transaction.{Transaction}
+use Rattle.sgt_levels.specs.declared.levels.Committed.{Committed}
+use Rattle.sgt_levels.specs.declared.levels.Committed.TheVariants.{Run, Fault, Partial, Cycle, Open}
+use Rattle.sgt_levels.specs.declared.levels.Snapshot.{Snapshot}
+use Rattle.sgt_levels.specs.declared.levels.Snapshot.TheVariants.{NotCommitted}
+use Rattle.sgt_levels.specs.declared.levels.Snapshot.TheVariants as snapshots
+use Rattle.sgt_levels.specs.declared.levels.Levels.{Levels}
+use Rattle.sgt_levels.specs.Snapshots.{IsSnapshotRun, IsSnapshotIsolated}
+use Rattle.sgt_levels.specs.Commits.{IsCommittedRun, IsReadCommitted}
+
+-- `Run`: the order is a run of committed reads. `Fault`, `Partial` and `Cycle`: there is none.
+abbrev pub IsCommittedRight : List Transaction → Committed → Type 0
+IsCommittedRight h (Run order) = IsCommittedRun h order.items
+IsCommittedRight h (Fault reader read fault) = ¬ IsReadCommitted h
+IsCommittedRight h (Partial partial) = ¬ IsReadCommitted h
+IsCommittedRight h (Cycle ties) = ¬ IsReadCommitted h
+IsCommittedRight h Open = Unit {0}
+
+-- `Run`: the order is that of a snapshot run. `NotCommitted` and `Cycle`: there is none.
+abbrev pub IsSnapshotRight : List Transaction → Snapshot → Type 0
+IsSnapshotRight h (snapshots.Run run) = (begin : ℕ → ℕ) × (commit : ℕ → ℕ) × IsSnapshotRun h run.order.items begin commit
+IsSnapshotRight h NotCommitted = ¬ IsSnapshotIsolated h
+IsSnapshotRight h (snapshots.Cycle ties) = ¬ IsSnapshotIsolated h
+IsSnapshotRight h snapshots.Open = Unit {0}
+
+-- both answers are right
+pub record AreRight (h : List Transaction) (levels : Levels) : Type 0 where
+  pub committed : IsCommittedRight h levels.committed
+  pub snapshot : IsSnapshotRight h levels.snapshot

@@ -1,0 +1,184 @@
+//! Which levels what the clients saw is of, each with its evidence.
+ghost use Rattle.std.specs.Prelude.{List, IfOk, IfSome, IsTrue};
+ghost use Rattle.sgt_appends.specs.declared.transaction.Transaction.{Transaction};
+ghost use Rattle.sgt_appends.specs.Precedences.{AppendsOnce};
+ghost use Rattle.sgt_appends.specs.Indexes.{position_of, IsIndex};
+ghost use Rattle.sgt_appends.specs.Reads.{HasFault};
+ghost use Rattle.sgt_levels.specs.Commits.{IsReadCommitted};
+ghost use Rattle.sgt_levels.specs.Answers.{AreRight, IsCommittedRight, IsSnapshotRight};
+
+use crate::replay::{is_committed_run, is_snapshot_run};
+use crate::search::{Found, Snapshots, search_commits, search_snapshots};
+use crate::survey::{Partial, Survey};
+use crate::tie::{Tie, rules_out_committed, rules_out_partial, rules_out_snapshot};
+use sgt_appends::{AppendIndex, Fault, Transaction, first_fault, first_incompatible, unknown_read};
+use sgt_model::NoMemory;
+use std::alloc::Global;
+
+/// Whether there is a run of committed reads, with the evidence.
+#[derive(Debug, Drop, PartialEq, Eq)]
+pub enum Committed {
+    /// There is: an order of commits.
+    Run(Vec<usize>),
+    /// There is none: a fault of the read at this position of the reader.
+    Fault {
+        reader: usize,
+        read: usize,
+        fault: Fault,
+    },
+    /// There is none: a read saw one append of a transaction and missed another one at the same key.
+    Partial(Partial),
+    /// There is none: ties that go round.
+    Cycle(Vec<Tie>),
+    /// Not decided.
+    Open,
+}
+
+/// Whether there is a snapshot run, with the evidence.
+#[derive(Debug, Drop, PartialEq, Eq)]
+pub enum Snapshot {
+    /// There is: an order of commits, and the start of each.
+    Run(Snapshots),
+    /// There is none, since there is no run of committed reads.
+    NotCommitted,
+    /// There is none: ties that go round, without two misses next to one another.
+    Cycle(Vec<Tie>),
+    /// Not decided.
+    Open,
+}
+
+/// The answers for both levels.
+#[derive(Debug, Drop, PartialEq, Eq)]
+pub struct Levels {
+    pub committed: Committed,
+    pub snapshot: Snapshot,
+}
+
+/// Which of the levels what the clients saw is of.
+///
+/// Each run and each cycle is tested. Both are open if a value is appended twice to a key, or if a transaction with an
+/// unknown end has a read. Otherwise snapshot isolation is open at most where transactions append to one key values that
+/// nobody saw. That is tested, not proved.
+pub fn levels_of(alloc: Global, history: &[Transaction]) -> Result<Levels, NoMemory>
+    ensures { IfOk result (AreRight history.now) }
+{
+    let Some(appends) = AppendIndex::of_history(alloc, history)? else {
+        return Ok(Levels {
+            committed: Committed::Open,
+            snapshot: Snapshot::Open,
+        });
+    };
+    if unknown_read(history).is_some() {
+        return Ok(Levels {
+            committed: Committed::Open,
+            snapshot: Snapshot::Open,
+        });
+    }
+    if let Some((reader, read, fault)) = fault_of(alloc, history, &appends)? {
+        return Ok(Levels {
+            committed: Committed::Fault {
+                reader,
+                read,
+                fault,
+            },
+            snapshot: Snapshot::NotCommitted,
+        });
+    }
+    let survey = Survey::of_history(alloc, history, &appends)?;
+    let committed = committed_of(alloc, history, &survey)?;
+    let snapshot = snapshot_of(alloc, history, &survey, &committed)?;
+    Ok(Levels {
+        committed,
+        snapshot,
+    })
+}
+
+/// A fault of a read, if there is one.
+fn fault_of(
+    alloc: Global,
+    history: &[Transaction],
+    appends: &AppendIndex,
+) -> Result<Option<(usize, usize, Fault)>, NoMemory>
+    requires { IsIndex history.now (position_of appends.now) }
+    ensures { IfOk result (λ found. IfSome found (λ x. HasFault history.now x.0 x.1 x.2)) }
+{
+    if let Some(found) = first_fault(alloc, history, appends)? {
+        return Ok(Some(found));
+    }
+    first_incompatible(alloc, history)
+}
+
+/// Whether there is a run of committed reads.
+fn committed_of(
+    alloc: Global,
+    history: &[Transaction],
+    survey: &Survey,
+) -> Result<Committed, NoMemory>
+    requires { AppendsOnce history.now }
+    ensures { IfOk result (IsCommittedRight history.now) }
+{
+    if let Some(partial) = survey.partial {
+        if rules_out_partial(history, &partial) {
+            return Ok(Committed::Partial(partial));
+        }
+    }
+    match search_commits(alloc, history, survey)? {
+        Some(Ok(order)) => {
+            if is_committed_run(alloc, history, order.as_slice())? {
+                return Ok(Committed::Run(order));
+            }
+            Ok(Committed::Open)
+        }
+        Some(Err(ties)) => {
+            if rules_out_committed(history, ties.as_slice()) {
+                return Ok(Committed::Cycle(ties));
+            }
+            Ok(Committed::Open)
+        }
+        None => Ok(Committed::Open),
+    }
+}
+
+/// Whether there is a snapshot run.
+fn snapshot_of(
+    alloc: Global,
+    history: &[Transaction],
+    survey: &Survey,
+    committed: &Committed,
+) -> Result<Snapshot, NoMemory>
+    requires once { AppendsOnce history.now }
+    requires committed { IsCommittedRight history.now committed.now }
+    ensures { IfOk result (IsSnapshotRight history.now) }
+{
+    if is_no(committed) {
+        return Ok(Snapshot::NotCommitted);
+    }
+    match search_snapshots(alloc, history, survey)? {
+        Found::Run(run) => {
+            if is_snapshot_run(alloc, history, run.order.as_slice(), run.starts.as_slice())? {
+                return Ok(Snapshot::Run(run));
+            }
+            Ok(Snapshot::Open)
+        }
+        Found::Ties(ties) => {
+            if rules_out_snapshot(history, ties.as_slice()) {
+                return Ok(Snapshot::Cycle(ties));
+            }
+            Ok(Snapshot::Open)
+        }
+        Found::Nothing => Ok(Snapshot::Open),
+    }
+}
+
+/// Whether the answer is that there is no run of committed reads.
+fn is_no(committed: &Committed) -> bool
+    ensures { (h : List Transaction) → IsTrue result → IsCommittedRight h committed.now → ¬ IsReadCommitted h }
+{
+    match committed {
+        Committed::Run(_) => false,
+        Committed::Fault { .. } => true,
+        Committed::Partial(_) => true,
+        Committed::Cycle(_) => true,
+        Committed::Open => false,
+    }
+}

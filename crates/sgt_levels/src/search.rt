@@ -1,0 +1,364 @@
+//! The search for a run of a level, or for ties that leave none. What it finds is tested by `replay.rt` and `tie.rt`.
+ghost use Rattle.std.specs.Prelude.{IsTrue};
+ghost use Rattle.sgt_appends.specs.Graphs.{AreWithin};
+
+use crate::survey::{Survey, Visit, length_of};
+use crate::tie::{Ground, Tie};
+use sgt_appends::{Link, Reason, Sorted, Transaction, sort};
+use sgt_model::NoMemory;
+use std::alloc::Global;
+use std::collections::BTreeMap;
+
+/// A run of snapshots: the order of commits, and for each place how many had committed when the transaction there began.
+#[derive(Debug, Drop, PartialEq, Eq)]
+pub struct Snapshots {
+    pub order: Vec<usize>,
+    pub starts: Vec<usize>,
+}
+
+/// What the search for a snapshot run found.
+#[derive(Drop)]
+pub enum Found {
+    /// A run.
+    Run(Snapshots),
+    /// Ties that leave none.
+    Ties(Vec<Tie>),
+    /// Neither.
+    Nothing,
+}
+
+/// The sorted nodes, or a cycle of links; nothing if a node is out of range.
+fn sorted_nodes(
+    alloc: Global,
+    links: &[Link],
+    nodes: usize,
+) -> Result<Option<Result<Sorted, Vec<Link>>>, NoMemory> {
+    if !are_within(links, nodes) {
+        return Ok(None);
+    }
+    Ok(Some(sort(alloc, links, nodes)?))
+}
+
+/// Whether the nodes of the links are below the number.
+fn are_within(links: &[Link], nodes: usize) -> bool
+    ensures { IsTrue result → AreWithin links.now nodes }
+{
+    for link in links {
+        if link.from >= nodes || link.to >= nodes {
+            return false;
+        }
+    }
+    true
+}
+
+/// An order of commits for a run of committed reads, or ties that leave none.
+pub fn search_commits(
+    alloc: Global,
+    history: &[Transaction],
+    survey: &Survey,
+) -> Result<Option<Result<Vec<usize>, Vec<Tie>>>, NoMemory> {
+    let mut links = Vec::new(alloc);
+    for (number, tie) in survey.ties.iter().enumerate() {
+        match tie.ground {
+            Ground::Seen { .. } | Ground::InOrder { .. } | Ground::Late { .. } => {
+                links.push(Link {
+                    from: tie.from,
+                    to: tie.to,
+                    reason: tied(number),
+                })?;
+            }
+            Ground::Wait { .. } | Ground::Missed { .. } => (),
+        }
+    }
+    match sorted_nodes(alloc, links.as_slice(), history.len())? {
+        Some(Ok(sorted)) => Ok(Some(Ok(taking_part(alloc, survey, sorted.order.as_slice())?))),
+        Some(Err(cycle)) => Ok(Some(Err(ties_of(alloc, survey, cycle.as_slice(), 0)?))),
+        None => Ok(None),
+    }
+}
+
+/// The reason of the link of a tie: it has the number of the tie.
+fn tied(number: usize) -> Reason {
+    Reason::Seen {
+        append: number,
+        read: 0,
+    }
+}
+
+/// The transactions that take part, in their order.
+fn taking_part(alloc: Global, survey: &Survey, nodes: &[usize]) -> Result<Vec<usize>, NoMemory> {
+    let mut order = Vec::new(alloc);
+    for node in nodes {
+        if survey.takes_part(*node) {
+            order.push(*node)?;
+        }
+    }
+    Ok(order)
+}
+
+/// The ties of the links. A link to the end of a line and one from it make one tie. Commits are that much higher.
+fn ties_of(
+    alloc: Global,
+    survey: &Survey,
+    cycle: &[Link],
+    commits: usize,
+) -> Result<Vec<Tie>, NoMemory> {
+    let mut ties = Vec::new(alloc);
+    let mut enters = None;
+    for link in cycle {
+        match link.reason {
+            Reason::Seen { append, .. } => {
+                if let Some(tie) = survey.ties.get(append) {
+                    ties.push(*tie)?;
+                }
+            }
+            Reason::Missed { read, append } => match enters {
+                Some((from, read)) => {
+                    let to = link.to.saturating_sub(commits);
+                    let ground = Ground::Missed { read, append };
+                    ties.push(Tie { from, to, ground })?;
+                    enters = None;
+                }
+                None => enters = Some((link.from, read)),
+            },
+            Reason::InOrder { .. } => (),
+        }
+    }
+    Ok(ties)
+}
+
+/// The nodes of the graph of begins and commits.
+#[derive(Clone, Copy)]
+struct Nodes {
+    /// A transaction's begin is its number; its commit is that much higher.
+    commits: usize,
+    /// The ends of the lines begin here.
+    ends: usize,
+    /// How many nodes there are.
+    count: usize,
+}
+
+/// The nodes, unless there are too many.
+fn nodes_of(history: &[Transaction], survey: &Survey) -> Option<Nodes> {
+    let commits = history.len();
+    let ends = commits.checked_add(commits)?;
+    let count = ends.checked_add(survey.count)?;
+    Some(Nodes {
+        commits,
+        ends,
+        count,
+    })
+}
+
+/// A snapshot run, or ties that leave none.
+pub fn search_snapshots(
+    alloc: Global,
+    history: &[Transaction],
+    survey: &Survey,
+) -> Result<Found, NoMemory> {
+    let Some(nodes) = nodes_of(history, survey) else {
+        return Ok(Found::Nothing);
+    };
+    let mut links = links_of(alloc, survey, nodes)?;
+    let sorted = match sorted_nodes(alloc, links.as_slice(), nodes.count)? {
+        Some(Ok(sorted)) => sorted,
+        Some(Err(cycle)) => {
+            let turned = turned(alloc, cycle.as_slice(), nodes)?;
+            let ties = ties_of(alloc, survey, turned.as_slice(), nodes.commits)?;
+            return Ok(Found::Ties(ties));
+        }
+        None => return Ok(Found::Nothing),
+    };
+    part_unseen(
+        &mut links,
+        alloc,
+        history,
+        survey,
+        nodes,
+        sorted.order.as_slice(),
+    )?;
+    match sorted_nodes(alloc, links.as_slice(), nodes.count)? {
+        Some(Ok(sorted)) => Ok(Found::Run(snapshots_of(
+            alloc,
+            survey,
+            nodes,
+            sorted.order.as_slice(),
+        )?)),
+        _ => Ok(Found::Nothing),
+    }
+}
+
+/// Adds the link, if both nodes are numbers.
+fn add(
+    links: &mut Vec<Link>,
+    from: Option<usize>,
+    to: Option<usize>,
+    reason: Reason,
+) -> Result<(), NoMemory> {
+    if let Some(from) = from {
+        if let Some(to) = to {
+            links.push(Link { from, to, reason })?;
+        }
+    }
+    Ok(())
+}
+
+/// The reason of a link that is no tie.
+fn untied() -> Reason {
+    Reason::InOrder {
+        first: 0,
+        second: 0,
+        reader: 0,
+        read: 0,
+    }
+}
+
+/// The links between begins, commits and the ends of lines.
+fn links_of(alloc: Global, survey: &Survey, nodes: Nodes) -> Result<Vec<Link>, NoMemory> {
+    let mut links = Vec::new(alloc);
+    for number in 0..nodes.commits {
+        add(
+            &mut links,
+            Some(number),
+            number.checked_add(nodes.commits),
+            untied(),
+        )?;
+    }
+    for (number, tie) in survey.ties.iter().enumerate() {
+        add_tie(&mut links, nodes, number, tie)?;
+    }
+    for visit in survey.enters.as_slice() {
+        let reason = Reason::Missed {
+            read: visit.position,
+            append: 0,
+        };
+        add(
+            &mut links,
+            Some(visit.transaction),
+            end_of(nodes, visit),
+            reason,
+        )?;
+    }
+    for visit in survey.leaves.as_slice() {
+        let reason = Reason::Missed {
+            read: 0,
+            append: visit.position,
+        };
+        add(
+            &mut links,
+            end_of(nodes, visit),
+            visit.transaction.checked_add(nodes.commits),
+            reason,
+        )?;
+    }
+    Ok(links)
+}
+
+/// The node of the end of the line.
+fn end_of(nodes: Nodes, visit: &Visit) -> Option<usize> {
+    nodes.ends.checked_add(visit.line)
+}
+
+/// Adds the link of the tie: a miss leads from the begin to the commit, all else from the commit to the begin.
+fn add_tie(links: &mut Vec<Link>, nodes: Nodes, number: usize, tie: &Tie) -> Result<(), NoMemory> {
+    match tie.ground {
+        Ground::Missed { .. } => add(
+            links,
+            Some(tie.from),
+            tie.to.checked_add(nodes.commits),
+            tied(number),
+        ),
+        _ => add(
+            links,
+            tie.from.checked_add(nodes.commits),
+            Some(tie.to),
+            tied(number),
+        ),
+    }
+}
+
+/// The cycle, begun at a commit.
+fn turned(alloc: Global, cycle: &[Link], nodes: Nodes) -> Result<Vec<Link>, NoMemory> {
+    let mut front = Vec::new(alloc);
+    let mut back = Vec::new(alloc);
+    let mut met = false;
+    for link in cycle {
+        met = met || (nodes.commits <= link.from && link.from < nodes.ends);
+        if met {
+            back.push(*link)?;
+        } else {
+            front.push(*link)?;
+        }
+    }
+    back.extend_from_slice(front.as_slice())?;
+    Ok(back)
+}
+
+/// Of transactions that append to one key values that nobody saw, adds links from the commit of each to the begin of the
+/// next, in the order of the nodes.
+fn part_unseen(
+    links: &mut Vec<Link>,
+    alloc: Global,
+    history: &[Transaction],
+    survey: &Survey,
+    nodes: Nodes,
+    order: &[usize],
+) -> Result<(), NoMemory> {
+    let mut last = BTreeMap::new(alloc);
+    for node in order {
+        if let Some(number) = node.checked_sub(nodes.commits) {
+            for position in 0..length_of(history, number) {
+                if let Some(key) = survey.unseen_at(history, number, position) {
+                    part_one(links, &mut last, nodes, key, number)?;
+                }
+            }
+        }
+    }
+    Ok(())
+}
+
+/// Adds the link from the last transaction that appends to the key to this one.
+fn part_one(
+    links: &mut Vec<Link>,
+    last: &mut BTreeMap<u32, usize>,
+    nodes: Nodes,
+    key: u32,
+    number: usize,
+) -> Result<(), NoMemory> {
+    if let Some(before) = last.insert(key, number)? {
+        if before != number {
+            add(
+                links,
+                before.checked_add(nodes.commits),
+                Some(number),
+                untied(),
+            )?;
+        }
+    }
+    Ok(())
+}
+
+/// The order of commits, with the starts.
+fn snapshots_of(
+    alloc: Global,
+    survey: &Survey,
+    nodes: Nodes,
+    sorted: &[usize],
+) -> Result<Snapshots, NoMemory> {
+    let mut begun = BTreeMap::new(alloc);
+    let mut order = Vec::new(alloc);
+    let mut starts = Vec::new(alloc);
+    for node in sorted {
+        if *node < nodes.commits {
+            begun.insert(*node, order.len())?;
+        } else if let Some(number) = node.checked_sub(nodes.commits) {
+            if survey.takes_part(number) {
+                if let Some(start) = begun.get(&number).copied() {
+                    order.push(number)?;
+                    starts.push(start)?;
+                }
+            }
+        }
+    }
+    Ok(Snapshots { order, starts })
+}

@@ -1,0 +1,470 @@
+//! What ties the transactions of a history together: the search's input. Nothing here is promised; what the search finds
+//! is tested by `replay.rt` and `tie.rt`.
+
+use crate::tie::{Ground, Tie};
+use sgt_appends::{AppendIndex, Operation, Read, Status, Transaction, read_of};
+use sgt_model::NoMemory;
+use std::alloc::Global;
+use std::collections::{BTreeMap, BTreeSet};
+
+/// The longest list of a key that a committed transaction saw.
+#[derive(Clone, Copy)]
+pub struct Line {
+    /// The number of the line among those of all keys.
+    pub number: usize,
+    /// Who saw it, and at which position.
+    pub reader: usize,
+    pub read: usize,
+    /// How many values it has.
+    pub len: usize,
+}
+
+/// A position in a transaction, at the end of a line: a read that saw the whole line, or an append that is not in it.
+#[derive(Clone, Copy)]
+pub struct Visit {
+    pub line: usize,
+    pub transaction: usize,
+    pub position: usize,
+}
+
+/// A read that saw one append of a transaction and missed another one at the same key.
+#[derive(Clone, Copy, Debug, PartialEq, Eq)]
+pub struct Partial {
+    pub reader: usize,
+    pub read: usize,
+    pub by: usize,
+    pub seen: usize,
+    pub missed: usize,
+}
+
+/// What ties the transactions together.
+#[derive(Drop)]
+pub struct Survey {
+    lines: BTreeMap<u32, Line>,
+    /// How many lines there are.
+    pub count: usize,
+    /// The values that are in a line, with their keys.
+    seen: BTreeSet<(u32, u32)>,
+    /// Which transactions take part: committed ones, and unknown ones of which a value was seen.
+    pub runs: Vec<bool>,
+    /// For a key and a transaction that appends to it a value that is in no line: the position of the first such append.
+    unseen: BTreeMap<(u32, usize), usize>,
+    /// For a key a read of the whole line, whose last value is not the reader's.
+    whole: BTreeMap<u32, (usize, usize)>,
+    /// For a key a read of the whole line, whose reader appends a value that is in no line.
+    waits: BTreeMap<u32, (usize, usize)>,
+    pub ties: Vec<Tie>,
+    /// The reads of whole lines.
+    pub enters: Vec<Visit>,
+    /// The appends that are not in the lines of their keys.
+    pub leaves: Vec<Visit>,
+    /// A partial read, if there is one.
+    pub partial: Option<Partial>,
+}
+
+impl Survey {
+    /// The survey of a history whose reads have no fault and are prefixes of one another.
+    pub fn of_history(
+        alloc: Global,
+        history: &[Transaction],
+        appends: &AppendIndex,
+    ) -> Result<Self, NoMemory> {
+        let mut survey = Survey {
+            lines: BTreeMap::new(alloc),
+            count: 0,
+            seen: BTreeSet::new(alloc),
+            runs: Vec::new(alloc),
+            unseen: BTreeMap::new(alloc),
+            whole: BTreeMap::new(alloc),
+            waits: BTreeMap::new(alloc),
+            ties: Vec::new(alloc),
+            enters: Vec::new(alloc),
+            leaves: Vec::new(alloc),
+            partial: None,
+        };
+        survey.find_lines(history)?;
+        survey.mark_all(history, appends)?;
+        survey.find_unseen(history)?;
+        survey.tie_reads(history, appends)?;
+        survey.tie_unseen(history, appends)?;
+        Ok(survey)
+    }
+
+    /// Finds the line of each key.
+    fn find_lines(&mut self, history: &[Transaction]) -> Result<(), NoMemory> {
+        for number in 0..history.len() {
+            for position in 0..length_of(history, number) {
+                if let Some(read) = read_of(history, number, position) {
+                    self.offer(read)?;
+                }
+            }
+        }
+        Ok(())
+    }
+
+    /// Makes the read the line of its key, if it saw more.
+    fn offer(&mut self, read: Read<'_>) -> Result<(), NoMemory> {
+        let number = match self.lines.get(&read.key).copied() {
+            Some(line) => {
+                if read.seen.len() <= line.len {
+                    return Ok(());
+                }
+                line.number
+            }
+            None => {
+                let number = self.count;
+                let Some(count) = number.checked_add(1) else {
+                    return Err(NoMemory);
+                };
+                self.count = count;
+                number
+            }
+        };
+        self.lines.insert(
+            read.key,
+            Line {
+                number,
+                reader: read.reader,
+                read: read.position,
+                len: read.seen.len(),
+            },
+        )?;
+        Ok(())
+    }
+
+    /// Marks the transactions that take part, and the values of the lines.
+    fn mark_all(&mut self, history: &[Transaction], appends: &AppendIndex) -> Result<(), NoMemory> {
+        for transaction in history {
+            self.runs.push(transaction.status == Status::Committed)?;
+        }
+        for number in 0..history.len() {
+            for position in 0..length_of(history, number) {
+                if let Some(read) = read_of(history, number, position) {
+                    self.mark(appends, read)?;
+                }
+            }
+        }
+        Ok(())
+    }
+
+    /// Whether the read is the line of its key.
+    fn is_line(&self, read: Read<'_>) -> bool {
+        match self.lines.get(&read.key) {
+            Some(line) => line.reader == read.reader && line.read == read.position,
+            None => false,
+        }
+    }
+
+    /// Marks the values of the line and their appenders, if the read is one.
+    fn mark(&mut self, appends: &AppendIndex, read: Read<'_>) -> Result<(), NoMemory> {
+        if !self.is_line(read) {
+            return Ok(());
+        }
+        for value in read.seen {
+            self.seen.insert((read.key, *value))?;
+            if let Some((by, _)) = appends.find(read.key, *value) {
+                if let Some(mark) = self.runs.get_mut(by) {
+                    *mark = true;
+                }
+            }
+        }
+        Ok(())
+    }
+
+    /// Whether the transaction takes part.
+    pub fn takes_part(&self, number: usize) -> bool {
+        match self.runs.get(number) {
+            Some(mark) => *mark,
+            None => false,
+        }
+    }
+
+    /// The key of the append at the position, if its transaction takes part and its value is in no line.
+    pub fn unseen_at(
+        &self,
+        history: &[Transaction],
+        number: usize,
+        position: usize,
+    ) -> Option<u32> {
+        if !self.takes_part(number) {
+            return None;
+        }
+        match history.get(number)?.operations.get(position)? {
+            Operation::Append { key, value } => {
+                if self.seen.contains(&(*key, *value)) {
+                    return None;
+                }
+                Some(*key)
+            }
+            Operation::Read { .. } => None,
+        }
+    }
+
+    /// Finds the first append of each transaction to each key whose value is in no line.
+    fn find_unseen(&mut self, history: &[Transaction]) -> Result<(), NoMemory> {
+        for number in 0..history.len() {
+            for position in 0..length_of(history, number) {
+                if let Some(key) = self.unseen_at(history, number, position) {
+                    if self.unseen.get(&(key, number)).is_none() {
+                        self.unseen.insert((key, number), position)?;
+                    }
+                }
+            }
+        }
+        Ok(())
+    }
+
+    /// Adds the ties of all reads.
+    fn tie_reads(
+        &mut self,
+        history: &[Transaction],
+        appends: &AppendIndex,
+    ) -> Result<(), NoMemory> {
+        for number in 0..history.len() {
+            for position in 0..length_of(history, number) {
+                if let Some(read) = read_of(history, number, position) {
+                    self.tie_read(history, appends, read)?;
+                }
+            }
+        }
+        Ok(())
+    }
+
+    /// Adds the ties of the read.
+    fn tie_read(
+        &mut self,
+        history: &[Transaction],
+        appends: &AppendIndex,
+        read: Read<'_>,
+    ) -> Result<(), NoMemory> {
+        let Some(line) = self.lines.get(&read.key).copied() else {
+            return Ok(());
+        };
+        if self.is_line(read) {
+            self.tie_values(appends, read)?;
+        }
+        let last = last_other(appends, read);
+        if let Some((from, append)) = last {
+            let ground = Ground::Seen {
+                append,
+                read: read.position,
+            };
+            self.tie(from, read.reader, ground)?;
+        }
+        match next_other(history, appends, line, read) {
+            Some((to, append)) => {
+                let ground = Ground::Missed {
+                    read: read.position,
+                    append,
+                };
+                self.tie(read.reader, to, ground)?;
+                self.note_partial(read, last, to, append);
+                Ok(())
+            }
+            None => self.enter(appends, line, read),
+        }
+    }
+
+    /// Notes that the read is partial, if the last value that it saw is by the same transaction as the one it missed.
+    fn note_partial(
+        &mut self,
+        read: Read<'_>,
+        last: Option<(usize, usize)>,
+        to: usize,
+        missed: usize,
+    ) {
+        if let Some((by, seen)) = last {
+            if by == to && self.partial.is_none() {
+                self.partial = Some(Partial {
+                    reader: read.reader,
+                    read: read.position,
+                    by,
+                    seen,
+                    missed,
+                });
+            }
+        }
+    }
+
+    /// Adds the tie, unless it leads from a transaction to itself.
+    fn tie(&mut self, from: usize, to: usize, ground: Ground) -> Result<(), NoMemory> {
+        if from != to {
+            self.ties.push(Tie { from, to, ground })?;
+        }
+        Ok(())
+    }
+
+    /// Adds the ties between the appenders of the values that the read saw.
+    fn tie_values(&mut self, appends: &AppendIndex, read: Read<'_>) -> Result<(), NoMemory> {
+        let mut before = None;
+        for value in read.seen {
+            let next = appends.find(read.key, *value);
+            if let Some((from, first)) = before {
+                if let Some((to, second)) = next {
+                    let ground = Ground::InOrder {
+                        first,
+                        second,
+                        reader: read.reader,
+                        read: read.position,
+                    };
+                    self.tie(from, to, ground)?;
+                }
+            }
+            before = next;
+        }
+        Ok(())
+    }
+
+    /// Notes that the read saw the whole line.
+    fn enter(&mut self, appends: &AppendIndex, line: Line, read: Read<'_>) -> Result<(), NoMemory> {
+        self.enters.push(Visit {
+            line: line.number,
+            transaction: read.reader,
+            position: read.position,
+        })?;
+        if self.whole.get(&read.key).is_none() && !ends_with_own(appends, read) {
+            self.whole.insert(read.key, (read.reader, read.position))?;
+        }
+        if self.waits.get(&read.key).is_none()
+            && self.unseen.get(&(read.key, read.reader)).is_some()
+        {
+            self.waits.insert(read.key, (read.reader, read.position))?;
+        }
+        Ok(())
+    }
+
+    /// Adds the ties of all appends that are in no line.
+    fn tie_unseen(
+        &mut self,
+        history: &[Transaction],
+        appends: &AppendIndex,
+    ) -> Result<(), NoMemory> {
+        for number in 0..history.len() {
+            for position in 0..length_of(history, number) {
+                if let Some(key) = self.unseen_at(history, number, position) {
+                    self.tie_append(history, appends, key, number, position)?;
+                }
+            }
+        }
+        Ok(())
+    }
+
+    /// Adds the ties of the append, whose value is not in the line of the key.
+    fn tie_append(
+        &mut self,
+        history: &[Transaction],
+        appends: &AppendIndex,
+        key: u32,
+        number: usize,
+        position: usize,
+    ) -> Result<(), NoMemory> {
+        let Some(line) = self.lines.get(&key).copied() else {
+            return Ok(());
+        };
+        self.leaves.push(Visit {
+            line: line.number,
+            transaction: number,
+            position,
+        })?;
+        if let Some((from, first)) = last_of(history, appends, line) {
+            let ground = Ground::Late {
+                first,
+                second: position,
+                reader: line.reader,
+                read: line.read,
+            };
+            self.tie(from, number, ground)?;
+            self.note_cut(key, from, first, number, position);
+        }
+        self.tie_waiting(key, number, position)
+    }
+
+    /// Notes that a read of the whole line is partial, if its last value is by the appender of this one.
+    fn note_cut(&mut self, key: u32, by: usize, seen: usize, number: usize, missed: usize) {
+        if by != number || self.partial.is_some() {
+            return;
+        }
+        if let Some((reader, read)) = self.whole.get(&key).copied() {
+            self.partial = Some(Partial {
+                reader,
+                read,
+                by,
+                seen,
+                missed,
+            });
+        }
+    }
+
+    /// Adds the tie to the append from a transaction that read the whole line and appends to the key as well.
+    fn tie_waiting(&mut self, key: u32, number: usize, position: usize) -> Result<(), NoMemory> {
+        let Some((from, read)) = self.waits.get(&key).copied() else {
+            return Ok(());
+        };
+        let Some(first) = self.unseen.get(&(key, from)).copied() else {
+            return Ok(());
+        };
+        let ground = Ground::Wait {
+            first,
+            second: position,
+            read,
+            append: position,
+        };
+        self.tie(from, number, ground)
+    }
+}
+
+/// How many operations the transaction has.
+pub fn length_of(history: &[Transaction], number: usize) -> usize {
+    match history.get(number) {
+        Some(transaction) => transaction.operations.len(),
+        None => 0,
+    }
+}
+
+/// The append of the last value that the read saw and that is not the reader's own.
+fn last_other(appends: &AppendIndex, read: Read<'_>) -> Option<(usize, usize)> {
+    for value in read.seen.iter().rev() {
+        if let Some((by, append)) = appends.find(read.key, *value) {
+            if by != read.reader {
+                return Some((by, append));
+            }
+        }
+    }
+    None
+}
+
+/// The append of the first value of the line that the read missed and that is not the reader's own.
+fn next_other(
+    history: &[Transaction],
+    appends: &AppendIndex,
+    line: Line,
+    read: Read<'_>,
+) -> Option<(usize, usize)> {
+    let whole = read_of(history, line.reader, line.read)?;
+    for value in whole.seen.iter().skip(read.seen.len()) {
+        if let Some((by, append)) = appends.find(read.key, *value) {
+            if by != read.reader {
+                return Some((by, append));
+            }
+        }
+    }
+    None
+}
+
+/// The append of the line's last value.
+fn last_of(history: &[Transaction], appends: &AppendIndex, line: Line) -> Option<(usize, usize)> {
+    let whole = read_of(history, line.reader, line.read)?;
+    let value = whole.seen.last()?;
+    appends.find(whole.key, *value)
+}
+
+/// Whether the last value that the read saw is the reader's own.
+fn ends_with_own(appends: &AppendIndex, read: Read<'_>) -> bool {
+    match read.seen.last() {
+        Some(value) => match appends.find(read.key, *value) {
+            Some((by, _)) => by == read.reader,
+            None => false,
+        },
+        None => false,
+    }
+}
