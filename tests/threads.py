@@ -33,7 +33,7 @@ from helpers.library import (  # noqa: E402
     run,
 )
 
-THREADS, CALLS, FEW_CALLS, SANITIZED_CALLS = 16, 80_000, 40_000, 10_000
+THREADS, CALLS, FEW_CALLS, SANITIZED_CALLS = 16, 200_000, 40_000, 10_000
 STEPPED, FEW_STEPPED = 49, 1  # of 100 transactions
 MONEY = 5 * 200_000
 TURNS, IN_TURN = 20_000, 4  # runs that each of so many threads makes
