@@ -452,6 +452,17 @@ def needs_its_model(program):
         raise Differs(f"standard error: {ran.stderr!r}")
 
 
+def ends_on_long_ones(program):
+    """One transaction of 100,000 operations, and a read of 200,000 values of which two are swapped: each in a few seconds."""
+    many = [it for key in range(50_000) for it in (["append", key, 1], ["r", key, [1]])]
+    status, text, _ = check(program, lines_of([{"type": "ok", "process": 0, "f": "txn", "value": many}]))
+    same("one transaction", (0, "serializable yes: t1"), (status, text.splitlines()[1]))
+    entries = [{"type": "ok", "process": 0, "f": "txn", "value": [["append", 1, it], ["append", 1, it + 1]]} for it in range(0, 200_000, 2)]
+    seen = [*range(199_998), 199_999, 199_998]
+    status, text, _ = check(program, lines_of([*entries, {"type": "ok", "process": 0, "f": "txn", "value": [["r", 1, seen]]}]))
+    same("a read", (1, "serializable no: incompatible-order"), (status, text.splitlines()[1]))
+
+
 def draws_its_witness(program):
     entries, _ = entries_of(random.Random(1), NAMED["G2-item"])
     status, text, errors = check(program, lines_of(entries), "--timeline")
@@ -477,7 +488,7 @@ def recorded_ones(program):
 
 
 CASES = [on_all_small_histories, on_drawn_histories, on_drawn_histories_strictly, names_anomalies, names_the_operations,
-         shows_values_of_a_long_read, reads_each_form,
+         shows_values_of_a_long_read, ends_on_long_ones, reads_each_form,
          takes_null_for_the_empty_list, takes_processes_of_any_name, skips_what_is_no_transaction, refuses_nothing,
          refuses_an_end_of_other_operations, keeps_time_only_with_invocations, tells_faults, survives_hostile_bytes, needs_its_model, draws_its_witness, recorded_ones]
 

@@ -117,7 +117,7 @@ stands_last (y ∷ xs) x v w it = elim (StandsBefore-cases y (xs ++ x ∷ []) v 
     only (inl same) = same
     only (inr never) = absurd never
 
-same_two : (x : Option (ℕ × ℕ)) (t p u q : ℕ) → x ≡ Some (t, p) → x ≡ Some (u, q) → (t ≡ u) × (p ≡ q)
+pub same_two : (x : Option (ℕ × ℕ)) (t p u q : ℕ) → x ≡ Some (t, p) → x ≡ Some (u, q) → (t ≡ u) × (p ≡ q)
 same_two x t p u q one other =
     let e = pair (t, p) (u, q) (sym one ∙ other) in
     (ap (λ (r : ℕ × ℕ). r.0) e, ap (λ (r : ℕ × ℕ). r.1) e)
@@ -221,7 +221,7 @@ passed_clean h at t p k seen last index passed ends = record {
     turned : (a b : ℕ) → a < b → ¬ (b < a)
     turned a b one two = omega (arith, one, two)
 
-stands_at : (xs : List ℕ) (i v w : ℕ) → Has (take i xs) v → i < length xs → get_or xs i 0 ≡ w → StandsBefore xs v w
+pub stands_at : (xs : List ℕ) (i v w : ℕ) → Has (take i xs) v → i < length xs → get_or xs i 0 ≡ w → StandsBefore xs v w
 stands_at [] i v w has within is = absurd (omega (arith, within))
 stands_at (x ∷ xs) zero v w has within is = absurd has
 stands_at (x ∷ xs) (suc i) v w (inl same) within is = ([], xs, ap (λ l. l ∷ xs) same, has_at xs i w (omega (arith, within)) is)

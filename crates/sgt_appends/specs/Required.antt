@@ -1,6 +1,8 @@
 -- The links that the graph has to have: for each read and each append.
 use Rattle.std.specs.Prelude.{◌≡◌, ◌≢◌, ◌⊎◌, ◌<◌, ◌+◌, ℕ, suc, List, Option, Some, None, length}
 use Rattle.std.proofs.Common.{get_or}
+use Rattle.std.specs.BTreeMap.{BTreeMap, get}
+use Rattle.std.specs.Ordering.{nat_cmp}
 use Rattle.sgt_appends.specs.declared.lines.Line.{Line}
 use Rattle.sgt_appends.specs.declared.sorting.Link.{Link}
 use Rattle.sgt_appends.specs.declared.witness.Reason.TheVariants.{Seen, Missed, InOrder}
@@ -51,6 +53,19 @@ IsNextLink at r p k seen l = (i : ℕ) × (x : ℕ × ℕ) × (y : ℕ × ℕ) �
 abbrev pub AreNextLinked : Positions → List Link → ℕ → List ℕ → ℕ → Type 0
 AreNextLinked at links k seen n = (i : ℕ) (x y : ℕ × ℕ) → suc i < n → at k (get_or seen i 0) ≡ Some x
     → at k (get_or seen (suc i) 0) ≡ Some y → IsLinked links x.0 y.0
+
+-- for each key a read: its transaction, and its position there
+abbrev pub KeyReads : Type 0
+KeyReads = ℕ → Option (ℕ × ℕ)
+
+-- the contents of the map
+abbrev pub reads_in : BTreeMap ℕ (ℕ × ℕ) → KeyReads
+reads_in map k = get nat_cmp map k
+
+-- the appenders of the values that these reads saw are linked, each with the next
+abbrev pub AreLongLinked : List Transaction → Positions → List Link → KeyReads → Type 0
+AreLongLinked h at links reads = (k r p : ℕ) (seen : List ℕ) → reads k ≡ Some (r, p) → IsReadAt h r p k seen
+    → AreNextLinked at links k seen (length seen)
 
 -- the first i values are linked
 pub record AreLinkedSoFar (at : Positions) (old new : List Link) (r p k : ℕ) (seen : List ℕ) (i : ℕ) (before : Option (ℕ × ℕ)) : Type 0 where

@@ -1,8 +1,11 @@
 //! Running transactions one after another.
-ghost use Rattle.std.specs.Prelude.{◌≡◌, ◌==◌, ◌++◌, ℕ, [], ◌∷◌, if◌then◌else◌, IsTrue, IfOk, OnOk, ◌↔◌};
+ghost use Rattle.std.specs.Prelude.{◌≡◌, ◌==◌, ◌++◌, ℕ, List, [], ◌∷◌, if◌then◌else◌, IsTrue, IfOk, OnOk, ◌↔◌, length};
+ghost use Rattle.std.proofs.Common.{drop};
+ghost use Rattle.sgt_appends.specs.Precedences.{appended};
 ghost use Rattle.sgt_appends.specs.Runs.{after, after_all, Sees, SeesAll};
 ghost use Rattle.sgt_appends.specs.Tables.{stands};
 
+use crate::fault::ends_with;
 use crate::transaction::Operation;
 use sgt_model::NoMemory;
 use std::alloc::Global;
@@ -73,4 +76,64 @@ impl Contents {
         }
         Ok(true)
     }
+    /// What the operations append to each key.
+    pub(crate) fn of(alloc: Global, operations: &[Operation]) -> Result<Self, NoMemory>
+        ensures { IfOk result (λ all. (k : ℕ) → stands all k ≡ appended k operations.now) }
+    {
+        let mut all = Contents::new(alloc);
+        for operation in operations {
+            all.note(alloc, operation)?;
+        }
+        Ok(all)
+    }
+
+    /// Adds what the operation appends.
+    pub(crate) fn note(&mut self, alloc: Global, operation: &Operation) -> Result<(), NoMemory>
+        ensures { OnOk result ((k : ℕ) → stands self.new k ≡ stands self.old k ++ appended k (operation.now ∷ [])) }
+    {
+        match operation {
+            Operation::Append { key, value } => self.append(alloc, *key, *value),
+            Operation::Read { .. } => Ok(()),
+        }
+    }
+
+    /// Whether the values end with the key's list.
+    pub(crate) fn is_end_of(&self, key: u32, values: &[u32]) -> bool
+        ensures { IsTrue result ↔ ((front : List ℕ) × (values.now ≡ front ++ stands self.now key)) }
+    {
+        match self.lists.get(&key) {
+            Some(list) => ends_with(values, list.as_slice()),
+            None => true,
+        }
+    }
+
+    /// How many values the key's list has.
+    fn count(&self, key: u32) -> usize
+        ensures { result ≡ length (stands self.now key) }
+    {
+        match self.lists.get(&key) {
+            Some(list) => list.len(),
+            None => 0,
+        }
+    }
+
+    /// The values of the key's list, without as many as the other's list has.
+    pub(crate) fn beyond(&self, other: &Contents, key: u32) -> &[u32]
+        ensures { result.now ≡ drop (length (stands other.now key)) (stands self.now key) }
+    {
+        match self.lists.get(&key) {
+            Some(list) => values_from(list.as_slice(), other.count(key)),
+            None => &[],
+        }
+    }
+}
+
+/// The values from the position on.
+fn values_from(values: &[u32], at: usize) -> &[u32]
+    ensures { result.now ≡ drop at values.now }
+{
+    if values.len() <= at {
+        return &[];
+    }
+    &values[at..]
 }

@@ -2,28 +2,30 @@
 //!
 //! Its nodes are the transactions, and an end for each line. The end comes after all that saw the whole line, and
 //! before all that append a value that is not in it.
-ghost use Rattle.std.specs.Prelude.{◌≡◌, ◌≢◌, ◌<◌, ◌+◌, ◌^◌, ◌↔◌, ◌⊎◌, ℕ, List, [], Some, None, OnOk, IfOk, IfSome, IsNone, length};
-ghost use Rattle.std.proofs.Common.{get_or};
+ghost use Rattle.std.specs.Prelude.{◌≡◌, ◌≢◌, ◌<◌, ◌≤◌, ◌+◌, ◌^◌, ◌↔◌, ◌⊎◌, ℕ, List, [], Some, None, OnOk, IfOk, IfSome, IsNone, length};
+ghost use Rattle.std.proofs.Common.{get_or, take};
+ghost use Rattle.sgt_appends.specs.declared.sorting.Link.{Link};
 ghost use Rattle.sgt_appends.specs.declared.transaction.Status.TheVariants.{Committed};
-ghost use Rattle.sgt_appends.specs.Lists.{Has};
+ghost use Rattle.sgt_appends.specs.Lists.{Has, IsPrefix};
 ghost use Rattle.sgt_appends.specs.Runs.{Ended, MayRun};
 ghost use Rattle.sgt_appends.specs.Orders.{AllClean};
 ghost use Rattle.sgt_appends.specs.Reads.{IsReadAt};
-ghost use Rattle.sgt_appends.specs.Indexes.{position_of, IsIndex, AppendAt};
+ghost use Rattle.sgt_appends.specs.Indexes.{Positions, position_of, IsIndex, AppendAt};
 ghost use Rattle.sgt_appends.specs.Lines.{line_in, keys_in, values_in, has_pair, AreNumbered};
 ghost use Rattle.sgt_appends.specs.Links.{has_number, IsKnownBy, IsFirstUnknown, AreIndexed, AreAllIndexed};
 ghost use Rattle.sgt_appends.specs.Meanings.{LeadsFromEnd, IsMeant};
-ghost use Rattle.sgt_appends.specs.Required.{IsLinked, AreMore, IsAdded, IsPaired, IsNextLink, AreNextLinked, IsOwn, IsLastOther, IsSeenLink, IsLastLinked, IsMissTarget, IsMissLink, IsMissLinked, IsReadLinked, IsAppendLinkedAt, IsReadLinkedAt, IsEndBefore, AreLinked, AreAllLinked};
+ghost use Rattle.sgt_appends.specs.Required.{IsLinked, AreMore, IsAdded, IsPaired, IsBefore, IsNextLink, AreNextLinked, reads_in, AreLongLinked, IsOwn, IsLastOther, IsSeenLink, IsLastLinked, IsMissTarget, IsMissLink, IsMissLinked, IsReadLinked, IsAppendLinkedAt, IsReadLinkedAt, IsEndBefore, AreLinked, AreAllLinked};
 
 use crate::append_index::AppendIndex;
+use crate::fault::starts_with;
 use crate::lines::{Line, Lines, all_values};
 use crate::reads::{Read, read_of};
 use crate::sorting::Link;
 use crate::transaction::{Operation, Status, Transaction};
-use crate::witness::Reason;
+use crate::witness::{Reason, has};
 use sgt_model::NoMemory;
 use std::alloc::Global;
-use std::collections::BTreeSet;
+use std::collections::{BTreeMap, BTreeSet};
 
 /// The links from and to the transactions of the history.
 pub fn links_of(
@@ -40,16 +42,27 @@ pub fn links_of(
     ensures { IfOk result (λ links. AreAllLinked history.now (position_of appends.now) (line_in lines.now) (keys_in lines.now) links.items) }
 {
     let values = all_values(alloc, lines)?;
+    let mut longest = BTreeMap::new(alloc);
     let mut links = Vec::new(alloc);
     for number in 0..history.len() {
-        add_transaction(&mut links, alloc, history, appends, lines, &values, number)?;
+        add_transaction(
+            &mut links,
+            &mut longest,
+            alloc,
+            history,
+            appends,
+            lines,
+            &values,
+            number,
+        )?;
     }
     Ok(links)
 }
 
-/// Adds the links of the transaction's reads and appends.
+/// Adds the links of the transaction's reads and appends. `longest` has the longest reads that are linked.
 fn add_transaction(
     links: &mut Vec<Link>,
+    longest: &mut BTreeMap<u32, (usize, usize)>,
     alloc: Global,
     history: &[Transaction],
     appends: &AppendIndex,
@@ -64,14 +77,16 @@ fn add_transaction(
     requires fits { length history.now + length (keys_in lines.now) < 2 ^ 64 }
     requires values { (k v : ℕ) → has_pair values.now k v ↔ Has (values_in (line_in lines.now) k) v }
     requires linked { AreLinked history.now (position_of appends.now) (line_in lines.now) (keys_in lines.now) links.old.items number 0 }
-    ensures { OnOk result (AreLinked history.now (position_of appends.now) (line_in lines.now) (keys_in lines.now) links.new.items (number + 1) 0) }
+    requires longest { AreLongLinked history.now (position_of appends.now) links.old.items (reads_in longest.old) }
+    ensures linked { OnOk result (AreLinked history.now (position_of appends.now) (line_in lines.now) (keys_in lines.now) links.new.items (number + 1) 0) }
+    ensures longest { OnOk result (AreLongLinked history.now (position_of appends.now) links.new.items (reads_in longest.new)) }
 {
     let Some(transaction) = history.get(number) else {
         return Ok(());
     };
     for position in 0..transaction.operations.len() {
         add_position(
-            links, alloc, history, appends, lines, values, number, position,
+            links, longest, alloc, history, appends, lines, values, number, position,
         )?;
     }
     Ok(())
@@ -80,6 +95,7 @@ fn add_transaction(
 /// Adds the links of the transaction's operation at the position.
 fn add_position(
     links: &mut Vec<Link>,
+    longest: &mut BTreeMap<u32, (usize, usize)>,
     alloc: Global,
     history: &[Transaction],
     appends: &AppendIndex,
@@ -94,11 +110,15 @@ fn add_position(
     requires indexed { AreAllIndexed (position_of appends.now) (line_in lines.now) }
     requires fits { length history.now + length (keys_in lines.now) < 2 ^ 64 }
     requires values { (k v : ℕ) → has_pair values.now k v ↔ Has (values_in (line_in lines.now) k) v }
+    requires longest { AreLongLinked history.now (position_of appends.now) links.old.items (reads_in longest.old) }
     ensures more { OnOk result (AreMore links.old.items links.new.items (IsMeant history.now (line_in lines.now) (keys_in lines.now))) }
     ensures read { OnOk result (IsReadLinkedAt history.now (position_of appends.now) (line_in lines.now) links.new.items number position) }
     ensures append { OnOk result (IsAppendLinkedAt history.now (line_in lines.now) links.new.items number position) }
+    ensures longest { OnOk result (AreLongLinked history.now (position_of appends.now) links.new.items (reads_in longest.new)) }
 {
-    add_read(links, alloc, history, appends, lines, number, position)?;
+    add_read(
+        links, longest, alloc, history, appends, lines, number, position,
+    )?;
     add_unseen(links, history, lines, values, number, position)?;
     Ok(())
 }
@@ -106,6 +126,7 @@ fn add_position(
 /// Adds the links of the read at the position, if the transaction committed.
 fn add_read(
     links: &mut Vec<Link>,
+    longest: &mut BTreeMap<u32, (usize, usize)>,
     alloc: Global,
     history: &[Transaction],
     appends: &AppendIndex,
@@ -118,12 +139,14 @@ fn add_read(
     requires numbered { AreNumbered (line_in lines.now) (keys_in lines.now) }
     requires indexed { AreAllIndexed (position_of appends.now) (line_in lines.now) }
     requires fits { length history.now + length (keys_in lines.now) < 2 ^ 64 }
+    requires longest { AreLongLinked history.now (position_of appends.now) links.old.items (reads_in longest.old) }
     ensures more { OnOk result (AreMore links.old.items links.new.items (IsMeant history.now (line_in lines.now) (keys_in lines.now))) }
     ensures linked { OnOk result (IsReadLinkedAt history.now (position_of appends.now) (line_in lines.now) links.new.items number position) }
+    ensures longest { OnOk result (AreLongLinked history.now (position_of appends.now) links.new.items (reads_in longest.new)) }
 {
     match read_of(history, number, position) {
         Some(read) => {
-            add_next(links, appends, read)?;
+            add_next(links, longest, history, appends, read)?;
             add_last(links, appends, read)?;
             add_missed(links, alloc, history.len(), appends, lines, read)?;
             Ok(())
@@ -142,21 +165,102 @@ fn add(links: &mut Vec<Link>, link: Link) -> Result<(), NoMemory>
     Ok(())
 }
 
-/// Adds the links from the appender of each value that the read saw to the appender of the next one.
-fn add_next(links: &mut Vec<Link>, appends: &AppendIndex, read: Read<'_>) -> Result<(), NoMemory>
-    requires { AreIndexed (position_of appends.now) read.key read.seen.now }
+/// Adds the links from the appender of each value that the read saw to the appender of the next one, but for those that
+/// the longest read of the key before has already.
+fn add_next(
+    links: &mut Vec<Link>,
+    longest: &mut BTreeMap<u32, (usize, usize)>,
+    history: &[Transaction],
+    appends: &AppendIndex,
+    read: Read<'_>,
+) -> Result<(), NoMemory>
+    requires indexed { AreIndexed (position_of appends.now) read.key read.seen.now }
+    requires read { IsReadAt history.now read.reader read.position read.key read.seen.now }
+    requires longest { AreLongLinked history.now (position_of appends.now) links.old.items (reads_in longest.old) }
+    ensures more { OnOk result (AreMore links.old.items links.new.items
+        (IsNextLink (position_of appends.now) read.entry.reader read.entry.position read.entry.key read.entry.seen.now)) }
+    ensures linked { OnOk result (AreNextLinked (position_of appends.now) links.new.items read.entry.key read.entry.seen.now
+        (length read.entry.seen.now)) }
+    ensures longest { OnOk result (AreLongLinked history.now (position_of appends.now) links.new.items (reads_in longest.new)) }
+{
+    let from = linked_already(history, longest, read);
+    if from == read.seen.len() {
+        return Ok(());
+    }
+    add_from(links, appends, read, from)?;
+    longest.insert(read.key, (read.reader, read.position))?;
+    Ok(())
+}
+
+/// How many of the first values that the read saw are linked, each with the next, if those are that the longest reads saw.
+fn linked_already(
+    history: &[Transaction],
+    longest: &BTreeMap<u32, (usize, usize)>,
+    read: Read<'_>,
+) -> usize
+    ensures within { result ≤ length read.entry.seen.now }
+    ensures linked { (at : Positions) (links : List Link) → AreLongLinked history.now at links (reads_in longest.now)
+        → AreNextLinked at links read.entry.key read.entry.seen.now result }
+{
+    let Some((reader, position)) = longest.get(&read.key).copied() else {
+        return 0;
+    };
+    match read_of(history, reader, position) {
+        Some(before) if before.key == read.key => same_front(before.seen, read.seen),
+        _ => 0,
+    }
+}
+
+/// How many of the first values of the lists are the same, if one is a prefix of the other, else 0.
+fn same_front(before: &[u32], seen: &[u32]) -> usize
+    ensures of_seen { result ≤ length seen.now }
+    ensures of_before { result ≤ length before.now }
+    ensures same { take result seen.now ≡ take result before.now }
+{
+    if starts_with(seen, before) {
+        before.len()
+    } else if starts_with(before, seen) {
+        seen.len()
+    } else {
+        0
+    }
+}
+
+/// Adds the links from the appender of each value that the read saw to the appender of the next one. The first values are
+/// linked.
+fn add_from(
+    links: &mut Vec<Link>,
+    appends: &AppendIndex,
+    read: Read<'_>,
+    from: usize,
+) -> Result<(), NoMemory>
+    requires indexed { AreIndexed (position_of appends.now) read.key read.seen.now }
+    requires within { from ≤ length read.seen.now }
+    requires linked { AreNextLinked (position_of appends.now) links.old.items read.key read.seen.now from }
     ensures more { OnOk result (AreMore links.old.items links.new.items
         (IsNextLink (position_of appends.now) read.entry.reader read.entry.position read.entry.key read.entry.seen.now)) }
     ensures linked { OnOk result (AreNextLinked (position_of appends.now) links.new.items read.entry.key read.entry.seen.now
         (length read.entry.seen.now)) }
 {
-    let mut before = None;
-    for value in read.seen {
-        let next = position_in(appends, read.key, *value);
+    let mut before = before_at(appends, read, from);
+    for at in from..read.seen.len() {
+        let next = position_in(appends, read.key, read.seen[at]);
         add_pair(links, before, next, read)?;
         before = Some(next);
     }
     Ok(())
+}
+
+/// The append of the value before the one at the index, if there is one.
+fn before_at(appends: &AppendIndex, read: Read<'_>, index: usize) -> Option<(usize, usize)>
+    requires indexed { AreIndexed (position_of appends.now) read.key read.seen.now }
+    requires within { index ≤ length read.seen.now }
+    ensures { IsBefore (position_of appends.now) read.entry.key read.entry.seen.now index result }
+{
+    if index == 0 {
+        return None;
+    }
+    Some(position_in(appends, read.key, read.seen[index - 1]))
 }
 
 /// Adds the link from the one append to the other, which the read saw after it.
@@ -375,6 +479,56 @@ fn append_of(history: &[Transaction], number: usize, position: usize) -> Option<
 
 /// The appender of the first value of the line that the reader neither saw nor appends, and the position of the append.
 fn first_unknown(
+    alloc: Global,
+    appends: &AppendIndex,
+    line: &[u32],
+    read: Read<'_>,
+) -> Result<Option<(usize, usize)>, NoMemory>
+    requires { AreIndexed (position_of appends.now) read.key line.now }
+    ensures some { IfOk result (λ found. IfSome found (λ x.
+        IsFirstUnknown (position_of appends.now) read.entry.reader read.entry.key read.entry.seen.now line.now x)) }
+    ensures none { IfOk result (λ found. IsNone found → (v : ℕ) → Has line.now v
+        → IsKnownBy (position_of appends.now) read.entry.reader read.entry.key read.entry.seen.now v) }
+{
+    if starts_with(line, read.seen) {
+        return Ok(first_beyond(appends, line, read));
+    }
+    first_in_set(alloc, appends, line, read)
+}
+
+/// The same where the line starts with what the reader saw.
+fn first_beyond(appends: &AppendIndex, line: &[u32], read: Read<'_>) -> Option<(usize, usize)>
+    requires indexed { AreIndexed (position_of appends.now) read.key line.now }
+    requires starts { IsPrefix read.seen.now line.now }
+    ensures some { IfSome result (λ x.
+        IsFirstUnknown (position_of appends.now) read.entry.reader read.entry.key read.entry.seen.now line.now x) }
+    ensures none { IsNone result → (v : ℕ) → Has line.now v
+        → IsKnownBy (position_of appends.now) read.entry.reader read.entry.key read.entry.seen.now v }
+{
+    for at in read.seen.len()..line.len() {
+        if let Some(found) = unknown_in(appends, read, line[at]) {
+            return Some(found);
+        }
+    }
+    None
+}
+
+/// The appender of the value, and the position of the append, if the reader neither saw nor appends it.
+fn unknown_in(appends: &AppendIndex, read: Read<'_>, value: u32) -> Option<(usize, usize)>
+    ensures some { IfSome result (λ x. (¬ Has read.entry.seen.now value) × (position_of appends.now read.entry.key value ≡ Some x)
+        × (x.0 ≢ read.entry.reader)) }
+    ensures none { IsNone result → Has read.entry.seen.now value ⊎ ((position_of appends.now read.entry.key value ≡ None)
+        ⊎ ((p : ℕ) × (position_of appends.now read.entry.key value ≡ Some (read.entry.reader, p)))) }
+{
+    let (by, append) = appends.find(read.key, value)?;
+    if by == read.reader || has(read.seen, value) {
+        return None;
+    }
+    Some((by, append))
+}
+
+/// The same for any line, by a set of what the reader saw.
+fn first_in_set(
     alloc: Global,
     appends: &AppendIndex,
     line: &[u32],

@@ -1,14 +1,17 @@
 //! The line of each key: its longest version.
 //!
 //! The version of a read is what it saw, followed by what its transaction appends to the key after it.
-ghost use Rattle.std.specs.Prelude.{◌≡◌, ◌+◌, ◌↔◌, ◌⊎◌, ℕ, Some, None, IfOk, OnOk, IfSome, IsNone, length};
+ghost use Rattle.std.specs.Prelude.{◌≡◌, ◌+◌, ◌≤◌, ◌↔◌, ◌⊎◌, ◌++◌, ℕ, Some, None, IfOk, OnOk, IfSome, IsNone, IsTrue, length};
+ghost use Rattle.sgt_appends.specs.Runs.{operations_of};
+ghost use Rattle.sgt_appends.specs.Tables.{stands};
+ghost use Rattle.sgt_appends.specs.Reads.{own_at};
 ghost use Rattle.sgt_appends.specs.Lists.{Has};
-ghost use Rattle.sgt_appends.specs.Precedences.{AppendsOnce};
+ghost use Rattle.sgt_appends.specs.Precedences.{appended, AppendsOnce};
 ghost use Rattle.sgt_appends.specs.Orders.{AllClean};
-ghost use Rattle.sgt_appends.specs.Lines.{version_of, line_in, keys_in, values_in, has_pair, IsWithLine, IsOffered, AreNumbered, AreLines, AreAllLines, KnowsNoMore, AreWritten};
+ghost use Rattle.sgt_appends.specs.Lines.{line_in, keys_in, values_in, has_pair, IsWithLine, IsOffered, AreNumbered, AreLines, AreAllLines, KnowsNoMore, AreWritten};
 
-use crate::fault::own_after;
-use crate::reads::{Read, read_of};
+use crate::contents::Contents;
+use crate::reads::read_of;
 use crate::transaction::Transaction;
 use sgt_model::NoMemory;
 use std::alloc::Global;
@@ -78,48 +81,62 @@ impl Lines {
         let Some(transaction) = history.get(number) else {
             return Ok(());
         };
-        for position in 0..transaction.operations.len() {
-            self.add_position(alloc, history, number, position)?;
+        let all = Contents::of(alloc, transaction.operations.as_slice())?;
+        let mut own = Contents::new(alloc);
+        for (position, operation) in transaction.operations.iter().enumerate() {
+            self.add_position(alloc, history, &all, &own, number, position)?;
+            own.note(alloc, operation)?;
         }
         Ok(())
     }
 
-    /// Adds the version of the read at the position of the transaction, if it committed.
+    /// Adds the version of the read at the position of the transaction, if it committed. `all` has what the transaction
+    /// appends, and `own` what it appends before the position.
     fn add_position(
         &mut self,
         alloc: Global,
         history: &[Transaction],
+        all: &Contents,
+        own: &Contents,
         number: usize,
         position: usize,
     ) -> Result<(), NoMemory>
-        requires { AreLines history.now number position (line_in self.old) (keys_in self.old) }
+        requires lines { AreLines history.now number position (line_in self.old) (keys_in self.old) }
+        requires all { (k : ℕ) → stands all.now k ≡ appended k (operations_of history.now number) }
+        requires own { (k : ℕ) → stands own.now k ≡ own_at history.now number position k }
         ensures { OnOk result (AreLines history.now number (position + 1) (line_in self.new) (keys_in self.new)) }
     {
         match read_of(history, number, position) {
             Some(read) => {
-                let values = version(alloc, history, read)?;
-                self.offer(read.key, values)?;
+                self.offer(alloc, read.key, read.seen, all.beyond(own, read.key))?;
                 Ok(())
             }
             None => Ok(()),
         }
     }
 
-    /// Makes the version the line of its key, if it is longer.
-    fn offer(&mut self, key: u32, values: Vec<u32>) -> Result<(), NoMemory>
-        ensures { OnOk result (IsOffered (line_in self.old) (line_in self.new) (keys_in self.old) (keys_in self.new) key values.items) }
+    /// Makes the version the line of its key, if it is longer: what a read saw, and what came after it.
+    fn offer(
+        &mut self,
+        alloc: Global,
+        key: u32,
+        seen: &[u32],
+        later: &[u32],
+    ) -> Result<(), NoMemory>
+        ensures { OnOk result (IsOffered (line_in self.old) (line_in self.new) (keys_in self.old) (keys_in self.new) key
+            (seen.now ++ later.now)) }
     {
         let Some(line) = self.find(key) else {
             let number = self.len();
             self.keys.push(key)?;
-            self.put(key, number, values)?;
+            self.put(key, number, joined(alloc, seen, later)?)?;
             return Ok(());
         };
-        if values.len() <= line.values.len() {
+        if fit(line.values.len(), seen, later) {
             return Ok(());
         }
         let number = line.number;
-        self.put(key, number, values)?;
+        self.put(key, number, joined(alloc, seen, later)?)?;
         Ok(())
     }
 
@@ -133,15 +150,20 @@ impl Lines {
     }
 }
 
-/// What the read saw, followed by what its transaction appends to the key after it.
-fn version(alloc: Global, history: &[Transaction], read: Read<'_>) -> Result<Vec<u32>, NoMemory>
-    ensures { IfOk result (λ values. values.items
-        ≡ version_of history.now read.entry.reader read.entry.position read.entry.key read.entry.seen.now) }
+/// The values of both lists.
+fn joined(alloc: Global, seen: &[u32], later: &[u32]) -> Result<Vec<u32>, NoMemory>
+    ensures { IfOk result (λ values. values.items ≡ seen.now ++ later.now) }
 {
-    let mut values = Vec::from_slice(alloc, read.seen)?;
-    let later = own_after(alloc, history, read.reader, read.position, read.key)?;
-    values.extend_from_slice(later.as_slice())?;
+    let mut values = Vec::from_slice(alloc, seen)?;
+    values.extend_from_slice(later)?;
     Ok(values)
+}
+
+/// Whether the two lists have at most so many values.
+fn fit(most: usize, seen: &[u32], later: &[u32]) -> bool
+    ensures { IsTrue result ↔ (length (seen.now ++ later.now) ≤ most) }
+{
+    seen.len() <= most && later.len() <= most - seen.len()
 }
 
 /// The values of all lines, by key.

@@ -5,17 +5,18 @@ ghost use Rattle.sgt_appends.specs.Precedences.{Appends};
 ghost use Rattle.sgt_appends.specs.Orders.{IsClean, AllClean};
 ghost use Rattle.sgt_appends.specs.Indexes.{position_of, IsIndex};
 ghost use Rattle.sgt_appends.specs.Reads.{IsReadAt, own_at, HasFault, IsCleanAt, AreCleanIn, Lasts, last_in, IsFaultAt, IsPassedOne};
-ghost use Rattle.sgt_appends.specs.Lists.{StandsBefore};
+ghost use Rattle.sgt_appends.specs.Lists.{StandsBefore, IsOnce};
+ghost use Rattle.sgt_appends.specs.Tables.{stands};
 ghost use Rattle.sgt_appends.specs.declared.fault.Fault.TheVariants.{Twice};
 ghost use Rattle.sgt_appends.specs.declared.transaction.Status.TheVariants.{Committed};
 
 use crate::append_index::AppendIndex;
-use crate::fault::{Fault, ends_with, own_before};
+use crate::contents::Contents;
+use crate::fault::Fault;
 use crate::transaction::{Operation, Status, Transaction};
-use crate::witness::stands_before;
 use sgt_model::NoMemory;
 use std::alloc::Global;
-use std::collections::BTreeMap;
+use std::collections::{BTreeMap, BTreeSet};
 
 /// A read of a committed transaction, with what it saw.
 #[derive(Clone, Copy)]
@@ -84,54 +85,60 @@ fn fault_in(
     let Some(transaction) = history.get(number) else {
         return Ok(None);
     };
-    for position in 0..transaction.operations.len() {
-        if let Some(fault) = fault_here(alloc, history, appends, number, position)? {
+    let mut own = Contents::new(alloc);
+    for (position, operation) in transaction.operations.iter().enumerate() {
+        if let Some(fault) = fault_here(alloc, history, appends, &own, number, position)? {
             return Ok(Some((position, fault)));
         }
+        own.note(alloc, operation)?;
     }
     Ok(None)
 }
 
-/// The fault of the read at the position of the transaction, if it committed.
+/// The fault of the read at the position of the transaction, if it committed. `own` has what the transaction appends
+/// before.
 fn fault_here(
     alloc: Global,
     history: &[Transaction],
     appends: &AppendIndex,
+    own: &Contents,
     number: usize,
     position: usize,
 ) -> Result<Option<Fault>, NoMemory>
-    requires { IsIndex history.now (position_of appends.now) }
+    requires index { IsIndex history.now (position_of appends.now) }
+    requires own { (k : ℕ) → stands own.now k ≡ own_at history.now number position k }
     ensures fault { IfOk result (λ found. IfSome found (HasFault history.now number position)) }
     ensures clean { IfOk result (λ found. IsNone found → IsCleanAt history.now number position) }
 {
     match read_of(history, number, position) {
-        Some(read) => fault_of(alloc, history, appends, read),
+        Some(read) => fault_of(alloc, history, appends, own, read),
         None => Ok(None),
     }
 }
 
-/// The fault of the read, if any.
+/// The fault of the read, if any. `own` has what its transaction appends before.
 fn fault_of(
     alloc: Global,
     history: &[Transaction],
     appends: &AppendIndex,
+    own: &Contents,
     read: Read<'_>,
 ) -> Result<Option<Fault>, NoMemory>
     requires index { IsIndex history.now (position_of appends.now) }
     requires committed { Ended history.now read.reader Committed }
     requires read { IsReadAt history.now read.reader read.position read.key read.seen.now }
+    requires own { stands own.now read.key ≡ own_at history.now read.reader read.position read.key }
     ensures fault { IfOk result (λ found. IfSome found (λ fault. HasFault history.now read.entry.reader read.entry.position fault)) }
     ensures clean { IfOk result (λ found. IsNone found → IsClean history.now read.entry.reader read.entry.key
         (own_at history.now read.entry.reader read.entry.position read.entry.key) read.entry.seen.now) }
 {
-    let own = own_before(alloc, history, read.reader, read.position, read.key)?;
-    if !ends_with(read.seen, own.as_slice()) {
+    if !own.is_end_of(read.key, read.seen) {
         return Ok(Some(Fault::EndsOtherwise));
     }
     let mut last = BTreeMap::new(alloc);
     for value in read.seen {
         if let Some(fault) = fault_at(history, appends, read, &mut last, *value)? {
-            return Ok(Some(twice_or(read.seen, fault)));
+            return Ok(Some(twice_or(alloc, read.seen, fault)?));
         }
     }
     Ok(None)
@@ -190,28 +197,30 @@ fn unwritten(history: &[Transaction], appends: &AppendIndex, key: u32, value: u3
 
 /// The fault of a read that saw these values. If two of them stand in the wrong order, and one stands there twice, that
 /// is the fault.
-fn twice_or(seen: &[u32], fault: Fault) -> Fault
-    ensures { (result ≡ fault) ⊎ ((v : ℕ) × (result ≡ Twice v) × StandsBefore seen.now v v) }
+fn twice_or(alloc: Global, seen: &[u32], fault: Fault) -> Result<Fault, NoMemory>
+    ensures { IfOk result (λ told. (told ≡ fault) ⊎ ((v : ℕ) × (told ≡ Twice v) × StandsBefore seen.now v v)) }
 {
     match fault {
-        Fault::Swapped { .. } => match twice_in(seen) {
-            Some(value) => Fault::Twice(value),
-            None => fault,
+        Fault::Swapped { .. } => match twice_in(alloc, seen)? {
+            Some(value) => Ok(Fault::Twice(value)),
+            None => Ok(fault),
         },
-        _ => fault,
+        _ => Ok(fault),
     }
 }
 
-/// The first value that stands in the list twice.
-fn twice_in(seen: &[u32]) -> Option<u32>
-    ensures { IfSome result (λ v. StandsBefore seen.now v v) }
+/// The first value that stands in the list a second time.
+fn twice_in(alloc: Global, seen: &[u32]) -> Result<Option<u32>, NoMemory>
+    ensures some { IfOk result (λ found. IfSome found (λ v. StandsBefore seen.now v v)) }
+    ensures none { IfOk result (λ found. IsNone found → IsOnce seen.now) }
 {
+    let mut met = BTreeSet::new(alloc);
     for value in seen {
-        if stands_before(seen, *value, *value) {
-            return Some(*value);
+        if !met.insert(*value)? {
+            return Ok(Some(*value));
         }
     }
-    None
+    Ok(None)
 }
 
 /// Where a transaction that is not aborted appends the value to the key.

@@ -1,4 +1,4 @@
-use Rattle.std.proofs.Common.{◌≡◌, ◌++◌, ◌∙◌, ℕ, List, length, drop, take, ap, sym, take-append-drop}
+use Rattle.std.proofs.Common.{◌++◌, ◌∙◌, ℕ, List, length, drop, take, ap, sym, take-append-drop}
 use Rattle.std.proofs.lemmas.Bool.Decides.{Decides-eqb}
 use Rattle.std.proofs.lemmas.Slice.Eq.{slice_eq-Decides}
 use Rattle.sgt_appends.proofs.Prefixes.{take_front}

@@ -2,12 +2,14 @@ use Rattle.std.proofs.Common.{rules}
 use Rattle.sgt_appends.specs.Indexes.{position_of}
 use Rattle.sgt_appends.specs.Lines.{line_in, keys_in}
 use Rattle.sgt_appends.specs.Meanings.{IsMeant}
+use Rattle.sgt_appends.specs.Required.{reads_in}
+use Rattle.sgt_appends.proofs.LongReads.{long_still}
 use Rattle.sgt_appends.proofs.More.{none_more}
 use Rattle.sgt_appends.proofs.Steps.{seen_indexed, read_more, read_linked}
 use Rattle.sgt_appends.proofs.graph.add_read.Goals as goal
 
-pub add_next-requires : goal.add_next-requires
-add_next-requires c =
+pub add_next-requires-clause-indexed : goal.add_next-requires-clause-indexed
+add_next-requires-clause-indexed c =
     seen_indexed c.args.history.now (position_of c.args.appends.now) c.in-Some.read.reader c.in-Some.read.position c.in-Some.read.key
     c.in-Some.read.seen.now c.requires.index c.requires.clean c.in-Some.ensures.some
 
@@ -37,3 +39,10 @@ returns-in-None-clause-more c =
 
 pub returns-in-None-clause-linked : goal.returns-in-None-clause-linked
 returns-in-None-clause-linked c = λ k seen committed is. absurd (c.in-None.ensures.none (search rules) k seen committed is)
+
+pub returns-in_ok-add_missed-in-Some-clause-longest : goal.returns-in_ok-add_missed-in-Some-clause-longest
+returns-in_ok-add_missed-in-Some-clause-longest c =
+    long_still c.args.history.now (position_of c.args.appends.now) c.add_last.new.links.items c.add_missed.new.links.items
+    (reads_in c.add_next.new.longest) c.in_ok-add_missed-in-Some.ensures.more.stay
+    (long_still c.args.history.now (position_of c.args.appends.now) c.add_next.new.links.items c.add_last.new.links.items
+    (reads_in c.add_next.new.longest) c.in_ok-add_last-in-Some.ensures.more.stay c.in_ok-add_next-in-Some.ensures.longest)

@@ -1,8 +1,10 @@
 use Rattle.sgt_appends.specs.Indexes.{position_of}
 use Rattle.sgt_appends.specs.Lines.{line_in, keys_in}
-use Rattle.sgt_appends.specs.Required.{AreLinked}
+use Rattle.sgt_appends.specs.Required.{AreLinked, reads_in, AreLongLinked}
 use Rattle.sgt_appends.proofs.graph.add_transaction.Given as goal
 
 abbrev pub invariant-loop-position : goal.invariant-loop-position
-invariant-loop-position l =
-    AreLinked l.history (position_of l.appends) (line_in l.lines) (keys_in l.lines) l.links.items l.number l.position
+invariant-loop-position l = record {
+  linked : AreLinked l.history (position_of l.appends) (line_in l.lines) (keys_in l.lines) l.links.items l.number l.position;
+  longest : AreLongLinked l.history (position_of l.appends) l.links.items (reads_in l.longest);
+}

@@ -1,4 +1,3 @@
-use Rattle.std.proofs.Common.{rules}
 use Rattle.sgt_appends.specs.Reads.{last_in}
 use Rattle.sgt_appends.proofs.reads.fault_at.Goals as goal
 

@@ -6,16 +6,15 @@ use Rattle.sgt_appends.specs.Reads.{own_at, last_in, IsPassed}
 use Rattle.sgt_appends.proofs.Passed.{passed_one, passed_clean, fault_one, twice_told}
 use Rattle.sgt_appends.proofs.reads.fault_of.Goals as goal
 
-pub returns-then-not-ends_with-clause-fault : goal.returns-then-not-ends_with-clause-fault
-returns-then-not-ends_with-clause-fault c = (
+pub returns-then-not-is_end_of-clause-fault : goal.returns-then-not-is_end_of-clause-fault
+returns-then-not-is_end_of-clause-fault c = (
   c.args.read.key,
   c.args.read.seen.now,
   c.requires.committed,
   c.requires.read,
   (λ base e.
-      let ends : c.ends_with.result ≡ true =
-      c.ends_with.ensures.1 (base, e ∙ ap (λ xs. base ++ xs) (sym (c.as_slice.ensures.value ∙ c.in_ok-own.ensures))) in
-      grind (arith, common_steps, ends, c.if-not-ends_with.true)),
+      let ends : c.is_end_of.result ≡ true = c.is_end_of.ensures.1 (base, e ∙ ap (λ xs. base ++ xs) (sym c.requires.own)) in
+      grind (arith, common_steps, ends, c.if-not-is_end_of.true)),
 )
 
 pub returns-in-Some-clause-fault : goal.returns-in-Some-clause-fault
@@ -26,7 +25,7 @@ returns-in-Some-clause-fault c = (
   c.requires.read,
   twice_told c.args.history.now c.args.read.reader c.args.read.key
       (own_at c.args.history.now c.args.read.reader c.args.read.position c.args.read.key) c.args.read.seen.now c.in-Some.fault
-      c.twice_or.result c.twice_or.ensures
+      _ c.in_ok-twice_or.ensures
       (fault_one c.args.history.now (position_of c.args.appends.now) c.args.read.reader c.args.read.position c.args.read.key
       c.args.read.seen.now c.loop-value.value-index (last_in c.loop-value.last) (get_or c.args.read.seen.now c.loop-value.value-index 0)
       c.in-Some.fault c.requires.index c.loop-value.invariant c.loop-value-test.true refl (search rules)),
@@ -42,9 +41,9 @@ loop-value-preserved c =
 
 pub returns-clause-clean : goal.returns-clause-clean
 returns-clause-clean c = λ none.
-    let ends = c.ends_with.ensures.0 (search rules) in
+    let ends = c.is_end_of.ensures.0 (search rules) in
     passed_clean c.args.history.now (position_of c.args.appends.now) c.args.read.reader c.args.read.position c.args.read.key
     c.args.read.seen.now (last_in c.loop-value.last) c.requires.index
     (subst (λ vs. IsPassed c.args.history.now (position_of c.args.appends.now) c.args.read.reader c.args.read.position c.args.read.key vs
     (last_in c.loop-value.last)) (take_all c.loop-value.value-index c.args.read.seen.now (search rules)) c.loop-value.invariant)
-    (ends.0, ends.1 ∙ ap (λ xs. ends.0 ++ xs) (c.as_slice.ensures.value ∙ c.in_ok-own.ensures))
+    (ends.0, ends.1 ∙ ap (λ xs. ends.0 ++ xs) c.requires.own)

@@ -1,9 +1,11 @@
-use Rattle.std.proofs.Common.{rules, ◌≡◌, ◌≤◌, Some, None, sym, ap, subst, length, arith}
+use Rattle.std.proofs.Common.{rules, ◌≡◌, ◌≤◌, ◌+◌, ◌++◌, ◌∷◌, [], Some, None, take, sym, ap, ◌∙◌, subst, length, arith}
 use Rattle.std.specs.Prelude.{slice_get}
 use Rattle.std.proofs.lemmas.Grind.{common_steps}
 use Rattle.std.proofs.lemmas.Option.{gets}
-use Rattle.sgt_appends.specs.Runs.{operations_or_none}
+use Rattle.sgt_appends.specs.Precedences.{appended}
+use Rattle.sgt_appends.specs.Runs.{operations_or_none, operations_of}
 use Rattle.sgt_appends.specs.Lines.{line_in, keys_in}
+use Rattle.sgt_appends.proofs.Added.{appended_more}
 use Rattle.sgt_appends.proofs.Longest.{lines_next}
 use Rattle.sgt_appends.proofs.lines.Lines.add_transaction.Goals as goal
 
@@ -18,5 +20,21 @@ returns c =
     let there : slice_get c.args.history.now c.args.number ≡ Some c.in-Some.transaction.now =
     grind (arith, common_steps, gets, c.in-Some.ensures.lookup) in
     lines_next c.args.history.now c.args.number c.loop-position.position (line_in c.loop-position.self) (keys_in c.loop-position.self)
-    c.loop-position.invariant
+    c.loop-position.invariant.lines
     (subst (λ os. length os ≤ c.loop-position.position) (sym (ap operations_or_none there)) (search rules))
+
+pub loop-position-preserved : goal.loop-position-preserved
+loop-position-preserved c =
+    let there : slice_get c.args.history.now c.args.number ≡ Some c.in-Some.transaction.now =
+    grind (arith, common_steps, gets, c.in-Some.ensures.lookup) in
+    let are : operations_of c.args.history.now c.args.number ≡ c.deref-operation-items.result.now =
+    ap operations_or_none there ∙ sym c.deref-operation-items.ensures.value in
+    let i = c.loop-position.position in
+    let o = c.operation-item.result in
+    record {
+      lines = c.in_ok-add_position.ensures;
+      own = λ k.
+          c.in_ok-note.ensures k ∙ ap (λ xs. xs ++ appended k (o ∷ [])) (c.loop-position.invariant.own k)
+          ∙ subst (λ os. appended k (take i os) ++ appended k (o ∷ []) ≡ appended k (take (i + 1) os)) (sym are)
+          (appended_more k i c.deref-operation-items.result.now o (search rules) c.operation-item.is);
+    }

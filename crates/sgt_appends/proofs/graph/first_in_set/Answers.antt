@@ -4,7 +4,7 @@ use Rattle.sgt_appends.specs.Lists.{Has}
 use Rattle.sgt_appends.specs.Indexes.{position_of}
 use Rattle.sgt_appends.specs.Links.{has_number}
 use Rattle.sgt_appends.proofs.Unknown.{known_more, known_by, first_one}
-use Rattle.sgt_appends.proofs.graph.first_unknown.Goals as goal
+use Rattle.sgt_appends.proofs.graph.first_in_set.Goals as goal
 
 pub returns-in-Some-clause-some : goal.returns-in-Some-clause-some
 returns-in-Some-clause-some c =

@@ -1,6 +1,0 @@
-use Rattle.std.proofs.Common.{◌≡◌, take}
-use Rattle.sgt_appends.specs.Precedences.{appended}
-use Rattle.sgt_appends.proofs.fault.appended_by.Given as goal
-
-abbrev pub invariant-loop-operation : goal.invariant-loop-operation
-invariant-loop-operation l = l.own.items ≡ appended l.of (take l.operation-index l.operations)
