@@ -30,7 +30,7 @@ import time
 
 sys.dont_write_bytecode = True
 from helpers.cases import C_SOURCES, TESTS, Differs, same, tell  # noqa: E402
-from helpers.machines import Etcd, Postgres, Redis, running, wait_until  # noqa: E402
+from helpers.machines import Etcd, Hosts, Postgres, Redis, running, wait_until  # noqa: E402
 
 PAYMENTS = TESTS.parent / "examples" / "payments"
 sys.path.insert(0, str(PAYMENTS))
@@ -604,13 +604,13 @@ def torn_tails():
             same(f"cut at byte {length}: the payment", is_whole, call[1] in found[2])
         # Of a batch that was not safe any part may be there.
         batch = as_lines(batch_number + 1, first, [("pay", 100 + more, 1, 2, 5) for more in (1, 2)])
-        for at in range(1, len(batch)):
+        for at in range(1, len(batch), 3):
             for garbled in (batch[:at] + bytes(len(batch) - at), bytes(at) + batch[at:], batch[:at] + b"\n" + batch[at + 1 :]):
                 calls.write_bytes(whole + garbled)
                 same(f"a batch that is there in part, at {at}", first + 2 * (garbled == batch), recovered(folder / "j")[0])
         calls.write_bytes(whole + batch)
         same("a batch that is there whole", first + 2, recovered(folder / "j")[0])
-    return f"{len(whole) - last + 3 * len(batch) - 1} lengths"
+    return f"{len(whole) - last + len(batch)} lengths"
 
 
 def damaged_tails():
@@ -1109,16 +1109,23 @@ def failover(kind):
     return f"{len(load.acknowledged)} payments acknowledged, each there once"
 
 
+def is_refused(wanted, *words, python=sys.executable):
+    """Whether a start is refused, for this reason. It may not be on a machine so slow that no batch was deleted, or that a lease ran out."""
+    try:
+        with Server(*words, python=python):
+            return False
+    except Differs as why:
+        if not re.search(f"payments: {wanted}", str(why)):
+            raise
+        return True
+
+
 def takes_a_copy(group):
     """A server that has nothing, and whose batches were deleted, says so. With a copy of another server's snapshot it follows."""
     journal, (new, old) = group.journal, (group.folder / "new", group.folder / "0")
     words = ("serve", new, "--journal", journal.address)
-    try:
-        with Server(*words, python=journal.python):
-            return  # so few payments on a slow machine that all batches are there
-    except Differs as why:
-        if not re.search(r"batch 1 was deleted, and the first one is \d+: copy a newer snapshot of another server", str(why)):
-            raise
+    if not is_refused(r"batch 1 was deleted, and the first one is \d+: copy a newer snapshot of another server\n", *words, python=journal.python):
+        return
     shutil.copy(max(old.glob("*.snapshot")), new)
     with Server(*words, python=journal.python) as server:
         same("the last call", rows_behind(journal, old)[0], server.seq)
@@ -1132,6 +1139,9 @@ def ended_while_away():
     with room() as folder, running(Etcd, folder) as etcd, contextlib.ExitStack() as stack:
         group = Group(etcd, folder, stack)
         primary = group.primary()
+        shutil.copytree(PAYMENTS / "procedures", folder / "other")
+        (folder / "other" / "note.json").unlink()
+        is_refused("the primary has other procedures\n", "serve", folder / "new", "--journal", etcd.address, "--procedures", folder / "other")
         with etcd.stopped(0, 1, 2), group.servers[primary].connect() as client:
             client.sendall(json.dumps(pay(1, 1, 2, 5)).encode() + b"\n")
             follower = group.servers[(primary + 1) % 3]
@@ -1233,6 +1243,46 @@ def two_stopped(etcd, draw):
         time.sleep(1.5)
 
 
+def on_host(name, folder):
+    """The two commands of the page for a machine, which are those of `a` there."""
+    (page,) = [block for block in (PAYMENTS / "README.md").read_text().split("```") if "etcd --name a" in block]
+    for of_a in ("--name a ", "--initial-advertise-peer-urls http://a:", "--advertise-client-urls http://a:"):
+        page = page.replace(of_a, of_a.replace("a ", f"{name} ").replace("//a:", f"//{name}:"))
+    page = page.replace("/var/lib/", f"{folder}/{name}-").replace("examples/payments/payments.py", f"{sys.executable} {PAYMENTS / 'payments.py'}")
+    etcd, _, server = page.partition("\nuntil ")
+    return f"{etcd} &\nuntil {server}"
+
+
+def partitions():
+    """Three hosts with the commands of the page. The host of the primary is cut off, in turns: another one leads, and the old one is silent."""
+    if why := Hosts.missing():
+        return f"left out: {why}"
+    with room() as folder, running(Hosts, folder) as hosts:
+        for name in hosts.names:
+            hosts.start(name, on_host(name, folder))
+
+        def leader(but=""):
+            for name in hosts.names.replace(but, "") if but else hosts.names:
+                if (reply := hosts.ask(name, {"balance": 1})) and "seconds_old" not in reply[0]:
+                    return name
+            return None
+
+        paid = {}
+        for number in (1, 2):
+            old = wait_until(leader, "a server that leads")
+            paid[2 * number - 1] = hosts.ask(old, pay(2 * number - 1, 1, 2, 100))
+            hosts.connect(old, False)
+            same("what a primary replies that is cut off", None, hosts.ask(old, {"balance": 1}, inside=old))
+            new = wait_until(lambda: leader(old), "another server that leads")  # noqa: B023
+            paid[2 * number] = hosts.ask(new, pay(2 * number, 1, 2, 100))
+            hosts.connect(old, True)
+        wait_until(lambda: all(hosts.ask(name, {"balance": 1}) for name in hosts.names), "three servers that answer")
+        last = wait_until(leader, "a server that leads")
+        for number, replies in paid.items():  # where a slow machine had no answer it asks again
+            same("a payment again", replies or ["paid"], hosts.ask(last, pay(number, 1, 2, 100)) if replies else ["paid"])
+    return f"{sum(map(bool, paid.values()))} payments acknowledged, each there once"
+
+
 def over_redis():
     """As over etcd."""
     return failover(Redis)
@@ -1271,7 +1321,7 @@ def main():
     cases += [full_disk, failing_fsync, large_snapshots, failed_snapshot, begun_snapshots]
     cases += [jumping_clock, other_procedures, bad_procedures]
     cases += [killed_fronts, vanished_clients, idle_clients]
-    cases += [over_etcd, dying_nodes, ended_while_away, over_redis, forgetful_redis, over_postgresql, crash_test]
+    cases += [over_etcd, dying_nodes, ended_while_away, partitions, over_redis, forgetful_redis, over_postgresql, crash_test]
     return tell([case for case in cases if not names or case.__name__ in names], of="payments")
 
 

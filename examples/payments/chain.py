@@ -54,7 +54,7 @@ class Chain:
         """Recovers. Returns once the bank is as the journal was, and has this server's procedures."""
         self.insist(lambda: self.journal.stored(self.server, self.number))
         self.insist(self._lead_or_read)
-        while not self.bank.texts:  # the primary has not begun yet
+        while not self.bank.texts and not self.ends:  # the primary has not begun yet
             time.sleep(PAUSE)
             self.insist(self._lead_or_read)
         self._compare()
@@ -75,9 +75,15 @@ class Chain:
         while True:
             now = time.monotonic()
             batches = self.journal.read(self.number + 1)
+            calls: list[Call] = []  # of these batches: to run them at once takes half as long
             for data in batches:
-                self.bank = applied(self.bank, unseal_batch(data, self.number + 1, self.bank.seq))
+                found = unseal_batch(data, self.number + 1, self.bank.seq + len(calls))
+                if isinstance(found, dict):
+                    self.bank.replay(calls)
+                    self.bank, found, calls = applied(self.bank, found), [], []
+                calls += found
                 self.number += 1
+            self.bank.replay(calls)
             if not batches:
                 self.fresh = now
                 return

@@ -113,6 +113,78 @@ class Etcd:
             process.wait()
 
 
+class Hosts:
+    """The hosts a, b and c, each in a network namespace of its own, on a switch in one more. Nothing of the machine's own network changes."""
+
+    names = "abc"
+
+    def __init__(self, folder):
+        self.folder, self.own, self.processes = folder, f"sgt{os.getpid()}", []
+        try:
+            self._make()
+        except (OSError, subprocess.SubprocessError) as why:
+            self.end()
+            raise Differs(f"no hosts: {why}") from None
+
+    def _make(self):
+        self.command("ip", "netns", "add", self.own)
+        self.inside("", "link", "add", "switch", "type", "bridge")
+        self.inside("", "address", "add", "10.77.0.254/24", "dev", "switch")
+        self.inside("", "link", "set", "switch", "up")
+        addresses = "".join(f"10.77.0.{number} {name}\n" for number, name in enumerate(self.names, 1))
+        for number, name in enumerate(self.names, 1):
+            self.command("ip", "netns", "add", self.own + name)
+            hosts = pathlib.Path("/etc/netns", self.own + name, "hosts")  # `ip netns exec` shows it as /etc/hosts
+            hosts.parent.mkdir(parents=True)
+            hosts.write_text("127.0.0.1 localhost\n" + addresses)
+            self.inside("", "link", "add", "name", name, "type", "veth", "peer", "name", "eth0", "netns", self.own + name)
+            self.inside("", "link", "set", "dev", name, "master", "switch", "up")
+            for words in (("address", "add", f"10.77.0.{number}/24", "dev", "eth0"), ("link", "set", "eth0", "up"), ("link", "set", "lo", "up")):
+                self.inside(name, *words)
+
+    @staticmethod
+    def missing():
+        if why := Etcd.missing():
+            return why
+        tried = subprocess.run(["unshare", "-n", "ip", "link", "add", "switch", "type", "bridge"], **QUIET, check=False).returncode if shutil.which("ip") else 1
+        return "this machine lets nobody make network namespaces" if tried or os.getuid() else None
+
+    def command(self, *words):
+        subprocess.run(words, check=True, capture_output=True, timeout=SECONDS)
+
+    def inside(self, name, *words):
+        """Changes the network of a host, or without a name that of the switch."""
+        self.command("ip", "-n", self.own + name, *words)
+
+    def start(self, name, script):
+        """Starts a shell script on a host."""
+        log = open(self.folder / f"log-{name}", "wb")  # noqa: SIM115
+        words = ["ip", "netns", "exec", self.own + name, "sh", "-c", script]
+        self.processes.append(subprocess.Popen(words, stdout=log, stderr=log, start_new_session=True))
+
+    def connect(self, name, is_up):
+        """Plugs a host in, or cuts it off."""
+        self.inside("", "link", "set", "dev", name, "up" if is_up else "down")
+
+    def ask(self, name, *requests, inside=""):
+        """What a server replies to requests, or None if it does not for some seconds. The client is beside the switch, or on a host."""
+        address = "127.0.0.1" if inside else f"10.77.0.{self.names.index(name) + 1}"
+        lines = "".join(json.dumps(request) + "\n" for request in requests)
+        code = f"import socket; s = socket.create_connection(({address!r}, 7070), 4); s.sendall({lines.encode()!r}); f = s.makefile(); print(*[f.readline() for _ in range({len(requests)})])"
+        ran = subprocess.run(["ip", "netns", "exec", self.own + inside, sys.executable, "-c", code], capture_output=True, text=True, check=False, timeout=SECONDS)
+        replies = [json.loads(line) for line in ran.stdout.splitlines() if line.strip()]
+        return replies if len(replies) == len(requests) else None
+
+    def end(self):
+        for process in self.processes:
+            with contextlib.suppress(ProcessLookupError):
+                os.killpg(process.pid, signal.SIGKILL)
+            process.wait()
+        for name in ("", *self.names):
+            subprocess.run(["ip", "netns", "del", self.own + name], **QUIET, check=False)
+            shutil.rmtree(f"/etc/netns/{self.own}{name}", ignore_errors=True)
+
+
 class Redis:
     """A Redis with these options, and the address of a journal in it."""
 
