@@ -6,8 +6,9 @@
 It runs the server as a user does, with the library of `bindings/out`, which has to be made: the replies; a crash under load, ROUNDS
 times (30), or one of its front processes, with what no fsync had kept taken away or garbled; a journal cut at each byte and with a flipped
 bit in each, and one with a damaged tail, or without its newest file; a full disk; an fsync that fails; large snapshots, and one that fails;
-a clock that jumps; another program's procedures; a forged journal; clients that vanish, or ask nothing; what administrators ask; and
-failovers over etcd, Redis and PostgreSQL, where the machine has them. Each case is reported, and the last line counts them.
+a clock that jumps; another program's procedures; a forged journal; clients that vanish, or ask nothing; what administrators ask; holds,
+statements, ids that are forgotten, lists of requests and tokens; and failovers over etcd, Redis and PostgreSQL, where the machine has them,
+also of hosts that are cut off. Each case is reported, and the last line counts them. With names of cases only those run.
 """
 
 import contextlib
@@ -1304,6 +1305,35 @@ def forgetful_redis():
             same(f"a start on Redis with {options}", (1, "", wanted), came)
 
 
+def forgetful_postgresql():
+    """A PostgreSQL without fsync is refused."""
+    if why := Postgres.missing():
+        return f"left out: {why}"
+    with room() as folder, running(Postgres, folder, "-c fsync=off") as journal:
+        wanted = "payments: PostgreSQL: it must run with fsync on\n"
+        same("a start", (1, "", wanted), run("serve", folder / "j", "--journal", journal.address, python=journal.python))
+
+
+def redis_replicas():
+    """Where a replica is asked for, nothing is acknowledged before there is one."""
+    if why := Redis.missing():
+        return f"left out: {why}"
+    with room() as folder, running(Redis, folder) as journal, contextlib.ExitStack() as stack:
+        (folder / "replica").mkdir()
+        begun = []
+
+        def begin():
+            begun.append(True)
+            stack.enter_context(running(Redis, folder / "replica", "--replicaof", "127.0.0.1", str(journal.port)))
+
+        replica = threading.Timer(1, begin)
+        replica.start()
+        with Server("serve", folder / "j", "--journal", journal.address + "?replicas=1", python=journal.python) as server:
+            same("whether a replica was begun", [True], begun)
+            replica.join()
+            same("a payment", {"paid"}, {"paid"} & set(server.ask(pay(1, 1, 2, 5))[0]))
+
+
 def main():
     numbers = [int(word) for word in sys.argv[1:] if word.isdigit()]
     names = [word for word in sys.argv[1:] if not word.isdigit()]
@@ -1321,7 +1351,7 @@ def main():
     cases += [full_disk, failing_fsync, large_snapshots, failed_snapshot, begun_snapshots]
     cases += [jumping_clock, other_procedures, bad_procedures]
     cases += [killed_fronts, vanished_clients, idle_clients]
-    cases += [over_etcd, dying_nodes, ended_while_away, partitions, over_redis, forgetful_redis, over_postgresql, crash_test]
+    cases += [over_etcd, dying_nodes, ended_while_away, partitions, over_redis, forgetful_redis, redis_replicas, over_postgresql, forgetful_postgresql, crash_test]
     return tell([case for case in cases if not names or case.__name__ in names], of="payments")
 
 

@@ -48,8 +48,8 @@ class PostgresJournal:
             with self._link.cursor() as cursor:
                 cursor.execute(text, values)
                 return list(cursor.fetchall()) if cursor.description else []
-        except (psycopg2.OperationalError, psycopg2.InterfaceError) as why:
-            self._link = None
+        except (psycopg2.OperationalError, psycopg2.InterfaceError, psycopg2.IntegrityError) as why:
+            self._link = None  # the last of these is of two servers that make the tables at once
             raise Away(f"PostgreSQL: {why}") from None
         except psycopg2.Error as why:
             raise Unusable(f"PostgreSQL: {why}") from None

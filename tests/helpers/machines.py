@@ -189,11 +189,11 @@ class Redis:
     """A Redis with these options, and the address of a journal in it."""
 
     def __init__(self, folder, *words):
-        (port,) = free_ports(1)
+        (self.port,) = free_ports(1)
         options = words or ("--appendonly", "yes", "--appendfsync", "always")
-        self.process = subprocess.Popen(["redis-server", "--port", str(port), "--dir", str(folder), "--save", "", *options], **QUIET)
-        self.address, self.python = f"redis://127.0.0.1:{port}/bank", python_with("redis")
-        wait_until(lambda: can_connect(port), "a Redis that listens")
+        self.process = subprocess.Popen(["redis-server", "--port", str(self.port), "--dir", str(folder), "--save", "", *options], **QUIET)
+        self.address, self.python = f"redis://127.0.0.1:{self.port}/bank", python_with("redis")
+        wait_until(lambda: can_connect(self.port), "a Redis that listens")
 
     @staticmethod
     def missing():
@@ -212,9 +212,9 @@ class Redis:
 
 
 class Postgres:
-    """A PostgreSQL, and the address of a journal in it."""
+    """A PostgreSQL with these options, and the address of a journal in it."""
 
-    def __init__(self, folder):
+    def __init__(self, folder, *words):
         self.folder, self.bin = folder / "postgres", sorted(glob.glob("/usr/lib/postgresql/*/bin"))[-1]
         self.user = ["runuser", "-u", "postgres", "--"] if os.getuid() == 0 else []
         self.folder.mkdir()
@@ -224,7 +224,7 @@ class Postgres:
                 if it.owner() == "root" and str(it).startswith("/tmp/"):
                     it.chmod(0o755)
         (port,) = free_ports(1)
-        self.options = f"-p {port} -k {self.folder} -c listen_addresses=127.0.0.1"
+        self.options = f"-p {port} -k {self.folder} -c listen_addresses=127.0.0.1 {' '.join(words)}"
         self.run("initdb", "-D", self.folder / "data", "-A", "trust", "--no-sync", "-U", "postgres")
         self.begin()
         self.address, self.python = f"postgresql://postgres@127.0.0.1:{port}/postgres", python_with("psycopg2")
