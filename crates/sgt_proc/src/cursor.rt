@@ -80,6 +80,7 @@ impl Cursor {
 
     /// Continues after the read that is next, which returned this value. If the next step is no read, it does
     /// nothing.
+    #[inline(always)]
     pub fn looked(&mut self, procedure: &Checked, value: Option<i64>)
         requires same { self.old.0 ≡ procedure.now }
         ensures { self.new ≡ (self.old.0, after_look value self.old.1) }
