@@ -118,13 +118,13 @@ impl<R: Records, A: Accesses, G: Graph> Sched<R, A, G> {
         match event {
             Event::Start { procedure, args } => self.answer_start(*procedure, args, reply),
             Event::Step(t) => self.answer_step(*t, lists, reply),
-            Event::Access(t, request) => self.answer_request(*t, *request, lists, reply),
+            Event::Access(t, request) => self.answer_request(*t, request, lists, reply),
             Event::Commit(t) => {
-                *reply = self.answer_commit(*t, lists);
+                self.answer_commit(*t, lists, reply);
                 Ok(())
             }
             Event::Quit(t) => {
-                *reply = self.answer_quit(*t, lists);
+                self.answer_quit(*t, lists, reply);
                 Ok(())
             }
         }

@@ -41,24 +41,26 @@ impl<R: Records, A: Accesses, G: Graph> Sched<R, A, G> {
         ensures { Turns (CommitEffect (asks_of self.old) t) self.old result self.new }
     {
         let mut lists = ReplyLists::new();
-        let reply = self.answer_commit(t, &mut lists);
+        let mut reply = ShortReply::Unknown;
+        self.answer_commit(t, &mut lists, &mut reply);
         reply.with_lists(&lists)
     }
 
-    // The same, with the reply in short.
-    pub(super) fn answer_commit(&mut self, t: Tid, lists: &mut ReplyLists) -> ShortReply
-        ensures { Turns (WithLists (CommitEffect (asks_of self.old) t) lists.new) self.old result self.new }
+    // The same, with the reply in short, which is written to its place.
+    pub(super) fn answer_commit(&mut self, t: Tid, lists: &mut ReplyLists, reply: &mut ShortReply)
+        ensures { Turns (WithLists (CommitEffect (asks_of self.old) t) lists.new) self.old reply.new self.new }
     {
         let Some(index) = self.index(t) else {
-            return self.answer_not_live(t, lists);
+            *reply = self.answer_not_live(t, lists);
+            return;
         };
         match self.ahead_at(t, index) {
             Ahead::Ends => match decide(&self.graph, t) {
-                Some(first) => ShortReply::Waits(first),
-                None => self.finish_commit(t, index, lists),
+                Some(first) => *reply = ShortReply::Waits(first),
+                None => *reply = self.finish_commit(t, index, lists),
             },
-            Ahead::Asks(code) => self.commit_asked(t, code, lists),
-            _ => ShortReply::NotEnded,
+            Ahead::Asks(code) => *reply = self.commit_asked(t, code, lists),
+            _ => *reply = ShortReply::NotEnded,
         }
     }
 

@@ -19,18 +19,20 @@ impl<R: Records, A: Accesses, G: Graph> Sched<R, A, G> {
         ensures { Turns (QuitEffect t) self.old result self.new }
     {
         let mut lists = ReplyLists::new();
-        let reply = self.answer_quit(t, &mut lists);
+        let mut reply = ShortReply::Unknown;
+        self.answer_quit(t, &mut lists, &mut reply);
         reply.with_lists(&lists)
     }
 
-    // The same, with the reply in short.
-    pub(super) fn answer_quit(&mut self, t: Tid, lists: &mut ReplyLists) -> ShortReply
-        ensures { Turns (WithLists (QuitEffect t) lists.new) self.old result self.new }
+    // The same, with the reply in short, which is written to its place.
+    pub(super) fn answer_quit(&mut self, t: Tid, lists: &mut ReplyLists, reply: &mut ShortReply)
+        ensures { Turns (WithLists (QuitEffect t) lists.new) self.old reply.new self.new }
     {
         if self.is_live(t) {
             self.abort(t, ShortCause::Quit, lists);
-            return ShortReply::Aborted(ShortCause::Quit);
+            *reply = ShortReply::Aborted(ShortCause::Quit);
+            return;
         }
-        self.answer_not_live(t, lists)
+        *reply = self.answer_not_live(t, lists);
     }
 }

@@ -21,13 +21,13 @@ impl<R: Records, A: Accesses, G: Graph> Sched<R, A, G> {
     pub(super) fn answer_request(
         &mut self,
         t: Tid,
-        request: Request,
+        request: &Request,
         lists: &mut ReplyLists,
         reply: &mut ShortReply,
     ) -> Result<(), NoMemory>
-        ensures done { Tries (WithLists (RequestEffect (asks_of self.old) t request) lists.new) self.old (with_reply result reply.new) self.new }
+        ensures done { Tries (WithLists (RequestEffect (asks_of self.old) t request.now) lists.new) self.old (with_reply result reply.new) self.new }
         ensures lists { OnErr result (lists.new ≡ lists.old) }
-        ensures no_memory { EndsOne (asks_of self.old) (Access t request) (state self.old) → IsOk result }
+        ensures no_memory { EndsOne (asks_of self.old) (Access t request.now) (state self.old) → IsOk result }
     {
         let Some(index) = self.index(t) else {
             *reply = self.answer_not_live(t, lists);
@@ -37,7 +37,7 @@ impl<R: Records, A: Accesses, G: Graph> Sched<R, A, G> {
             *reply = ShortReply::NotEnded;
             return Ok(());
         };
-        let Some((key, operation)) = operation_of(request) else {
+        let Some((key, operation)) = operation_of(*request) else {
             *reply = ShortReply::BadArgs;
             return Ok(());
         };

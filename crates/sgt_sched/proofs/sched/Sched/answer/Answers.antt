@@ -34,7 +34,7 @@ returns-in-Access-clause-done g c = record {
 
 pub returns-in-Commit-clause-done : goal.returns-in-Commit-clause-done
 returns-in-Commit-clause-done g c = record {
-  done = (called (rules_of c.args.self.now) (state c.args.self.now) (reply_with c.answer_commit.result c.answer_commit.new.lists)
+  done = (called (rules_of c.args.self.now) (state c.args.self.now) (reply_with c.answer_commit.new.reply c.answer_commit.new.lists)
       (state c.answer_commit.new.self) c.args.event.now _ c.in-Commit.is) c.answer_commit.ensures.turn;
   refused = tt;
   kept = c.answer_commit.ensures.kept;
@@ -42,7 +42,7 @@ returns-in-Commit-clause-done g c = record {
 
 pub returns-in-Quit-clause-done : goal.returns-in-Quit-clause-done
 returns-in-Quit-clause-done g c = record {
-  done = (called (rules_of c.args.self.now) (state c.args.self.now) (reply_with c.answer_quit.result c.answer_quit.new.lists)
+  done = (called (rules_of c.args.self.now) (state c.args.self.now) (reply_with c.answer_quit.new.reply c.answer_quit.new.lists)
       (state c.answer_quit.new.self) c.args.event.now _ c.in-Quit.is) c.answer_quit.ensures.turn;
   refused = tt;
   kept = c.answer_quit.ensures.kept;
