@@ -20,7 +20,9 @@
 //! conflict, and [`make`] an event that never rests.
 //!
 //! The desk knows its engine by the contracts of [`Answering`] alone. It keeps no list of the live transactions: the engine has it.
-//! It knows no threads, and does not promise that a thread is ever woken, which one comes next, or how long anything takes.
+//! It knows no threads, and does not promise that a thread is ever woken, which one comes next, or how long anything takes. It does not
+//! see that a call waits for its own thread, makes no cut by itself, has no attempt run alone after many conflicts, and keeps no list of
+//! the calls that ended, which the history has.
 //!
 //! ```
 //! /// A turn of a commit, under the lock. The thread that makes it sleeps if it is `Rest`.
