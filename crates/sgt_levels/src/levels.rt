@@ -8,7 +8,7 @@ ghost use Rattle.sgt_levels.specs.Commits.{IsReadCommitted};
 ghost use Rattle.sgt_levels.specs.Answers.{AreRight, IsCommittedRight, IsSnapshotRight};
 
 use crate::replay::{is_committed_run, is_snapshot_run};
-use crate::search::{Found, Snapshots, search_commits, search_snapshots};
+use crate::search::{Found, Snapshots, one_by_one, search_commits, search_snapshots};
 use crate::survey::{Partial, Survey};
 use crate::tie::{Tie, rules_out_committed, rules_out_partial, rules_out_snapshot};
 use sgt_appends::{AppendIndex, Fault, Transaction, first_fault, first_incompatible, unknown_read};
@@ -54,12 +54,12 @@ pub struct Levels {
     pub snapshot: Snapshot,
 }
 
-/// Which of the levels what the clients saw is of.
+/// Which of the levels what the clients saw is of. The hint is a serial run, if one is known, or empty.
 ///
 /// Each run and each cycle is tested. Both are open if a value is appended twice to a key, or if a transaction with an
-/// unknown end has a read. Otherwise snapshot isolation is open at most where transactions append to one key values that
-/// nobody saw. That is tested, not proved.
-pub fn levels_of(alloc: Global, history: &[Transaction]) -> Result<Levels, NoMemory>
+/// unknown end has a read. Otherwise snapshot isolation is open at most where, without a serial run, transactions append to
+/// one key values that nobody saw. That is tested, not proved.
+pub fn levels_of(alloc: Global, history: &[Transaction], hint: &[usize]) -> Result<Levels, NoMemory>
     ensures { IfOk result (AreRight history.now) }
 {
     let Some(appends) = AppendIndex::of_history(alloc, history)? else {
@@ -86,7 +86,7 @@ pub fn levels_of(alloc: Global, history: &[Transaction]) -> Result<Levels, NoMem
     }
     let survey = Survey::of_history(alloc, history, &appends)?;
     let committed = committed_of(alloc, history, &survey)?;
-    let snapshot = snapshot_of(alloc, history, &survey, &committed)?;
+    let snapshot = snapshot_of(alloc, history, &survey, &committed, hint)?;
     Ok(Levels {
         committed,
         snapshot,
@@ -145,6 +145,7 @@ fn snapshot_of(
     history: &[Transaction],
     survey: &Survey,
     committed: &Committed,
+    hint: &[usize],
 ) -> Result<Snapshot, NoMemory>
     requires once { AppendsOnce history.now }
     requires committed { IsCommittedRight history.now committed.now }
@@ -152,6 +153,15 @@ fn snapshot_of(
 {
     if is_no(committed) {
         return Ok(Snapshot::NotCommitted);
+    }
+    let serial = one_by_one(alloc, hint)?;
+    if is_snapshot_run(
+        alloc,
+        history,
+        serial.order.as_slice(),
+        serial.starts.as_slice(),
+    )? {
+        return Ok(Snapshot::Run(serial));
     }
     match search_snapshots(alloc, history, survey)? {
         Found::Run(run) => {

@@ -16,6 +16,18 @@ pub struct Snapshots {
     pub starts: Vec<usize>,
 }
 
+/// The run in which each transaction begins when all before it have committed.
+pub fn one_by_one(alloc: Global, order: &[usize]) -> Result<Snapshots, NoMemory> {
+    let mut starts = Vec::new(alloc);
+    for place in 0..order.len() {
+        starts.push(place)?;
+    }
+    Ok(Snapshots {
+        order: Vec::from_slice(alloc, order)?,
+        starts,
+    })
+}
+
 /// What the search for a snapshot run found.
 #[derive(Drop)]
 pub enum Found {

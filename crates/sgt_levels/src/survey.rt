@@ -322,7 +322,10 @@ impl Survey {
             transaction: read.reader,
             position: read.position,
         })?;
-        if self.whole.get(&read.key).is_none() && !ends_with_own(appends, read) {
+        if self.whole.get(&read.key).is_none()
+            && read.seen.len() == line.len
+            && !ends_with_own(appends, read)
+        {
             self.whole.insert(read.key, (read.reader, read.position))?;
         }
         if self.waits.get(&read.key).is_none()
