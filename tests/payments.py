@@ -479,6 +479,9 @@ class Load:
         number = request["id"]
         self.replies += 1
         same("the id of a reply", number, reply["id"])
+        if "seconds_old" in reply:  # on a slow machine another server leads already
+            self.unanswered.append(request)
+            return
         if "refused" in reply:
             self.refused.add(number)
             same(f"what payment {number} was answered before", None, self.acknowledged.get(number))
@@ -1171,6 +1174,9 @@ def stop_primary(group, primary, load):
     threading.Timer(0.1, old.process.send_signal, (signal.SIGCONT,)).start()
     load.run(old, 5)  # until it ends
     same("what a replaced primary acknowledges", before, load.acknowledged)
+    wait_until(lambda: old.process.poll() is not None or not group.health(primary)["leads"], "a replaced primary that has ended")
+    if old.process.poll() is None:
+        return  # on a slow machine it was replaced before it was stopped, and has begun anew
     error = old.process.communicate(timeout=SECONDS)[1]
     if old.process.returncode != 1 or "another primary leads" not in error:
         raise Differs(f"a replaced primary ends with {old.process.returncode} and {error}")
@@ -1273,7 +1279,9 @@ def partitions():
             old = wait_until(leader, "a server that leads")
             paid[2 * number - 1] = hosts.ask(old, pay(2 * number - 1, 1, 2, 100))
             hosts.connect(old, False)
-            same("what a primary replies that is cut off", None, hosts.ask(old, {"balance": 1}, inside=old))
+            silent = hosts.ask(old, {"balance": 1}, inside=old)
+            if silent and "seconds_old" not in silent[0]:  # on a slow machine it may follow already
+                raise Differs(f"a primary that is cut off replies {silent}")
             new = wait_until(lambda: leader(old), "another server that leads")  # noqa: B023
             paid[2 * number] = hosts.ask(new, pay(2 * number, 1, 2, 100))
             hosts.connect(old, True)

@@ -146,8 +146,10 @@ class Hosts:
     def missing():
         if why := Etcd.missing():
             return why
-        tried = subprocess.run(["unshare", "-n", "ip", "link", "add", "switch", "type", "bridge"], **QUIET, check=False).returncode if shutil.which("ip") else 1
-        return "this machine lets nobody make network namespaces" if tried or os.getuid() else None
+        own = f"sgt{os.getpid()}try"
+        made = f"ip netns add {own} && ip -n {own} link add name a type bridge && ip -n {own} link add name b type veth peer name c"
+        tried = subprocess.run(["sh", "-c", f"{made} && ip netns exec {own} true; status=$?; ip netns del {own}; exit $status"], **QUIET, check=False)
+        return "this machine lets nobody make network namespaces" if tried.returncode else None
 
     def command(self, *words):
         subprocess.run(words, check=True, capture_output=True, timeout=SECONDS)
