@@ -1,0 +1,31 @@
+//! EDN, as Jepsen stores histories, to JSON.
+//!
+//! [`json_of_edn`] writes the data of a text in EDN as JSON. A map that stands in nothing becomes an object, with its keys
+//! in their order. In it become
+//!
+//! - vectors and lists: arrays
+//! - maps and sets: an object whose one member, of the empty name, has the items in an array. So they are not taken for
+//!   lists
+//! - keywords, without their colon, symbols, characters and numbers that are not whole: strings
+//! - whole numbers, strings, `nil`, `true`, `false`: what they are in JSON
+//! - tags: nothing, and their values stay
+//!
+//! Brackets that stand in nothing become spaces, and comments vanish. Each newline outside of strings stays, so lines keep
+//! their numbers. What is not EDN becomes what is not JSON: nothing is promised of it.
+//!
+//! [`is_edn`] tells a text in EDN from one in JSON by its first bytes.
+//!
+//! `specs/Scans.antt` defines the text byte by byte. Tested, not proved: that it is the same data.
+//!
+//! ```
+//! let json = json_of_edn(alloc, b"{:type :ok, :f :txn}")?;       // {"type":"ok" ,"f":"txn"}
+//! ```
+#![tactic(auto)]
+
+mod bytes;
+mod format;
+mod scan;
+mod token;
+
+pub use format::is_edn;
+pub use scan::json_of_edn;
