@@ -650,7 +650,7 @@ def damage():
         number = unseal(data[mark + 1 : -1])[0]
         later = as_lines(number + 1, wanted[0], [("pay", 100, 1, 2, 5)])
         first = data.index(b"\n\n")  # the end of the first batch, which has the procedures
-        for at in (*range(0, first - 20, 97), *range(first - 20, len(data))):
+        for at in (*range(0, first - 20, 97), *range(first - 20, len(data), 2)):
             flipped = bytearray(data)
             flipped[at] ^= 1 << draw.randrange(8)
             for after in (b"", later):
