@@ -127,8 +127,10 @@ fn ties_of(
             Reason::Missed { read, append } => match enters {
                 Some((from, read)) => {
                     let to = link.to.saturating_sub(commits);
-                    let ground = Ground::Missed { read, append };
-                    ties.push(Tie { from, to, ground })?;
+                    if from != to {
+                        let ground = Ground::Missed { read, append };
+                        ties.push(Tie { from, to, ground })?;
+                    }
                     enters = None;
                 }
                 None => enters = Some((link.from, read)),
