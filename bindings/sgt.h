@@ -79,7 +79,7 @@ enum sgt_status {
     SGT_SELF_WAIT = 11,  /* of sgt_shared.h: the call would wait for its own thread, without a deadline */
     SGT_TIMED_OUT = 12,  /* of sgt_shared.h: the deadline passed */
     SGT_STALE = 13,      /* of sgt_shared.h: the transaction belongs to a part of the history that was cut */
-    SGT_MISUSE = 14,     /* of sgt_shared.h: a call that may not be made from here, or a ticket of another engine */
+    SGT_MISUSE = 14,     /* of sgt_shared.h: a call that may not be made from here, or after the end, or for another engine */
     SGT_UNDONE = 15,     /* of sgt_shared.h: the transaction was aborted by a conflict, and may be tried again */
     SGT_NOT_JSON = 16,   /* the opening, or the procedure's text, is not JSON */
     SGT_BAD_LINE = 17,   /* the opening is JSON, but not of the shape of an opening */

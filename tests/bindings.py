@@ -211,6 +211,15 @@ def tells_the_story_in_python(_):
     same("the money", LEFT, run([sys.executable, BINDINGS / "python" / "threads.py"], env=env))
 
 
+def takes_the_library_that_is_named(room):
+    """A package without a library beside it takes the one that SGT_LIBRARY names, or that of the folder which it names."""
+    shutil.copytree(BINDINGS / "python" / "sgt", room / "alone" / "sgt", ignore=shutil.ignore_patterns("*.so", "__pycache__"))
+    for named in (OUT, f"{OUT}/", OUT / "libsgt.so"):
+        env = dict(os.environ, PYTHONPATH=str(room / "alone"), PYTHONDONTWRITEBYTECODE="1", SGT_LIBRARY=str(named))
+        told = run([sys.executable, "-c", "import sgt; print(sgt.version())"], env=env)
+        same(f"the version of {named}", f"{declared_version()}\n", told)
+
+
 def is_a_wheel(room):
     """A wheel that is unpacked elsewhere finds the library that it contains."""
     run([BINDINGS / "build", "wheel", room / "wheels"])
@@ -709,6 +718,7 @@ CASES = [
     tells_the_story_in_rust,
     tells_the_story_by_cargo,
     tells_the_story_in_python,
+    takes_the_library_that_is_named,
     is_a_wheel,
     runs_the_programs_of_its_page,
     gives_each_reply_and_fault_its_text,

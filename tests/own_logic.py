@@ -236,6 +236,113 @@ def caught(error, call):
     raise Differs(f"no {error.__name__}")
 
 
+def tells_a_use_after_the_end_in_python(_):
+    """A body must not commit its transaction. After a commit or a quit, each access says that the transaction has ended."""
+    sgt = module()
+    with bank_of(sgt) as bank:
+
+        def commits(t):
+            t.write(TABLE, 101, 9)
+            t.commit()
+            t.write(TABLE, 101, 10)
+
+        same("what a body is told", True, "must not commit" in str(caught(sgt.Misuse, lambda: bank.transact(commits))))
+        same("that nothing is in the database", ({101: 10, 102: 20, 103: 30}, []), (values(bank), bank.live()))
+
+        def quits(t):
+            t.write(TABLE, 101, 9)
+            t.quit()
+            t.write(TABLE, 101, 10)
+
+        ended = "sgt: the transaction has ended"
+        same("what it is told after a quit", ended, str(caught(sgt.Misuse, lambda: bank.transact(quits))))
+        same("a quit alone", sgt.Cause.QUIT, caught(sgt.Aborted, lambda: bank.transact(lambda t: t.quit())).reply.cause)
+        for ends in (lambda t: t.commit(), lambda t: t.quit()):
+            t = bank.transaction()
+            ends(t)
+            for call in (lambda: t.read(TABLE, 101), lambda: t.write(TABLE, 101, 10), lambda: t.remove(TABLE, 101)):
+                same("what it is told after the end", ended, str(caught(sgt.Misuse, call)))
+        same("that a block keeps what it committed", ended, str(caught(sgt.Misuse, lambda: goes_on_after_its_commit(bank))))
+        same("the records", ({101: 9, 102: 20, 103: 30}, []), (values(bank), bank.live()))
+
+
+def goes_on_after_its_commit(bank):
+    with bank.transaction() as t:
+        t.write(TABLE, 101, 9)
+        t.commit()
+        t.write(TABLE, 101, 10)
+
+
+def refuses_bodies_that_are_not_run_in_python(_):
+    """A body that is async or a generator would commit before it has run."""
+    sgt = module()
+
+    async def later(t):
+        t.write(TABLE, 101, 9)
+
+    def one_by_one(t):
+        yield t.write(TABLE, 101, 9)
+
+    async def both(t):
+        yield t.write(TABLE, 101, 9)
+
+    with bank_of(sgt, ended=lambda ended: heard.append(ended)) as bank:
+        heard = []
+        for body in (later, one_by_one, both, lambda t: later(t)):
+            same("what is told", True, "must not be async" in str(caught(TypeError, lambda body=body: bank.transact(body))))
+        same("the records", ({101: 10, 102: 20, 103: 30}, [], []), (values(bank), bank.live(), heard))
+
+
+def keeps_the_exception_of_a_block_in_python(_):
+    """An exception leaves the engine's block while a thread waits in a call: it is raised, and the engine stays open."""
+    sgt = module()
+    bank = bank_of(sgt)
+    writer = bank.transaction()
+    writer.write(TABLE, 101, 11)
+    told = []
+    worker = threading.Thread(target=lambda: told.append(bank.transact(lambda t: t.read(TABLE, 101))))
+    worker.start()
+    while not any(live.waits for live in bank.live()):
+        time.sleep(0.001)
+    why = caught(KeyboardInterrupt, lambda: leaves(bank, KeyboardInterrupt()))
+    stays = "sgt: another thread waits in a call, or is in a hook, so the engine stays open"
+    if sys.version_info >= (3, 11):
+        same("its note", [stays], why.__notes__)
+    same("the end of a block that raises nothing", stays, str(caught(sgt.Busy, lambda: leaves(bank))))
+    same("the engine", 10, bank.get(TABLE, 101))
+    writer.quit()
+    worker.join()
+    same("what the thread read", [10], told)
+    same("an exception when nobody waits", "raised", what(KeyError, lambda: leaves(bank, KeyError()), "raised"))
+    same("the engine", "closed", what(sgt.Closed, lambda: bank.get(TABLE, 101), "closed"))
+
+
+def leaves(bank, why=None):
+    with bank:
+        if why:
+            raise why
+
+
+def keeps_a_journal_of_ones_own_in_python(_):
+    """What the bodies return, put together with the calls that are drained, gives the database, though the history is cut meanwhile."""
+    sgt = module()
+    wrote, journal = {}, []
+    with bank_of(sgt, keeps_ended=True, cut_after=1) as bank:
+
+        def body(t, number, value):
+            t.write(TABLE, number, t.read(TABLE, number) + value)
+            return t.ticket, [(number, t.read(TABLE, number))]
+
+        for value in range(1, 21):
+            ticket, rows = bank.transact(lambda t, value=value: body(t, RECORDS[value % 3], value))
+            wrote[ticket] = rows
+            same("the accesses of a part that was cut", "stale", what(sgt.Stale, lambda ticket=ticket: bank.accesses(ticket), "stale"))
+        journal = bank.drain()
+        same("the procedures", {sgt.EMPTY_PROCEDURE}, {ended.call.procedure for ended in journal})
+        same("the order", list(range(20)), [ended.sequence for ended in journal])
+        same("the records", values(bank), dict(row for ended in journal for row in wrote[ended.ticket]))
+
+
 def tries_again_in_python(_):
     """A body is run again after a cycle and after a cascading abort, also if it raises something of what was undone."""
     sgt = module()
@@ -311,7 +418,7 @@ def is_told_of_commits_in_python(_):
 
     with bank_of(sgt, ended=hook) as bank:
         ticket = bank.transact(lambda t: (t.write(TABLE, 101, 1), t.ticket)[1])
-        same("what the hook was told", (ticket, 1, 65535), (heard[0].ticket, heard[0].call.accesses, heard[0].call.procedure))
+        same("what the hook was told", (ticket, 1, sgt.EMPTY_PROCEDURE), (heard[0].ticket, heard[0].call.accesses, heard[0].call.procedure))
         same("what the hook raised", "raised", what(ZeroDivisionError, lambda: bank.transact(lambda t: t.write(TABLE, 101, 2)), "raised"))
         same("the record", 2, bank.get(TABLE, 101))
 
@@ -444,6 +551,10 @@ CASES = [
     reads_writes_and_removes_in_python,
     answers_single_calls_in_python,
     says_why_in_python,
+    tells_a_use_after_the_end_in_python,
+    refuses_bodies_that_are_not_run_in_python,
+    keeps_the_exception_of_a_block_in_python,
+    keeps_a_journal_of_ones_own_in_python,
     tries_again_in_python,
     runs_alone_at_last_in_python,
     is_told_of_commits_in_python,

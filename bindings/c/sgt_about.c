@@ -22,11 +22,11 @@ const char *sgt_status_text(uint32_t status)
     case SGT_BEGUN: return "there is a history, so nothing can be added to what the engine begins with";
     case SGT_TAKEN: return "the record of a row has a value already";
     case SGT_TOO_MANY: return "no number is left for a procedure";
-    case SGT_BUSY: return "another call is in the engine";
+    case SGT_BUSY: return "another call is in the engine, or another thread waits in one";
     case SGT_SELF_WAIT: return "the call would wait for its own thread, without a deadline";
     case SGT_TIMED_OUT: return "the deadline came";
     case SGT_STALE: return "the transaction is of a part of the history that was cut off";
-    case SGT_MISUSE: return "the call may not be made from here, or the ticket is of another engine";
+    case SGT_MISUSE: return "the call may not be made from here, the transaction has ended, or the ticket is of another engine";
     case SGT_UNDONE: return "the transaction was aborted by a conflict, and may be tried again";
     case SGT_NOT_JSON: return "the text is no JSON";
     case SGT_BAD_LINE: return "the text is JSON, and no opening";

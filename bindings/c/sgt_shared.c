@@ -18,6 +18,7 @@
 #include "sgt_shared.h"
 
 enum { MOST_LIVE = 32, MOST_ARGS = 4, MOST_PROCEDURE = 65535, MOST_ABORTS = 8 };
+enum { IN_BODY = 2 }; /* `is_live` of a transaction whose body is under way */
 
 enum {
     MOST_SPIN = 5000,    /* nanoseconds for which a thread looks whether the lock is free, before it sleeps */
@@ -1227,11 +1228,17 @@ static uint32_t end_cut_off(sgt_transaction *t)
     return t->status = SGT_UNDONE;
 }
 
+/* The status of an access after the end: SGT_UNDONE if a conflict or somebody else ended it, SGT_MISUSE if its own caller did. */
+static uint32_t has_ended(const sgt_transaction *t)
+{
+    return t->status == SGT_UNDONE || (t->reply.kind == SGT_OVER && t->reply.cause == SGT_BY_QUIT) ? SGT_UNDONE : SGT_MISUSE;
+}
+
 /* Makes an access of a transaction, and notes what came of it. */
 static uint32_t access_in(sgt_transaction *t, const struct access *it)
 {
     if (!is_made(t) || t->tries == 0) return SGT_BAD_CALL;
-    if (!t->is_live) return SGT_UNDONE;
+    if (!t->is_live) return has_ended(t);
     sgt_reply reply = {0};
     uint32_t status = enter_for(t->shared, &t->ticket);
     if (status == SGT_STALE) return end_cut_off(t);
@@ -1240,7 +1247,7 @@ static uint32_t access_in(sgt_transaction *t, const struct access *it)
         if (status == SGT_OK) t->reply = reply, t->ends = t->shared->ends;
         leave(t->shared, status);
     }
-    if (status == SGT_OK && (reply.kind == SGT_ABORTED || reply.kind == SGT_OVER)) return end_try(t), SGT_UNDONE;
+    if (status == SGT_OK && (reply.kind == SGT_ABORTED || reply.kind == SGT_OVER)) return end_try(t), has_ended(t);
     if (status == SGT_OK && reply.kind == SGT_BAD_ARGS) status = SGT_BAD_CALL;
     if (status != SGT_OK && t->status == SGT_OK) t->status = status;
     return status;
@@ -1298,11 +1305,19 @@ static uint32_t next_try(sgt_shared *shared, sgt_transaction *t, uint32_t tries,
     return leave(shared, start_try(shared, t, is_due_alone(shared, t->tries, tries), until));
 }
 
+/* Refuses a call that only the caller of a body may make. So the try can't be committed. */
+static uint32_t refuse_in_body(sgt_transaction *t)
+{
+    if (t->status == SGT_OK) t->status = SGT_MISUSE;
+    return SGT_MISUSE;
+}
+
 uint32_t sgt_shared_try(sgt_shared *shared, sgt_transaction *transaction, const sgt_transact_options *options)
 {
     static const sgt_transact_options plain = SGT_TRANSACT_OPTIONS;
     if (!options) options = &plain;
     if (!transaction || transaction->size < sizeof *transaction || options->size < sizeof *options) return SGT_BAD_CALL;
+    if (transaction->is_live == IN_BODY) return refuse_in_body(transaction);
     struct deadline until = deadline_in(options->wait_ns);
     return next_try(shared, transaction, options->tries, &until);
 }
@@ -1334,6 +1349,7 @@ static uint32_t commit_until(sgt_transaction *t, struct deadline *until)
 
 uint32_t sgt_transaction_commit(sgt_transaction *transaction, int64_t wait_ns)
 {
+    if (is_made(transaction) && transaction->is_live == IN_BODY) return refuse_in_body(transaction);
     struct deadline until = deadline_in(wait_ns);
     return commit_until(transaction, &until);
 }
@@ -1400,19 +1416,21 @@ static uint32_t call(sgt_body body, void *context, sgt_transaction *t)
 {
     struct guard guard = {.transaction = t};
     uint32_t told = 0;
+    t->is_live = IN_BODY;
     begin_guard(&guard);
     pthread_cleanup_push(break_guard, &guard);
     told = body(context, t);
     pthread_cleanup_pop(0);
     end_guard(&guard);
+    if (t->is_live) t->is_live = 1;
     return told;
 }
 
 /* Ends a try as its body says. It is quit if an access of it failed. */
 static uint32_t end_as_told(sgt_transaction *t, uint32_t told, struct deadline *until)
 {
-    if (told == SGT_COMMIT) return commit_until(t, until);
-    const uint32_t failed = told == SGT_QUIT ? t->status : (uint32_t)SGT_BAD_CALL;
+    if (told == SGT_BODY_COMMIT) return commit_until(t, until);
+    const uint32_t failed = told == SGT_BODY_QUIT ? t->status : (uint32_t)SGT_BAD_CALL;
     const uint32_t status = sgt_transaction_quit(t);
     return status == SGT_OK ? failed : status;
 }

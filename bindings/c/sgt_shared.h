@@ -20,7 +20,8 @@
  *   SGT_SELF_WAIT  the call would wait, without a deadline, for a transaction that its own thread has to end
  *   SGT_TIMED_OUT  the deadline came
  *   SGT_STALE      the ticket is of a part of the history that was cut off: its transaction has ended
- *   SGT_MISUSE     a call from inside a hook of the same engine, a ticket of another engine, or a call in a forked child
+ *   SGT_MISUSE     a call from inside a hook of the same engine, a ticket of another engine, a call in a forked child, an access of an
+ *                  sgt_transaction that its own caller has ended, or a commit by a body
  *   SGT_UNDONE     the transaction of an sgt_transaction was aborted by a conflict: leave the body, and it is tried again
  *
  * Unless a call says otherwise, it changes and writes nothing if its status is not SGT_OK. SGT_CLOSED is returned if the engine is a
@@ -153,13 +154,16 @@ typedef struct sgt_transaction {
     uint32_t tries;     /* how many were started */
     uint32_t waits;     /* how often they waited */
     uint32_t status;    /* SGT_OK, or why the last try can't be committed: the status of its first access that failed */
-    uint32_t is_live;   /* 1 until the last try has ended */
+    uint32_t is_live;   /* 0 once the last try has ended. Before: 2 in a body of sgt_shared_transact, else 1 */
     sgt_reply reply;    /* the last reply */
 } sgt_transaction;
 
 #define SGT_TRANSACTION {.size = sizeof(sgt_transaction)}
 
-/* A transaction function. It returns SGT_COMMIT or SGT_QUIT. */
+/* What a transaction function returns. No status has these numbers. */
+enum sgt_body_end { SGT_BODY_COMMIT = 1001, SGT_BODY_QUIT = 1002 };
+
+/* A transaction function. It returns SGT_BODY_COMMIT or SGT_BODY_QUIT, never a status. */
 typedef uint32_t (*sgt_body)(void *context, sgt_transaction *transaction);
 
 /* What became of a run or a transaction function. Begin with SGT_SHARED_OUTCOME. */
@@ -218,33 +222,38 @@ uint32_t sgt_shared_run(sgt_shared *shared, uint64_t procedure, const int64_t *a
 
 /*
  * Runs a function of yours as a transaction: starts one, calls `body` with it and with `context`, and commits it if `body` returns
- * SGT_COMMIT. `body` reads and writes by sgt_transaction_read, _write and _remove. The lock is not held meanwhile. `options` may be null.
+ * SGT_BODY_COMMIT. `body` reads and writes by sgt_transaction_read, _write and _remove. The lock is not held meanwhile. `options` may be
+ * null.
  *
  *     static uint32_t takes_five(void *context, sgt_transaction *t)
  *     {
  *         int64_t *had = context;
- *         if (sgt_transaction_read(t, 2, 101, had) != SGT_OK) return SGT_QUIT;
+ *         if (sgt_transaction_read(t, 2, 101, had) != SGT_OK) return SGT_BODY_QUIT;
  *         if (*had >= 5) sgt_transaction_write(t, 2, 101, *had - 5);      // else it is refused
- *         return SGT_COMMIT;
+ *         return SGT_BODY_COMMIT;
  *     }
  *
  * THE BODY IS RUN AGAIN after a cycle or a cascading abort. So it must have no effects but its accesses, and set what it returns in its
  * context anew each time. What it reads may be uncommitted, and be undone afterwards. So act on it only after the commit: when this call
  * returns SGT_OK with the reply SGT_COMMITTED. A body that quits on what it read may have quit on a value that is undone. To refuse
- * truthfully, it notes the refusal in its context, writes nothing, and returns SGT_COMMIT: once that is committed, the refusal is true.
+ * truthfully, it notes the refusal in its context, writes nothing, and returns SGT_BODY_COMMIT: once that is committed, the refusal is
+ * true.
  *
  * After `tries` aborts the next try is made ALONE: transactions that start wait, as for a cut, until the live ones have ended and it has
  * ended too. Then it is the only live one, so it is not aborted for a cycle and waits for nobody. A thread that has a live transaction may
  * still start others before it, so that it can end its own; one that always has something live keeps the try waiting. No try is made alone
  * while its own thread has another live transaction.
  *
- * The reply is the last one: SGT_COMMITTED; SGT_ABORTED with SGT_BY_QUIT if the body returned SGT_QUIT; SGT_SPENT, and the body was not
- * called; or SGT_OVER with SGT_BY_QUIT if another thread quit the transaction. If the history has been cut off before this was noticed,
- * the body is run again. What the body returns after a conflict does not matter.
+ * The reply is the last one: SGT_COMMITTED; SGT_ABORTED with SGT_BY_QUIT if the body returned SGT_BODY_QUIT; SGT_SPENT, and the body was
+ * not called; or SGT_OVER with SGT_BY_QUIT if another thread quit the transaction. If the history has been cut off before this was
+ * noticed, the body is run again. What the body returns after a conflict does not matter. So SGT_OK alone does not say that it is
+ * committed.
  *
  * With each other status, nothing is left live, and the tries and waits are written, and no more: SGT_TIMED_OUT if the deadline comes,
  * which does not interrupt the body; SGT_SELF_WAIT; SGT_NO_MEMORY; SGT_CLOSED; SGT_BAD_CALL if a size is too small, or the body returns
- * another number. If an access of the body failed, nothing is committed, whatever it returns, and the status is that of this access.
+ * another number: a status, say. If an access of the body failed, nothing is committed, whatever it returns, and the status is that of
+ * this access. A body must not commit its transaction itself: such a call is SGT_MISUSE, and so counts as an access that failed. If the
+ * body quits it itself, it is as if it returned SGT_BODY_QUIT.
  *
  * A body may be left by an exception, by the end of its thread, and, with glibc, by longjmp: then its transaction is aborted. With another
  * C library, it stays live after a longjmp.
@@ -252,7 +261,12 @@ uint32_t sgt_shared_run(sgt_shared *shared, uint64_t procedure, const int64_t *a
 uint32_t sgt_shared_transact(sgt_shared *shared, sgt_body body, void *context, const sgt_transact_options *options,
                              sgt_shared_outcome *outcome);
 
-/* Reads a record. SGT_NONE if there is none; SGT_UNDONE; SGT_BAD_CALL if the table is over 7 or the number out of range; SGT_NO_MEMORY. */
+/*
+ * Accesses. After the end of the transaction they are SGT_UNDONE if a conflict or another thread ended it, and SGT_MISUSE if its own caller
+ * has committed or quit it.
+ *
+ * Reads a record. SGT_NONE if there is none; SGT_UNDONE; SGT_BAD_CALL if the table is over 7 or the number out of range; SGT_NO_MEMORY.
+ */
 uint32_t sgt_transaction_read(sgt_transaction *transaction, uint64_t table, int64_t number, int64_t *value);
 
 /* Writes a record. SGT_UNDONE; SGT_BAD_CALL if the table is over 7, or the number or the value out of range; SGT_NO_MEMORY. */
@@ -275,8 +289,8 @@ uint32_t sgt_shared_try(sgt_shared *shared, sgt_transaction *transaction, const 
 /*
  * Commits it. Where it has to wait for another one, it waits until that has ended. The reply is as of sgt_shared_transact.
  *
- * SGT_UNDONE; SGT_TIMED_OUT, SGT_SELF_WAIT, SGT_NO_MEMORY, and the status of an access that failed: it was quit. SGT_BAD_CALL if it was not
- * started.
+ * SGT_UNDONE; SGT_TIMED_OUT, SGT_SELF_WAIT, SGT_NO_MEMORY, and the status of an access that failed: it was quit. SGT_MISUSE in a body of
+ * sgt_shared_transact; SGT_BAD_CALL if it was not started.
  */
 uint32_t sgt_transaction_commit(sgt_transaction *transaction, int64_t wait_ns);
 
@@ -308,7 +322,7 @@ uint32_t sgt_shared_remove(sgt_shared *shared, const sgt_ticket *ticket, uint64_
 
 /*
  * The accesses that the caller of a transaction decided, as by sgt_accesses, until the history is cut. A hook may call it, too: that of
- * `ended`, for a journal. SGT_STALE; SGT_BAD_CALL.
+ * `ended`, for a journal. The cost grows with the entries since its start, so ask soon. SGT_STALE; SGT_BAD_CALL.
  */
 uint32_t sgt_shared_accesses(sgt_shared *shared, const sgt_ticket *ticket, sgt_access *accesses, size_t room, uint64_t *count);
 

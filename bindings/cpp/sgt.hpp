@@ -454,15 +454,20 @@ class SharedEngine;
 
 // A transaction whose accesses you decide, of `SharedEngine::begin` or `SharedEngine::transact`. Its destructor quits it, unless it has
 // ended before. It must not outlive the engine. What it reads may be uncommitted, and be undone afterwards: so act on it only after the
-// commit. Each call throws Aborted if it has been aborted, std::invalid_argument if a number is out of range, or std::bad_alloc.
+// commit. Each call throws Aborted if it has been aborted, std::invalid_argument if a number is out of range, or std::bad_alloc; and
+// std::logic_error (SGT_MISUSE) if you have committed or quit it before. A body must not commit it: std::logic_error, too.
 class [[nodiscard]] OwnTransaction {
 public:
-    OwnTransaction(OwnTransaction &&other) noexcept : shared(other.shared), told(other.told) { other.told.is_live = 0; }
+    OwnTransaction(OwnTransaction &&other) noexcept : shared(other.shared), told(other.told), is_in_body(other.is_in_body)
+    {
+        other.told.is_live = 0;
+    }
 
     OwnTransaction &operator=(OwnTransaction &&other) noexcept
     {
         std::swap(shared, other.shared);
         std::swap(told, other.told);
+        std::swap(is_in_body, other.is_in_body);
         return *this;
     }
 
@@ -474,6 +479,7 @@ public:
         if (told.is_live) sgt_shared_abandon(shared, &told.ticket); // also inside a hook of the engine
     }
 
+    // Identifies the last try: once it is committed, that of its `sgt_ended`.
     [[nodiscard]] const sgt_ticket &ticket() const { return told.ticket; }
 
     // How many transactions were started for it, this one included.
@@ -498,6 +504,7 @@ public:
     // Commits it, and waits for its predecessors. Throws TimedOut if the deadline comes first, or SelfWait; then it was quit.
     void commit(Wait wait = std::nullopt)
     {
+        if (is_in_body) throw std::logic_error("sgt: a body must not commit its transaction: transact does when it returns");
         if (!is_committed(wait)) throw aborted();
     }
 
@@ -527,6 +534,7 @@ private:
 
     sgt_shared *shared;
     sgt_transaction told{};
+    bool is_in_body = false; // of `SharedEngine::transact`, which commits it
 };
 
 // A transaction of a shared engine. Its destructor aborts it, unless it has ended before. It must not outlive the engine. After its end the
@@ -650,7 +658,7 @@ public:
     // The body is run again after a conflict, so it must have no effects but its accesses. What it reads may be uncommitted, and be undone
     // afterwards: act on it after the commit, when this call has returned. What it throws quits the transaction and is thrown, unless it
     // is a std::exception and a conflict had come first; it may rest on a value that is undone. To refuse truthfully, return the refusal
-    // without a write: once that is committed, it is true.
+    // without a write: once that is committed, it is true. The body must not commit the transaction itself.
     //
     // After `tries` conflicts the next try is made alone: others wait until it has ended, and it has no conflicts.
     //
@@ -679,7 +687,7 @@ public:
     }
 
     // Returns the accesses that the caller of a transaction decided, in their order. Throws Stale once the history is cut. The hooks of the
-    // engine may call it.
+    // engine may call it. The cost grows with the entries since its start, so ask soon.
     [[nodiscard]] std::vector<sgt_access> accesses(const sgt_ticket &ticket)
     {
         std::vector<sgt_access> accesses;
@@ -786,6 +794,7 @@ private:
     static bool is_done(OwnTransaction &own, Call call, TransactLimits limits, std::chrono::steady_clock::time_point begin)
     {
         own.start(left(limits, begin), limits.tries);
+        own.is_in_body = true;
         try {
             call();
         } catch (const std::exception &) {

@@ -184,7 +184,7 @@ static uint32_t acts(void *context, sgt_transaction *t)
         if (told == SGT_UNDONE) it->is_over = true;
         if (told != SGT_OK && told != SGT_NONE) break;
     }
-    return byte(it->input) % 4 ? SGT_COMMIT : SGT_QUIT;
+    return byte(it->input) % 4 ? SGT_BODY_COMMIT : SGT_BODY_QUIT;
 }
 
 /* A transaction function that never waits. The other engine makes the same events. */

@@ -158,7 +158,7 @@ static uint32_t adds(void *context, sgt_transaction *t)
     struct note *note = context;
     note->calls++;
     note->status = sgt_transaction_read(t, TABLE, 1, &note->value);
-    if (note->status != SGT_OK) return SGT_QUIT;
+    if (note->status != SGT_OK) return SGT_BODY_QUIT;
     note->status = sgt_transaction_write(t, TABLE, 1, note->value + 1);
     return note->returns;
 }
@@ -167,14 +167,79 @@ static void functions_are_committed_or_quit(void)
 {
     sgt_shared *shared = opened(0);
     sgt_shared_outcome out = fresh;
-    struct note note = {.returns = SGT_COMMIT};
+    struct note note = {.returns = SGT_BODY_COMMIT};
     CHECK(sgt_shared_transact(shared, adds, &note, 0, &out) == SGT_OK && out.reply.kind == SGT_COMMITTED && got(shared, 1) == 11);
     CHECK(out.tries == 1 && out.waits == 0 && note.calls == 1 && note.status == SGT_OK && out.ticket.part == 0);
-    note.returns = SGT_QUIT;
+    note.returns = SGT_BODY_QUIT;
     CHECK(sgt_shared_transact(shared, adds, &note, 0, &out) == SGT_OK && out.reply.kind == SGT_ABORTED && out.reply.cause == SGT_BY_QUIT);
     CHECK(got(shared, 1) == 11 && lives(shared) == 0);
     note.returns = 77;
     CHECK(sgt_shared_transact(shared, adds, &note, 0, &out) == SGT_BAD_CALL && got(shared, 1) == 11 && lives(shared) == 0);
+    closes(shared);
+}
+
+/* A body that returns a status has made a mistake, whichever status it is, and commits nothing. */
+static void functions_that_return_a_status_are_told(void)
+{
+    sgt_shared *shared = opened(0);
+    sgt_shared_outcome out = fresh;
+    for (uint32_t status = SGT_OK; status <= 255; status++) {
+        struct note note = {.returns = status};
+        CHECK(sgt_shared_transact(shared, adds, &note, 0, &out) == SGT_BAD_CALL && note.calls == 1 && out.reply.kind == 0);
+    }
+    CHECK(got(shared, 1) == 10 && lives(shared) == 0);
+    closes(shared);
+}
+
+/* Commits its own transaction, or makes the next try of it, and goes on as if that were allowed. */
+static uint32_t commits_itself(void *context, sgt_transaction *t)
+{
+    struct note *note = context;
+    CHECK(sgt_transaction_write(t, TABLE, 1, 9) == SGT_OK && t->is_live);
+    if (note->calls++ == 0) CHECK(sgt_transaction_commit(t, SGT_FOREVER) == SGT_MISUSE);
+    else CHECK(sgt_shared_try(note->shared, t, 0) == SGT_MISUSE);
+    CHECK(t->is_live && sgt_transaction_write(t, TABLE, 1, 10) == SGT_OK);
+    return note->returns;
+}
+
+/* Quits its own transaction, and goes on. */
+static uint32_t quits_itself(void *context, sgt_transaction *t)
+{
+    struct note *note = context;
+    note->calls++;
+    CHECK(sgt_transaction_write(t, TABLE, 1, 9) == SGT_OK && sgt_transaction_quit(t) == SGT_OK);
+    CHECK(sgt_transaction_write(t, TABLE, 1, 10) == SGT_MISUSE && sgt_transaction_read(t, TABLE, 1, &note->value) == SGT_MISUSE);
+    return note->returns;
+}
+
+/* Commits its own transaction by its ticket, which is not seen at once. */
+static uint32_t commits_its_ticket(void *context, sgt_transaction *t)
+{
+    struct note *note = context;
+    CHECK(sgt_transaction_write(t, TABLE, 1, 9) == SGT_OK);
+    commits(note->shared, &t->ticket);
+    for (int i = 0; i < 2; i++) CHECK(sgt_transaction_write(t, TABLE, 1, 10) == SGT_MISUSE);
+    return note->returns;
+}
+
+static void functions_that_end_themselves_are_told(void)
+{
+    sgt_shared *shared = opened(0);
+    sgt_shared_outcome out = fresh;
+    const uint32_t returns[] = {SGT_BODY_COMMIT, SGT_BODY_QUIT};
+    for (int i = 0; i < 2; i++) {
+        struct note note = {.shared = shared, .returns = returns[i]};
+        for (int j = 0; j < 2; j++) CHECK(sgt_shared_transact(shared, commits_itself, &note, 0, &out) == SGT_MISUSE && out.reply.kind == 0);
+        CHECK(note.calls == 2 && got(shared, 1) == 10 && lives(shared) == 0);
+    }
+    for (int i = 0; i < 2; i++) {
+        struct note note = {.returns = returns[i]};
+        CHECK(sgt_shared_transact(shared, quits_itself, &note, 0, &out) == SGT_OK && note.calls == 1);
+        CHECK(out.reply.kind == SGT_ABORTED && out.reply.cause == SGT_BY_QUIT && got(shared, 1) == 10);
+    }
+    struct note note = {.shared = shared, .returns = SGT_BODY_COMMIT};
+    CHECK(sgt_shared_transact(shared, commits_its_ticket, &note, 0, &out) == SGT_OK);
+    CHECK(out.reply.kind == SGT_OVER && out.reply.cause == SGT_BY_COMMIT && got(shared, 1) == 9 && lives(shared) == 0);
     closes(shared);
 }
 
@@ -183,7 +248,7 @@ static void wrong_functions_are_told(void)
     sgt_shared *shared = opened(0);
     sgt_shared_outcome out = fresh, small = {.size = sizeof small - 1};
     sgt_transact_options options = SGT_TRANSACT_OPTIONS;
-    struct note note = {.returns = SGT_COMMIT};
+    struct note note = {.returns = SGT_BODY_COMMIT};
     sgt_transaction t = SGT_TRANSACTION;
     int64_t value = 0;
     CHECK(sgt_shared_transact(0, adds, &note, 0, &out) == SGT_CLOSED && sgt_shared_transact(shared, 0, &note, 0, &out) == SGT_BAD_CALL);
@@ -214,9 +279,9 @@ static void failed_accesses_commit_nothing(void)
 {
     sgt_shared *shared = opened(0);
     sgt_shared_outcome out = fresh;
-    struct note note = {.returns = SGT_COMMIT};
+    struct note note = {.returns = SGT_BODY_COMMIT};
     CHECK(sgt_shared_transact(shared, fails, &note, 0, &out) == SGT_BAD_CALL && out.reply.kind == 0 && out.tries == 1);
-    note.returns = SGT_QUIT;
+    note.returns = SGT_BODY_QUIT;
     CHECK(sgt_shared_transact(shared, fails, &note, 0, &out) == SGT_BAD_CALL && got(shared, 1) == 10 && lives(shared) == 0);
     closes(shared);
 }
@@ -227,7 +292,7 @@ static uint32_t removes(void *context, sgt_transaction *t)
     struct note *note = context;
     CHECK(sgt_transaction_remove(t, TABLE, 1) == SGT_OK);
     note->status = sgt_transaction_read(t, TABLE, 1, &note->value);
-    return SGT_COMMIT;
+    return SGT_BODY_COMMIT;
 }
 
 static void records_are_removed(void)
@@ -264,10 +329,10 @@ static void conflicts_are_tried_again(void)
 {
     sgt_shared *shared = opened(0);
     sgt_shared_outcome out = fresh;
-    struct note note = {.shared = shared, .conflicts = 3, .returns = SGT_COMMIT};
+    struct note note = {.shared = shared, .conflicts = 3, .returns = SGT_BODY_COMMIT};
     CHECK(sgt_shared_transact(shared, meets, &note, 0, &out) == SGT_OK && out.reply.kind == SGT_COMMITTED);
     CHECK(out.tries == 4 && note.calls == 4 && got(shared, 1) == 4 && note.value == 20 && lives(shared) == 0);
-    note = (struct note){.shared = shared, .conflicts = 1, .returns = SGT_QUIT};
+    note = (struct note){.shared = shared, .conflicts = 1, .returns = SGT_BODY_QUIT};
     CHECK(sgt_shared_transact(shared, meets, &note, 0, &out) == SGT_OK && out.reply.kind == SGT_ABORTED && out.tries == 2);
     closes(shared);
 }
@@ -280,12 +345,12 @@ static uint32_t reads_undone(void *context, sgt_transaction *t)
     if (in_way) note->other = begins(note->shared), writes(note->shared, &note->other, 1, 99);
     CHECK(sgt_transaction_read(t, TABLE, 1, &note->value) == SGT_OK && note->value == (in_way ? 99 : 10));
     if (in_way) quits(note->shared, &note->other);
-    if (in_way && note->calls == 1) return SGT_COMMIT;
+    if (in_way && note->calls == 1) return SGT_BODY_COMMIT;
     if (in_way && note->calls == 2) CHECK(sgt_transaction_write(t, TABLE, 2, 1) == SGT_UNDONE);
     if (in_way && note->calls == 3) CHECK(sgt_shared_cut(note->shared, 0) == SGT_OK && sgt_transaction_write(t, TABLE, 2, 1) == SGT_UNDONE);
     if (in_way && note->calls == 4) CHECK(sgt_shared_cut(note->shared, 0) == SGT_OK);
-    if (in_way) return SGT_QUIT;
-    return SGT_COMMIT;
+    if (in_way) return SGT_BODY_QUIT;
+    return SGT_BODY_COMMIT;
 }
 
 static void cascading_aborts_are_tried_again(void)
@@ -312,9 +377,9 @@ static void transactions_that_others_quit_are_told(void)
 {
     sgt_shared *shared = opened(0);
     sgt_shared_outcome out = fresh;
-    struct note note = {.shared = shared, .returns = SGT_COMMIT};
+    struct note note = {.shared = shared, .returns = SGT_BODY_COMMIT};
     CHECK(sgt_shared_transact(shared, is_quit, &note, 0, &out) == SGT_OK && out.reply.kind == SGT_OVER && out.reply.cause == SGT_BY_QUIT);
-    note.returns = SGT_QUIT;
+    note.returns = SGT_BODY_QUIT;
     CHECK(sgt_shared_transact(shared, is_quit, &note, 0, &out) == SGT_OK && out.reply.kind == SGT_OVER && note.calls == 2);
     closes(shared);
 }
@@ -325,7 +390,7 @@ static void spent_starts_are_told(void)
     sgt_shared *shared = 0;
     sgt_fault fault = {0};
     sgt_shared_outcome out = fresh;
-    struct note note = {.returns = SGT_COMMIT};
+    struct note note = {.returns = SGT_BODY_COMMIT};
     CHECK(sgt_shared_open(&shared, (const uint8_t *)few, strlen(few), 0, 0, 0, &fault) == SGT_OK);
     CHECK(sgt_shared_transact(shared, removes, &note, 0, &out) == SGT_OK && out.reply.kind == SGT_COMMITTED);
     CHECK(sgt_shared_transact(shared, adds, &note, 0, &out) == SGT_OK && out.reply.kind == SGT_SPENT && out.tries == 0 && note.calls == 0);
@@ -374,7 +439,7 @@ static uint32_t is_alone(void *context, sgt_transaction *t)
     CHECK(!it->done && lives(it->shared) == 1);
     it->is_on = false;
     CHECK(pthread_detach(thread) == 0);
-    return SGT_COMMIT;
+    return SGT_BODY_COMMIT;
 }
 
 static void the_try_that_is_alone_holds_others_up(void)
@@ -411,7 +476,7 @@ static void the_try_that_is_alone_waits_for_others(void)
 {
     sgt_shared *shared = opened(0);
     struct later later = {shared, begins(shared)};
-    struct note note = {.returns = SGT_COMMIT};
+    struct note note = {.returns = SGT_BODY_COMMIT};
     sgt_transact_options options = SGT_TRANSACT_OPTIONS;
     sgt_shared_outcome out = fresh;
     sgt_ticket ticket = {0};
@@ -441,11 +506,11 @@ static uint32_t is_unlucky(void *context, sgt_transaction *t)
     note->calls++;
     CHECK(sgt_transaction_write(t, TABLE, 1, note->calls) == SGT_OK);
     note->status = sgt_shared_begin(note->shared, SGT_FOREVER, &other, &reply);
-    if (note->status != SGT_OK) return SGT_COMMIT;
+    if (note->status != SGT_OK) return SGT_BODY_COMMIT;
     writes(note->shared, &other, 2, 1);
     reads(note->shared, &other, 1);
     CHECK(sgt_transaction_read(t, TABLE, 2, &value) == SGT_UNDONE);
-    return SGT_COMMIT;
+    return SGT_BODY_COMMIT;
 }
 
 static void the_unlucky_are_alone_at_last(void)
@@ -538,7 +603,7 @@ static void threads_that_wait_for_themselves_are_told(void)
     const sgt_ticket first = begins(shared), second = begins(shared);
     sgt_ticket more[3] = {{0}};
     sgt_reply reply = {0};
-    struct note note = {.returns = SGT_COMMIT};
+    struct note note = {.returns = SGT_BODY_COMMIT};
     sgt_shared_outcome out = fresh;
     writes(shared, &first, 1, 1);
     writes(shared, &second, 1, 2);
@@ -603,7 +668,7 @@ static void bodies_may_jump(void)
 {
 #ifdef __GLIBC__
     sgt_shared *shared = opened(0);
-    struct note note = {.shared = shared, .returns = SGT_COMMIT};
+    struct note note = {.shared = shared, .returns = SGT_BODY_COMMIT};
     sgt_transact_options options = SGT_TRANSACT_OPTIONS;
     sgt_shared_outcome out = fresh;
     options.tries = 0;
@@ -660,7 +725,7 @@ static uint32_t forks(void *context, sgt_transaction *t)
     int ended = 1;
     CHECK(child > 0 && waitpid(child, &ended, 0) == child && ended == 0);
     note->status = sgt_transaction_read(t, TABLE, 1, &note->value);
-    return SGT_COMMIT;
+    return SGT_BODY_COMMIT;
 }
 
 static void bodies_may_fork(void)
@@ -693,7 +758,7 @@ static void tries_in_hook(void *context, const sgt_ended *ended)
 
 static void hooks_are_told_of_accesses(void)
 {
-    struct note note = {0}, body = {.returns = SGT_COMMIT};
+    struct note note = {0}, body = {.returns = SGT_BODY_COMMIT};
     sgt_shared_config config = SGT_SHARED_CONFIG;
     config.ended = tries_in_hook, config.context = &note, config.keeps_ended = 1;
     sgt_shared *shared = opened(&config);
@@ -724,9 +789,12 @@ static void loops_are_of_ones_own(void)
     CHECK(sgt_shared_try(shared, &u, 0) == SGT_OK && u.tries == 3 && lives(shared) == 1); /* the live one was quit */
     CHECK(sgt_transaction_read(&u, TABLE, 1, &value) == SGT_OK && value == 10);
     CHECK(sgt_transaction_commit(&u, 0) == SGT_OK && u.reply.kind == SGT_COMMITTED && sgt_transaction_quit(&u) == SGT_OK);
+    CHECK(sgt_transaction_write(&u, TABLE, 1, 1) == SGT_MISUSE && sgt_transaction_read(&u, TABLE, 1, &value) == SGT_MISUSE);
+    CHECK(sgt_transaction_remove(&u, TABLE, 1) == SGT_MISUSE && sgt_transaction_commit(&u, 0) == SGT_OK && got(shared, 1) == 10);
     CHECK(sgt_shared_try(shared, &t, 0) == SGT_OK && sgt_transaction_write(&t, TABLE, 2, 7) == SGT_OK);
     CHECK(sgt_shared_try(shared, &u, 0) == SGT_OK && sgt_transaction_read(&u, TABLE, 2, &value) == SGT_OK && value == 7);
     CHECK(sgt_transaction_commit(&u, MS) == SGT_TIMED_OUT && !u.is_live && lives(shared) == 1);
+    CHECK(sgt_transaction_read(&u, TABLE, 1, &value) == SGT_MISUSE && sgt_transaction_commit(&u, 0) == SGT_TIMED_OUT);
     CHECK(sgt_transaction_commit(&t, SGT_FOREVER) == SGT_OK && got(shared, 2) == 7);
     closes(shared);
 }
@@ -736,6 +804,8 @@ int main(void)
     accesses_are_made_one_by_one();
     wrong_accesses_are_told();
     functions_are_committed_or_quit();
+    functions_that_return_a_status_are_told();
+    functions_that_end_themselves_are_told();
     wrong_functions_are_told();
     failed_accesses_commit_nothing();
     records_are_removed();

@@ -91,6 +91,22 @@ static void functions_throw()
     CHECK(throws<std::invalid_argument>([&] { bank.transact([](sgt::OwnTransaction &t) { t.write(8, 1, 1); }); }));
     CHECK(throws<std::invalid_argument>([&] { bank.transact([](sgt::OwnTransaction &t) { t.remove(TABLE, SGT_MOST + 1); }); }));
     CHECK(throws<sgt::Aborted>([&] { bank.transact([](sgt::OwnTransaction &t) { t.quit(); }); }));
+    CHECK(throws<std::logic_error>([&] {
+        bank.transact([](sgt::OwnTransaction &t) {
+            t.write(TABLE, 101, 99);
+            t.commit();
+        });
+    }));
+    CHECK(throws<std::logic_error>([&] {
+        bank.transact([](sgt::OwnTransaction &t) {
+            t.write(TABLE, 101, 99);
+            auto moved = std::move(t);
+            moved.commit();
+        });
+    }));
+    auto ended = bank.begin();
+    ended.commit();
+    CHECK(throws<std::logic_error>([&] { ended.write(TABLE, 101, 99); }));
     CHECK(bank.live().empty() && bank.get(TABLE, 101) == 10);
 }
 

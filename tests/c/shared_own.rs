@@ -167,7 +167,7 @@ fn answers_single_calls() -> Result<(), Error> {
     assert_eq!((engine.accesses(0)?.len(), engine.commit(0)?), (3, Reply::Committed(vec![])));
     assert_eq!(engine.entry(2).map(|entry| entry.0), Some(Event::Write { tid: 0, table: TABLE, number: 102, value: 5 }));
     assert_eq!(engine.entry(3).map(|entry| entry.0), Some(Event::Remove { tid: 0, table: TABLE, number: 101 }));
-    assert_eq!(engine.calls(0, 8)?.map(|(calls, _)| (calls[0].procedure, calls[0].accesses)), Some((65535, 3)));
+    assert_eq!(engine.calls(0, 8)?.map(|(calls, _)| (calls[0].procedure, calls[0].accesses)), Some((sgt::EMPTY_PROCEDURE, 3)));
     assert_eq!(engine.rows(0, sgt::LEAST)?, [Row { table: TABLE, number: 102, value: 5 }]);
     Ok(())
 }

@@ -76,7 +76,7 @@ static uint32_t deposits(void *context, sgt_transaction *t)
     int64_t *value = context;
     const uint32_t status = sgt_transaction_read(t, 2, 101, value);
     if (status == SGT_OK) sgt_transaction_write(t, 2, 101, *value + 100);
-    return SGT_COMMIT;
+    return SGT_BODY_COMMIT;
 }
 
 /* The same for one. How many calls were refused, or -1. */

@@ -266,12 +266,12 @@ static uint32_t moves(void *context, sgt_transaction *t)
     const int64_t from = (int64_t)draw(it, OWN_RECORDS), to = (int64_t)draw(it, OWN_RECORDS);
     int64_t had = 0, other = 0;
     const uint32_t status = sgt_transaction_read(t, OWN_TABLE, from, &had);
-    if (status != SGT_OK && status != SGT_NONE) return SGT_QUIT;
+    if (status != SGT_OK && status != SGT_NONE) return SGT_BODY_QUIT;
     if (draw(it, 4) == 0) sched_yield();
     if (draw(it, 2) == 0) sgt_transaction_read(t, OWN_TABLE, to, &other);
     if (had == 0) sgt_transaction_remove(t, OWN_TABLE, from);
     else sgt_transaction_write(t, OWN_TABLE, to, (other + had) % 1000);
-    return SGT_COMMIT;
+    return SGT_BODY_COMMIT;
 }
 
 static void transact_one(struct thread *it)

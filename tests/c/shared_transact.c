@@ -97,10 +97,10 @@ static uint32_t mixes(void *context, sgt_transaction *t)
             status = sgt_transaction_remove(t, TABLE, number);
             if (status == SGT_OK) note(&thread->now, SGT_REMOVE, number, false, 0);
         }
-        if (status == SGT_UNDONE) return SGT_QUIT;
+        if (status == SGT_UNDONE) return SGT_BODY_QUIT;
         if (status != SGT_OK && status != SGT_NONE) differs("the status of an access");
     }
-    return draw(thread, 20) == 0 ? SGT_QUIT : SGT_COMMIT;
+    return draw(thread, 20) == 0 ? SGT_BODY_QUIT : SGT_BODY_COMMIT;
 }
 
 static void keep(struct thread *thread, const sgt_ticket *ticket, bool is_run)

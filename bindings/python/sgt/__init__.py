@@ -15,7 +15,8 @@
 `SharedEngine` is for many threads. `Engine` has a call for each event of a history, for one thread at a time. sgt_shared.h and sgt.h say
 what each call does.
 
-The library is searched at the path in SGT_LIBRARY, then in this package, then in bindings/out, then where the system has libraries.
+The library is the file that SGT_LIBRARY names, or libsgt.so in the folder that it names. Else it is searched in this package, then in
+bindings/out, then where the system has libraries.
 """
 
 from ._engine import Engine
@@ -41,7 +42,7 @@ from ._errors import (
     TimedOut,
     TooMany,
 )
-from ._library import LEAST, MOST, Row, pack_calls, unpack_calls, version
+from ._library import EMPTY_PROCEDURE, LEAST, MOST, Row, pack_calls, unpack_calls, version
 from ._own import OwnTransaction
 from ._replies import Access, Asked, BatchOutcome, Call, Cause, Event, Kind, Reply, unpack_outcomes, wrote
 from ._shared import Live, Outcome, SharedEngine, Transaction
@@ -49,6 +50,7 @@ from ._shared import Live, Outcome, SharedEngine, Transaction
 __version__ = version()
 
 __all__ = [
+    "EMPTY_PROCEDURE",
     "LEAST",
     "MOST",
     "Aborted",

@@ -98,10 +98,10 @@ class TooMany(Error, OverflowError):
 
 
 class Busy(Error, RuntimeError):
-    """Another call is in the engine."""
+    """Another call is in the engine. Of a close of a SharedEngine: another thread waits in a call, or is in a hook, so it stays open."""
 
-    def __init__(self) -> None:
-        super().__init__("sgt: another call is in the engine")
+    def __init__(self, what: str = "another call is in the engine") -> None:
+        super().__init__(f"sgt: {what}")
 
 
 class TimedOut(Error, TimeoutError):
@@ -126,10 +126,11 @@ class Stale(Error, RuntimeError):
 
 
 class Misuse(Error, RuntimeError):
-    """A call from a hook of the same engine, with a ticket of another engine, or in a forked child."""
+    """A call from a hook of the same engine, with a ticket of another engine, in a forked child, or of a transaction that its own caller
+    has committed or quit; or a commit by the body of `transact`."""
 
-    def __init__(self) -> None:
-        super().__init__("sgt: the call may not be made from here, or the ticket is of another engine")
+    def __init__(self, what: str = "the call may not be made from here, or the ticket is of another engine") -> None:
+        super().__init__(f"sgt: {what}")
 
 
 class Aborted(Error, RuntimeError):

@@ -35,6 +35,7 @@ VERSION = "0.1.0"
 
 # The least and the greatest value, argument and record number.
 LEAST, MOST = -999_999_999_999_999, 999_999_999_999_999
+EMPTY_PROCEDURE = 65535  # that of a call whose caller decided all its accesses
 
 OK, NO_MEMORY, CLOSED, NONE, BAD_CALL, STILL_LIVE, BEGUN, TAKEN, TOO_MANY = 0, 1, 2, 4, 5, 6, 7, 8, 9
 BUSY, SELF_WAIT, TIMED_OUT, STALE, MISUSE, UNDONE, FIRST_FAULT, PROC_SHAPE = 10, 11, 12, 13, 14, 15, 16, 20
@@ -181,7 +182,10 @@ def _path() -> str:
     package = pathlib.Path(__file__).resolve().parent
     near = [package / "libsgt.so", package.parent.parent / "out" / "libsgt.so"]
     found = [str(path) for path in near if path.exists()]
-    path = os.environ.get("SGT_LIBRARY") or (found[0] if found else ctypes.util.find_library("sgt"))
+    named = os.environ.get("SGT_LIBRARY")
+    if named and os.path.isdir(named):
+        named = os.path.join(named, "libsgt.so")
+    path = named or (found[0] if found else ctypes.util.find_library("sgt"))
     if not path:
         raise ImportError("sgt: no libsgt.so: set SGT_LIBRARY, or make it by bindings/build")
     return path

@@ -5,13 +5,14 @@ from __future__ import annotations
 import ctypes
 import functools
 import time
+import types
 import weakref
 from typing import TYPE_CHECKING, Callable, Optional, TypeVar
 
 from ._ended import Ticket, ticket_of
-from ._errors import Aborted, Error, NotStarted
+from ._errors import Aborted, Error, Misuse, NotStarted
 from ._interrupts import interruptible
-from ._library import ABANDON, FREE, LEAST, MOST, NONE, OK, UNDONE, CTransaction, CTransactOptions, check, nanoseconds, whole
+from ._library import ABANDON, FREE, LEAST, MISUSE, MOST, NONE, OK, UNDONE, CTransaction, CTransactOptions, check, nanoseconds, whole
 from ._replies import Kind, Reply, reply_of
 
 if TYPE_CHECKING:
@@ -19,18 +20,27 @@ if TYPE_CHECKING:
 
 _Result = TypeVar("_Result")
 
+_LAZY = (types.CoroutineType, types.GeneratorType, types.AsyncGeneratorType)  # of these nothing, or not all, has been run
+
 
 def _left(deadline: Optional[float]) -> int:
     """Returns the nanoseconds that are left until then."""
     return nanoseconds(None if deadline is None else deadline - time.monotonic())
 
 
+def _not_run(result: object) -> TypeError:
+    """The error of a body that is async or a generator: what it returns has still to be run."""
+    if isinstance(result, types.CoroutineType):
+        result.close()  # else Python warns that it was never awaited
+    return TypeError(f"sgt: the body returned a {type(result).__name__}: it must not be async or a generator")
+
+
 class OwnTransaction:
     """A transaction whose accesses you decide, of `SharedEngine.transaction` or `SharedEngine.transact`.
 
     The end of a `with` block commits it, unless it has ended before; an exception in the block quits it. So does the loss of the last
-    reference to it, wherever an interrupt comes. Each call raises Aborted if the transaction has been aborted, NoMemory, or BadCall if a
-    number is out of range.
+    reference to it, wherever an interrupt comes. Each call raises Aborted if the transaction has been aborted, NoMemory, BadCall if a
+    number is out of range, or Misuse once you have committed or quit it.
 
     What it reads may be uncommitted, and be undone afterwards. So act on it only after the commit.
     """
@@ -39,11 +49,13 @@ class OwnTransaction:
 
     def __init__(self, engine: SharedEngine) -> None:
         self._engine, self._told = engine, CTransaction(size=ctypes.sizeof(CTransaction))
+        self._in_body = False  # of `transact`, which commits it
         self._ticket = self._told.ticket  # in the same memory: always that of the last try
         self._guard = weakref.ref(self, functools.partial(ABANDON, engine._shared, self._ticket))
 
     @property
     def ticket(self) -> Ticket:
+        """Identifies the last try. Once it is committed, this is the `ticket` of its `Ended`: a body may return it for a journal."""
         return ticket_of(self._ticket)
 
     @property
@@ -70,7 +82,12 @@ class OwnTransaction:
         self._check(self._ask(FREE.sgt_transaction_remove, whole(table, 0, 7), whole(number, LEAST, MOST)))
 
     def commit(self, timeout: Optional[float] = None) -> Reply:
-        """Commits it, and waits for its predecessors. Raises TimedOut if the deadline comes first, or SelfWait; then it was quit."""
+        """Commits it, and waits for its predecessors. Raises TimedOut if the deadline comes first, or SelfWait; then it was quit.
+
+        The body of `transact` must not call it: Misuse.
+        """
+        if self._in_body:
+            raise Misuse("a body must not commit its transaction: `transact` does when the body returns")
         if not self._commits(nanoseconds(timeout)):
             raise self._aborted()
         self._engine._tell(self._ticket)
@@ -90,6 +107,8 @@ class OwnTransaction:
         """Raises what the status says, unless it is OK."""
         if status == UNDONE:
             raise self._aborted()
+        if status == MISUSE and self._told.tries and not self._told.is_live:
+            raise Misuse("the transaction has ended")
         check(status)
 
     def _reply(self) -> Reply:
@@ -107,10 +126,13 @@ class OwnTransaction:
 
     def _run(self, body: Callable[[OwnTransaction], _Result], tries: int, deadline: Optional[float]) -> _Result:
         """Runs the body, again after each conflict, and commits. Raises Aborted if somebody quit it."""
+        self._in_body = True
         while True:
             self._start(tries, _left(deadline))
             try:
                 result = body(self)
+                if isinstance(result, _LAZY):
+                    raise _not_run(result)
                 if self._commits(_left(deadline)):
                     return result
             except Exception:

@@ -4,15 +4,17 @@ from __future__ import annotations
 
 import ctypes
 import functools
+import sys
 import time
 import weakref
 from typing import Callable, NamedTuple, Optional, Sequence, TypeVar, Union, overload
 
-from ._errors import BadCall, Busy, Misuse, NotStarted
+from ._errors import BadCall, Busy, Error, Misuse, NotStarted
 from ._ended import Ended, Stored, Teller, Ticket, ended_of, ticket_of
 from ._interrupts import interruptible
 from ._library import (
     ABANDON,
+    BUSY,
     CLOSED,
     FIRST_FAULT,
     FREE,
@@ -151,7 +153,9 @@ class SharedEngine(Uncopied):
         The body is run again after a conflict, so it must have no effects but these. What it reads may be uncommitted, and be undone
         afterwards: act on it after the commit, when this call has returned. An exception of the body quits the transaction and is raised,
         unless a conflict had come first; it may rest on a value that is undone. To refuse truthfully, return the refusal without a write:
-        once that is committed, it is true.
+        once that is committed, it is true. To quit, raise an exception of your own.
+
+        The body must not commit the transaction itself: Misuse. A body that is async or a generator is a TypeError.
 
         After `tries` conflicts the next try is made alone: others wait until it has ended, and it has no conflicts.
 
@@ -218,7 +222,11 @@ class SharedEngine(Uncopied):
         return reply_of(told, told)
 
     def accesses(self, ticket: Ticket) -> list[Access]:
-        """Returns the accesses that the caller of a transaction decided, in their order, until the history is cut. Raises Stale then."""
+        """Returns the accesses that the caller of a transaction decided, in their order, until the history is cut. Raises Stale then.
+
+        The cost grows with the entries since its start, so ask soon. The hook `ended` may not ask: let the body return what it wrote, and
+        `t.ticket`, which is the `ticket` of its `Ended`.
+        """
         of = CTicket(ticket.engine, ticket.part, ticket.tid)
         return all_accesses(lambda told, space, count: check(self._ask(FREE.sgt_shared_accesses, of, told, space, count)))
 
@@ -281,14 +289,24 @@ class SharedEngine(Uncopied):
         if self._teller and not self._teller.is_here():
             self._teller.tell()
         status = self._ask(FREE.sgt_shared_close)
+        if status == BUSY:
+            raise Busy("another thread waits in a call, or is in a hook, so the engine stays open")
         if status != CLOSED:
             check(status)
 
     def __enter__(self) -> SharedEngine:
         return self
 
-    def __exit__(self, *_: object) -> None:
-        self.close()
+    def __exit__(self, _: object, raised: Optional[BaseException], *__: object) -> None:
+        """Closes the engine. If it cannot be closed while an exception is raised, it stays open, and the exception has a note of it from
+        Python 3.11 on."""
+        try:
+            self.close()
+        except Error as why:
+            if raised is None:
+                raise
+            if sys.version_info >= (3, 11):
+                raised.add_note(str(why))
 
     def __del__(self) -> None:
         if getattr(self, "_shared", None):

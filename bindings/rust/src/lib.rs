@@ -139,6 +139,9 @@ pub const LEAST: i64 = -999_999_999_999_999;
 /// The greatest value, argument and record number.
 pub const MOST: i64 = 999_999_999_999_999;
 
+/// The procedure of a call whose caller decided all its accesses.
+pub const EMPTY_PROCEDURE: u16 = 65_535;
+
 /// Why an opening or a procedure was refused.
 #[derive(Clone, Debug, PartialEq, Eq)]
 #[non_exhaustive]
@@ -207,12 +210,12 @@ impl fmt::Display for Error {
             Error::Begun => write!(f, "there is a history"),
             Error::Taken(at) => write!(f, "the record of row {at} has a value already"),
             Error::TooMany => write!(f, "no number is left for a procedure"),
-            Error::Busy => write!(f, "another call is in the engine"),
+            Error::Busy => write!(f, "another call is in the engine, or another thread waits in one"),
             Error::TimedOut => write!(f, "the deadline came"),
             Error::Aborted { reply, .. } | Error::NotStarted(reply) => write!(f, "{reply}"),
             Error::SelfWait => write!(f, "the call would wait for its own thread, without a deadline"),
             Error::Stale => write!(f, "the transaction is of a part of the history that was cut off"),
-            Error::Misuse => write!(f, "the call may not be made from here, or the ticket is of another engine"),
+            Error::Misuse => write!(f, "the call may not be made from here, the transaction has ended, or the ticket is of another engine"),
             Error::Version(library) => {
                 write!(f, "the crate is of version {}, and the library of {library}", c::VERSION)
             }

@@ -82,6 +82,7 @@ impl SharedEngine {
 }
 
 impl OwnTransaction {
+    /// Identifies the last try: once it is committed, that of its `Ended`.
     pub fn ticket(&self) -> Ticket {
         self.told.ticket
     }

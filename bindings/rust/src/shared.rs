@@ -183,7 +183,7 @@ impl SharedEngine {
     }
 
     /// Returns the accesses that the caller of a transaction decided, in their order. `Stale` once the history is cut. The hook of the
-    /// engine may call it.
+    /// engine may call it. The cost grows with the entries since its start, so ask soon.
     pub fn accesses(&self, ticket: Ticket) -> Result<Vec<Access>, Error> {
         accesses_of(|to, room, count| unsafe { c::sgt_shared_accesses(self.at(), &ticket, to, room, count) })
     }
