@@ -75,7 +75,7 @@ enum sgt_status {
     SGT_BEGUN = 7,       /* nothing can be added to the initial state of the engine, as there is a history */
     SGT_TAKEN = 8,       /* the key of a row already has a value */
     SGT_TOO_MANY = 9,    /* no number is left for a procedure, or for the part after a cut */
-    SGT_BUSY = 10,       /* another call is in the engine */
+    SGT_BUSY = 10,       /* another call is in the engine; of sgt_shared.h: another thread waits in a call, or is in a hook */
     SGT_SELF_WAIT = 11,  /* of sgt_shared.h: the call would wait for its own thread, without a deadline */
     SGT_TIMED_OUT = 12,  /* of sgt_shared.h: the deadline passed */
     SGT_STALE = 13,      /* of sgt_shared.h: the transaction belongs to a part of the history that was cut */

@@ -483,6 +483,37 @@ def stops_at_ctrl_c(_):
         same("the record", (10, []), (bank.get(TABLE, 101), bank.live()))
 
 
+PAGE_PROGRAM = """
+import os, signal, threading
+from sgt import Closed, SharedEngine
+
+def works(bank, number):
+    try:
+        for made in range(1000):
+            bank.transact(lambda t: t.write(2, 101, t.read(2, 101) + 1))
+            if made == 100 and number == 0:
+                os.kill(os.getpid(), signal.SIGINT)
+    except Closed:
+        pass
+
+signal.signal(signal.SIGINT, signal.default_int_handler)
+try:
+    with SharedEngine(limits=(4, 1_000_000, 1), rows=[(2, 101, 0)]) as bank:
+        threads = [threading.Thread(target=works, args=(bank, number)) for number in range(8)]
+        for thread in threads: thread.start()
+        for thread in threads: thread.join()
+except KeyboardInterrupt:
+    print("interrupted")
+"""
+
+
+def stops_threads_at_ctrl_c(_):
+    """Ctrl-C ends the block of a program whose threads are in transactions, whether its engine can be closed then or not."""
+    env = dict(os.environ, PYTHONPATH=str(BINDINGS / "python"), PYTHONDONTWRITEBYTECODE="1")
+    for _ in range(5):
+        same("how it ends", "interrupted\n", run([sys.executable, "-W", "error", "-c", PAGE_PROGRAM], env=env, also_errors=True))
+
+
 def mixed(draw, noted):
     """A body that reads and writes some of the three records, and notes each."""
 
@@ -561,6 +592,7 @@ CASES = [
     ends_at_a_signal_in_python,
     leaves_nothing_live_at_signals,
     stops_at_ctrl_c,
+    stops_threads_at_ctrl_c,
     threads_share_three_records_in_python,
     keeps_a_store_of_ones_own,
 ]

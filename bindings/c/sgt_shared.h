@@ -262,10 +262,10 @@ uint32_t sgt_shared_transact(sgt_shared *shared, sgt_body body, void *context, c
                              sgt_shared_outcome *outcome);
 
 /*
- * Accesses. After the end of the transaction they are SGT_UNDONE if a conflict or another thread ended it, and SGT_MISUSE if its own caller
- * has committed or quit it.
- *
  * Reads a record. SGT_NONE if there is none; SGT_UNDONE; SGT_BAD_CALL if the table is over 7 or the number out of range; SGT_NO_MEMORY.
+ *
+ * This and the two that follow are SGT_UNDONE once a conflict or another thread has ended the transaction, and SGT_MISUSE once its own
+ * caller has committed or quit it. SGT_BAD_CALL also if it was not started.
  */
 uint32_t sgt_transaction_read(sgt_transaction *transaction, uint64_t table, int64_t number, int64_t *value);
 
@@ -282,7 +282,8 @@ uint32_t sgt_transaction_remove(sgt_transaction *transaction, uint64_t table, in
  * sgt_shared_try waits, after a cycle, until another transaction has ended, and starts the next one: alone after options->tries tries. If
  * the last one is still live, it is quit. If the reply is not SGT_STARTED, it is SGT_SPENT.
  *
- * SGT_TIMED_OUT, SGT_SELF_WAIT, SGT_NO_MEMORY: nothing was started. SGT_BAD_CALL if a size is too small.
+ * SGT_TIMED_OUT, SGT_SELF_WAIT, SGT_NO_MEMORY: nothing was started. SGT_BAD_CALL if a size is too small. SGT_MISUSE in a body of
+ * sgt_shared_transact.
  */
 uint32_t sgt_shared_try(sgt_shared *shared, sgt_transaction *transaction, const sgt_transact_options *options);
 

@@ -178,7 +178,7 @@ pub enum Error {
     Taken(u64),
     /// No number is left for a procedure.
     TooMany,
-    /// Another call is in the engine.
+    /// Another call is in the engine, or another thread waits in one.
     Busy,
     /// The deadline came first.
     TimedOut,
