@@ -176,6 +176,9 @@ int main(int argc, char **argv)
         while (run.paid < payments / 10 * tenth) part(&run, payments / 10 * tenth);
         print(&run);
     }
+    /* Whoever reads the last line may look at this process until the input ends. */
+    fclose(stdout);
+    while (getchar() != EOF) {}
     sgt_close(&run.engine);
     free(run.is_remembered);
     return 0;
