@@ -153,10 +153,11 @@ static void log_reply(struct thread *it, const sgt_ticket *ticket, const char *a
     write_reply(it->log, reply);
 }
 
-/* A deadline: none in most cases, else some microseconds, about as long as a thread waits for the lock, or longer. */
+/* A deadline: none in most cases, else some microseconds, about as long as a thread waits for the lock, or longer; or it has passed. */
 static int64_t drawn_wait(struct thread *it)
 {
     if (draw(it, 3) > 0) return SGT_FOREVER;
+    if (draw(it, 50) == 0) return 1;
     return (int64_t)(draw(it, 2) == 0 ? draw(it, 300000) : 20000 + draw(it, 60000));
 }
 
@@ -293,6 +294,12 @@ static void transact_one(struct thread *it)
     log_reply(it, &outcome.ticket, "run", &outcome.reply);
 }
 
+/* How long a cut waits: no longer than some of those who are live, or, so that cuts come on any machine, until all have ended. */
+static int64_t drawn_wait_of_cut(struct thread *it)
+{
+    return draw(it, 4) == 0 ? SGT_FOREVER : (int64_t)draw(it, 2000000);
+}
+
 /* Quits whoever has been live for too long, as an operator would. */
 static void quit_oldest(struct thread *it)
 {
@@ -318,7 +325,7 @@ static void *work(void *of)
         else if (choice < stepped && draw(it, 5) == 0) transact_one(it);
         else if (choice < stepped) step_one(it);
         else run_one(it);
-        if (draw(it, 2000) == 0 && sgt_shared_cut(shared, (int64_t)draw(it, 2000000)) == SGT_OK) count(CUTS);
+        if (draw(it, 2000) == 0 && sgt_shared_cut(shared, drawn_wait_of_cut(it)) == SGT_OK) count(CUTS);
     }
     return 0;
 }
