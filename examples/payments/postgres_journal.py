@@ -16,6 +16,7 @@ from bank import Unusable
 from journal import LEASE, Away, Fenced, from_number, keep_alive, needed
 
 AT_ONCE = 200  # batches that are read
+AT_SAME_TIME = {"23505", "42P07", "42710"}  # codes of errors where two servers make the tables at the same time: there is one already
 TABLES = """
 set synchronous_commit = on;
 create table if not exists batch (number bigint primary key, data bytea not null);
@@ -48,10 +49,10 @@ class PostgresJournal:
             with self._link.cursor() as cursor:
                 cursor.execute(text, values)
                 return list(cursor.fetchall()) if cursor.description else []
-        except (psycopg2.OperationalError, psycopg2.InterfaceError, psycopg2.IntegrityError) as why:
-            self._link = None  # the last of these is of two servers that make the tables at once
-            raise Away(f"PostgreSQL: {why}") from None
         except psycopg2.Error as why:
+            if isinstance(why, (psycopg2.OperationalError, psycopg2.InterfaceError)) or why.pgcode in AT_SAME_TIME:
+                self._link = None
+                raise Away(f"PostgreSQL: {why}") from None
             raise Unusable(f"PostgreSQL: {why}") from None
 
     def lead(self) -> bool:
