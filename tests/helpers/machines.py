@@ -6,11 +6,13 @@ import json
 import os
 import pathlib
 import pwd
+import random
 import shutil
 import signal
 import socket
 import subprocess
 import sys
+import tempfile
 import time
 import urllib.request
 
@@ -21,9 +23,16 @@ QUIET = {"stdout": subprocess.DEVNULL, "stderr": subprocess.DEVNULL}
 
 
 def free_ports(count):
-    """Ports that nobody listens at."""
+    """Ports that nobody listens at, and that no other program gets unasked, also while who listens there is killed and begins anew."""
+    first = int(pathlib.Path("/proc/sys/net/ipv4/ip_local_port_range").read_text().split()[0])
+    found = {}
     with contextlib.ExitStack() as stack:
-        return [stack.enter_context(socket.create_server(("127.0.0.1", 0))).getsockname()[1] for _ in range(count)]
+        while len(found) < count:
+            port = random.randrange(10_000, first) if first > 11_000 else 0
+            with contextlib.suppress(OSError):
+                server = stack.enter_context(socket.create_server(("127.0.0.1", port)))
+                found[server.getsockname()[1]] = server
+    return list(found)
 
 
 def wait_until(is_so, what):
@@ -43,9 +52,10 @@ def can_connect(port):
 
 
 def python_with(module):
-    """A Python that has this module: Debian's packages are for its own."""
+    """A Python that has this module, and is new enough for the package: Debian's packages are for its own."""
     for python in (sys.executable, "/usr/bin/python3"):
-        if os.path.exists(python) and subprocess.run([python, "-c", f"import {module}"], **QUIET, check=False).returncode == 0:
+        tried = [python, "-c", f"import sys, {module}; sys.exit(sys.version_info < (3, 9))"]
+        if os.path.exists(python) and subprocess.run(tried, **QUIET, check=False).returncode == 0:
             return python
     return None
 
@@ -58,10 +68,12 @@ class Etcd:
     def __init__(self, folder):
         self.folder, self.ports = folder, free_ports(6)
         self.processes = [None] * 3
+        self.address = f"etcd://{','.join(f'127.0.0.1:{port}' for port in self.ports[:3])}/bank"
+
+    def begin(self):
         for number in range(3):
             self.start(number)
         wait_until(lambda: self.leader() is not None, "an etcd that has a leader")
-        self.address = f"etcd://{','.join(f'127.0.0.1:{port}' for port in self.ports[:3])}/bank"
 
     @staticmethod
     def missing():
@@ -108,7 +120,7 @@ class Etcd:
         self.processes[number].wait()
 
     def end(self):
-        for process in self.processes:
+        for process in filter(None, self.processes):
             process.kill()
             process.wait()
 
@@ -120,10 +132,11 @@ class Hosts:
 
     def __init__(self, folder):
         self.folder, self.own, self.processes = folder, f"sgt{os.getpid()}", []
+
+    def begin(self):
         try:
             self._make()
         except (OSError, subprocess.SubprocessError) as why:
-            self.end()
             raise Differs(f"no hosts: {why}") from None
 
     def _make(self):
@@ -146,6 +159,8 @@ class Hosts:
     def missing():
         if why := Etcd.missing():
             return why
+        if not os.access("/etc/netns" if os.path.exists("/etc/netns") else "/etc", os.W_OK):
+            return "nobody may write to /etc/netns on this machine"
         own = f"sgt{os.getpid()}try"
         made = f"ip netns add {own} && ip -n {own} link add name a type bridge && ip -n {own} link add name b type veth peer name c"
         tried = subprocess.run(["sh", "-c", f"{made} && ip netns exec {own} true; status=$?; ip netns del {own}; exit $status"], **QUIET, check=False)
@@ -192,9 +207,12 @@ class Redis:
 
     def __init__(self, folder, *words):
         (self.port,) = free_ports(1)
-        options = words or ("--appendonly", "yes", "--appendfsync", "always")
-        self.process = subprocess.Popen(["redis-server", "--port", str(self.port), "--dir", str(folder), "--save", "", *options], **QUIET)
-        self.address, self.python = f"redis://127.0.0.1:{self.port}/bank", python_with("redis")
+        self.command = ["redis-server", "--port", str(self.port), "--dir", str(folder), "--save", ""]
+        self.command += words or ("--appendonly", "yes", "--appendfsync", "always")
+        self.address, self.python, self.process = f"redis://127.0.0.1:{self.port}/bank", python_with("redis"), None
+
+    def begin(self):
+        self.process = subprocess.Popen(self.command, **QUIET)
         wait_until(lambda: can_connect(self.port), "a Redis that listens")
 
     @staticmethod
@@ -209,39 +227,54 @@ class Redis:
         self.process.send_signal(signal.SIGCONT)
 
     def end(self):
-        self.process.kill()
-        self.process.wait()
+        if self.process:
+            self.process.kill()
+            self.process.wait()
+
+
+INITDB = "/usr/lib/postgresql/*/bin/initdb"
 
 
 class Postgres:
     """A PostgreSQL with these options, and the address of a journal in it."""
 
     def __init__(self, folder, *words):
-        self.folder, self.bin = folder / "postgres", sorted(glob.glob("/usr/lib/postgresql/*/bin"))[-1]
-        self.user = ["runuser", "-u", "postgres", "--"] if os.getuid() == 0 else []
-        self.folder.mkdir()
-        if self.user:
-            os.chown(self.folder, pwd.getpwnam("postgres").pw_uid, -1)
-            for it in (folder, *folder.parents):
-                if it.owner() == "root" and str(it).startswith("/tmp/"):
-                    it.chmod(0o755)
+        self.folder, self.bin, self.has_begun = folder / "postgres", os.path.dirname(sorted(glob.glob(INITDB))[-1]), False
         (port,) = free_ports(1)
-        self.options = f"-p {port} -k {self.folder} -c listen_addresses=127.0.0.1 {' '.join(words)}"
-        self.run("initdb", "-D", self.folder / "data", "-A", "trust", "--no-sync", "-U", "postgres")
-        self.begin()
+        self.options = f"-p {port} -c unix_socket_directories= -c listen_addresses=127.0.0.1 {' '.join(words)}"
         self.address, self.python = f"postgresql://postgres@127.0.0.1:{port}/postgres", python_with("psycopg2")
 
     @staticmethod
+    def as_user():
+        """The words before a command: PostgreSQL refuses to run as root."""
+        return ["runuser", "-u", "postgres", "--"] if os.getuid() == 0 else []
+
+    @staticmethod
     def missing():
-        if not glob.glob("/usr/lib/postgresql/*/bin/initdb"):
+        if not glob.glob(INITDB):
             return "there is no PostgreSQL on this machine"
+        try:
+            subprocess.run([*Postgres.as_user(), "test", "-x", tempfile.gettempdir()], **QUIET, check=True)
+        except (OSError, subprocess.SubprocessError):
+            return f"no user postgres who can use {tempfile.gettempdir()} is on this machine"
         return None if python_with("psycopg2") else "there is no python3-psycopg2 on this machine"
 
     def begin(self):
-        self.run("pg_ctl", "-D", self.folder / "data", "-o", self.options, "-l", self.folder / "log", "-w", "start")
+        self.folder.mkdir()
+        if self.as_user():
+            os.chown(self.folder, pwd.getpwnam("postgres").pw_uid, -1)
+            for it in self.folder.parents:
+                if str(it).startswith(tempfile.gettempdir() + "/"):
+                    it.chmod(0o755)
+        self.run("initdb", "-D", self.folder / "data", "-A", "trust", "--no-sync", "--locale=C", "-U", "postgres")
+        self.start()
+
+    def start(self):
+        self.has_begun = True
+        self.run("pg_ctl", "-D", self.folder / "data", "-o", self.options, "-l", self.folder / "log", "-t", SECONDS, "-w", "start")
 
     def run(self, program, *words):
-        command = [*self.user, f"{self.bin}/{program}", *map(str, words)]
+        command = [*self.as_user(), f"{self.bin}/{program}", *map(str, words)]
         ran = subprocess.run(command, **QUIET, check=False, cwd=self.folder, timeout=2 * SECONDS)
         if ran.returncode:
             raise Differs(f"{program} ends with {ran.returncode}")
@@ -250,10 +283,11 @@ class Postgres:
         """It is killed, and begins anew after so long."""
         self.end()
         time.sleep(seconds)
-        self.begin()
+        self.start()
 
     def end(self):
-        self.run("pg_ctl", "-D", self.folder / "data", "-m", "immediate", "-w", "stop")
+        if self.has_begun:
+            self.run("pg_ctl", "-D", self.folder / "data", "-m", "immediate", "-t", SECONDS, "-w", "stop")
 
 
 @contextlib.contextmanager
@@ -261,6 +295,7 @@ def running(kind, folder, *words):
     """One of these, ended at the end."""
     one = kind(pathlib.Path(folder), *words)
     try:
+        one.begin()
         yield one
     finally:
         one.end()
