@@ -1027,9 +1027,11 @@ def idle_clients():
 RECOVERS = """
 import argparse, pathlib, sys
 sys.path.insert(0, sys.argv[1])
+import chain as chains
 from payments import open_journal
 from chain import Chain
 from journal import Store
+chains.PATIENCE = 600.0
 folder = pathlib.Path(sys.argv[3])
 chain = Chain(Store(folder), open_journal(argparse.Namespace(journal=sys.argv[2], folder=folder, keep=True)), {}, "test")
 chain.insist(chain.catch_up)

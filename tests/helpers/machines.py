@@ -20,6 +20,9 @@ from helpers.cases import Differs
 
 SECONDS = 600  # what comes takes less on any machine
 QUIET = {"stdout": subprocess.DEVNULL, "stderr": subprocess.DEVNULL}
+# What a user has set for other programs of etcd, or for ways to other machines, is none of these tests' matter.
+ENVIRONMENT = {name: value for name, value in os.environ.items() if not name.lower().endswith("_proxy") and not name.startswith("ETCD")}
+MEGABYTE = 1 << 20
 
 
 def free_ports(count):
@@ -44,6 +47,12 @@ def wait_until(is_so, what):
                 return found
         time.sleep(0.05)
     raise Differs(f"after {SECONDS} seconds: not {what}")
+
+
+def little_space(megabytes):
+    """Says so if the folder for temporary files does not have so much space."""
+    folder = tempfile.gettempdir()
+    return f"less than {megabytes} MB are free in {folder}" if shutil.disk_usage(folder).free < megabytes * MEGABYTE else None
 
 
 def can_connect(port):
@@ -78,7 +87,7 @@ class Etcd:
     @staticmethod
     def missing():
         """What is missing here, if anything is."""
-        return None if shutil.which("etcd") else "there is no etcd on this machine"
+        return little_space(1000) if shutil.which("etcd") else "there is no etcd on this machine"
 
     def start(self, number):
         own, peers = f"http://127.0.0.1:{self.ports[number]}", [f"http://127.0.0.1:{port}" for port in self.ports[3:]]
@@ -87,14 +96,15 @@ class Etcd:
         words += ["--listen-peer-urls", peers[number], "--initial-advertise-peer-urls", peers[number]]
         words += ["--initial-cluster", ",".join(f"n{at}={peer}" for at, peer in enumerate(peers))]
         words += ["--auto-compaction-mode", "revision", "--auto-compaction-retention", "1000"]
-        self.processes[number] = subprocess.Popen(["etcd", *map(str, words)], **QUIET)
+        self.processes[number] = subprocess.Popen(["etcd", *map(str, words)], **QUIET, env=ENVIRONMENT)
 
     def leader(self):
         """The node that leads, or None if there is none."""
+        direct = urllib.request.build_opener(urllib.request.ProxyHandler({}))
         for number, port in enumerate(self.ports[:3]):
             with contextlib.suppress(OSError, ValueError, KeyError):
                 request = urllib.request.Request(f"http://127.0.0.1:{port}/v3/maintenance/status", b"{}")
-                with urllib.request.urlopen(request, timeout=1) as reply:
+                with direct.open(request, timeout=1) as reply:
                     status = json.load(reply)
                 if status.get("leader") == status["header"]["member_id"]:
                     return number
@@ -177,7 +187,7 @@ class Hosts:
         """Starts a shell script on a host."""
         log = open(self.folder / f"log-{name}", "wb")  # noqa: SIM115
         words = ["ip", "netns", "exec", self.own + name, "sh", "-c", script]
-        self.processes.append(subprocess.Popen(words, stdout=log, stderr=log, start_new_session=True))
+        self.processes.append(subprocess.Popen(words, stdout=log, stderr=log, start_new_session=True, env=ENVIRONMENT))
 
     def connect(self, name, is_up):
         """Plugs a host in, or cuts it off."""
@@ -257,7 +267,7 @@ class Postgres:
             subprocess.run([*Postgres.as_user(), "test", "-x", tempfile.gettempdir()], **QUIET, check=True)
         except (OSError, subprocess.SubprocessError):
             return f"no user postgres who can use {tempfile.gettempdir()} is on this machine"
-        return None if python_with("psycopg2") else "there is no python3-psycopg2 on this machine"
+        return little_space(300) if python_with("psycopg2") else "there is no python3-psycopg2 on this machine"
 
     def begin(self):
         self.folder.mkdir()
