@@ -1,7 +1,7 @@
 use Rattle.std.proofs.Common.{rules, sym, subst}
 use Rattle.sgt_clients.specs.Checks.{IsVerdict}
 use Rattle.sgt_clients.proofs.Verdicts.{verdict_of}
-use Rattle.sgt_clients.proofs.run.check_text.Goals as goal
+use Rattle.sgt_clients.proofs.run.check_json.Goals as goal
 
 pub returns-clause-checked : goal.returns-clause-checked
 returns-clause-checked c = record {
