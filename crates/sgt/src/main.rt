@@ -1,14 +1,14 @@
 //! The program `sgt`, with three subcommands:
 //!
-//! - `sgt script` runs a script of JSON lines on an engine. It writes a line for each reply, and
-//!   then the committed database. On request it explains on standard error why transactions are aborted.
+//! - `sgt script` runs a script of JSON lines on an engine. It writes a line for each reply, and then the committed
+//!   database. On request it explains on standard error why transactions are aborted.
 //! - `sgt bank` runs jobs on worker threads. It writes a line for each job's outcome, and then the committed
 //!   database. On request it reports on standard error how often each job was tried.
 //! - `sgt check` reads a history. It writes the classes that the history belongs to, its serialization graph, or a
 //!   picture of it. With `--model list-append` the history is what the clients of a database saw.
 //!
-//! Each reads standard input, or a file that an argument names. Each reports an error on standard error and exits with status 2. The first two can also explain what is wrong with
-//! the line.
+//! Each reads standard input, or the file that an argument names. Each reports an error on standard error and exits with
+//! status 2. The first two can also explain what is wrong with the line.
 //!
 //! The crate holds the command line only. `sgt_script` says and proves what a script's run writes, `sgt_bank` what a
 //! bank's run writes, `sgt_check` what a check writes, and `sgt_clients` what a check of a client history writes.

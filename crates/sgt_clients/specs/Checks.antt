@@ -29,8 +29,8 @@ IsVerdict strict clients sound = (sound ≡ true) ↔ HasOrder strict clients.tr
 abbrev pub as_json : List ℕ → List ℕ
 as_json input = if is_edn input then json_of_edn input else input
 
--- What a check guarantees for each output, of an input in JSON. It writes the text of that output for what the clients of
--- the input saw, and returns the verdict on that: on at least one transaction. Real time is kept only if there is an
+-- What a check guarantees for each output, of an input in JSON. It writes the text of that output for what the clients
+-- of the input saw, and returns the verdict on that: on at least one transaction. Real time is kept only if there is an
 -- invocation.
 pub record IsJudged (strict : Bool) (output : ClientsOutput) (input written : List ℕ) (sound : Bool) : Type 0 where
   pub clients : Clients

@@ -148,7 +148,8 @@ fn next_of(steps: &[Step], place: usize) -> Option<&Step> {
     }
 }
 
-/// Adds the two operations of the step, and the read that it cites. One of real time leads from an end to the operation of the next step.
+/// Adds the two operations of the step, and the read that it cites. One of real time leads from an end to the operation
+/// of the next step.
 fn add_step(scene: &mut Scene, step: &Step, next: Option<&Step>) -> Result<(), NoMemory> {
     let later = match step.why {
         Why::Observed(reason) => at(step.to, later_position(&reason)),
