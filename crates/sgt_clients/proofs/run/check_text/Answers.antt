@@ -12,5 +12,6 @@ returns-then-not-is_edn-clause-checked c =
 pub returns-clause-checked : goal.returns-clause-checked
 returns-clause-checked c =
     subst (λ input. IfOk c.check_json-2.result (λ r. IsJudged c.args.strict c.args.output input r.text.items r.sound))
-    (of_edn c.args.text.now c.in_ok-json.json.items (sym c.is_edn.ensures ∙ c.if-not-is_edn.false) c.in_ok-json.ensures)
+    (of_edn c.args.text.now c.as_slice.result.now (sym c.is_edn.ensures ∙ c.if-not-is_edn.false)
+    (c.as_slice.ensures.value ∙ c.in_ok-json.ensures))
     c.check_json-2.ensures.checked
