@@ -1,6 +1,6 @@
 -- An input in JSON, or the text in JSON of one in EDN.
-use Rattle.std.proofs.Common.{◌≡◌, ◌∙◌, ℕ, Bool, true, false, List, refl, sym, subst}
-use Rattle.std.specs.Prelude.{if◌then◌else◌, Result, Ok, Err, IfOk}
+use Rattle.std.proofs.Common.{◌≡◌, ◌∙◌, ℕ, Bool, true, false, List, refl, sym}
+use Rattle.std.specs.Prelude.{if◌then◌else◌}
 use Rattle.sgt_edn.specs.Scans.{is_edn, json_of_edn}
 use Rattle.sgt_clients.specs.Checks.{as_json}
 
