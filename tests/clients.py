@@ -21,6 +21,7 @@ from concurrent.futures import ThreadPoolExecutor
 sys.dont_write_bytecode = True
 from helpers.appends import COMMITTED, Transaction, all_small, drawn, entries_of, keeps_time, lines_of, serial_orders  # noqa: E402
 from helpers.cases import SECONDS, TESTS, Differs, same, tell  # noqa: E402
+from pictures import Drawing  # noqa: E402
 
 CLIENTS = TESTS.parent / "examples" / "clients"
 DRAWN = int(sys.argv[2]) if len(sys.argv) > 2 else 3_000
@@ -290,6 +291,54 @@ def reads_each_form(program):
     same("no keys of text", by_line, check(program, lines_of(entries).replace('"r", 1', '"r", "1"')))
 
 
+def edn(it):
+    """The data of JSON in EDN. The words of Jepsen, and names without spaces, are keywords."""
+    if isinstance(it, dict):
+        return "{" + ", ".join(f":{key} {edn(value)}" for key, value in it.items()) + "}"
+    if isinstance(it, (list, tuple)):
+        return "[" + " ".join(map(edn, it)) + "]"
+    if isinstance(it, str):
+        return f":{it}" if re.fullmatch("[a-z][a-z0-9-]*", it) else json.dumps(it)
+    return "nil" if it is None else str(it).lower()
+
+
+# What may stand in a map of EDN beside the members that are read.
+BESIDE = [
+    ":index 5, :time 3291485317", ':error [:timeout "a \\"b\\" {"]', ":x {:a {1 2} [3] #{4 5}, :b ()}", ":c \\{, :d \\newline", ":r 22/7 :n ##NaN :f1 -1.5e3M",
+    ":when #inst \"2026-11-28\" :at [clojure.core$f invoke \"core.clj\" 12]", ":e [[] {} #{} ()]", ":b true, ; a comment }\n :m nil",
+]
+
+
+def edn_line(draw, entry):
+    """The entry on a line, perhaps with a tag and with members that are not read."""
+    text = edn(entry)
+    if draw.random() < 0.5:
+        beside = draw.choice([it for it in BESIDE if "\n" not in it])
+        text = "{" + draw.choice([beside + ", " + text[1:-1], text[1:-1] + " " + beside]) + "}"
+    return draw.choice(["", "#jepsen.history.Op"]) + text
+
+
+def reads_edn(program):
+    """A history in EDN and the same one in JSON have the same report, of each form."""
+    draw = random.Random(73)
+    for number in range(400):
+        entries, _ = entries_of(draw, drawn(draw))
+        if number % 10 == 0:
+            entries.insert(draw.randrange(len(entries) + 1), {"type": "info", "process": "nemesis", "f": "start", "value": None})
+        options = draw.choice([(), ("--json",), ("--graph",), ("--timeline",)])
+        wanted = check(program, lines_of(entries), *options)
+        text = "".join(edn_line(draw, it) + "\n" for it in entries)
+        same(f"{text!r}", wanted, check(program, text, *options))
+    by_entry = check(program, json.dumps(entries))
+    for text in ("[" + "\n,".join(map(edn, entries)) + "]", "; a history\n(" + " ".join(map(edn, entries)) + ")",
+                 " ".join(edn(it)[:-1] + draw.choice(BESIDE) + "}" for it in entries)):
+        same(f"{text!r}", (by_entry[0], re.sub("line|entry", "", by_entry[1])),
+             (lambda ran: (ran[0], re.sub("line|entry", "", ran[1])))(check(program, text)))
+    for path in sorted(CLIENTS.glob("*.json")):
+        text = "".join(edn(json.loads(it)) + "\n" for it in path.read_text().splitlines() if it.strip(" ,[]"))
+        same(f"{path.name} in EDN", check(program, path.read_bytes()), check(program, text))
+
+
 def takes_null_for_the_empty_list(program):
     """A write skew stays one if the reads saw null."""
     entries, _ = entries_of(random.Random(1), NAMED["G2-item"])
@@ -374,9 +423,24 @@ def keeps_time_only_with_invocations(program):
 GOOD = '{"type":"ok","process":0,"f":"txn","value":[["append",1,1]]}\n'
 
 # Faulty inputs, with what is told of them.
+IS_TEXT = "; text like r1[x] is read without --model list-append"
+NO_EDN = re.compile(r"line 2, entry 2: no JSON from column \d+ on")
+EDN = "{:type :ok, :process 0, :f :txn, :value [[:append 1 1]]}\n"
 FAULTS = {
-    "{": "line 1, entry 1: no JSON from column 1 on",
-    "x": "line 1, entry 1: no JSON from column 1 on",
+    "{": "line 1, entry 1: no JSON from column 1 on" + IS_TEXT,
+    "x": "line 1, entry 1: no JSON from column 1 on" + IS_TEXT,
+    "r1[x] w1[x]": "line 1, entry 1: no JSON from column 1 on" + IS_TEXT,
+    EDN + "{:type :ok, :process 0, :f :txn, :value [[:append 1 2]]": NO_EDN,
+    EDN + "{:type :ok, :process 0, :f :txn, :value [[:append 1 2}]}": NO_EDN,
+    EDN + "{:type :ok, :process 0, :f :txn, :value #_5 [[:append 1 2]]}": NO_EDN,
+    EDN + "{:type :ok, :process 0, :f :txn, :value}": NO_EDN,
+    EDN + "}": NO_EDN,
+    EDN + "#{:type :ok}": NO_EDN,
+    EDN + ":ok": "line 2, entry 2: no object",
+    EDN + EDN.replace("ok", "done"): "line 2, entry 2: the type is not invoke, ok, fail or info",
+    EDN.replace("[[:append 1 1]]", "[[:r 1 #{1}]]"): 'line 1, entry 1: operation 1 is not ["append",key,value] or ["r",key,values]',
+    EDN.replace("[[:append 1 1]]", "[[:r 1 {1 2}]]"): 'line 1, entry 1: operation 1 is not ["append",key,value] or ["r",key,values]',
+    EDN.replace("[[:append 1 1]]", "[[:append 1 1N]]"): "line 1, entry 1: operation 1 has a value that is not a whole number from 0 to 4294967295",
     GOOD + "{\n": "line 3, entry 2: no JSON from column 1 on",
     GOOD + '{"type":"ok",\n "process" 1}': "line 3, entry 2: no JSON from column 12 on",
     "5": "line 1, entry 1: no object",
@@ -425,6 +489,8 @@ def tells_faults(program):
         if wanted is None:
             same("status", True, status in (0, 2))
             continue
+        if isinstance(wanted, re.Pattern):
+            wanted = errors.rstrip() if wanted.fullmatch(errors.rstrip()) else wanted.pattern
         same(f"fault of {given[:80]!r}", (2, "", wanted + "\n"), (status, text, errors))
 
 
@@ -452,6 +518,15 @@ def needs_its_model(program):
         raise Differs(f"standard error: {ran.stderr!r}")
 
 
+def hints_at_its_model(program):
+    """JSON and EDN without the model."""
+    for given in (GOOD, "[" + GOOD + "]", EDN):
+        ran = subprocess.run([program, "check"], input=given.encode(), capture_output=True, timeout=SECONDS, check=False)
+        same("status", (2, b""), (ran.returncode, ran.stdout))
+        if not ran.stderr.endswith(b"; JSON and EDN are read with --model list-append\n"):
+            raise Differs(f"standard error: {ran.stderr!r}")
+
+
 def ends_on_long_ones(program):
     """One transaction of 100,000 operations, and a read of 200,000 values of which two are swapped: each in a few seconds."""
     many = [it for key in range(50_000) for it in (["append", key, 1], ["r", key, [1]])]
@@ -471,6 +546,20 @@ def draws_its_witness(program):
     status, text, errors = check(program, lines_of(entries), "--graph")
     same("status", (1, ""), (status, errors))
     same("arrows", 2, text.count(" -> "))
+    for name, history in NAMED.items():
+        entries, _ = entries_of(random.Random(1), history)
+        drawing = Drawing(check(program, lines_of(entries), "--timeline")[1])
+        if "The order from left to right is logical, not time." not in drawing.description:
+            raise Differs(f"{name}: the picture does not say what its order is")
+        ends = [it.label in ("c", "a") for it in drawing.marks]
+        same(f"{name}: ends come last", sorted(ends), ends)
+    entries, _ = entries_of(random.Random(1), NAMED["G0"])
+    steps = [STEP.fullmatch(it).groups()[2] for it in check(program, lines_of(entries))[1].splitlines() if STEP.fullmatch(it)]
+    cited = {re.match(r"t(\d+)(?: \(.*?\))? read key (\S+) as \[(.*?)\]", it).groups() for it in steps}
+    marks = {it.title for it in Drawing(check(program, lines_of(entries), "--timeline")[1]).marks}
+    for reader, key, seen in cited:
+        if not any(f"r{reader}[{key}: [{seen}]]" in it for it in marks):
+            raise Differs(f"the read of key {key} by t{reader} is not drawn: {marks}")
 
 
 def recorded_ones(program):
@@ -488,9 +577,9 @@ def recorded_ones(program):
 
 
 CASES = [on_all_small_histories, on_drawn_histories, on_drawn_histories_strictly, names_anomalies, names_the_operations,
-         shows_values_of_a_long_read, ends_on_long_ones, reads_each_form,
+         shows_values_of_a_long_read, ends_on_long_ones, reads_each_form, reads_edn,
          takes_null_for_the_empty_list, takes_processes_of_any_name, skips_what_is_no_transaction, refuses_nothing,
-         refuses_an_end_of_other_operations, keeps_time_only_with_invocations, tells_faults, survives_hostile_bytes, needs_its_model, draws_its_witness, recorded_ones]
+         refuses_an_end_of_other_operations, keeps_time_only_with_invocations, tells_faults, survives_hostile_bytes, needs_its_model, hints_at_its_model, draws_its_witness, recorded_ones]
 
 if __name__ == "__main__":
     sys.exit(tell(CASES, sys.argv[1], of="clients"))

@@ -116,7 +116,7 @@ def helps_where_no_word_is_given(sgt):
 
 def refuses_words(sgt):
     sgt.expect("ship", status=2, err=usage("unknown_command"))
-    sgt.expect("script", "more", status=2, err=usage("unexpected_word"))
+    sgt.expect("script", "one", "more", status=2, err=usage("unexpected_word"))
     sgt.expect("bank", "--jobs", "3", status=2, err=usage("unknown_option"))
 
 
@@ -131,6 +131,33 @@ def refuses_two_forms_of_one_run(sgt):
         for first, second in permutations(forms, 2):
             text = usage("conflicting_options").format(command=command, first=first, second=second)
             sgt.expect(command, f"--{first}", f"--{second}", given=OPENING, status=2, err=text)
+
+
+def reads_a_named_file(sgt):
+    """Each command reads a file as it reads standard input, and nothing of standard input then."""
+    with tempfile.TemporaryDirectory() as room:
+        def named(text, name="an input.txt"):
+            path = os.path.join(room, name)
+            with open(path, "w") as file:
+                file.write(text)
+            return path
+
+        sgt.expect("script", named(OPENING + EVENTS), given="not read", out=REPLIES + RECORDS)
+        sgt.expect("script", named(OPENING + "[]\n"), "--explain", status=2,
+                   err=sgt.run("script", "--explain", given=OPENING + "[]\n")[2])
+        sgt.expect("bank", "--workers", "2", named(OPENING + '["job",0,[1]]\n'),
+                   out=sgt.run("bank", "--workers", "2", given=OPENING + '["job",0,[1]]\n')[1])
+        sgt.expect("check", named(HISTORY), status=1, out=REPORT)
+        sgt.expect("check", "--graph", named(HISTORY, "-h.txt").replace(room, f"{room}/."), status=1, out=GRAPH)
+        missing = os.path.join(room, "none")
+        for command in ("script", "bank", "check"):
+            sgt.expect(command, missing, given=HISTORY, status=2, err=f"cannot read {missing}: no such file\n")
+            sgt.expect(command, room, given=HISTORY, status=2, err=f"cannot read {room}: it is a directory\n")
+            sgt.expect(command, "", given=HISTORY, status=2, err=sgt.run("check", "")[2])
+        with open(os.path.join(room, "closed"), "w") as closed:
+            os.fchmod(closed.fileno(), 0)
+        if os.geteuid() != 0:
+            sgt.expect("check", closed.name, status=2, err=f"cannot read {closed.name}: no permission\n")
 
 
 def refuses_bytes_that_are_no_text(sgt):
@@ -834,6 +861,7 @@ CASES = [
     refuses_words,
     refuses_numbers,
     refuses_two_forms_of_one_run,
+    reads_a_named_file,
     refuses_bytes_that_are_no_text,
     runs_each_example,
     runs_each_bank,

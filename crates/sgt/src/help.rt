@@ -1,11 +1,12 @@
 //! The help texts. No line is longer than 100 columns.
 
 /// What `sgt --help` prints after the options.
-pub(crate) const HELP: &str = r#"Each command reads standard input and writes standard output:
+pub(crate) const HELP: &str =
+    r#"Each command reads standard input, or the file that an argument names, and writes standard output:
 
   sgt script < examples/write_skew.jsonl
   sgt bank --workers 4 < examples/bank/four_deposits.jsonl
-  sgt check < examples/histories/write_skew.txt
+  sgt check examples/histories/write_skew.txt
 
 A script and a bank are lines of JSON. A history is text in the notation of the textbook.
 'sgt script --help', 'sgt bank --help' and 'sgt check --help' describe the inputs. An error is one
@@ -205,12 +206,13 @@ involved.
 
 With --model list-append the history is what the clients of a database saw. Their transactions
 append unique values to lists and read lists. The input has objects of JSON, as Jepsen writes them,
-one after another, or in one array:
+one after another, or in one array, or maps of EDN, as Jepsen stores them in history.edn:
 
   {"type":"invoke","process":0,"f":"txn","value":[["r",8,null],["append",9,1]]}
   {"type":"invoke","process":1,"f":"txn","value":[["r",9,null],["append",8,2]]}
   {"type":"ok","process":0,"f":"txn","value":[["r",8,[]],["append",9,1]]}
   {"type":"ok","process":1,"f":"txn","value":[["r",9,[]],["append",8,2]]}
+  {:type :ok, :process 1, :f :txn, :value [[:r 9 []] [:append 8 2]]}   ; the last one in EDN
 
   type        invoke: a transaction begins. ok: it committed, and its reads saw these lists.
               fail: it aborted. info, or no end: unknown

@@ -1,14 +1,14 @@
 //! The program `sgt`, with three subcommands:
 //!
-//! - `sgt script` runs a script of JSON lines from standard input on an engine. It writes a line for each reply, and
-//!   then the committed database. On request it explains on standard error why transactions are aborted.
+//! - `sgt script` runs a script of JSON lines on an engine. It writes a line for each reply, and then the committed
+//!   database. On request it explains on standard error why transactions are aborted.
 //! - `sgt bank` runs jobs on worker threads. It writes a line for each job's outcome, and then the committed
 //!   database. On request it reports on standard error how often each job was tried.
 //! - `sgt check` reads a history. It writes the classes that the history belongs to, its serialization graph, or a
 //!   picture of it. With `--model list-append` the history is what the clients of a database saw.
 //!
-//! Each reports an error on standard error and exits with status 2. The first two can also explain what is wrong with
-//! the line.
+//! Each reads standard input, or the file that an argument names. Each reports an error on standard error and exits with
+//! status 2. The first two can also explain what is wrong with the line.
 //!
 //! The crate holds the command line only. `sgt_script` says and proves what a script's run writes, `sgt_bank` what a
 //! bank's run writes, `sgt_check` what a check writes, and `sgt_clients` what a check of a client history writes.
@@ -16,6 +16,7 @@
 #![tactic(auto)]
 
 mod help;
+mod input;
 
 ghost use Rattle.std.specs.Prelude.{◌≤◌};
 
@@ -23,17 +24,20 @@ use clap::builder::ValueParser;
 use clap::error::ErrorKind;
 use clap::{Arg, ArgAction, ArgMatches, Command};
 use help::{BANK_HELP, CHECK_HELP, HELP, SCRIPT_HELP};
+use input::{FILE, open_input};
 use sgt_bank::{Explanations, MOST_TRIES, MOST_WORKERS, run_bank};
-use sgt_check::run_check;
-use sgt_clients::{ClientsOutput, run_clients};
+use sgt_check::{CheckFault, run_check};
+use sgt_clients::{ClientsFault, ClientsOutput, Flaw, run_clients};
 use sgt_input::{Fault, Reader, Source, Writer};
 use sgt_line_errors::{Remembering, explain};
+use sgt_notation::NotationFault;
 use sgt_script::Output;
 use std::alloc::{AllocError, Global};
 use std::env;
 use std::fmt::Display;
-use std::io::{self, Eprint, Input, IsTerminal, Print, Stderr};
+use std::io::{self, Eprint, Input, IsTerminal, Print, Read, Stderr};
 use std::process::ExitCode;
+use std::rt::Files;
 use std::sync::Wait;
 use std::thread::Threads;
 use std::time::Clock;
@@ -56,9 +60,15 @@ For more information, try '--help'.";
 /// The message for options that only one model has, as `clap` would write it.
 const NEEDS_MODEL: &str = "error: the options '--strict' and '--json' need '--model list-append'
 
-Usage: sgt check [OPTIONS]
+Usage: sgt check [OPTIONS] [FILE]
 
 For more information, try '--help'.";
+
+/// The hint for text that is read as what clients saw.
+const IS_TEXT: &str = "; text like r1[x] is read without --model list-append";
+
+/// The hint for what clients saw that is read as text.
+const IS_JSON: &str = "; JSON and EDN are read with --model list-append";
 
 /// An option without a value.
 fn flag<'a>(alloc: Global, name: &'a str, help: &'a str) -> Arg<'a> {
@@ -203,14 +213,22 @@ fn check_options<'a>(alloc: Global) -> Result<Vec<Arg<'a>>, AllocError> {
     Ok(options)
 }
 
-/// A subcommand of `sgt`, with its options.
+/// The argument that names a file to read in place of standard input.
+fn file_argument<'a>(alloc: Global) -> Arg<'a> {
+    Arg::new(alloc, FILE)
+        .value_name("FILE")
+        .help("The file to read, in place of standard input")
+}
+
+/// A subcommand of `sgt`, with its options. Each may name the file that it reads.
 fn subcommand<'a>(
     alloc: Global,
     name: &'a str,
     about: &'a str,
     help: &'a str,
-    options: Vec<Arg<'a>>,
+    mut options: Vec<Arg<'a>>,
 ) -> Result<Command<'a>, AllocError> {
+    options.push(file_argument(alloc))?;
     Command::new(alloc, name)
         .about(about)
         .after_help(help)
@@ -318,17 +336,18 @@ fn explained<S: Source>(
     }
 }
 
-/// Runs a script from standard input to standard output.
-fn script<R: Print + Input>(
+/// Runs a script from the input to standard output.
+fn script<R: Print, I: Read + Drop>(
     rt: &R,
     alloc: Global,
     stderr: Stderr,
     options: &ArgMatches<'_>,
+    input: I,
 ) -> Result<(), Failure> {
     if options.get_flag("explain") {
-        return explained_script(rt, alloc, stderr);
+        return explained_script(rt, alloc, stderr, input);
     }
-    unexplained(plain_script(rt, alloc, output_of(options)))
+    unexplained(plain_script(rt, alloc, output_of(options), input))
 }
 
 /// The output mode that the options of a run name.
@@ -342,20 +361,26 @@ fn output_of(options: &ArgMatches<'_>) -> Output {
     }
 }
 
-fn plain_script<R: Print + Input>(rt: &R, alloc: Global, output: Output) -> Result<(), Fault> {
-    let mut reader = Reader::new(rt.reader());
+fn plain_script<R: Print, I: Read + Drop>(
+    rt: &R,
+    alloc: Global,
+    output: Output,
+    input: I,
+) -> Result<(), Fault> {
+    let mut reader = Reader::new(input);
     let mut writer = Writer::new(io::writer(rt));
     let explanations: Option<&mut Writer<Stderr>> = None;
     sgt_script::run(alloc, &mut reader, &mut writer, output, explanations)
 }
 
 /// The same, and explains on standard error why transactions are aborted.
-fn explained_script<R: Print + Input>(
+fn explained_script<R: Print, I: Read + Drop>(
     rt: &R,
     alloc: Global,
     stderr: Stderr,
+    input: I,
 ) -> Result<(), Failure> {
-    let mut source = Remembering::new(alloc, Reader::new(rt.reader()));
+    let mut source = Remembering::new(alloc, Reader::new(input));
     let mut writer = Writer::new(io::writer(rt));
     let mut errors = Writer::new(stderr);
     let ran = sgt_script::run(
@@ -395,47 +420,68 @@ fn read_bank_options(stderr: &Stderr, options: &ArgMatches<'_>) -> sgt_bank::Opt
     }
 }
 
-/// Runs the jobs of a bank from standard input to standard output.
-fn bank<R: Print + Eprint + Input + Clock + Threads + Wait + Sync>(
+/// Runs the jobs of a bank from the input to standard output.
+fn bank<R: Print + Eprint + Clock + Threads + Wait + Sync, I: Read + Drop>(
     rt: &R,
     alloc: Global,
     stderr: Stderr,
     options: &ArgMatches<'_>,
+    input: I,
 ) -> Result<(), Failure> {
     let chosen = read_bank_options(&stderr, options);
     let mut writer = Writer::new(io::writer(rt));
     let mut errors = Writer::new(stderr);
     if options.get_flag("explain") {
-        let mut source = Remembering::new(alloc, Reader::new(rt.reader()));
+        let mut source = Remembering::new(alloc, Reader::new(input));
         let ran = run_bank(rt, alloc, &mut source, &mut writer, &mut errors, chosen);
         let command = sgt_line_errors::Command::Bank {
             workers: chosen.workers,
         };
         return explained(alloc, command, &source, ran);
     }
-    let mut reader = Reader::new(rt.reader());
+    let mut reader = Reader::new(input);
     unexplained(run_bank(rt, alloc, &mut reader, &mut writer, &mut errors, chosen))
 }
 
-/// Checks a history from standard input to standard output, and returns the exit status.
-fn check<R: Print + Eprint + Input>(rt: &R, alloc: Global, options: &ArgMatches<'_>) -> ExitCode {
-    let mut reader = Reader::new(rt.reader());
+/// Checks a history from the input to standard output, and returns the exit status.
+fn check<R: Print + Eprint, I: Read + Drop>(
+    rt: &R,
+    alloc: Global,
+    options: &ArgMatches<'_>,
+    input: I,
+) -> ExitCode {
+    let mut reader = Reader::new(input);
     let mut writer = Writer::new(io::writer(rt));
     let strict = options.get_flag("strict");
     if options.get_str("model") == Some("list-append") {
         let output = clients_output(options);
-        return checked(
-            rt,
-            run_clients(alloc, &mut reader, &mut writer, output, strict),
-        );
+        return match run_clients(alloc, &mut reader, &mut writer, output, strict) {
+            Err(fault) if is_no_json(&fault) => tell_hint(rt, fault, IS_TEXT),
+            ran => checked(rt, ran),
+        };
     }
     if strict || options.get_flag("json") {
         return tell(rt, NEEDS_MODEL);
     }
-    checked(
-        rt,
-        run_check(alloc, &mut reader, &mut writer, check_output(options)),
-    )
+    match run_check(alloc, &mut reader, &mut writer, check_output(options)) {
+        Err(fault) if is_brace(&fault) => tell_hint(rt, fault, IS_JSON),
+        ran => checked(rt, ran),
+    }
+}
+
+/// Whether the first entry is no JSON from its first byte on.
+fn is_no_json(fault: &ClientsFault) -> bool {
+    matches!(fault, ClientsFault::Entry(_, 1, Flaw::NotJson(1)))
+}
+
+/// Whether the text of a history starts like JSON or EDN.
+fn is_brace(fault: &CheckFault) -> bool {
+    match fault {
+        CheckFault::Notation(NotationFault::NoOperation(1, shown)) => {
+            shown.text.starts_with(b"{") || shown.text.starts_with(b"[")
+        }
+        _ => false,
+    }
 }
 
 /// The output of a check that the options name.
@@ -463,17 +509,34 @@ fn clients_output(options: &ArgMatches<'_>) -> ClientsOutput {
 }
 
 /// Runs the subcommand, and returns the exit status.
-fn run<R: Print + Eprint + Input + Clock + Threads + Wait + Sync>(
+fn run<R: Print + Eprint + Input + Files + Clock + Threads + Wait + Sync>(
     rt: &R,
     alloc: Global,
     stderr: Stderr,
     matches: &ArgMatches<'_>,
 ) -> ExitCode {
-    match matches.subcommand() {
-        Some(("check", options)) => check(rt, alloc, options),
-        Some(("bank", options)) => ended(rt, bank(rt, alloc, stderr, options)),
-        Some((_, options)) => ended(rt, script(rt, alloc, stderr, options)),
-        None => ExitCode::SUCCESS,
+    let Some((name, options)) = matches.subcommand() else {
+        return ExitCode::SUCCESS;
+    };
+    match open_input(rt, options.get_str(FILE)) {
+        Ok(input) => run_on(rt, alloc, stderr, name, options, input),
+        Err(fault) => tell(rt, fault),
+    }
+}
+
+/// Runs the subcommand with this name on the input, and returns the exit status.
+fn run_on<R: Print + Eprint + Clock + Threads + Wait + Sync, I: Read + Drop>(
+    rt: &R,
+    alloc: Global,
+    stderr: Stderr,
+    name: &str,
+    options: &ArgMatches<'_>,
+    input: I,
+) -> ExitCode {
+    match name {
+        "check" => check(rt, alloc, options, input),
+        "bank" => ended(rt, bank(rt, alloc, stderr, options, input)),
+        _ => ended(rt, script(rt, alloc, stderr, options, input)),
     }
 }
 
@@ -511,6 +574,12 @@ fn tell<R: Eprint>(rt: &R, text: impl Display + Drop) -> ExitCode {
     ExitCode::from(2)
 }
 
+/// The same, with a hint on the same line.
+fn tell_hint<R: Eprint>(rt: &R, fault: impl Display + Drop, hint: &str) -> ExitCode {
+    let _ = eprintln!(rt; "{fault}{hint}");
+    ExitCode::from(2)
+}
+
 /// Writes what `clap` reports in place of a run: help and version to standard output, all else to standard error.
 fn refuse<R: Print + Eprint>(rt: &R, error: &clap::Error) -> ExitCode {
     if error.kind() == ErrorKind::OutOfMemory {
@@ -523,7 +592,7 @@ fn refuse<R: Print + Eprint>(rt: &R, error: &clap::Error) -> ExitCode {
 }
 
 /// Runs these arguments, and returns the exit status.
-fn run_words<R: Print + Eprint + Input + Clock + Threads + Wait + Sync>(
+fn run_words<R: Print + Eprint + Input + Files + Clock + Threads + Wait + Sync>(
     rt: &R,
     alloc: Global,
     stderr: Stderr,

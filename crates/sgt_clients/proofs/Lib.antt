@@ -1,6 +1,7 @@
 pub mod Accesses
 pub mod Cuts
 pub mod Faulty
+pub mod Inputs
 pub mod ReadTo
 pub mod RealTime
 pub mod Scans

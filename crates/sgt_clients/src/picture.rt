@@ -17,6 +17,10 @@ const MOST_DRAWN: usize = 400;
 /// The most steps of a cycle that are drawn.
 const MOST_STEPS: usize = 64;
 
+/// What stands below the report.
+const LEGEND: &[u8] =
+    b"w[x: +1] appends 1 to x. The order from left to right is logical, not time.\n";
+
 /// Appends the picture in SVG, with the report below it.
 ///
 /// # Errors
@@ -33,8 +37,20 @@ pub fn append_timeline(
     let history = history_of(alloc, clients, scene.strokes.as_slice())?;
     let edges = edges_of(alloc, &scene)?;
     let highlight = highlight_of(finding, edges.as_slice());
-    let picture = draw(alloc, &history, highlight, report)?;
+    let picture = draw(
+        alloc,
+        &history,
+        highlight,
+        caption_of(alloc, report)?.as_slice(),
+    )?;
     append_picture(text, &history, &picture)
+}
+
+/// The words below the picture: the report, and what a write and the order mean here.
+fn caption_of(alloc: Global, report: &[u8]) -> Result<Vec<u8>, NoMemory> {
+    let mut caption = Vec::from_slice(alloc, report)?;
+    caption.extend_from_slice(LEGEND)?;
+    Ok(caption)
 }
 
 /// What is drawn of the finding.
@@ -132,7 +148,8 @@ fn next_of(steps: &[Step], place: usize) -> Option<&Step> {
     }
 }
 
-/// Adds the two operations of the step. One of real time leads from an end to the operation of the next step.
+/// Adds the two operations of the step, and the read that it cites. One of real time leads from an end to the operation
+/// of the next step.
 fn add_step(scene: &mut Scene, step: &Step, next: Option<&Step>) -> Result<(), NoMemory> {
     let later = match step.why {
         Why::Observed(reason) => at(step.to, later_position(&reason)),
@@ -141,7 +158,11 @@ fn add_step(scene: &mut Scene, step: &Step, next: Option<&Step>) -> Result<(), N
             None => Stroke::end_of(step.to),
         },
     };
-    scene.add_pair(earlier_of(step), later)
+    scene.add_pair(earlier_of(step), later)?;
+    match step.why {
+        Why::Observed(Reason::InOrder { reader, read, .. }) => scene.add(at(reader, read)),
+        _ => Ok(()),
+    }
 }
 
 /// The operation at the position of the transaction.

@@ -4,7 +4,7 @@ ghost use Rattle.std.specs.Io.KnownBytes.{Appends};
 ghost use Rattle.sgt_check.specs.declared.fault.CheckFault.TheVariants as check_fault;
 ghost use Rattle.sgt_clients.specs.declared.fault.ClientsFault.{ClientsFault};
 ghost use Rattle.sgt_clients.specs.declared.fault.ClientsFault.TheVariants as fault;
-ghost use Rattle.sgt_clients.specs.Checks.{IsChecked, IsOutput, IsFaultOf};
+ghost use Rattle.sgt_clients.specs.Checks.{IsChecked, IsJudged, IsOutput, IsFaultOf};
 ghost use Rattle.sgt_clients.specs.Findings.{IsFound};
 ghost use Rattle.sgt_clients.specs.Faults.{IsOwn};
 ghost use Rattle.sgt_clients.specs.ReportText.{report_text};
@@ -20,6 +20,7 @@ use crate::picture::append_timeline;
 use crate::report_text::append_report;
 use crate::strict::check_strictly;
 use sgt_check::{CheckFault, read_input};
+use sgt_edn::{is_edn, json_of_edn};
 use sgt_input::{Sink, Source, write_all};
 use sgt_model::NoMemory;
 use std::alloc::Global;
@@ -83,7 +84,7 @@ struct Checked {
     sound: bool,
 }
 
-/// Checks the client history in the text, for this output.
+/// Checks the client history in the text, in JSON or in EDN, for this output.
 fn check_text(
     alloc: Global,
     text: &[u8],
@@ -91,6 +92,23 @@ fn check_text(
     strict: bool,
 ) -> Result<Checked, ClientsFault>
     ensures checked { IfOk result (λ c. IsChecked strict output text.now c.text.items c.sound) }
+    ensures own { IfErr result IsOwn }
+{
+    if !is_edn(text) {
+        return check_json(alloc, text, output, strict);
+    }
+    let json = json_of_edn(alloc, text)?;
+    check_json(alloc, json.as_slice(), output, strict)
+}
+
+/// Checks the client history in the text, in JSON, for this output.
+fn check_json(
+    alloc: Global,
+    text: &[u8],
+    output: ClientsOutput,
+    strict: bool,
+) -> Result<Checked, ClientsFault>
+    ensures checked { IfOk result (λ c. IsJudged strict output text.now c.text.items c.sound) }
     ensures own { IfErr result IsOwn }
 {
     let clients = read_clients(alloc, text)?;

@@ -21,6 +21,11 @@ impl Stroke {
         }
     }
 
+    /// Whether it is the end of its transaction.
+    fn is_end(self) -> bool {
+        self.position == usize::MAX
+    }
+
     /// Whether it comes before the other in their transaction.
     fn is_before(self, other: Stroke) -> bool {
         self.transaction == other.transaction && self.position < other.position
@@ -84,7 +89,7 @@ impl Scene {
     }
 
     /// Puts the operations in order: the earlier one of each pair first, and those of a transaction as they came, if that
-    /// can be.
+    /// can be. An end comes after all other operations, unless a pair begins there.
     pub fn sort(&mut self, alloc: Global) -> Result<(), NoMemory> {
         let mut left = copy_of(alloc, self.strokes.as_slice())?;
         let mut sorted = Vec::with_capacity(alloc, left.len())?;
@@ -114,14 +119,33 @@ pub(crate) fn place_of(strokes: &[Stroke], stroke: Stroke) -> Option<usize> {
     None
 }
 
-/// The position of the first operation that none of the others has to come before, or else of the first.
+/// The position of the first operation that none of the others has to come before, or else of the first that does not
+/// wait, or else of the first.
 fn first_free(left: &[Stroke], pairs: &[Pair]) -> usize {
+    let mut first = left.len();
     for (place, stroke) in left.iter().enumerate() {
+        if waits(pairs, *stroke) {
+            continue;
+        }
         if is_free(left, pairs, *stroke) {
             return place;
         }
+        first = first.min(place);
     }
-    0
+    if first < left.len() { first } else { 0 }
+}
+
+/// Whether it is an end that waits until all other operations stand: no pair begins there.
+fn waits(pairs: &[Pair], stroke: Stroke) -> bool {
+    if !stroke.is_end() {
+        return false;
+    }
+    for pair in pairs {
+        if pair.earlier == stroke {
+            return false;
+        }
+    }
+    true
 }
 
 /// Whether none of these has to come before the operation.

@@ -1,17 +1,17 @@
-use Rattle.std.proofs.Common.{rules, sym, subst}
-use Rattle.sgt_clients.specs.Checks.{IsVerdict}
-use Rattle.sgt_clients.proofs.Verdicts.{verdict_of}
+use Rattle.std.proofs.Common.{◌∙◌, sym, subst}
+use Rattle.std.specs.Prelude.{IfOk}
+use Rattle.sgt_clients.specs.Checks.{IsJudged}
+use Rattle.sgt_clients.proofs.Inputs.{of_edn, of_json}
 use Rattle.sgt_clients.proofs.run.check_text.Goals as goal
 
+pub returns-then-not-is_edn-clause-checked : goal.returns-then-not-is_edn-clause-checked
+returns-then-not-is_edn-clause-checked c =
+    subst (λ input. IfOk c.check_json.result (λ r. IsJudged c.args.strict c.args.output input r.text.items r.sound))
+    (of_json c.args.text.now (sym c.is_edn.ensures ∙ c.if-not-is_edn.true)) c.check_json.ensures.checked
+
 pub returns-clause-checked : goal.returns-clause-checked
-returns-clause-checked c = record {
-  clients = c.in_ok-clients.clients;
-  finding = c.in_ok-finding.finding;
-  read = search rules;
-  timed = search rules;
-  some = search rules;
-  found = c.in_ok-finding.ensures.found;
-  text = search rules;
-  verdict = subst (λ sound. IsVerdict c.args.strict c.in_ok-clients.clients sound) (sym c.is_serial.ensures)
-      (verdict_of c.args.strict c.in_ok-clients.clients c.in_ok-finding.finding c.in_ok-finding.ensures.found);
-}
+returns-clause-checked c =
+    subst (λ input. IfOk c.check_json-2.result (λ r. IsJudged c.args.strict c.args.output input r.text.items r.sound))
+    (of_edn c.args.text.now c.as_slice.result.now (sym c.is_edn.ensures ∙ c.if-not-is_edn.false)
+    (c.as_slice.ensures.value ∙ c.in_ok-json.ensures))
+    c.check_json-2.ensures.checked

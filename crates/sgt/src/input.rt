@@ -1,0 +1,100 @@
+//! The input of a run: standard input, or a file that an argument names.
+
+use std::fmt::{self, Display, Formatter};
+use std::fs::{File, OpenFile};
+use std::io::{self, ErrorKind, Input, Read};
+use std::rt::Files;
+
+/// The name of the argument that names a file.
+pub(crate) const FILE: &str = "file";
+
+/// The bytes of standard input, or of a file.
+#[derive(Drop)]
+pub(crate) enum InputBytes<I: Read + Drop, F: Read + Drop> {
+    Standard(I),
+    File(F),
+}
+
+impl<I: Read + Drop, F: Read + Drop> Read for InputBytes<I, F> {
+    fn read(&mut self, room: &mut [u8]) -> io::Result<usize> {
+        match self {
+            InputBytes::Standard(standard) => standard.read(room),
+            InputBytes::File(file) => file.read(room),
+        }
+    }
+}
+
+/// Why a file is not read.
+#[derive(Clone, Copy, Debug, PartialEq, Eq)]
+pub(crate) enum FileFlaw {
+    /// There is no file with this name.
+    Missing,
+    /// It is a directory.
+    Directory,
+    /// It may not be read.
+    Forbidden,
+    /// It cannot be opened.
+    Closed,
+}
+
+/// A file that is not read.
+#[derive(Debug, Drop)]
+pub(crate) struct FileFault<'a> {
+    name: &'a str,
+    flaw: FileFlaw,
+}
+
+impl Display for FileFault<'_> {
+    fn fmt<W: fmt::Write>(&self, f: &mut Formatter<W>) -> fmt::Result {
+        let why = match self.flaw {
+            FileFlaw::Missing => "no such file",
+            FileFlaw::Directory => "it is a directory",
+            FileFlaw::Forbidden => "no permission",
+            FileFlaw::Closed => "it cannot be opened",
+        };
+        f.write_str("cannot read ")?;
+        f.write_str(self.name)?;
+        f.write_str(": ")?;
+        f.write_str(why)
+    }
+}
+
+/// The file with this name, or standard input if there is none.
+///
+/// # Errors
+///
+/// A `FileFault` if there is no such file, it is a directory, or it cannot be opened.
+pub(crate) fn open_input<'a, R: Input + Files>(
+    rt: &R,
+    name: Option<&'a str>,
+) -> Result<InputBytes<R::Reader, R::File>, FileFault<'a>> {
+    let Some(name) = name else {
+        return Ok(InputBytes::Standard(rt.reader()));
+    };
+    match open_file(rt, name) {
+        Ok(file) => Ok(InputBytes::File(file)),
+        Err(flaw) => Err(FileFault { name, flaw }),
+    }
+}
+
+/// The file with this name, which is no directory.
+fn open_file<R: Files>(rt: &R, name: &str) -> Result<R::File, FileFlaw> {
+    let file = match File::open(rt, name) {
+        Ok(file) => file,
+        Err(error) => return Err(flaw_of(error.kind())),
+    };
+    match file.metadata() {
+        Ok(about) if about.is_dir() => Err(FileFlaw::Directory),
+        _ => Ok(file),
+    }
+}
+
+/// The flaw of a file that gives this error when it is opened.
+fn flaw_of(kind: ErrorKind) -> FileFlaw {
+    match kind {
+        ErrorKind::NotFound => FileFlaw::Missing,
+        ErrorKind::PermissionDenied => FileFlaw::Forbidden,
+        ErrorKind::IsADirectory => FileFlaw::Directory,
+        _ => FileFlaw::Closed,
+    }
+}
