@@ -67,11 +67,11 @@ front_is h order i k s values places base is less it =
       | inl none ↦ omega (arith, none)
       | inr below ↦ elim (cases_lt 0 (length base)) [
         | inl some ↦ omega (
-            arith,
-            (is.placed k (length base - 1) (omega (arith, within, some))).1,
-            counts_rise h order k (get_or (places k) (length base - 1) 0 + 1) s (omega (arith, below)),
-            some,
-          )
+          arith,
+          (is.placed k (length base - 1) (omega (arith, within, some))).1,
+          counts_rise h order k (get_or (places k) (length base - 1) 0 + 1) s (omega (arith, below)),
+          some,
+        )
         | inr none ↦ omega (arith, none)
       ]
     ]
@@ -81,10 +81,10 @@ front_is h order i k s values places base is less it =
       | inl more ↦ elim it.after [
         | inl ends ↦ absurd (omega (arith, ends, is.long k, more))
         | inr above ↦ omega (
-            arith,
-            (is.placed k (length base) more).0,
-            counts_rise h order k s (get_or (places k) (length base) 0) above,
-          )
+          arith,
+          (is.placed k (length base) more).0,
+          counts_rise h order k s (get_or (places k) (length base) 0) above,
+        )
       ]
       | inr ends ↦ omega (arith, all, ends, counts_rise h order k s i less)
     ]

@@ -21,8 +21,7 @@ returns-in-None c = λ yes.
     (subst (λ l. SeenFrom c.args.history.now c.args.order.now c.args.place c.args.start c.in-Read.key l c.in-Read.values.items) (sym nothing)
     (holds_after c.args.history.now c.args.order.now c.args.place c.args.start c.start_of-from.result c.in-Read.key
     (values_in c.args.columns.now) (places_in c.args.columns.now) [] c.in-Read.values.items
-    c.requires.replayed c.start_of-from.ensures.early (start_before c.args.start c.args.place c.start_of-from.result c.start_of-from.ensures.start)
-    (
+    c.requires.replayed c.start_of-from.ensures.early (start_before c.args.start c.args.place c.start_of-from.result c.start_of-from.ensures.start) (
       c.in-Read.values.items,
       sym (append-nil c.in-Read.values.items),
       subst (λ l. IsFront (values_in c.args.columns.now c.in-Read.key) (places_in c.args.columns.now c.in-Read.key) l c.start_of-from.result)
