@@ -41,7 +41,7 @@ PAGES = [
     "tools/README.md",
 ]
 # Pages of worked programs, which are not among the lines that are counted.
-WORKED = ["examples/clients/README.md", "examples/payments/README.md", "examples/store/README.md"]
+WORKED = ["examples/clients/README.md", "examples/cookbook/README.md", "examples/payments/README.md", "examples/store/README.md"]
 PAGES += WORKED
 ALL_LINES = 2750
 LINE = 120
@@ -626,6 +626,14 @@ def have_the_five_procedures(sgt):
     same("what the procedures of the page do", ran(0).decode(), ran(5).decode())
 
 
+def have_the_procedures_of_the_cookbook(_sgt):
+    """Each procedure of the page is the one of its jobs, in their order."""
+    opening = json.loads((EXAMPLES / "cookbook" / "jobs.jsonl").read_text().split("\n", 1)[0])
+    shown = [json.loads("\n".join(lines)) for lines in blocks_of("examples/cookbook/README.md", "json")]
+    same("the procedures", opening["procedures"], shown)
+    return f"{len(shown)} procedures"
+
+
 def have_the_positions_that_the_program_gives(sgt):
     rows = [line for _, line in parts_of("docs/FORMATS.md")[0] if re.match(r"^\| `(\[|\d)[^`]*` \| `(top|[\d ]+)` \|", line)]
     for row in rows:
@@ -673,7 +681,8 @@ def main(path):
         have_a_grammar_that_refuses_bad_lines,
         have_a_grammar_that_the_program_accepts,
         have_the_five_procedures,
-        have_the_positions_that_the_program_gives,
+        have_the_procedures_of_the_cookbook,
+    have_the_positions_that_the_program_gives,
         use_the_words_of_the_field,
     ]
     return tell(cases, os.path.abspath(path), of="pages")

@@ -160,6 +160,26 @@ def reads_a_named_file(sgt):
             sgt.expect("check", closed.name, status=2, err=f"cannot read {closed.name}: no permission\n")
 
 
+def is_installed_with_its_page_and_completions(sgt):
+    """Each command and option of the help stands in the man page and in the completions, and bash completes them."""
+    with tempfile.TemporaryDirectory() as room:
+        made = subprocess.run([TESTS.parent / "tools/install", room, sgt.path], capture_output=True, text=True, check=True)
+        program, page, *completions = made.stdout.splitlines()
+        same("the program", "sgt 0.1.0\n", Program(program).run("--version")[1])
+        texts = {path: open(path).read().replace("\\-", "-") for path in (page, *completions)}
+        for command in ("script", "bank", "check"):
+            for option in re.findall(r"^ .*--([a-z-]+)", usage(f"help_{command}").split("Options:")[1].split("\n\n")[0], re.M):
+                for path, text in texts.items():
+                    if command not in text or option not in text:
+                        raise Differs(f"{path}: no {command} --{option}")
+        for words, wanted in (("sgt b", "bank"), ("sgt script --e", "--explain"), ("sgt check --model l", "list-append")):
+            count = len(words.split())
+            asked = f'. {completions[0]}; COMP_WORDS=({words}); COMP_CWORD={count - 1}; _sgt; echo "${{COMPREPLY[*]}}"'
+            same(words, wanted + "\n", subprocess.run(["bash", "-c", asked], capture_output=True, text=True, check=True).stdout)
+        if groff := shutil.which("groff"):
+            same("the page", "", subprocess.run([groff, "-man", "-ww", "-z", page], capture_output=True, text=True, check=True).stderr)
+
+
 def refuses_bytes_that_are_no_text(sgt):
     sgt.expect(b"scr\xffipt", status=2, err=usage("no_text"))
 
@@ -862,6 +882,7 @@ CASES = [
     refuses_numbers,
     refuses_two_forms_of_one_run,
     reads_a_named_file,
+    is_installed_with_its_page_and_completions,
     refuses_bytes_that_are_no_text,
     runs_each_example,
     runs_each_bank,
