@@ -18,19 +18,6 @@ use Rattle.sgt_model.proofs.Conditions.{distinct_fits}
 use Rattle.sgt_graph.proofs.RowSteps.{none_in, leads_step, leads_join}
 use Rattle.sgt_graph.proofs.Placed.{same_test, placed, at_from, at_parts, placed_at, at_placed, pair_from, pair_at, accepted, closes, inserted}
 
--- rows of nothing
-abbrev pub zeros : ℕ → List ℕ
-zeros zero = []
-zeros (suc n) = 0 ∷ zeros n
-
-pub zero_rows : (n i j : ℕ) → is_bit (zeros n) i j ≡ false
-zero_rows n i j = ap (λ x. is_set x j) (at_zero n i) ∙ none_in j
-  where
-    at_zero : (n i : ℕ) → slice_index (zeros n) i ≡ 0
-    at_zero zero i = refl
-    at_zero (suc n) zero = refl
-    at_zero (suc n) (suc i) = at_zero n i
-
 last_none : (test : ℕ → Bool) → ((i : ℕ) → test i ≡ false) → (n : ℕ) → last_below n test ≡ 32
 unfolding last_below
 last_none test none zero = refl
@@ -41,18 +28,19 @@ none_placed taken tids u none =
     le-ltb (index_of taken tids u) 32 (let e : index_of taken tids u ≡ 32 =
     last_none (is_at taken tids u) (λ i. ap (λ x. x && nat_eq (slice_index tids i) u) (none i)) 32 in omega arith)
 
-pub empty_graph : (tids rows : List ℕ) → length tids ≡ 32 → ((i j : ℕ) → is_bit rows i j ≡ false) → IsBitGraph 0 tids rows rows
-empty_graph tids rows size none = record {
+pub empty_graph : (tids pairs reached : List ℕ) → length tids ≡ 32 → ((i j : ℕ) → is_bit pairs i j ≡ false)
+    → ((i j : ℕ) → is_bit reached i j ≡ false) → IsBitGraph 0 tids pairs reached
+empty_graph tids pairs reached size none none_reached = record {
   size = size;
   apart = λ i j t a b. absurd (both_ways _ (none_in i) (and_parts (is_set 0 i) _ a).0);
   low = λ i h. absurd (both_ways _ (none_in i) h);
   of_taken = λ i j h. absurd (both_ways _ (none i j) h);
   closure = record {
-    each = λ i j h. h;
-    joins = λ i j k a b. absurd (both_ways _ (none i j) a);
-    leads = λ i j h. absurd (both_ways _ (none i j) h);
+    each = λ i j h. absurd (both_ways _ (none i j) h);
+    joins = λ i j k a b. absurd (both_ways _ (none_reached i j) a);
+    leads = λ i j h. absurd (both_ways _ (none_reached i j) h);
   };
-  acyclic = λ i. none i i;
+  acyclic = λ i. none_reached i i;
 }
 
 -- an index that alone is taken is taken no more
@@ -426,15 +414,9 @@ module _ (taken : ℕ) (tids pairs reached : List ℕ) (g : IsBitGraph taken tid
 
 -- the column of an index: the transactions with an edge to it
 module _ (taken : ℕ) (tids pairs reached : List ℕ) (g : IsBitGraph taken tids pairs reached) (t index : ℕ)
-    (here : is_at taken tids t index ≡ true) (column alone : ℕ)
-    (alone_is : (i : ℕ) → is_set alone i ≡ nat_eq i index)
-    (column_is : (i : ℕ) → (is_set column i ≡ true) ↔ ((j : ℕ) × (is_bit pairs i j ≡ true) × (is_set alone j ≡ true))) where
+    (here : is_at taken tids t index ≡ true) (column : ℕ) (column_is : (i : ℕ) → is_set column i ≡ is_bit pairs i index) where
   in_column : (i : ℕ) → (is_set column i ≡ true) ↔ (is_bit pairs i index ≡ true)
-  in_column i = (
-    (λ h. let (j, step, only) = (column_is i).0 h in subst (λ x. is_bit pairs i x ≡ true) (eqb-true j index (sym (alone_is j) ∙ only))
-        step),
-    (λ step. (column_is i).1 (index, step, alone_is index ∙ eq-eqb index index refl)),
-  )
+  in_column i = ((λ h. sym (column_is i) ∙ h), (λ step. column_is i ∙ step))
 
   -- a transaction with an edge to t is at an index of the column
   pub no_pred_of : ((i : ℕ) → is_set column i ≡ false) → (u : ℕ) → is_pair taken tids pairs u t ≡ false

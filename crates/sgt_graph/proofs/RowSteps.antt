@@ -1,14 +1,16 @@
 -- Rows of indices, one after another.
-use Rattle.std.specs.Prelude.{◌≡◌, ℕ, ◌+◌, ◌^◌, ◌<◌, ◌≤◌, ◌⊎◌, ◌↔◌, Bool, true, false, not, ◌&&◌, ◌||◌, nat_eq, List, [], ◌∷◌, length, slice_index, slice_set}
+use Rattle.std.specs.Prelude.{◌≡◌, ℕ, ◌+◌, ◌^◌, ◌≢◌, ◌<◌, ◌≤◌, ◌⊎◌, ◌↔◌, Bool, true, false, not, ◌&&◌, ◌||◌, nat_eq, List, [], ◌∷◌, length, slice_index, slice_set}
 use Rattle.std.proofs.Common.{zero, suc, refl, sym, ◌∙◌, ap, subst, inl, inr, arith}
 use Rattle.std.proofs.lemmas.Nat.Bits.{bit_at_above, bit_at-zero}
 use Rattle.std.proofs.lemmas.List.{get_or-set_same, get_or-set_other}
-use Rattle.std.proofs.lemmas.Bool.{eqb-true, eq-eqb, or_cases, or_left, or_right, both_ways, cases_lt, false_from_ne_true, cases_eq}
+use Rattle.std.proofs.Math.ListN.{length-set}
+use Rattle.std.proofs.lemmas.Bool.{eqb-true, eq-eqb, and_parts, or_cases, or_left, or_right, both_ways, cases_lt, false_from_ne_true, cases_eq}
 use Rattle.sgt_model.specs.Walks.{Reaches}
 use Rattle.sgt_model.proofs.Paths.{reaches_self, reaches_step, reaches_trans}
 use Rattle.sgt_cycle.specs.Indices.{is_set, is_bit}
 use Rattle.sgt_cycle.specs.Walk.{Holds}
 use Rattle.sgt_graph.specs.Closures.{Leads, IsClosure}
+use Rattle.sgt_graph.specs.Relations.{IsRelation}
 
 -- no index from 32 on is in a set
 pub none_above : (a i : ℕ) → a < 2 ^ 32 → 32 ≤ i → is_set a i ≡ false
@@ -21,6 +23,19 @@ low_index a i fits set = elim (cases_lt i 32) [ inl low ↦ low | inr high ↦ a
 pub none_in : (i : ℕ) → is_set 0 i ≡ false
 unfolding is_set
 none_in i = ap (λ x. nat_eq x 1) (bit_at-zero i)
+
+-- rows of nothing
+abbrev pub zeros : ℕ → List ℕ
+zeros zero = []
+zeros (suc n) = 0 ∷ zeros n
+
+pub zero_rows : (n i j : ℕ) → is_bit (zeros n) i j ≡ false
+zero_rows n i j = ap (λ x. is_set x j) (at_zero n i) ∙ none_in j
+  where
+    at_zero : (n i : ℕ) → slice_index (zeros n) i ≡ 0
+    at_zero zero i = refl
+    at_zero (suc n) zero = refl
+    at_zero (suc n) (suc i) = at_zero n i
 
 -- there is no row after the last
 pub no_row : (rows : List ℕ) (i j : ℕ) → length rows ≤ i → is_bit rows i j ≡ false
@@ -49,35 +64,161 @@ module _ (now : ℕ → ℕ → Bool) (old : List ℕ) where
     | inr above ↦ let size : length rows ≡ 32 = c.size in no_row rows i j (omega arith) ∙ sym (none i j above)
   ]
 
--- the first indices whose rows have one of a set
-module _ (meets : ℕ → Type 0) where
-  abbrev pub Found : ℕ → ℕ → Type 0
-  Found n found = (i : ℕ) → (is_set found i ≡ true) ↔ ((i < n) × meets i)
+and_all : (b : Bool) → (b && true) ≡ b
+and_all true = refl
+and_all false = refl
 
-  pub found_none : Found 0 0
-  found_none i = ((λ h. absurd (both_ways _ (none_in i) h)), (λ h. absurd (omega (arith, h.0))))
+and_none : (b : Bool) → (b && false) ≡ false
+and_none true = refl
+and_none false = refl
 
-  pub found_more : (n found found' : ℕ) → Found n found → meets n → ((i : ℕ) → is_set found' i ≡ (is_set found i || nat_eq i n))
-      → Found (n + 1) found'
-  found_more n found found' f here more i = (
-    (λ h. elim (or_cases (is_set found i) _ (sym (more i) ∙ h)) [
-      | inl old ↦ let k = (f i).0 old in let below : i < n = k.0 in (omega arith, k.1)
-      | inr same ↦ let e : i ≡ n = eqb-true i n same in (omega arith, subst meets (sym e) here)
-    ]),
-    (λ k. let below : i < n + 1 = k.0 in elim (cases_eq i n) [
-      | inl e ↦ more i ∙ or_right (is_set found i) _ (eq-eqb i n e)
-      | inr other ↦ more i ∙ or_left (is_set found i) _ ((f i).1 (omega arith, k.1))
-    ]),
+-- an index of those that are left is passed: it is no longer left, and the others are as before
+module _ (left left' k : ℕ) (less : (i : ℕ) → is_set left' i ≡ (is_set left i && not (nat_eq i k))) where
+  pub is_passed : is_set left' k ≡ false
+  is_passed = less k ∙ ap (λ x. is_set left k && not x) (eq-eqb k k refl) ∙ and_none (is_set left k)
+
+  pub is_left : (i : ℕ) → i ≢ k → is_set left' i ≡ is_set left i
+  is_left i other = less i ∙ ap (λ x. is_set left i && not x) (false_from_ne_true (nat_eq i k) (λ t. other (eqb-true i k t)))
+      ∙ and_all (is_set left i)
+
+  pub was_left : (i : ℕ) → is_set left' i ≡ true → is_set left i ≡ true
+  was_left i h = (and_parts (is_set left i) _ (sym (less i) ∙ h)).0
+
+-- the rows of the indices of a set have more indices, but for those that are left
+pub record Spread (to more : ℕ) (old : List ℕ) (left : ℕ) (rows : List ℕ) : Type 0 where
+  pub size : length rows ≡ 32
+  pub within : (i : ℕ) → is_set left i ≡ true → is_set to i ≡ true
+  pub bits : (i j : ℕ) → is_bit rows i j ≡ (is_bit old i j || ((is_set to i && not (is_set left i)) && is_set more j))
+
+module _ (to more : ℕ) (old : List ℕ) where
+  pub spread_none : length old ≡ 32 → Spread to more old to old
+  spread_none size = record
+      { size = size; within = λ i h. h; bits = λ i j. none (is_bit old i j) (is_set to i) (is_set more j) }
+    where
+      none : (a b c : Bool) → a ≡ (a || ((b && not b) && c))
+      none true b c = refl
+      none false true c = refl
+      none false false c = refl
+
+  pub spread_next : (left left' k : ℕ) (rows : List ℕ) (row : ℕ) → Spread to more old left rows → k < 32 → is_set left k ≡ true
+      → ((i : ℕ) → is_set left' i ≡ (is_set left i && not (nat_eq i k)))
+      → ((j : ℕ) → is_set row j ≡ (is_bit rows k j || is_set more j))
+      → Spread to more old left' (slice_set rows k row)
+  spread_next left left' k rows row s low here less row_is = record {
+    size = length-set rows k row ∙ s.size;
+    within = λ i h. s.within i (was_left left left' k less i h);
+    bits = λ i j. elim (cases_eq i k) [
+      | inl e ↦
+          subst (λ x. is_bit (slice_set rows k row) x
+          j ≡ (is_bit old x j || ((is_set to x && not (is_set left' x)) && is_set more j))) (sym e)
+          (ap (λ x. is_set x j) (get_or-set_same rows k row 0 (omega (arith, s.size))) ∙ row_is j
+          ∙ ap (λ x. x || is_set more j) (s.bits k j)
+          ∙ now (is_bit old k j) (is_set to k) (is_set left k) (is_set left' k) (is_set more j) (s.within k here) here
+          (is_passed left left' k less))
+      | inr other ↦ ap (λ x. is_set x j) (get_or-set_other rows k i row 0 other) ∙ s.bits i j
+          ∙ ap (λ x. is_bit old i j || ((is_set to i && not x) && is_set more j)) (sym (is_left left left' k less i other))
+    ];
+  }
+    where
+      now : (a b c d e : Bool) → b ≡ true → c ≡ true → d ≡ false
+          → ((a || ((b && not c) && e)) || e) ≡ (a || ((b && not d) && e))
+      now a b c d e p q r = rw (p, q, r) (both a)
+        where
+          both : (a : Bool) → ((a || ((true && not true) && e)) || e) ≡ (a || ((true && not false) && e))
+          both true = refl
+          both false = refl
+
+  pub spread_all : (left : ℕ) (rows : List ℕ) → Spread to more old left rows → ((i : ℕ) → is_set left i ≡ false) → (i j : ℕ)
+      → is_bit rows i j ≡ (is_bit old i j || (is_set to i && is_set more j))
+  spread_all left rows s none i j = s.bits i j
+      ∙ ap (λ x. is_bit old i j || ((is_set to i && not x) && is_set more j)) (none i)
+      ∙ ap (λ x. is_bit old i j || (x && is_set more j)) (and_all (is_set to i))
+
+-- the union of the rows of the indices of a set, but for those that are left
+pub record United (rows : List ℕ) (of left found : ℕ) : Type 0 where
+  pub within : (i : ℕ) → is_set left i ≡ true → is_set of i ≡ true
+  pub bits : (j : ℕ) → (is_set found j ≡ true)
+      ↔ ((i : ℕ) × (is_bit rows i j ≡ true) × (is_set of i ≡ true) × (is_set left i ≡ false))
+
+module _ (rows : List ℕ) (of : ℕ) where
+  pub united_none : United rows of of 0
+  united_none = record {
+    within = λ i h. h;
+    bits = λ j. (
+      (λ h. absurd (both_ways _ (none_in j) h)),
+      (λ h. let (i, bit, there, gone) = h in absurd (both_ways _ gone there)),
+    );
+  }
+
+  pub united_next : (left left' k found found' : ℕ) → United rows of left found → is_set left k ≡ true
+      → ((i : ℕ) → is_set left' i ≡ (is_set left i && not (nat_eq i k)))
+      → ((j : ℕ) → is_set found' j ≡ (is_set found j || is_bit rows k j)) → United rows of left' found'
+  united_next left left' k found found' u here less more = record {
+    within = λ i h. u.within i (was_left left left' k less i h);
+    bits = λ j. (
+      (λ h. elim (or_cases (is_set found j) _ (sym (more j) ∙ h)) [
+        | inl old ↦ let (i, bit, there, gone) = (u.bits j).0 old in
+            (i, bit, there, less i ∙ ap (λ x. x && not (nat_eq i k)) gone)
+        | inr new ↦ (k, new, u.within k here, is_passed left left' k less)
+      ]),
+      (λ h. let (i, bit, there, gone) = h in elim (cases_eq i k) [
+        | inl e ↦ more j ∙ or_right (is_set found j) _ (subst (λ x. is_bit rows x j ≡ true) e bit)
+        | inr other ↦ more j ∙ or_left (is_set found j) _
+            ((u.bits j).1 (i, bit, there, sym (is_left left left' k less i other) ∙ gone))
+      ]),
+    );
+  }
+
+  pub united_all : (left found : ℕ) → United rows of left found → ((i : ℕ) → is_set left i ≡ false) → (j : ℕ)
+      → (is_set found j ≡ true) ↔ ((i : ℕ) × (is_bit rows i j ≡ true) × (is_set of i ≡ true))
+  united_all left found u none j = (
+    (λ h. let (i, bit, there, gone) = (u.bits j).0 h in (i, bit, there)),
+    (λ h. let (i, bit, there) = h in (u.bits j).1 (i, bit, there, none i)),
   )
 
-  pub found_skip : (n found : ℕ) → Found n found → (meets n → ⊥) → Found (n + 1) found
-  found_skip n found f none i = (
-    (λ h. let k = (f i).0 h in let below : i < n = k.0 in (omega arith, k.1)),
-    (λ k. let below : i < n + 1 = k.0 in elim (cases_eq i n) [
-      | inl e ↦ absurd (none (subst meets e k.1))
-      | inr other ↦ (f i).1 (omega arith, k.1)
-    ]),
-  )
+and_swap : (a b : Bool) → (a && b) ≡ (b && a)
+and_swap true true = refl
+and_swap true false = refl
+and_swap false true = refl
+and_swap false false = refl
+
+-- a relation stays one: with more, or without an index
+pub transposed_more : (rows columns : List ℕ) (to more : ℕ) (new turned : List ℕ) → IsRelation rows columns → length new ≡ 32
+    → ((i j : ℕ) → is_bit new i j ≡ (is_bit rows i j || (is_set to i && is_set more j)))
+    → ((i j : ℕ) → is_bit turned i j ≡ (is_bit columns i j || (is_set more i && is_set to j))) → IsRelation new turned
+transposed_more rows columns to more new turned r size new_is turned_is = record {
+  size = size;
+  transposed = λ i j. turned_is j i ∙ ap (λ x. x || (is_set more j && is_set to i)) (r.transposed i j)
+      ∙ ap (λ x. is_bit rows i j || x) (and_swap (is_set more j) (is_set to i)) ∙ sym (new_is i j);
+}
+
+pub transposed_without : (rows columns : List ℕ) (p : ℕ) (new turned : List ℕ) → IsRelation rows columns → length new ≡ 32
+    → ((i j : ℕ) → is_bit new i j ≡ (is_bit rows i j && (not (nat_eq i p) && not (nat_eq j p))))
+    → ((i j : ℕ) → is_bit turned i j ≡ (is_bit columns i j && (not (nat_eq i p) && not (nat_eq j p)))) → IsRelation new turned
+transposed_without rows columns p new turned r size new_is turned_is = record {
+  size = size;
+  transposed = λ i j. turned_is j i ∙ ap (λ x. x && (not (nat_eq j p) && not (nat_eq i p))) (r.transposed i j)
+      ∙ ap (λ x. is_bit rows i j && x) (and_swap (not (nat_eq j p)) (not (nat_eq i p))) ∙ sym (new_is i j);
+}
+
+-- all edges from these indices to another are there
+pub all_there : (pairs : List ℕ) (from p column new : ℕ) → ((i : ℕ) → is_set column i ≡ is_bit pairs i p)
+    → ((i : ℕ) → is_set new i ≡ (is_set from i && not (is_set column i))) → new ≡ 0 → (i j : ℕ)
+    → is_bit pairs i j ≡ (is_bit pairs i j || (is_set from i && nat_eq j p))
+all_there pairs from p column new column_is new_is none i j = either (is_bit pairs i j) (is_set from i && nat_eq j p) (λ h.
+    let (a, b) = and_parts (is_set from i) _ h in
+    subst (λ x. is_bit pairs i x ≡ true) (sym (eqb-true j p b)) (sym (column_is i) ∙ there (is_set from i) (is_set column i)
+    (sym (new_is i) ∙ ap (λ x. is_set x i) none ∙ none_in i) a))
+  where
+    there : (a b : Bool) → (a && not b) ≡ false → a ≡ true → b ≡ true
+    there a true h e = refl
+    there true false h e = absurd (both_ways _ h refl)
+    there false false h e = absurd (both_ways _ refl e)
+
+    either : (a b : Bool) → (b ≡ true → a ≡ true) → a ≡ (a || b)
+    either true b h = refl
+    either false true h = h refl
+    either false false h = refl
 
 -- what is reached, joined at the first n indices
 pub record ClosedBelow (rows : List ℕ) (n : ℕ) (reached : List ℕ) : Type 0 where
@@ -131,10 +272,13 @@ module _ (rows : List ℕ) where
             ]
       ]
 
-  pub closed_all : (n : ℕ) (reached : List ℕ) → 32 ≤ n → length reached ≡ 32 → ClosedBelow rows n reached → IsClosure rows reached
+  pub closed_all : (n : ℕ) (reached : List ℕ) → 32 ≤ n → length rows ≡ 32 → ClosedBelow rows n reached → IsClosure rows reached
   closed_all n reached high size c = record {
     each = c.each;
-    joins = λ i k j first second. let low : k < 32 = row_low reached k j size second in c.joins i k j (omega arith) first second;
+    joins = λ i k j first second.
+        let (m, step, rest) = c.leads k j second in
+        let low : k < 32 = row_low rows k m size step in
+        c.joins i k j (omega arith) first second;
     leads = c.leads;
   }
 
@@ -149,7 +293,3 @@ emptied old rows p low out i j = elim (cases_eq i p) [
   | inr other ↦ ap (λ x. is_set x j) (get_or-set_other rows p i 0 0 other) ∙ out i j
       ∙ ap (λ x. is_bit old i j && (not x && not (nat_eq j p))) (sym (false_from_ne_true (nat_eq i p) (λ t. other (eqb-true i p t))))
 ]
-  where
-    and_none : (b : Bool) → (b && false) ≡ false
-    and_none true = refl
-    and_none false = refl

@@ -5,7 +5,7 @@ ghost use Rattle.sgt_graph.specs.BitGraphs.{is_placed, is_pair, IsIndexVerdict, 
 
 use crate::graph::Graph;
 use crate::guesses::Guesses;
-use crate::rows::{Rows, add, closure, meeting, take_out};
+use crate::relation::Relation;
 use crate::tids::{index_of, indices_of, least_at, tids_at};
 use crate::verdict::{Link, Plan, Verdict};
 use sgt_cycle::indices::{complement, joined, least, meets, minus, only};
@@ -19,8 +19,8 @@ use std::marker::Model;
 pub struct BitGraph {
     taken: u32,
     tids: [Tid; 32],
-    pairs: Rows,
-    reached: Rows,
+    pairs: Relation,
+    reached: Relation,
     guesses: Guesses,
 }
 
@@ -46,8 +46,8 @@ impl Graph for BitGraph {
         BitGraph {
             taken: 0,
             tids: [Tid(0); 32],
-            pairs: [0; 32],
-            reached: [0; 32],
+            pairs: Relation::empty(),
+            reached: Relation::empty(),
             guesses: Guesses::new(),
         }
     }
@@ -82,7 +82,7 @@ impl Graph for BitGraph {
         if self.is_alone(index) {
             return None;
         }
-        least_at(&self.tids, meeting(&self.pairs, only(index)))
+        least_at(&self.tids, self.pairs.column(index))
     }
 
     fn remove(&mut self, t: Tid) {
@@ -104,10 +104,10 @@ impl BitGraph {
         requires apart { is_set from index ≡ false }
         ensures { IsIndexVerdict self.now.1 self.now.2 self.now.3 index from result }
     {
-        if !meets(self.reached[usize::from(index)], from) {
+        if !meets(self.reached.row(index), from) {
             return Verdict::Accepted;
         }
-        match walk_rows(&self.pairs, index, from) {
+        match walk_rows(self.pairs.rows(), index, from) {
             Some(walk) => Verdict::Closes(tids_at(&self.tids, walk.as_slice())),
             None => unreachable!(),
         }
@@ -121,7 +121,7 @@ impl BitGraph {
         self.taken == only(index)
     }
 
-    /// Adds edges from the indices of the set to this one, and what they reach.
+    /// Adds edges from the indices of the set to this one, and what they reach. Mostly all of them are there.
     fn add_pairs(&mut self, from: u32, index: u8)
         requires low { index < 32 }
         requires taken { is_set self.old.0 index ≡ true }
@@ -134,11 +134,14 @@ impl BitGraph {
         ensures before { IsBitGraph self.old.0 self.old.1 self.old.2 self.old.3 }
         ensures graph { IsBitGraph self.new.0 self.new.1 self.new.2 self.new.3 }
     {
+        if minus(from, self.pairs.column(index)) == 0 {
+            return;
+        }
         let to = only(index);
-        let before = joined(from, meeting(&self.reached, from));
-        let after = joined(to, self.reached[usize::from(index)]);
-        add(&mut self.pairs, from, to);
-        add(&mut self.reached, before, after);
+        let before = joined(from, self.reached.meeting(from));
+        let after = joined(to, self.reached.row(index));
+        self.pairs.add(from, to);
+        self.reached.add(before, after);
     }
 
     /// Frees an index. If no edge leads to it, the others keep what they reach; else that is computed anew from the edges.
@@ -155,13 +158,13 @@ impl BitGraph {
             return;
         }
         let alone = only(index);
-        let is_first = least(meeting(&self.pairs, alone)).is_none();
+        let is_first = self.pairs.column(index) == 0;
         self.taken = minus(self.taken, alone);
-        take_out(&mut self.pairs, index);
+        self.pairs.take_out(index);
         if is_first {
-            take_out(&mut self.reached, index);
+            self.reached.take_out(index);
         } else {
-            self.reached = closure(&self.pairs);
+            self.reached = self.pairs.closure();
         }
     }
 }

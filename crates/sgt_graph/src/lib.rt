@@ -21,6 +21,7 @@ mod bit_graph;
 mod graph;
 mod guesses;
 mod pair_graph;
+mod relation;
 mod rows;
 mod tids;
 mod verdict;

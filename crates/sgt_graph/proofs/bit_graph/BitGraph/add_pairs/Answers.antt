@@ -1,8 +1,9 @@
 use Rattle.std.proofs.Common.{◌≡◌, ◌∙◌, ℕ, List, true, false, sym, subst, inl, inr, eqb-true, eq-eqb}
-use Rattle.std.specs.Prelude.{◌⊎◌, ◌↔◌}
+use Rattle.std.specs.Prelude.{◌⊎◌, ◌↔◌, ◌&&◌, ◌||◌, nat_eq}
 use Rattle.std.proofs.lemmas.Bool.{and_parts, and_from, or_cases, or_left, or_right}
 use Rattle.sgt_cycle.specs.Indices.{is_set, is_bit}
 use Rattle.sgt_graph.specs.BitGraphs.{IsBitGraph}
+use Rattle.sgt_graph.proofs.RowSteps.{all_there}
 use Rattle.sgt_graph.proofs.BitSteps.{joined_graph}
 use Rattle.sgt_graph.proofs.bit_graph.BitGraph.add_pairs.Goals as goal
 
@@ -12,7 +13,7 @@ invariant_of-self c =
     let p : ℕ = c.args.index in
     let pairs : List ℕ = c.self.inside.pairs in
     let reached : List ℕ = c.self.inside.reached in
-    let new_is : (i j : ℕ) → (is_bit c.add.new.rows i j ≡ true) ↔ ((is_bit pairs i j ≡ true) ⊎ ((is_set from i ≡ true) × (j ≡ p))) =
+    let new_is : (i j : ℕ) → (is_bit c.add.new.self i j ≡ true) ↔ ((is_bit pairs i j ≡ true) ⊎ ((is_set from i ≡ true) × (j ≡ p))) =
     λ i j. (
       (λ h. elim (or_cases (is_bit pairs i j) _ (sym (c.add.ensures i j) ∙ h)) [
         | inl o ↦ inl o
@@ -36,15 +37,15 @@ invariant_of-self c =
     let after_is : (j : ℕ) → (is_set c.joined-after.result j ≡ true) ↔ ((j ≡ p) ⊎ (is_bit reached p j ≡ true)) = λ j. (
       (λ h. elim (or_cases (is_set c.only-to.result j) _ (sym (c.joined-after.ensures j) ∙ h)) [
         | inl o ↦ inl (eqb-true j p (sym (c.only-to.ensures j) ∙ o))
-        | inr n ↦ inr (subst (λ x. is_bit reached x j ≡ true) c.from.ensures n)
+        | inr n ↦ inr (subst (λ r. is_set r j ≡ true) c.row.ensures n)
       ]),
       (λ h. elim h [
         | inl o ↦ c.joined-after.ensures j ∙ or_left (is_set c.only-to.result j) _ (c.only-to.ensures j ∙ eq-eqb j p o)
         | inr n ↦ c.joined-after.ensures j ∙ or_right (is_set c.only-to.result j) _
-            (subst (λ x. is_bit reached x j ≡ true) (sym c.from.ensures) n)
+            (subst (λ r. is_set r j ≡ true) (sym c.row.ensures) n)
       ]),
     ) in
-    joined_graph c.self.inside.taken c.self.inside.tids pairs reached c.self.invariant from p c.add.new.rows c.add-2.new.rows
+    joined_graph c.self.inside.taken c.self.inside.tids pairs reached c.self.invariant from p c.add.new.self c.add-2.new.self
     (subst (λ (v : ℕ × List ℕ × List ℕ × List ℕ). is_set v.0 p ≡ true) (sym c.self.view_is) c.requires.taken)
     (λ i h. subst (λ (v : ℕ × List ℕ × List ℕ × List ℕ). is_set v.0 i ≡ true) (sym c.self.view_is) (c.requires.of_taken i h))
     c.requires.apart
@@ -66,3 +67,11 @@ returns-clause-graph c = invariant_of-self c
 
 pub returns-clause-before : goal.returns-clause-before
 returns-clause-before c = subst (λ (v : ℕ × List ℕ × List ℕ × List ℕ). IsBitGraph v.0 v.1 v.2 v.3) c.self.view_is c.self.invariant
+
+-- all these edges are there
+pub returns-then-minus-eq0-clause-pairs : goal.returns-then-minus-eq0-clause-pairs
+returns-then-minus-eq0-clause-pairs c = subst
+    (λ (v : ℕ × List ℕ × List ℕ × List ℕ). (i j : ℕ) → is_bit v.2 i j ≡ (is_bit v.2 i j || (is_set c.args.from i && nat_eq j c.args.index)))
+    c.self.view_is
+    (all_there c.self.inside.pairs c.args.from c.args.index c.column.result c.minus.result c.column.ensures c.minus.ensures.indices
+    c.if-minus-eq0.true)

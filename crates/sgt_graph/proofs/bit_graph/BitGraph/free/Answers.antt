@@ -1,7 +1,8 @@
-use Rattle.std.proofs.Common.{◌≡◌, ◌∙◌, ℕ, List, true, ap, refl, nat_eq, eq-eqb}
+use Rattle.std.proofs.Common.{◌≡◌, ◌∙◌, ℕ, List, true, ap, subst, refl, nat_eq}
 use Rattle.std.specs.Prelude.{◌&&◌, not}
 use Rattle.std.proofs.lemmas.Bool.{both_ways}
 use Rattle.sgt_cycle.specs.Indices.{is_set, is_bit}
+use Rattle.sgt_graph.proofs.RowSteps.{none_in}
 use Rattle.sgt_graph.proofs.Placed.{leads_reached}
 use Rattle.sgt_graph.proofs.BitSteps.{alone_left, alone_freed, freed, first_freed}
 use Rattle.sgt_graph.proofs.bit_graph.BitGraph.free.Goals as goal
@@ -23,13 +24,13 @@ invariant_of-self-then-is_first c =
     let pairs : List ℕ = c.self.inside.pairs in
     let left : (i : ℕ) → is_set c.minus-self-inside.result i ≡ (is_set c.self.inside.taken i && not (nat_eq i p)) =
     λ i. c.minus-self-inside.ensures.indices i ∙ ap (λ x. is_set c.self.inside.taken i && not x) (c.only-alone.ensures i) in
-    let none : (i : ℕ) → is_bit pairs i p ≡ true → ⊥ = λ i step. both_ways _ (c.least.ensures.none c.if-is_first.ensures i)
-    ((c.meeting.ensures i).1 (p, step, c.only-alone.ensures p ∙ eq-eqb p p refl)) in
+    let none : (i : ℕ) → is_bit pairs i p ≡ true → ⊥ = λ i step. both_ways _ (none_in i)
+    (subst (λ x. is_set x i ≡ true) c.if-is_first.true (c.column-is_first.ensures i ∙ step)) in
     freed c.self.inside.taken c.self.inside.tids pairs c.self.inside.reached c.self.invariant p c.minus-self-inside.result
-    c.take_out.new.rows left c.take_out.ensures
-    c.take_out-then-is_first.new.rows
+    c.take_out.new.self left c.take_out.ensures
+    c.take_out-then-is_first.new.self
     (first_freed c.self.inside.taken c.self.inside.tids pairs c.self.inside.reached c.self.invariant p c.minus-self-inside.result
-    c.take_out.new.rows left c.take_out.ensures c.take_out-then-is_first.new.rows none c.take_out-then-is_first.ensures)
+    c.take_out.new.self left c.take_out.ensures c.take_out-then-is_first.new.self none c.take_out-then-is_first.ensures)
     (leads_reached c.self.inside.taken c.self.inside.tids pairs c.self.inside.reached c.self.invariant)
 
 pub invariant_of-self-else-is_first : goal.invariant_of-self-else-is_first
@@ -37,7 +38,7 @@ invariant_of-self-else-is_first c =
     let left : (i : ℕ) → is_set c.minus-self-inside.result i ≡ (is_set c.self.inside.taken i && not (nat_eq i c.args.index)) =
     λ i. c.minus-self-inside.ensures.indices i ∙ ap (λ x. is_set c.self.inside.taken i && not x) (c.only-alone.ensures i) in
     freed c.self.inside.taken c.self.inside.tids c.self.inside.pairs c.self.inside.reached c.self.invariant c.args.index
-    c.minus-self-inside.result c.take_out.new.rows left c.take_out.ensures
+    c.minus-self-inside.result c.take_out.new.self left c.take_out.ensures
     c.closure-self-inside.result c.closure-self-inside.ensures
     (leads_reached c.self.inside.taken c.self.inside.tids c.self.inside.pairs c.self.inside.reached c.self.invariant)
 

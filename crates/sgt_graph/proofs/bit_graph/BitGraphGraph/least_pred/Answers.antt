@@ -22,11 +22,11 @@ pub returns-clause-some : goal.returns-clause-some
 returns-clause-some c =
     subst (λ (v : ℕ × List ℕ × List ℕ × List ℕ). IfSome c.least_at.result (IsLeastPred (is_pair v.0 v.1 v.2) c.args.t)) c.self.view_is
     (least_pred_of c.self.inside.taken c.self.inside.tids c.self.inside.pairs c.self.inside.reached c.self.invariant c.args.t
-    c.in_ok-index.index c.in_ok-index.ensures.some.1 c.meeting.result c.only.result c.only.ensures c.meeting.ensures c.least_at.result
+    c.in_ok-index.index c.in_ok-index.ensures.some.1 c.column.result c.column.ensures c.least_at.result
     c.least_at.ensures.some)
 
 pub returns-clause-none : goal.returns-clause-none
 returns-clause-none c none u = subst (λ (v : ℕ × List ℕ × List ℕ × List ℕ). is_pair v.0 v.1 v.2 u c.args.t ≡ false) c.self.view_is
     (no_pred_of c.self.inside.taken c.self.inside.tids c.self.inside.pairs c.self.inside.reached c.self.invariant c.args.t
-    c.in_ok-index.index c.in_ok-index.ensures.some.1 c.meeting.result c.only.result c.only.ensures c.meeting.ensures
+    c.in_ok-index.index c.in_ok-index.ensures.some.1 c.column.result c.column.ensures
     (c.least_at.ensures.none none) u)
