@@ -4,7 +4,7 @@ use Rattle.std.proofs.lemmas.List.{take_more, at_drop_more, at_drop_all}
 use Rattle.std.proofs.lemmas.Bool.Decides.{Decides-and}
 use Rattle.std.specs.Option.{is_some, option_or}
 use Rattle.std.specs.Ordering.{int_eq}
-use Rattle.sgt_model.specs.Contents.{Key, key_eq, Contents, put_in}
+use Rattle.sgt_model.specs.Contents.{Key, key_eq, Contents}
 use Rattle.sgt_smallbank.specs.declared.account.Account.{Account}
 use Rattle.sgt_smallbank.specs.declared.errors.OpeningFault.{OpeningFault}
 use Rattle.sgt_smallbank.specs.declared.errors.OpeningFault.TheVariants.{SameName, SameCustomer, Range}
@@ -13,20 +13,6 @@ use Rattle.sgt_smallbank.specs.Tables.{account, saving}
 use Rattle.sgt_smallbank.proofs.Values.{Decides-is_value}
 
 -- ---- one account
-
--- the rows of an account, written one after another
-pub rows_put : (before named saved after : Contents) (a : Account) (name saving checking : Key) (u v w : ℤ)
-    → ((k : Key) → named k ≡ put_in before name u k) → ((k : Key) → saved k ≡ put_in named saving v k)
-    → ((k : Key) → after k ≡ put_in saved checking w k) → name ≡ name_key a → u ≡ a.customer → saving ≡ saving_key a → v ≡ a.saving
-    → checking ≡ checking_key a → w ≡ a.checking → (k : Key) → after k ≡ with_account before a k
-rows_put before named saved after a name saving checking u v w first second third at_name is_u at_saving is_v at_checking is_w k =
-    third k ∙ same_put saved checking (checking_key a) w a.checking k at_checking is_w
-    ∙ ap (λ o. cond (key_eq (checking_key a) k) (Some a.checking) o)
-    (second k ∙ same_put named saving (saving_key a) v a.saving k at_saving is_v
-    ∙ ap (λ o. cond (key_eq (saving_key a) k) (Some a.saving) o) (first k ∙ same_put before name (name_key a) u a.customer k at_name is_u))
-  where
-    same_put : (m : Contents) (i j : Key) (x y : ℤ) (k : Key) → i ≡ j → x ≡ y → put_in m i x k ≡ put_in m j y k
-    same_put m i j x y k same_key same_value = ap (λ key. put_in m key x k) same_key ∙ ap (λ value. put_in m j value k) same_value
 
 -- contents that agree at a key agree there with the account's rows
 with_account_same : (m n : Contents) (a : Account) (k : Key) → m k ≡ n k → with_account m a k ≡ with_account n a k

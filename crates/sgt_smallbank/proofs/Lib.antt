@@ -3,4 +3,5 @@ pub mod Forks
 pub mod Flawless
 pub mod Banks
 pub mod Faults
+pub mod JoinedTables
 pub mod Replays

@@ -4,10 +4,10 @@ ghost use Rattle.sgt_model.specs.Contents.{Key};
 ghost use Rattle.sgt_model.specs.Databases.{contents_of};
 ghost use Rattle.sgt_smallbank.specs.Accounts.{name_key, saving_key, checking_key, with_account, opened, IsInRange, has_name, has_customer, fault_among, fault_behind, fault_of, AreRefused};
 
+use crate::account_rows::AccountRows;
 use crate::errors::{BadOpening, OpeningFault};
 use crate::tables::{ACCOUNT, CHECKING, SAVING};
-use sgt_model::{Database, Key, NoMemory, is_value};
-use sgt_rows::Rows;
+use sgt_model::{Database, Key, is_value};
 use std::alloc::Global;
 
 /// A bank account: its name, its customer, and the customer's two balances. `opening` accepts each of the four numbers
@@ -117,50 +117,19 @@ fn database_of(alloc: Global, accounts: &[Account]) -> Result<Database, BadOpeni
     ensures no_fault { OnOk result (fault_of accounts.now ≡ None) }
     ensures fault { IfErr result (λ error. error ≢ BadOpening.NoMemory → AreRefused accounts.now error) }
 {
-    let mut rows = Rows::of(alloc, Database::empty(alloc));
+    let mut rows = AccountRows::new(alloc);
     for account in accounts {
-        if let Some(fault) = fault_among(&rows, account) {
+        if let Some(fault) = rows.fault(account) {
             return Err(BadOpening::Fault(fault));
         }
-        put_rows(&mut rows, account)?;
+        rows.put(account)?;
     }
     Ok(rows.database(alloc)?)
 }
 
-/// The fault of an account that is added to the rows of those before it.
-fn fault_among(rows: &Rows, account: &Account) -> Option<OpeningFault>
-    ensures { result ≡ fault_among (contents_of rows.now) account.now }
-{
-    let Some((name, saving, _)) = keys(account) else {
-        return Some(OpeningFault::Range);
-    };
-    if rows.get(name).is_some() {
-        return Some(OpeningFault::SameName);
-    }
-    if rows.get(saving).is_some() {
-        return Some(OpeningFault::SameCustomer);
-    }
-    None
-}
-
-/// Writes the rows of an account.
-fn put_rows(rows: &mut Rows, account: &Account) -> Result<(), NoMemory>
-    requires { IsInRange account.now }
-    ensures { OnOk result
-        ((k : Key) → contents_of rows.new k ≡ with_account (contents_of rows.old) account.now k) }
-{
-    let Some((name, saving, checking)) = keys(account) else {
-        unreachable!();
-    };
-    rows.put(name, account.customer)?;
-    rows.put(saving, account.saving)?;
-    rows.put(checking, account.checking)?;
-    Ok(())
-}
-
 /// The keys of an account's rows: by its name, of its saving and of its checking. None if one of its numbers is not a
 /// value.
-fn keys(account: &Account) -> Option<(Key, Key, Key)>
+pub fn keys(account: &Account) -> Option<(Key, Key, Key)>
     ensures keys { IfSome result
         (λ k. k ≡ (name_key account.now, saving_key account.now, checking_key account.now)) }
     ensures in_range { IsSome result ↔ IsInRange account.now }

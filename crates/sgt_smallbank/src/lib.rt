@@ -42,6 +42,7 @@
 #![tactic(auto)]
 
 mod account;
+mod account_rows;
 mod amalgamate;
 mod balance;
 mod deposit_checking;

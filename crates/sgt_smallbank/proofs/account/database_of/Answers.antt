@@ -1,5 +1,5 @@
 use Rattle.std.proofs.Common.{pos, refl, sym, ◌∙◌}
-use Rattle.sgt_model.specs.Databases.{contents_of}
+use Rattle.sgt_smallbank.specs.AccountRows.{rows_in}
 use Rattle.sgt_smallbank.specs.declared.account.Account.{Account}
 use Rattle.sgt_smallbank.proofs.Faults.{rows_next, fault_here, fault_later}
 use Rattle.sgt_smallbank.proofs.account.database_of.Goals as goal
@@ -9,16 +9,16 @@ none = record { name = pos 0; customer = pos 0; saving = pos 0; checking = pos 0
 
 pub returns-in-Some-clause-fault : goal.returns-in-Some-clause-fault
 returns-in-Some-clause-fault c = λ is_fault.
-    fault_here c.args.accounts.now c.loop-account.account-index none (contents_of c.loop-account.rows) c.loop-account-test.true
-    c.loop-account.invariant.contents c.loop-account.invariant.so_far _ c.in-Some.fault refl (sym c.fault_among.ensures ∙ c.in-Some.is)
+    fault_here c.args.accounts.now c.loop-account.account-index none (rows_in c.loop-account.rows) c.loop-account-test.true
+    c.loop-account.invariant.contents c.loop-account.invariant.so_far _ c.in-Some.fault refl (sym c.fault.ensures ∙ c.in-Some.is)
 
 pub loop-account-preserved : goal.loop-account-preserved
 loop-account-preserved c =
     let accounts = c.args.accounts.now in
     let i = c.loop-account.account-index in
     record {
-      contents = rows_next (contents_of c.loop-account.rows) (contents_of c.put_rows.new.rows) accounts i none c.loop-account-test.true
-          c.loop-account.invariant.contents c.in_ok-put_rows.ensures;
-      so_far = fault_later accounts i none (contents_of c.loop-account.rows) c.loop-account-test.true
-          c.loop-account.invariant.contents c.loop-account.invariant.so_far _ refl (sym c.fault_among.ensures ∙ c.in_default.is);
+      contents = rows_next (rows_in c.loop-account.rows) (rows_in c.put.new.self) accounts i none c.loop-account-test.true
+          c.loop-account.invariant.contents c.in_ok-put.ensures;
+      so_far = fault_later accounts i none (rows_in c.loop-account.rows) c.loop-account-test.true
+          c.loop-account.invariant.contents c.loop-account.invariant.so_far _ refl (sym c.fault.ensures ∙ c.in_default.is);
     }
