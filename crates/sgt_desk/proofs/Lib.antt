@@ -1,3 +1,4 @@
 pub mod Waking
+pub mod Reasons
 pub mod Starts
 pub mod Turns

@@ -82,14 +82,14 @@ StartsWhy d before (Some (Busy n)) = before ≡ Some (Busy n)
 StartsWhy d before (Some Cut) = Unit {0}
 StartsWhy d before None = Unit {0}
 
--- why a commit may rest: as before, or since it waits for another transaction
-abbrev pub CommitsWhy : ℕ → Option Reason → Option Reason → Type 0
-CommitsWhy t before (Some (Turn u v)) = (before ≡ Some (Turn u v)) ⊎ (u ≡ t)
-CommitsWhy t before (Some (Full n)) = before ≡ Some (Full n)
-CommitsWhy t before (Some (End n)) = before ≡ Some (End n)
-CommitsWhy t before (Some (Busy n)) = before ≡ Some (Busy n)
-CommitsWhy t before (Some Cut) = before ≡ Some Cut
-CommitsWhy t before None = Unit {0}
+-- why a commit may rest: as before, or since its newest reply says for whom it waits
+abbrev pub CommitsWhy : ℕ → Option Reason → ShortReply → Option Reason → Type 0
+CommitsWhy t before short (Some (Turn u v)) = (before ≡ Some (Turn u v)) ⊎ ((u ≡ t) × (short ≡ bare.Waits v))
+CommitsWhy t before short (Some (Full n)) = before ≡ Some (Full n)
+CommitsWhy t before short (Some (End n)) = before ≡ Some (End n)
+CommitsWhy t before short (Some (Busy n)) = before ≡ Some (Busy n)
+CommitsWhy t before short (Some Cut) = before ≡ Some Cut
+CommitsWhy t before short None = Unit {0}
 
 -- the event that asks this of a transaction
 abbrev pub event_of : Asked → ℕ → Event

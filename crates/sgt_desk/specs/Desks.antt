@@ -1,5 +1,5 @@
 -- What threads know of a desk, which reasons to rest hold, and when all that rest have to be woken.
-use Rattle.std.specs.Prelude.{◌≡◌, ◌⊎◌, ℕ, ◌+◌, Bool, true, false, not, cond, ◌&&◌, ◌||◌, nat_eq, nat_lt, List, [], length}
+use Rattle.std.specs.Prelude.{◌≡◌, ◌⊎◌, ℕ, ◌+◌, ◌-◌, Bool, true, false, not, cond, ◌&&◌, ◌||◌, nat_eq, nat_lt, List, [], length}
 use Rattle.sgt_model.specs.declared.entry.Entry.{Entry}
 use Rattle.sgt_model.specs.declared.event.Event.{Event}
 use Rattle.sgt_model.specs.declared.short_reply.ShortReply.{ShortReply}
@@ -57,22 +57,38 @@ tells_short (bare.Refused code) = true
 tells_short _ = false
 
 -- an event was answered, with this reply, and its end is counted if it is one
-pub record Adds (event : Event) (before : DeskState) (short : ShortReply) (after : DeskState) : Type 0 where
+pub record AddsEntry (event : Event) (before : DeskState) (short : ShortReply) (after : DeskState) : Type 0 where
   pub answered : Answered before.setting event before.past short after.past
   pub setting : after.setting ≡ before.setting
   pub part : after.part ≡ before.part
   pub ended : after.ended ≡ cond (ends_short short) (next_number before.ended) before.ended
   pub told : after.told ≡ cond (tells_short short) (next_number before.told) before.told
+
+-- as many calls rest as before
+pub record SameCounts (before after : DeskState) : Type 0 where
   pub committing : after.committing ≡ before.committing
   pub cutters : after.cutters ≡ before.cutters
 
--- nothing has happened, or this event was answered
-abbrev pub MayAdd : Event → DeskState → DeskState → Type 0
-MayAdd event before after = (after ≡ before) ⊎ ((short : ShortReply) × Adds event before short after)
+-- an event was answered, with this reply, and nothing else has happened
+pub record Adds (event : Event) (before : DeskState) (short : ShortReply) (after : DeskState) : Type 0 where
+  pub entry : AddsEntry event before short after
+  pub counts : SameCounts before after
+
+-- nothing has happened, or this event was answered with this reply
+abbrev pub MayAdd : Event → DeskState → ShortReply → DeskState → Type 0
+MayAdd event before short after = (after ≡ before) ⊎ Adds event before short after
 
 -- one more, as far as the number can grow
 abbrev pub one_more : ℕ → ℕ
 one_more n = cond (nat_eq n 18446744073709551615) n (n + 1)
+
+-- how many calls are counted with this one, which is counted already or not
+abbrev pub with_call : Bool → ℕ → ℕ
+with_call is_counted n = cond is_counted n (one_more n)
+
+-- how many are without it
+abbrev pub without_call : Bool → ℕ → ℕ
+without_call is_counted n = cond is_counted (n - 1) n
 
 -- all but the counts of calls that rest is the same
 pub record SameHistory (before after : DeskState) : Type 0 where
@@ -82,11 +98,20 @@ pub record SameHistory (before after : DeskState) : Type 0 where
   pub ended : after.ended ≡ before.ended
   pub told : after.told ≡ before.told
 
+-- nothing has happened, or this event was answered with this reply; the counts of calls that rest may differ
+abbrev pub MayAddEntry : Event → DeskState → ShortReply → DeskState → Type 0
+MayAddEntry event before short after = SameHistory before after ⊎ AddsEntry event before short after
+
+-- who is live stays so
+abbrev pub StaysLive : DeskState → DeskState → Type 0
+StaysLive before after = (t : ℕ) → live before.past t ≡ true → live after.past t ≡ true
+
 -- the history was cut off, and the next part has begun
 pub record IsCutOff (before after : DeskState) : Type 0 where
   pub past : after.past ≡ []
   pub setting : after.setting ≡ setting_behind before.setting before.past
   pub part : after.part ≡ next_number before.part
+  pub ended : after.ended ≡ before.ended
   pub told : after.told ≡ before.told
 
 -- ---- reasons to rest

@@ -1,7 +1,7 @@
 //! A call under way, as its thread keeps it from turn to turn.
-ghost use Rattle.std.specs.Prelude.{◌≡◌, ◌≢◌, ◌-◌, true, false, cond};
+ghost use Rattle.std.specs.Prelude.{◌≡◌, ◌≢◌, true, false, cond};
 ghost use Rattle.sgt_desk.specs.Asks.{has_come, begun, saw_cut, SameButCount};
-ghost use Rattle.sgt_desk.specs.Desks.{one_more};
+ghost use Rattle.sgt_desk.specs.Desks.{with_call, without_call};
 
 use crate::reason::Reason;
 use sgt_model::{ShortReply, Tid};
@@ -102,7 +102,7 @@ impl Ask {
 
 /// Counts a call among those that rest, unless it is counted already.
 pub(crate) fn count(counter: &mut u64, ask: &mut Ask)
-    ensures counter { counter.new ≡ cond ask.old.is_counted counter.old (one_more counter.old) }
+    ensures counter { counter.new ≡ with_call ask.old.is_counted counter.old }
     ensures counted { ask.new.is_counted ≡ true }
     ensures same { SameButCount ask.old ask.new }
 {
@@ -114,7 +114,7 @@ pub(crate) fn count(counter: &mut u64, ask: &mut Ask)
 
 /// Counts a call no longer, if it is counted. `wakes` becomes true if it was the last.
 pub(crate) fn uncount(counter: &mut u64, ask: &mut Ask, wakes: &mut bool)
-    ensures counter { counter.new ≡ cond ask.old.is_counted (counter.old - 1) counter.old }
+    ensures counter { counter.new ≡ without_call ask.old.is_counted counter.old }
     ensures counted { ask.new.is_counted ≡ false }
     ensures same { SameButCount ask.old ask.new }
     ensures wakes { counter.old ≢ counter.new → counter.new ≡ 0 → wakes.new ≡ true }

@@ -2,8 +2,7 @@
 ghost use Rattle.std.specs.Prelude.{◌≡◌, ◌≢◌, ◌↔◌, true, false, Ok};
 ghost use Rattle.sgt_model.specs.declared.event.Event.TheVariants.{Commit};
 ghost use Rattle.sgt_desk.specs.Asks.{has_come, is_of_cut, CommitsWhy, IsNoWait, Rests};
-ghost use Rattle.sgt_desk.specs.Engines.{Answered};
-ghost use Rattle.sgt_desk.specs.Desks.{state, Adds, Wakes, MayAdd};
+ghost use Rattle.sgt_desk.specs.Desks.{state, with_call, without_call, Adds, AddsEntry, MayAdd, MayAddEntry, SameHistory, StaysLive, Wakes};
 
 use crate::answering::Answering;
 use crate::ask::{Ask, Ticket, Turn};
@@ -23,10 +22,11 @@ pub fn commit_turn<E: Answering>(
     ensures no_wait { result ≡ Ok Turn.Done → IsNoWait ask.new.reply }
     ensures rests { result ≡ Ok Turn.Rest → Rests ask.new now (state E.state desk.new) }
     ensures no_cut { result ≡ Ok Turn.Rest → is_of_cut ask.new.reason ≡ false }
-    ensures why { CommitsWhy t ask.old.reason ask.new.reason }
+    ensures why { CommitsWhy t ask.old.reason ask.new.reply ask.new.reason }
     ensures late { result ≡ Ok Turn.Late → has_come ask.old.deadline now ≡ true }
+    ensures live { result ≢ Ok Turn.Done → StaysLive (state E.state desk.old) (state E.state desk.new) }
     ensures again { (result ≢ Ok Turn.Again) × (result ≢ Ok Turn.Stale) }
-    ensures entries { MayAdd (Commit t) (state E.state desk.old) (state E.state desk.new) }
+    ensures entries { MayAdd (Commit t) (state E.state desk.old) ask.new.reply (state E.state desk.new) }
     ensures deadline { ask.new.deadline ≡ ask.old.deadline }
     ensures counted { ask.new.is_counted ≡ ask.old.is_counted }
     ensures wakes { Wakes (state E.state desk.old) (state E.state desk.new) wakes.new }
@@ -61,15 +61,22 @@ pub fn commit<E: Answering>(
     wakes: &mut bool,
 ) -> Result<Turn, NoMemory>
     ensures done { result ≡ Ok Turn.Done
-        → Answered (state E.state desk.old).setting (Commit ticket.tid) (state E.state desk.old).past ask.new.reply (state E.state desk.new).past }
+        → AddsEntry (Commit ticket.tid) (state E.state desk.old) ask.new.reply (state E.state desk.new) }
     ensures no_wait { result ≡ Ok Turn.Done → IsNoWait ask.new.reply }
     ensures rests { result ≡ Ok Turn.Rest → Rests ask.new now (state E.state desk.new) }
-    ensures counted { result ≡ Ok Turn.Rest → ask.new.is_counted ≡ true }
-    ensures why { CommitsWhy ticket.tid ask.old.reason ask.new.reason }
+    ensures counted { result ≡ Ok Turn.Rest → (ask.new.is_counted ≡ true)
+        × ((state E.state desk.new).committing ≡ with_call ask.old.is_counted (state E.state desk.old).committing) }
+    ensures uncounted { result ≢ Ok Turn.Rest → (ask.new.is_counted ≡ false)
+        × ((state E.state desk.new).committing ≡ without_call ask.old.is_counted (state E.state desk.old).committing) }
+    ensures cutters { (state E.state desk.new).cutters ≡ (state E.state desk.old).cutters }
+    ensures why { CommitsWhy ticket.tid ask.old.reason ask.new.reply ask.new.reason }
     ensures late { result ≡ Ok Turn.Late → has_come ask.old.deadline now ≡ true }
+    ensures live { result ≢ Ok Turn.Done → StaysLive (state E.state desk.old) (state E.state desk.new) }
     ensures again { result ≢ Ok Turn.Again }
     ensures stale { (result ≡ Ok Turn.Stale) ↔ (ticket.part ≢ (state E.state desk.old).part) }
-    ensures unchanged { result ≡ Ok Turn.Stale → (state E.state desk.new).past ≡ (state E.state desk.old).past }
+    ensures unchanged { result ≡ Ok Turn.Stale → SameHistory (state E.state desk.old) (state E.state desk.new) }
+    ensures entries { MayAddEntry (Commit ticket.tid) (state E.state desk.old) ask.new.reply (state E.state desk.new) }
+    ensures deadline { ask.new.deadline ≡ ask.old.deadline }
     ensures wakes { Wakes (state E.state desk.old) (state E.state desk.new) wakes.new }
     ensures woken { wakes.old ≡ true → wakes.new ≡ true }
 {

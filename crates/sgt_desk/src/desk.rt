@@ -7,7 +7,7 @@ ghost use Rattle.sgt_model.specs.Legality.{Legal};
 ghost use Rattle.sgt_desk.specs.Asks.{holds_up, is_held, is_of_cut, SameButCount};
 ghost use Rattle.sgt_desk.specs.declared.reason.Reason.{Reason};
 ghost use Rattle.sgt_desk.specs.Desks.{state, opened, Adds, Wakes, SameHistory, IsCutOff, holds, is_busy};
-ghost use Rattle.sgt_desk.specs.Desks.{next_number, ends_short, tells_short};
+ghost use Rattle.sgt_desk.specs.Desks.{next_number, ends_short, tells_short, with_call, without_call, SameCounts};
 
 use crate::answering::Answering;
 use crate::ask::{Ask, Ticket, count, uncount};
@@ -118,6 +118,8 @@ impl<E: Answering> Desk<E> {
         ensures history { SameHistory (state E.state self.old) (state E.state self.new) }
         ensures stays { (r : Reason) → holds r (state E.state self.old) ≡ true → holds r (state E.state self.new) ≡ true }
         ensures counted { ask.new.is_counted ≡ true }
+        ensures counts { (state E.state self.new).committing ≡ with_call ask.old.is_counted (state E.state self.old).committing }
+        ensures cutters { (state E.state self.new).cutters ≡ (state E.state self.old).cutters }
         ensures same { SameButCount ask.old ask.new }
     {
         count(&mut self.committing, ask);
@@ -130,6 +132,8 @@ impl<E: Answering> Desk<E> {
             → is_held r (state E.state self.new) ≡ true }
         ensures wakes { Wakes (state E.state self.old) (state E.state self.new) wakes.new }
         ensures counted { ask.new.is_counted ≡ false }
+        ensures counts { (state E.state self.new).committing ≡ without_call ask.old.is_counted (state E.state self.old).committing }
+        ensures cutters { (state E.state self.new).cutters ≡ (state E.state self.old).cutters }
         ensures same { SameButCount ask.old ask.new }
         ensures woken { wakes.old ≡ true → wakes.new ≡ true }
     {
@@ -141,6 +145,8 @@ impl<E: Answering> Desk<E> {
         ensures history { SameHistory (state E.state self.old) (state E.state self.new) }
         ensures stays { (r : Reason) → holds r (state E.state self.old) ≡ true → holds r (state E.state self.new) ≡ true }
         ensures counted { ask.new.is_counted ≡ true }
+        ensures counts { (state E.state self.new).cutters ≡ with_call ask.old.is_counted (state E.state self.old).cutters }
+        ensures committing { (state E.state self.new).committing ≡ (state E.state self.old).committing }
         ensures same { SameButCount ask.old ask.new }
     {
         count(&mut self.cutters, ask);
@@ -151,6 +157,8 @@ impl<E: Answering> Desk<E> {
         ensures history { SameHistory (state E.state self.old) (state E.state self.new) }
         ensures wakes { Wakes (state E.state self.old) (state E.state self.new) wakes.new }
         ensures counted { ask.new.is_counted ≡ false }
+        ensures counts { (state E.state self.new).cutters ≡ without_call ask.old.is_counted (state E.state self.old).cutters }
+        ensures committing { (state E.state self.new).committing ≡ (state E.state self.old).committing }
         ensures same { SameButCount ask.old ask.new }
         ensures woken { wakes.old ≡ true → wakes.new ≡ true }
     {
@@ -161,6 +169,7 @@ impl<E: Answering> Desk<E> {
     pub fn cut_off(&mut self, alloc: Global, wakes: &mut bool) -> Result<(), NoMemory>
         requires { is_busy (state E.state self.old) ≡ false }
         ensures cut { OnOk result (IsCutOff (state E.state self.old) (state E.state self.new)) }
+        ensures counts { SameCounts (state E.state self.old) (state E.state self.new) }
         ensures unchanged { OnErr result (state E.state self.new ≡ state E.state self.old) }
         ensures wakes { Wakes (state E.state self.old) (state E.state self.new) wakes.new }
         ensures woken { wakes.old ≡ true → wakes.new ≡ true }

@@ -1,10 +1,10 @@
 //! Turns of a run: a procedure from its start to its commit, tried again after a conflict.
-ghost use Rattle.std.specs.Prelude.{◌≡◌, ◌≢◌, ◌≤◌, ◌<◌, ℕ, true, false, Ok, Some, None, IfOk, is_some};
+ghost use Rattle.std.specs.Prelude.{◌≡◌, ◌≢◌, ◌≤◌, ◌<◌, ℕ, true, false, cond, Ok, Some, None, IfOk, is_some};
 ghost use Rattle.sgt_model.specs.Fates.{live, start_count};
 ghost use Rattle.sgt_model.specs.declared.event.Event.TheVariants.{Start};
 ghost use Rattle.sgt_desk.specs.Asks.{has_come, is_of_cut, Rests, SameButReply};
-ghost use Rattle.sgt_desk.specs.Desks.{state, SameHistory, Wakes};
-ghost use Rattle.sgt_desk.specs.Runs.{is_conflict, is_over, named, Begins, KeepsCalls, LeavesOnly, IsOutcome};
+ghost use Rattle.sgt_desk.specs.Desks.{state, with_call, without_call, SameCounts, Wakes};
+ghost use Rattle.sgt_desk.specs.Runs.{is_conflict, is_over, named, AsksOnly, Begins, IsOutcome, KeepsCalls, LeavesOnly, RunsWhy};
 
 use crate::answering::Answering;
 use crate::ask::{Ask, Deadline, Ticket, Turn};
@@ -76,6 +76,10 @@ fn end<E: Answering>(desk: &mut Desk<E>, ask: &mut Ask, t: Tid, wakes: &mut bool
         → IsOutcome ask.new.reply (Some t) (state E.state desk.new).past }
     ensures starts { start_count (state E.state desk.new).past ≡ start_count (state E.state desk.old).past }
     ensures calls { KeepsCalls (state E.state desk.old).past (state E.state desk.new).past }
+    ensures others { AsksOnly (Some t) (state E.state desk.old).past (state E.state desk.new).past }
+    ensures part { (state E.state desk.new).part ≡ (state E.state desk.old).part }
+    ensures setting { (state E.state desk.new).setting ≡ (state E.state desk.old).setting }
+    ensures counts { SameCounts (state E.state desk.old) (state E.state desk.new) }
     ensures wakes { Wakes (state E.state desk.old) (state E.state desk.new) wakes.new }
     ensures woken { wakes.old ≡ true → wakes.new ≡ true }
 {
@@ -98,6 +102,10 @@ fn step_on<E: Answering>(
     ensures outcome { IfOk result (λ r. IsOutcome r (Some t) (state E.state desk.new).past) }
     ensures starts { start_count (state E.state desk.new).past ≡ start_count (state E.state desk.old).past }
     ensures calls { KeepsCalls (state E.state desk.old).past (state E.state desk.new).past }
+    ensures others { AsksOnly (Some t) (state E.state desk.old).past (state E.state desk.new).past }
+    ensures part { (state E.state desk.new).part ≡ (state E.state desk.old).part }
+    ensures setting { (state E.state desk.new).setting ≡ (state E.state desk.old).setting }
+    ensures counts { SameCounts (state E.state desk.old) (state E.state desk.new) }
     ensures wakes { Wakes (state E.state desk.old) (state E.state desk.new) wakes.new }
     ensures woken { wakes.old ≡ true → wakes.new ≡ true }
 {
@@ -131,12 +139,17 @@ fn settle<E: Answering>(
     ensures gone { live (state E.state desk.new).past t ≡ false }
     ensures starts { start_count (state E.state desk.new).past ≡ start_count (state E.state desk.old).past }
     ensures calls { KeepsCalls (state E.state desk.old).past (state E.state desk.new).past }
+    ensures others { AsksOnly (Some t) (state E.state desk.old).past (state E.state desk.new).past }
+    ensures part { (state E.state desk.new).part ≡ (state E.state desk.old).part }
+    ensures setting { (state E.state desk.new).setting ≡ (state E.state desk.old).setting }
+    ensures counts { SameCounts (state E.state desk.old) (state E.state desk.new) }
     ensures kept { (run.new.tries ≡ run.old.tries) × (run.new.most ≡ run.old.most) × (run.new.ticket ≡ run.old.ticket) }
     ensures deadline { run.new.ask.deadline ≡ run.old.ask.deadline }
     ensures counted { run.new.ask.is_counted ≡ run.old.ask.is_counted }
     ensures done { result ≡ Turn.Done → is_conflict run.new.ask.reply ≡ true → run.new.most ≤ run.new.tries }
     ensures again { result ≡ Turn.Again → (is_conflict run.new.ask.reply ≡ true) × (run.new.tries < run.new.most) }
     ensures rests { result ≡ Turn.Rest → Rests run.new.ask now (state E.state desk.new) }
+    ensures why { RunsWhy (state E.state desk.new) None run.new.attempt run.new.ask.reply run.new.ask.reason }
     ensures no_cut { result ≡ Turn.Rest → is_of_cut run.new.ask.reason ≡ false }
     ensures late { result ≡ Turn.Late → has_come run.old.ask.deadline now ≡ true }
     ensures stale { result ≢ Turn.Stale }
@@ -174,12 +187,17 @@ fn commit_attempt<E: Answering>(
     ensures only { result ≢ Ok Turn.Rest → run.new.attempt ≡ None }
     ensures starts { start_count (state E.state desk.new).past ≡ start_count (state E.state desk.old).past }
     ensures calls { KeepsCalls (state E.state desk.old).past (state E.state desk.new).past }
+    ensures others { AsksOnly (Some t) (state E.state desk.old).past (state E.state desk.new).past }
+    ensures part { (state E.state desk.new).part ≡ (state E.state desk.old).part }
+    ensures setting { (state E.state desk.new).setting ≡ (state E.state desk.old).setting }
+    ensures counts { SameCounts (state E.state desk.old) (state E.state desk.new) }
     ensures kept { (run.new.tries ≡ run.old.tries) × (run.new.most ≡ run.old.most) × (run.new.ticket ≡ run.old.ticket) }
     ensures deadline { run.new.ask.deadline ≡ run.old.ask.deadline }
     ensures counted { run.new.ask.is_counted ≡ run.old.ask.is_counted }
     ensures done { result ≡ Ok Turn.Done → is_conflict run.new.ask.reply ≡ true → run.new.most ≤ run.new.tries }
     ensures again { result ≡ Ok Turn.Again → (is_conflict run.new.ask.reply ≡ true) × (run.new.tries < run.new.most) }
     ensures rests { result ≡ Ok Turn.Rest → Rests run.new.ask now (state E.state desk.new) }
+    ensures why { RunsWhy (state E.state desk.new) run.old.ask.reason run.new.attempt run.new.ask.reply run.new.ask.reason }
     ensures no_cut { result ≡ Ok Turn.Rest → is_of_cut run.new.ask.reason ≡ false }
     ensures late { result ≡ Ok Turn.Late → has_come run.old.ask.deadline now ≡ true }
     ensures stale { result ≢ Ok Turn.Stale }
@@ -215,15 +233,20 @@ fn try_once<E: Answering>(
     ensures outcome { result ≡ Ok Turn.Done → IsOutcome run.new.ask.reply (named run.new.ticket) (state E.state desk.new).past }
     ensures left { LeavesOnly None (start_count (state E.state desk.old).past) (state E.state desk.new).past run.new.attempt }
     ensures only { result ≢ Ok Turn.Rest → run.new.attempt ≡ None }
-    ensures call { Begins procedure args.now (state E.state desk.old).past run.new.ticket (state E.state desk.new).past }
+    ensures call { Begins procedure args.now (state E.state desk.old) run.old (state E.state desk.new) run.new }
+    ensures others { AsksOnly (named run.new.ticket) (state E.state desk.old).past (state E.state desk.new).past }
+    ensures part { (state E.state desk.new).part ≡ (state E.state desk.old).part }
+    ensures setting { (state E.state desk.new).setting ≡ (state E.state desk.old).setting }
     ensures over { is_over run.old.ask.deadline run.old.tries now ≡ true → state E.state desk.new ≡ state E.state desk.old }
     ensures cut { 0 < (state E.state desk.old).cutters → state E.state desk.new ≡ state E.state desk.old }
     ensures most { run.new.most ≡ run.old.most }
+    ensures counts { SameCounts (state E.state desk.old) (state E.state desk.new) }
     ensures deadline { run.new.ask.deadline ≡ run.old.ask.deadline }
     ensures counted { run.new.ask.is_counted ≡ run.old.ask.is_counted }
     ensures done { result ≡ Ok Turn.Done → is_conflict run.new.ask.reply ≡ true → run.new.most ≤ run.new.tries }
     ensures again { result ≡ Ok Turn.Again → (is_conflict run.new.ask.reply ≡ true) × (run.new.tries < run.new.most) }
     ensures rests { result ≡ Ok Turn.Rest → Rests run.new.ask now (state E.state desk.new) }
+    ensures why { RunsWhy (state E.state desk.new) run.old.ask.reason run.new.attempt run.new.ask.reply run.new.ask.reason }
     ensures no_cut { result ≡ Ok Turn.Rest → is_of_cut run.new.ask.reason ≡ false }
     ensures late { result ≡ Ok Turn.Late → has_come run.old.ask.deadline now ≡ true }
     ensures stale { result ≢ Ok Turn.Stale }
@@ -276,12 +299,17 @@ fn attempt<E: Answering>(
     ensures only { result ≢ Ok Turn.Rest → run.new.attempt ≡ None }
     ensures starts { start_count (state E.state desk.new).past ≡ start_count (state E.state desk.old).past }
     ensures calls { KeepsCalls (state E.state desk.old).past (state E.state desk.new).past }
+    ensures others { AsksOnly (Some t) (state E.state desk.old).past (state E.state desk.new).past }
+    ensures part { (state E.state desk.new).part ≡ (state E.state desk.old).part }
+    ensures setting { (state E.state desk.new).setting ≡ (state E.state desk.old).setting }
+    ensures counts { SameCounts (state E.state desk.old) (state E.state desk.new) }
     ensures kept { (run.new.tries ≡ run.old.tries) × (run.new.most ≡ run.old.most) × (run.new.ticket ≡ run.old.ticket) }
     ensures deadline { run.new.ask.deadline ≡ run.old.ask.deadline }
     ensures counted { run.new.ask.is_counted ≡ run.old.ask.is_counted }
     ensures done { result ≡ Ok Turn.Done → is_conflict run.new.ask.reply ≡ true → run.new.most ≤ run.new.tries }
     ensures again { result ≡ Ok Turn.Again → (is_conflict run.new.ask.reply ≡ true) × (run.new.tries < run.new.most) }
     ensures rests { result ≡ Ok Turn.Rest → Rests run.new.ask now (state E.state desk.new) }
+    ensures why { RunsWhy (state E.state desk.new) run.old.ask.reason run.new.attempt run.new.ask.reply run.new.ask.reason }
     ensures no_cut { result ≡ Ok Turn.Rest → is_of_cut run.new.ask.reason ≡ false }
     ensures late { result ≡ Ok Turn.Late → has_come run.old.ask.deadline now ≡ true }
     ensures stale { result ≢ Ok Turn.Stale }
@@ -320,7 +348,10 @@ pub fn run_procedure<E: Answering>(
 ) -> Result<Turn, NoMemory>
     ensures outcome { result ≡ Ok Turn.Done → IsOutcome run.new.ask.reply (named run.new.ticket) (state E.state desk.new).past }
     ensures done { result ≡ Ok Turn.Done → is_conflict run.new.ask.reply ≡ true → run.new.most ≤ run.new.tries }
-    ensures call { Begins procedure args.now (state E.state desk.old).past run.new.ticket (state E.state desk.new).past }
+    ensures call { Begins procedure args.now (state E.state desk.old) run.old (state E.state desk.new) run.new }
+    ensures others { AsksOnly (named run.new.ticket) (state E.state desk.old).past (state E.state desk.new).past }
+    ensures part { (state E.state desk.new).part ≡ (state E.state desk.old).part }
+    ensures setting { (state E.state desk.new).setting ≡ (state E.state desk.old).setting }
     ensures left { LeavesOnly run.old.attempt (start_count (state E.state desk.old).past) (state E.state desk.new).past
         run.new.attempt }
     ensures only { result ≢ Ok Turn.Rest → run.new.attempt ≡ None }
@@ -330,7 +361,12 @@ pub fn run_procedure<E: Answering>(
         → start_count (state E.state desk.new).past ≡ start_count (state E.state desk.old).past }
     ensures again { result ≡ Ok Turn.Again → (is_conflict run.new.ask.reply ≡ true) × (run.new.tries < run.new.most) }
     ensures rests { result ≡ Ok Turn.Rest → Rests run.new.ask now (state E.state desk.new) }
+    ensures why { RunsWhy (state E.state desk.new) run.old.ask.reason run.new.attempt run.new.ask.reply run.new.ask.reason }
     ensures counted { run.new.ask.is_counted ≡ is_some run.new.attempt }
+    ensures committing { (state E.state desk.new).committing ≡ cond (is_some run.new.attempt)
+        (with_call run.old.ask.is_counted (state E.state desk.old).committing)
+        (without_call run.old.ask.is_counted (state E.state desk.old).committing) }
+    ensures cutters { (state E.state desk.new).cutters ≡ (state E.state desk.old).cutters }
     ensures late { result ≡ Ok Turn.Late → has_come run.old.ask.deadline now ≡ true }
     ensures stale { result ≢ Ok Turn.Stale }
     ensures most { run.new.most ≡ run.old.most }
@@ -358,7 +394,10 @@ fn run_turn<E: Answering>(
 ) -> Result<Turn, NoMemory>
     ensures outcome { result ≡ Ok Turn.Done → IsOutcome run.new.ask.reply (named run.new.ticket) (state E.state desk.new).past }
     ensures done { result ≡ Ok Turn.Done → is_conflict run.new.ask.reply ≡ true → run.new.most ≤ run.new.tries }
-    ensures call { Begins procedure args.now (state E.state desk.old).past run.new.ticket (state E.state desk.new).past }
+    ensures call { Begins procedure args.now (state E.state desk.old) run.old (state E.state desk.new) run.new }
+    ensures others { AsksOnly (named run.new.ticket) (state E.state desk.old).past (state E.state desk.new).past }
+    ensures part { (state E.state desk.new).part ≡ (state E.state desk.old).part }
+    ensures setting { (state E.state desk.new).setting ≡ (state E.state desk.old).setting }
     ensures left { LeavesOnly run.old.attempt (start_count (state E.state desk.old).past) (state E.state desk.new).past
         run.new.attempt }
     ensures only { result ≢ Ok Turn.Rest → run.new.attempt ≡ None }
@@ -368,10 +407,13 @@ fn run_turn<E: Answering>(
         → start_count (state E.state desk.new).past ≡ start_count (state E.state desk.old).past }
     ensures again { result ≡ Ok Turn.Again → (is_conflict run.new.ask.reply ≡ true) × (run.new.tries < run.new.most) }
     ensures rests { result ≡ Ok Turn.Rest → Rests run.new.ask now (state E.state desk.new) }
+    ensures why { RunsWhy (state E.state desk.new) run.old.ask.reason run.new.attempt run.new.ask.reply run.new.ask.reason }
     ensures no_cut { result ≡ Ok Turn.Rest → is_of_cut run.new.ask.reason ≡ false }
     ensures late { result ≡ Ok Turn.Late → has_come run.old.ask.deadline now ≡ true }
     ensures stale { result ≢ Ok Turn.Stale }
     ensures most { run.new.most ≡ run.old.most }
+    ensures counts { SameCounts (state E.state desk.old) (state E.state desk.new) }
+    ensures counted { run.new.ask.is_counted ≡ run.old.ask.is_counted }
     ensures deadline { run.new.ask.deadline ≡ run.old.ask.deadline }
     ensures wakes { Wakes (state E.state desk.old) (state E.state desk.new) wakes.new }
     ensures woken { wakes.old ≡ true → wakes.new ≡ true }

@@ -29,7 +29,7 @@ pub fn start<E: Answering>(
     ensures cut { 0 < (state E.state desk.old).cutters → state E.state desk.new ≡ state E.state desk.old }
     ensures late { result ≡ Ok Turn.Late → has_come ask.old.deadline now ≡ true }
     ensures turns { (result ≢ Ok Turn.Again) × (result ≢ Ok Turn.Stale) }
-    ensures entries { MayAdd (Start procedure args.now) (state E.state desk.old) (state E.state desk.new) }
+    ensures entries { MayAdd (Start procedure args.now) (state E.state desk.old) ask.new.reply (state E.state desk.new) }
     ensures deadline { ask.new.deadline ≡ ask.old.deadline }
     ensures wakes { Wakes (state E.state desk.old) (state E.state desk.new) wakes.new }
     ensures woken { wakes.old ≡ true → wakes.new ≡ true }
