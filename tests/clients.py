@@ -8,6 +8,7 @@ Every order of the transactions is tried: the report has to say yes, and one of 
 the witness is tested by what was observed. The last line counts the cases.
 """
 
+import glob
 import itertools
 import json
 import os
@@ -576,10 +577,31 @@ def recorded_ones(program):
     return ", ".join(told)
 
 
+# The databases of Debian's packages: their recorders, and a program of the server.
+DATABASES = {"postgres.py": "/usr/lib/postgresql/*/bin/initdb", "mariadb.py": "/usr/sbin/mariadbd"}
+
+
+def records_databases(program):
+    """What is recorded anew of each database that is here, at its level SERIALIZABLE, is serializable."""
+    told = []
+    for name, server in DATABASES.items():
+        if not glob.glob(server):
+            told.append(f"{name} left out, {server} is missing")
+            continue
+        words = [CLIENTS / name, "--temporary", "--level", "serializable", "--transactions", "60"]
+        ran = subprocess.run(words, capture_output=True, timeout=10 * SECONDS, check=False)
+        same(f"status of {name}", (0, b""), (ran.returncode, ran.stderr))
+        status, text, errors = check(program, ran.stdout)
+        same(f"report on {name}", (0, "", True), (status, errors, text.splitlines()[1].startswith("serializable yes: t")))
+        told.append(f"{name} serializable")
+    return ", ".join(told)
+
+
 CASES = [on_all_small_histories, on_drawn_histories, on_drawn_histories_strictly, names_anomalies, names_the_operations,
          shows_values_of_a_long_read, ends_on_long_ones, reads_each_form, reads_edn,
          takes_null_for_the_empty_list, takes_processes_of_any_name, skips_what_is_no_transaction, refuses_nothing,
-         refuses_an_end_of_other_operations, keeps_time_only_with_invocations, tells_faults, survives_hostile_bytes, needs_its_model, hints_at_its_model, draws_its_witness, recorded_ones]
+         refuses_an_end_of_other_operations, keeps_time_only_with_invocations, tells_faults, survives_hostile_bytes, needs_its_model, hints_at_its_model, draws_its_witness, recorded_ones,
+         records_databases]
 
 if __name__ == "__main__":
     sys.exit(tell(CASES, sys.argv[1], of="clients"))

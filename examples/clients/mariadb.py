@@ -1,0 +1,143 @@
+#!/usr/bin/env python3
+"""Records what clients see of MariaDB, for `sgt check --model list-append`.
+
+    mariadb.py --level serializable | sgt check --model list-append
+    mariadb.py --temporary --level "repeatable read" > history.json
+
+A list is a row with a text. Each client is a `mariadb` of its own, which connects to the database `sgt` as its option files say. It makes
+a table `sgt_lists`, and drops it first. With --temporary a server of its own is made in a folder, and removed. The level `snapshot` is
+repeatable read with innodb_snapshot_isolation.
+"""
+
+import argparse
+import os
+import pathlib
+import random
+import shutil
+import subprocess
+import sys
+import tempfile
+import time
+from contextlib import contextmanager
+
+sys.dont_write_bytecode = True
+from recorder import Plan, record  # noqa: E402
+
+TABLE = "drop table if exists sgt_lists; create table sgt_lists (id int primary key, list text not null) engine=innodb"
+LEVELS = ("read uncommitted", "read committed", "repeatable read", "snapshot", "serializable")
+SECONDS = 60
+
+
+class Aborted(Exception):
+    """The database refused a statement."""
+
+
+class Client:
+    """A connection: a `mariadb` that reads statements from a pipe."""
+
+    def __init__(self, words, level, seed):
+        self.draw = random.Random(seed)
+        self.mariadb = subprocess.Popen([*words, "--force", "--unbuffered"], stdin=subprocess.PIPE, stdout=subprocess.PIPE,
+                                        stderr=subprocess.STDOUT, text=True, bufsize=1)
+        self.ask("set innodb_lock_wait_timeout = 2")
+        if level == "snapshot":
+            self.ask("set innodb_snapshot_isolation = on")
+        self.ask(f"set session transaction isolation level {level.replace('snapshot', 'repeatable read')}")
+
+    def ask(self, statement):
+        """The lines of its answer."""
+        self.mariadb.stdin.write(f"{statement};\nselect 'done';\n")
+        lines = []
+        while (line := self.mariadb.stdout.readline()) != "done\n":
+            if not line:
+                raise ConnectionError("mariadb has ended")
+            lines.append(line.rstrip("\n"))
+        if any(it.startswith("ERROR ") for it in lines):
+            raise Aborted(lines)
+        return lines
+
+    def run(self, operations):
+        try:
+            self.ask("begin")
+            done = [self.do(*it) for it in operations]
+            self.ask("commit")
+            return done
+        except Aborted:
+            self.ask("rollback")
+            return None
+
+    def do(self, word, key, value):
+        time.sleep(self.draw.random() / 300)
+        if word == "append":
+            self.ask(f"insert into sgt_lists values ({key}, '{value}') on duplicate key update list = concat(list, ' {value}')")
+            return [word, key, value]
+        rows = self.ask(f"select list from sgt_lists where id = {key}")
+        return [word, key, [int(it) for it in " ".join(rows).split()]]
+
+
+def program(name):
+    """The path of a program of MariaDB. Debian has the server where PATH may not look."""
+    found = shutil.which(name, path=os.environ.get("PATH", "") + os.pathsep + "/usr/sbin")
+    if found is None:
+        sys.exit(f"{name} is missing: Debian's packages are mariadb-server-core and mariadb-client-core")
+    return found
+
+
+@contextmanager
+def temporary():
+    """A server in a folder of its own: the words that connect to it."""
+    room = pathlib.Path(tempfile.mkdtemp())
+    share = pathlib.Path(program("mariadbd")).resolve().parents[1] / "share"
+    own = ["--no-defaults", f"--datadir={room}/data", f"--lc-messages-dir={share}/mysql", *["--user=root"] * (os.getuid() == 0)]
+    words = [program("mariadb"), "--no-defaults", f"--socket={room}/socket", "--user=root"]
+    server = None
+    try:
+        (room / "data" / "mysql").mkdir(parents=True)
+        server = subprocess.Popen([program("mariadbd"), *own, "--skip-grant-tables", "--skip-networking", f"--socket={room}/socket"],
+                                  stdout=subprocess.DEVNULL, stderr=subprocess.DEVNULL)
+        wait_for(words, server)
+        subprocess.run([*words, "-e", "create database sgt"], check=True)
+        yield words
+    finally:
+        if server is not None:
+            server.kill()
+            server.wait()
+        shutil.rmtree(room, ignore_errors=True)
+
+
+def wait_for(words, server):
+    """Returns once the server answers."""
+    until = time.monotonic() + SECONDS
+    while subprocess.run([*words, "-e", "select 1"], stdout=subprocess.DEVNULL, stderr=subprocess.DEVNULL, check=False).returncode != 0:
+        if server.poll() is not None or time.monotonic() > until:
+            sys.exit("mariadbd did not start")
+        time.sleep(0.2)
+
+
+@contextmanager
+def given():
+    """The server that the option files name."""
+    yield [program("mariadb")]
+
+
+def main():
+    options = argparse.ArgumentParser(description=__doc__, formatter_class=argparse.RawDescriptionHelpFormatter)
+    options.add_argument("--level", choices=LEVELS, default="serializable")
+    options.add_argument("--clients", type=int, default=5)
+    options.add_argument("--transactions", type=int, default=200)
+    options.add_argument("--seed", type=int, default=1)
+    options.add_argument("--temporary", action="store_true", help="make a server in a folder of its own")
+    chosen = options.parse_args()
+    with (temporary() if chosen.temporary else given()) as where:
+        words = [*where, "--batch", "--skip-column-names", "sgt"]
+        subprocess.run([*words, "-e", TABLE], check=True)
+        clients = [Client(words, chosen.level, chosen.seed + it) for it in range(chosen.clients)]
+        history = record(Plan(chosen.seed), clients, chosen.transactions)
+        for client in clients:
+            client.mariadb.stdin.close()
+            client.mariadb.wait()
+    sys.stdout.write(history.text())
+
+
+if __name__ == "__main__":
+    main()
