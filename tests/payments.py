@@ -7,7 +7,7 @@ It runs the server as a user does, with the library of `bindings/out`, which has
 times (30), or one of its front processes, with what no fsync had kept taken away or garbled; a journal cut at each byte and with a flipped
 bit in each, and one with a damaged tail, or without its newest file; a full disk; an fsync that fails; large snapshots, and one that fails;
 a clock that jumps; another program's procedures; a forged journal; clients that vanish, or ask nothing; what administrators ask; holds,
-statements, ids that are forgotten, lists of requests and tokens; and failovers over etcd, Redis and PostgreSQL, where the machine has them,
+statements, ids that are forgotten, lists of requests, tokens and TLS; and failovers over etcd, Redis and PostgreSQL, where the machine has them,
 also of hosts that are cut off. Each case is reported, and the last line counts them. With names of cases only those run.
 """
 
@@ -23,6 +23,7 @@ import select
 import shutil
 import signal
 import socket
+import ssl
 import subprocess
 import sys
 import tempfile
@@ -31,17 +32,21 @@ import time
 
 sys.dont_write_bytecode = True
 from helpers.cases import C_SOURCES, TESTS, Differs, same, tell  # noqa: E402
-from helpers.machines import Etcd, Hosts, Postgres, Redis, running, wait_until  # noqa: E402
+from helpers.machines import Etcd, Hosts, Postgres, Redis, free_ports, running, wait_until  # noqa: E402
 
 PAYMENTS = TESTS.parent / "examples" / "payments"
+ADJUSTING = str(TESTS / "helpers" / "noting_fsync.py")
 sys.path.insert(0, str(PAYMENTS))
+import partitions as partition  # noqa: E402
 from administration import ask  # noqa: E402
 from bank import ROW, Unusable, load_procedures  # noqa: E402
 from chain import Chain, seal_batch  # noqa: E402
 from file_journal import FileJournal  # noqa: E402
-from front import FRONTS, OTHER_FILES  # noqa: E402
-from journal import Store, unseal  # noqa: E402
+from front import OTHER_FILES  # noqa: E402
+from fronts import FRONTS  # noqa: E402
+from journal import unseal  # noqa: E402
 from lines import LONGEST  # noqa: E402
+from snapshots import Store  # noqa: E402
 
 SECONDS = 600  # of a command, a reply or an end: what comes takes less on any machine
 PROCEDURES = {name: it.text for name, it in load_procedures(PAYMENTS / "procedures").items()}
@@ -51,10 +56,10 @@ LIMIT = 1_000_000
 
 
 class Server:
-    """A server, killed at the end."""
+    """A server, killed at the end. Its day is always the same."""
 
-    def __init__(self, *words, port=0, before=None, env=None, wrapper=(), python=sys.executable):
-        command = [python, *wrapper, str(PAYMENTS / "payments.py"), *map(str, words), "--port", str(port)]
+    def __init__(self, *words, port=0, before=None, env=None, python=sys.executable):
+        command = [python, ADJUSTING, str(PAYMENTS / "payments.py"), *map(str, words), "--port", str(port)]
         self.process = subprocess.Popen(
             command, stdout=subprocess.PIPE, stderr=subprocess.PIPE, text=True, preexec_fn=before, env={**os.environ, **(env or {})}
         )
@@ -113,7 +118,7 @@ def run(*words, python=sys.executable):
 
 def adjusted(**numbers):
     """How a server is started by tests/helpers/noting_fsync.py with these numbers, which it describes."""
-    return {"wrapper": [str(TESTS / "helpers" / "noting_fsync.py")], "env": {name: str(number) for name, number in numbers.items()}}
+    return {"env": {name: str(number) for name, number in numbers.items()}}
 
 
 def preloaded(folder, name):
@@ -159,7 +164,7 @@ def bank_of(folder, journal):
 
 def as_lines(number, seq, calls):
     """A batch as the bytes in a file."""
-    return b"\n%b\n" % seal_batch(number, seq, calls)
+    return b"\n%b\n" % seal_batch(number, seq, [json.dumps(call) for call in calls])
 
 
 def replies():
@@ -388,7 +393,7 @@ def tokens():
         with Server("serve", folder / "j", "--accounts", 5, "--tokens", file) as server:
             no, yes, gift = {"error": "no right to this"}, {"token": True}, pay(1, 3, 1, 5)
             same("without a token", [no, no], server.ask({"balance": 1}, gift))
-            same("a wrong token", [no, no], server.ask({"token": "shops"}, {"balance": 1}))
+            same("wrong tokens", [no, no, no], server.ask({"token": "shops"}, b'{"token": "\\ud800"}', {"balance": 1}))
             wanted = [yes, {"id": 2, "paid": True, "from_has": 99_995, "to_has": 100_005}, no, {"balance": 3, "has": 100_005}, no, no, [no, {"balance": 0, "has": 100_000}]]
             same("a shop", wanted, server.ask({"token": "shop"}, pay(2, 2, 3, 5), gift, {"balance": 3}, {"balance": 4}, {"capture": 2, "to": 3}, [gift, {"balance": 0}]))
             same("a clerk", [yes, {"balance": 3, "has": 100_005}, no, no], server.ask({"token": "clerk"}, {"balance": 3}, {"balance": 1}, gift))
@@ -402,6 +407,88 @@ def tokens():
         file.write_text("{}")
         with Server("serve", folder / "j", "--tokens", file) as server:
             same("with no tokens at all", [no], server.ask({"balance": 1}))
+
+
+def certificates(folder):
+    """Makes server.pem, and client.pem of an authority in clients.pem; and stranger.pem of another one."""
+
+    def openssl(*words):
+        subprocess.run(["openssl", *map(str, words)], check=True, capture_output=True, cwd=folder)
+
+    for authority, names in (("clients", ("server", "client")), ("others", ("stranger",))):
+        key = ("-newkey", "rsa:2048", "-nodes", "-subj")
+        openssl("req", "-x509", *key, f"/CN={authority}", "-keyout", f"{authority}.key", "-out", f"{authority}.pem")
+        for name in names:
+            (folder / "more").write_text("subjectAltName=IP:127.0.0.1")
+            openssl("req", *key, f"/CN={name}", "-keyout", f"{name}.key", "-out", f"{name}.request")
+            signs = ("-CA", f"{authority}.pem", "-CAkey", f"{authority}.key", "-CAcreateserial", "-extfile", "more")
+            openssl("x509", "-req", "-in", f"{name}.request", *signs, "-out", f"{name}.crt")
+            (folder / f"{name}.pem").write_text((folder / f"{name}.key").read_text() + (folder / f"{name}.crt").read_text())
+
+
+def tls():
+    """With TLS only clients with a certificate of the authority are served, and neither others nor those who are slow stop them."""
+    if not shutil.which("openssl"):
+        return "left out: there is no openssl on this machine"
+
+    def ask_by(server, name, *requests):
+        context = ssl.create_default_context(cafile=folder / "clients.pem")
+        if name:
+            context.load_cert_chain(folder / f"{name}.pem")
+        with context.wrap_socket(server.connect(), server_hostname="127.0.0.1") as client:
+            client.sendall(b"".join(json.dumps(it).encode() + b"\n" for it in requests))
+            replies = client.makefile()
+            return [json.loads(replies.readline()) for _ in requests]
+
+    with room() as folder:
+        certificates(folder)
+        with Server("serve", folder / "j", "--accounts", 3, "--cents", 9_000, "--tls", folder) as server, server.connect() as slow:
+            slow.sendall(b"\x16\x03")  # the beginning of a greeting
+            many = [pay(number, 1, 2, 1) for number in range(1, 141)]
+            replies = ask_by(server, "client", many, {"balance": 1}, many)
+            same("whether all are paid", [True] * 140, [it.get("paid") for it in replies[0]])
+            same("the balance, and the payments again", [{"balance": 1, "has": 8_860}, replies[0]], replies[1:])
+            for name in (None, "stranger"):
+                with contextlib.suppress(OSError, ValueError):
+                    raise Differs(f"a client with the certificate {name} gets {ask_by(server, name, {'balance': 1})}")
+            with contextlib.suppress(ConnectionError):
+                same("what a client without TLS gets", [None], server.ask({"balance": 1}))
+            same("an administrator", {"balance": 1, "has": 8_860}, ask(folder / "j" / "admin", "balance", 1))
+            same("a client after the others", [{"balance": 1, "has": 8_860}], ask_by(server, "client", {"balance": 1}))
+            same("the end", (0, ""), server.end())
+        (folder / "server.pem").write_text("none")
+        status, _, error = run("serve", folder / "j", "--tls", folder)
+        if status != 1 or "server.pem and clients.pem: " not in error:
+            raise Differs(f"a start with a wrong certificate: {status} {error}")
+        wanted = "payments: 0.0.0.0: other machines reach it, so it takes --tls, or --plain in a network of its own\n"
+        same("a start for other machines without TLS", (1, "", wanted), run("serve", folder / "j", "--host", "0.0.0.0"))
+        with Server("serve", folder / "j", "--host", "0.0.0.0", "--plain") as server:
+            same("with --plain", [{"balance": 1, "has": 8_860}], server.ask({"balance": 1}))
+
+
+def second_server():
+    """A second server at a port ends and says so, also if both start at the same time. Clients come to each front of the one that serves."""
+    with room() as folder:
+        (port,) = free_ports(1)
+        with Server("serve", folder / "0", port=port) as server, contextlib.ExitStack() as clients:
+            fronts = server.fronts()[:FRONTS]
+            before = [len(os.listdir(f"/proc/{front}/fd")) for front in fronts]
+            links = [clients.enter_context(server.connect()) for _ in range(60)]
+            for link in links:
+                link.sendall(b'{"balance":1}\n')
+                same("a reply", b'{"balance": 1, "has": 100000}\n', link.recv(100))
+            same("fronts without clients", [], [one for one, were in zip(fronts, before) if len(os.listdir(f"/proc/{one}/fd")) == were])
+            status, out, error = run("serve", folder / "1", "--port", port)
+            if (status, out) != (1, "") or "Address already in use" not in error:
+                raise Differs(f"a second server: {status} {out} {error}")
+        for number in range(5):
+            words = [sys.executable, ADJUSTING, str(PAYMENTS / "payments.py"), "serve", "--port", str(port)]
+            both = [subprocess.Popen([*words, folder / f"{number}.{at}"], stdout=subprocess.PIPE, stderr=subprocess.PIPE, text=True) for at in range(2)]
+            said = [process.stdout.readline() for process in both]
+            for process in both:
+                process.kill()
+            errors = [process.communicate(timeout=SECONDS)[1] for process in both]
+            same("servers that serve, and that say why not", (1, 1), (sum(map(bool, said)), sum("in use" in error for error in errors)))
 
 
 class Load:
@@ -556,7 +643,7 @@ def crashes(rounds, seed):
             server = Server(*words, **noting) if number % 10 != 9 else None
             if server is None:
                 # Killed while it recovers.
-                words_of = [sys.executable, *noting["wrapper"], str(PAYMENTS / "payments.py"), *map(str, words), "--port", "0"]
+                words_of = [sys.executable, ADJUSTING, str(PAYMENTS / "payments.py"), *map(str, words), "--port", "0"]
                 process = subprocess.Popen(words_of, stdout=subprocess.DEVNULL, stderr=subprocess.DEVNULL, env={**os.environ, **noting["env"]})
                 time.sleep(draw.random() * 0.3)
                 process.kill()
@@ -669,10 +756,10 @@ def damage():
                 same(f"a flipped bit in byte {at}, of the last mark", wanted, came)
         calls.write_bytes(data)
         with Server("serve", folder / "j", **adjusted(CUT_AFTER=1)) as server:
-            server.ask(pay(100, 1, 2, 5), pay(101, 1, 2, 5))
-            server.ask({"balance": 1})  # a snapshot is taken after replies
+            server.ask(pay(100, 1, 2, 5))
+            (snapshot,) = wait_until(lambda: list((folder / "j").glob("*.snapshot")), "a snapshot")
             server.process.kill()
-        (snapshot,) = (folder / "j").glob("*.snapshot")
+        snapshot = min((folder / "j").glob("*.snapshot"))
         data = snapshot.read_bytes()
         for at in range(0, len(data), 97):
             flipped = bytearray(data)
@@ -764,17 +851,18 @@ def failed_snapshot():
         with Server("serve", folder / "j", "--accounts", 1000, "--cents", CENTS, **adjusted(CUT_AFTER=2000)) as server:
             limits = resource.prlimit(server.process.pid, resource.RLIMIT_FSIZE, (40_000, resource.RLIM_INFINITY))
             pay_some(server)
-            health = ask(admin, "health")["health"]
-            if not re.search(r"no snapshot after call \d+: .*\.new: .*too large", health):
+            health = wait_until(lambda: re.search(r"no snapshot.*", ask(admin, "health")["health"]), "a snapshot that can't be stored")[0]
+            if not re.search(r"no snapshot: .*\.new: .*too large", health):
                 raise Differs(f"health is {health}")
             same("the files", ["000000000000001.batches", "admin", "newest"], names_in(folder / "j"))
             resource.prlimit(server.process.pid, resource.RLIMIT_FSIZE, limits)
             pay_some(server)
-            same("health", "ok", ask(admin, "health")["health"])
-            number = ask(admin, "health")["batch"]
-            (batches,) = (folder / "j").glob("*.batches")
-            same("the files", [f"{int(batches.stem) - 1:015}.snapshot", batches.name, "admin", "newest"], names_in(folder / "j"))
-            same("whether it goes on in the new file", True, 1 < int(batches.stem) <= number + 1)
+            wait_until(lambda: ask(admin, "health")["health"] == "ok", "a snapshot")
+            (snapshot,), (first, second) = (sorted((folder / "j").glob(f"*.{kind}")) for kind in ("snapshot", "batches"))
+            same("the files", sorted([snapshot.name, first.name, second.name, "admin", "newest"]), names_in(folder / "j"))
+            same("the first file", "000000000000001.batches", first.name)
+            same("whether it goes on in the new file", True, int(snapshot.stem) < int(second.stem) <= ask(admin, "health")["batch"] + 1)
+            wait_until(lambda: pay_some(server) or not first.exists(), "a file of which no batch is needed that is deleted")
             server.process.kill()
         same("the payments", [(it["id"], it["from_has"], it["to_has"]) for it in paid], payments_in(folder / "j"))
 
@@ -794,14 +882,16 @@ def begun_snapshots():
 def newest_file_gone():
     """A start whose newest file is gone is refused, whether an older one is there or none."""
     with room() as folder:
-        for options in ((), ("--keep",)):
-            journal = folder / f"j{len(options)}"
-            with Server("serve", journal, "--accounts", 3, *options, **adjusted(CUT_AFTER=100)) as server:
+        for cut_after in (100, 10**6):
+            journal = folder / f"j{cut_after}"
+            with Server("serve", journal, "--accounts", 3, "--keep", **adjusted(CUT_AFTER=cut_after)) as server:
                 for number in range(1, 21):
                     server.ask(pay(number, 1, 2, 1))
+                if cut_after == 100:
+                    wait_until(lambda: len(list(journal.glob("*.batches"))) > 1, "a second file")  # noqa: B023
                 server.end()
             *older, newest = sorted(journal.glob("*.batches"))
-            same("older files", bool(options), bool(older))
+            same("older files", cut_after == 100, bool(older))
             newest.rename(folder / "aside")
             wanted = f"payments: {newest}: this file is gone, and with it what was acknowledged in it\n"
             same("a start without the newest file", (1, "", wanted), run("serve", journal))
@@ -922,7 +1012,7 @@ def forged(data, amount):
     lines = data.split(b"\n")
     at = [place for place, line in enumerate(lines) if place > 3 and (unseal(line) or [0, 0, 0])[2]][1]
     number, first, (call, *_) = unseal(lines[at])
-    lines[at] = seal_batch(number, first - 1, [[*call[:4], amount(call[4])]])
+    lines[at] = seal_batch(number, first - 1, [json.dumps([*call[:4], amount(call[4])])])
     return b"\n".join(lines)
 
 
@@ -1030,7 +1120,7 @@ sys.path.insert(0, sys.argv[1])
 import chain as chains
 from payments import open_journal
 from chain import Chain
-from journal import Store
+from snapshots import Store
 chains.PATIENCE = 600.0
 folder = pathlib.Path(sys.argv[3])
 chain = Chain(Store(folder), open_journal(argparse.Namespace(journal=sys.argv[2], folder=folder, keep=True)), {}, "test")
@@ -1326,6 +1416,104 @@ def partitions():
     return f"{sum(map(bool, paid.values()))} payments acknowledged, each there once"
 
 
+class Partitions:
+    """Two servers, of which each has twenty accounts from a thousand on. Both can be killed and begin anew, at the same ports."""
+
+    HAS = 100_000
+
+    def __init__(self, folder, stack):
+        self.folder, self.stack, self.ports, self.servers = folder, stack, free_ports(2), [None, None]
+        for number in range(2):
+            self.start(number)
+            self.admin(number, "open", partition.CLEARING + 1 - number, amount=0)
+            for account in self.accounts(number):
+                self.admin(number, "open", account, amount=self.HAS)
+
+    def accounts(self, number):
+        return range(1000 * (number + 1), 1000 * (number + 1) + 20)
+
+    def start(self, number):
+        words = ("serve", self.folder / f"{number}", "--accounts", 1, "--cents", 0)
+        self.servers[number] = self.stack.enter_context(Server(*words, port=self.ports[number], **adjusted(CUT_AFTER=4_000)))
+
+    def kill(self, number):
+        self.servers[number].process.kill()
+        self.servers[number].process.wait(SECONDS)
+
+    def admin(self, number, word, value, **more):
+        return ask(self.folder / f"{number}" / "admin", word, value, **more)
+
+    def ask(self, number, request):
+        """What a partition replies, once it does."""
+
+        def reply():
+            with socket.create_connection(("127.0.0.1", self.ports[number]), timeout=SECONDS) as client:
+                client.sendall(json.dumps(request).encode() + b"\n")
+                return json.loads(client.makefile().readline())
+
+        return wait_until(reply, f"a reply of partition {number}")
+
+    def pay(self, request, steps=9):
+        """Pays as somebody does who dies after so many steps: then there is no reply."""
+        left = [steps]
+
+        def step(number, asked):
+            left[0] -= 1
+            if left[0] < 0:
+                raise BrokenPipeError
+            return self.ask(number, asked)
+
+        with contextlib.suppress(BrokenPipeError):
+            return partition.pay(step, lambda account: account // 1000 - 1, *request)
+        return None
+
+
+def between_partitions():
+    """Payments between two servers that are killed at random, by clients that die on the way: money is conserved, and nothing paid twice."""
+    draw, kills, replies = random.Random(21), 12, {}
+    with room() as folder, contextlib.ExitStack() as stack:
+        bank = Partitions(folder, stack)
+        everyone = [account for number in range(2) for account in bank.accounts(number)]
+        wanted = []
+        for number in range(1, 401):  # some are of who does not have that much, or to somebody who is not there
+            payer, payee = draw.sample(everyone, 2)
+            wanted.append((number, payer, draw.choice((payee,) * 9 + (payee + 500,)), draw.choice((7, 150, 2_000, 90_000))))
+        plans, over = [(request, draw.choice((1, 2, 3, 9, 9))) for request in wanted], threading.Event()
+
+        def clients(own):
+            for request, steps in own:
+                if reply := bank.pay(request, steps):
+                    replies[request] = reply
+
+        threads = [threading.Thread(target=clients, args=(plans[at::8],)) for at in range(8)]
+        for thread in threads:
+            thread.start()
+        for _ in range(kills):
+            over.wait(draw.random() / 4)
+            victim = draw.randrange(2)
+            bank.kill(victim)
+            bank.start(victim)
+        for thread in threads:
+            thread.join()
+        model = dict.fromkeys([*everyone, (0, 0), (0, 1)], bank.HAS) | {(0, 0): 0, (0, 1): 0}
+        for request in wanted:  # those without a reply, and all others again
+            reply, (_, payer, payee, amount) = bank.pay(request), request
+            same(f"payment {request} again", replies.get(request, reply), reply)
+            if "paid" in reply:
+                model[payer] -= amount + amount // FEE_OF
+                model[payee] += amount
+                model[0, payer // 1000 - 1] += amount // FEE_OF
+        has = {account: bank.ask(account // 1000 - 1, {"balance": account})["has"] for account in everyone}
+        has |= {(0, number): bank.ask(number, {"balance": 0})["has"] for number in range(2)}
+        same("the balances", model, has)
+        owed = [bank.ask(number, {"balance": partition.CLEARING + 1 - number})["has"] for number in range(2)]
+        same("what the partitions owe each other, and the money", [0, len(everyone) * bank.HAS], [sum(owed), sum(has.values())])
+        for number in range(2):
+            same("verify", 0, run("verify", folder / f"{number}")[0])
+        early, kinds = len(replies), [len([it for it in wanted if it[1] // 1000 != it[2] // 1000]), len(wanted)]
+    return f"{kills} kills; {early} of {kinds[1]} payments were paid or refused at once, {kinds[0]} between partitions"
+
+
 def over_redis():
     """As over etcd."""
     return failover(Redis)
@@ -1389,7 +1577,7 @@ def main():
         return nodes_die(max(7, rounds // 4), seed)
 
     crash_test.__name__, dying_nodes.__name__ = "crashes", "nodes_die"
-    cases = [replies, holds, statements, forgotten, lists, tokens, administration]
+    cases = [replies, holds, statements, forgotten, lists, tokens, tls, second_server, between_partitions, administration]
     cases += [torn_tails, damaged_tails, damage, newest_file_gone, forged_journal]
     cases += [full_disk, failing_fsync, large_snapshots, failed_snapshot, begun_snapshots]
     cases += [jumping_clock, other_procedures, bad_procedures]

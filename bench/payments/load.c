@@ -1,6 +1,9 @@
-// Pays in a closed loop on a number of connections, and prints the payments acknowledged in a second.
+// Pays in a closed loop on a number of connections, and prints the payments acknowledged in a second, and the median and the 99th
+// percentile of the milliseconds to a reply.
 //
-//     load PORT CLIENTS SECONDS ACCOUNTS SEED
+//     load PORT CLIENTS SECONDS ACCOUNTS SEED [LIST]
+//
+// A line is one payment, or with LIST a list of so many, from 1 to 140.
 #include <arpa/inet.h>
 #include <netinet/tcp.h>
 #include <stdint.h>
@@ -11,7 +14,7 @@
 #include <time.h>
 #include <unistd.h>
 
-enum { MOST_CLIENTS = 1024, MOST_TIMES = 4000000, LONGEST = 256 };
+enum { MOST_CLIENTS = 1024, MOST_TIMES = 4000000, MOST_LIST = 140, LONGEST = 16384 };
 
 struct client {
   int socket;
@@ -23,6 +26,7 @@ struct client {
 static struct client clients[MOST_CLIENTS];
 static double times[MOST_TIMES];
 static uint64_t state;
+static unsigned list;  // payments in a line, or 0 if a line is no list
 
 static double now(void) {
   struct timespec time;
@@ -47,14 +51,31 @@ static int order(const void *left, const void *right) {
   return (a > b) - (a < b);
 }
 
-static void pay(struct client *client, uint64_t accounts) {
-  char line[LONGEST];
+// Writes a payment to `line`, and returns its length.
+static int payment(char *line, uint64_t accounts) {
   uint64_t from = 1 + draw(accounts - 1), to = (from + 1 + draw(accounts - 1)) % accounts;
-  int length = snprintf(line, sizeof line, "{\"id\": %llu, \"from\": %llu, \"to\": %llu, \"amount\": %llu}\n",
-                        (unsigned long long)draw(900000000000000), (unsigned long long)from, (unsigned long long)to,
-                        (unsigned long long)(1 + draw(100)));
+  return sprintf(line, "{\"id\":%llu,\"from\":%llu,\"to\":%llu,\"amount\":%llu}", (unsigned long long)draw(900000000000000),
+                 (unsigned long long)from, (unsigned long long)to, (unsigned long long)(1 + draw(100)));
+}
+
+static void pay(struct client *client, uint64_t accounts) {
+  char line[LONGEST], *end = line;
+  if (list) *end++ = '[';
+  for (unsigned number = 0; number == 0 || number < list; number++) {
+    if (number) *end++ = ',';
+    end += payment(end, accounts);
+  }
+  if (list) *end++ = ']';
+  *end++ = '\n';
   client->sent = now();
-  if (write(client->socket, line, (size_t)length) != length) fail("write");
+  if (write(client->socket, line, (size_t)(end - line)) != end - line) fail("write");
+}
+
+// How many of a reply's payments were paid.
+static size_t paid_in(const char *reply) {
+  size_t count = 0;
+  for (const char *at = reply; (at = strstr(at, "\"paid\": true")); at++) count++;
+  return count;
 }
 
 static void join(int poll, unsigned number, int port) {
@@ -68,13 +89,14 @@ static void join(int poll, unsigned number, int port) {
 }
 
 int main(int count, char **words) {
-  if (count != 6) return fprintf(stderr, "load PORT CLIENTS SECONDS ACCOUNTS SEED\n"), 2;
+  if (count < 6 || count > 7) return fprintf(stderr, "load PORT CLIENTS SECONDS ACCOUNTS SEED [LIST]\n"), 2;
   unsigned most = (unsigned)atoi(words[2]);
   double seconds = atof(words[3]);
   uint64_t accounts = strtoull(words[4], 0, 10);
   size_t done = 0, paid = 0;
   int poll = epoll_create1(0);
-  if (most == 0 || most > MOST_CLIENTS || accounts < 3) return 2;
+  list = count == 7 ? (unsigned)atoi(words[6]) : 0;
+  if (most == 0 || most > MOST_CLIENTS || accounts < 3 || list > MOST_LIST) return 2;
   state = UINT64_C(88172645463325252) ^ (strtoull(words[5], 0, 10) * UINT64_C(0x9E3779B97F4A7C15));
   for (unsigned number = 0; number < most; number++) join(poll, number, atoi(words[1]));
   double begin = now(), end = begin + seconds;
@@ -91,7 +113,7 @@ int main(int count, char **words) {
       client->reply[client->length] = 0;
       client->length = 0;
       if (done < MOST_TIMES) times[done++] = now() - client->sent;
-      if (strstr(client->reply, "\"paid\": true")) paid++;
+      paid += paid_in(client->reply);
       pay(client, accounts);
     }
   }

@@ -16,7 +16,7 @@ from typing import NamedTuple
 PAYMENTS = pathlib.Path(__file__).resolve().parents[2] / "examples" / "payments"
 sys.path.insert(0, str(PAYMENTS))
 from bank import load_procedures  # noqa: E402
-from front import Options, start_fronts  # noqa: E402
+from fronts import Options, start_fronts  # noqa: E402
 from server import Server, end_by_signals, run  # noqa: E402
 from sgt import Kind, unpack_calls  # noqa: E402
 
@@ -86,13 +86,16 @@ class Bank:
     def __init__(self, database: sqlite3.Connection) -> None:
         self.seq, self.numbers, self.database = 0, {"pay": 0}, database
 
-    def run(self, packed: bytes) -> tuple:
+    def day(self) -> None:
+        """It has none."""
+
+    def run(self, packed: bytes, entries: list) -> tuple:
         calls = unpack_calls(packed)
         if calls and not self.database.in_transaction:
             self.database.execute("begin immediate")
         told = [pay(self.database, *args) for _, *args in calls]
         outcomes = [OUTCOME(not it.code, Kind.REFUSED if it.code else Kind.COMMITTED, it.code, len(it.answers), *it.answers or (0, 0)) for it in told]
-        return b"".join(outcomes), [call for call, it in zip(calls, told) if not it.code]
+        return b"".join(outcomes), [entry for entry, it in zip(entries, told) if not it.code]
 
     def cut_if_long(self) -> bool:
         return False
@@ -102,7 +105,7 @@ class Chain:
     """In place of the journal: the batch is one transaction."""
 
     def __init__(self, bank: Bank) -> None:
-        self.bank, self.leads, self.ends, self.number = bank, True, False, 0
+        self.bank, self.leads, self.ends, self.number, self.saving = bank, True, False, 0, None
 
     def append(self, _calls: list) -> None:
         if self.bank.database.in_transaction:

@@ -12,14 +12,11 @@ def listen_at(path: pathlib.Path) -> socket.socket:
     if path.is_socket():
         path.unlink()
     listener = socket.socket(socket.AF_UNIX)
-    listener.setblocking(False)
-    mask = os.umask(0o177)
+    os.fchmod(listener.fileno(), 0o600)  # of the file, once there is one
     try:
         listener.bind(str(path))
     except OSError as why:
         raise OSError(f"{path}: {why}") from None
-    finally:
-        os.umask(mask)
     listener.listen()
     return listener
 
@@ -30,8 +27,6 @@ def ask(path: pathlib.Path, word: str, value: int = True, timeout: Optional[floa
         server.settimeout(timeout)
         server.connect(str(path))
         server.sendall(json.dumps({word: value, **more}).encode() + b"\n")
-        line = server.makefile().readline()
-        if not line:
-            raise ConnectionError(f"{path}: the server has ended")
-        reply: dict[str, Any] = json.loads(line)
-        return reply
+        if line := server.makefile().readline():
+            return dict(json.loads(line))
+        raise ConnectionError(f"{path}: the server has ended")

@@ -9,7 +9,8 @@ from typing import Iterator, Union
 from administration import ask
 from bank import Bank, Call, Unusable, load_procedures
 from chain import Opening, applied, unseal_batch
-from journal import Journal, Missing, Store
+from journal import Journal, Missing
+from snapshots import Store
 
 Batch = Union[list[Call], Opening]
 

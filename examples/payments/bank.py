@@ -8,13 +8,13 @@ from itertools import compress
 from typing import Any, Optional, Sequence
 
 sys.path.insert(0, str(pathlib.Path(__file__).resolve().parents[2] / "bindings" / "python"))
-from sgt import Engine, Kind, Reply, pack_calls, unpack_calls, wrote  # noqa: E402
+from sgt import Engine, Kind, Reply, pack_calls, wrote  # noqa: E402
 
-ENTRIES = 4_000_000  # the history is cut after so many entries, or as many as there are records; a payment makes 29
+ENTRIES = 4_000_000  # the history is cut after so many entries, or as many as there are records; a payment makes 27
 ROW = struct.Struct("<I4xqq")  # table, number and value of a row
 AT_ONCE = 10_000  # calls that are replayed: an outcome takes 392 bytes
 NO_PROCEDURE = 65_535  # the number of none
-Call = Sequence[Any]  # the name of a procedure, and its arguments
+Call = Sequence[Any]  # the name of a procedure, and its arguments; as JSON it is an entry of the journal
 
 
 class Unusable(Exception):
@@ -30,6 +30,7 @@ class Procedure:
 
     def __init__(self, name: str, file: dict[str, Any]) -> None:
         self.name, self.text = name, file["procedure"]  # the text is as docs/FORMATS.md has it
+        self.entry = json.dumps([name]).replace("%", "%%")[:-1] + ", %d" * self.text[0] + "]"  # of a call, by its arguments
         self.request: list[str] = file.get("request", [])  # clients can't ask for a procedure without any keys
         self.is_for_administrators: bool = file.get("administration", False)
         self.rights: dict[str, str] = file.get("rights", {})  # by the key that has the account: pay, or read
@@ -82,16 +83,14 @@ class Bank:
     def __init__(self, seq: int, texts: dict[str, list[Any]], rows: bytes) -> None:
         """`texts` are the procedures by name, and `rows` the database as `rows()` returns it."""
         self.seq, self.texts = seq, texts
-        self._engine = Engine.bare(1, 4_000_000_000)
+        self._engine, self.records = Engine.bare(1, 4_000_000_000), len(rows) // ROW.size  # as the last snapshot has them
         self._engine.put_bytes(rows)
         self.numbers = {name: self._engine.procedure(text) for name, text in sorted(texts.items())}
-        self._names = {number: name for name, number in self.numbers.items()}
-        self._records = len(rows) // ROW.size
 
-    def run(self, calls: bytes) -> tuple[bytes, list[Call]]:
-        """Runs packed calls one after another, each as a transaction of its own. Their packed outcomes, and the calls that wrote."""
+    def run(self, calls: bytes, entries: Sequence[str]) -> tuple[bytes, list[str]]:
+        """Runs packed calls one after another, each as a transaction of its own. Their packed outcomes, and the entries of those that wrote."""
         outcomes = self._engine.run_bytes(calls)
-        return outcomes, [(self._names[number], *args) for number, *args in compress(unpack_calls(calls), wrote(outcomes))]
+        return outcomes, [*compress(entries, wrote(outcomes))]
 
     def replay(self, calls: Sequence[Call]) -> None:
         """Runs the next calls of the journal. They committed when they were journaled, so they commit again, or it is not this bank's."""
@@ -105,9 +104,7 @@ class Bank:
 
     def rows(self) -> bytes:
         """The committed database: 24 bytes a row."""
-        rows = self._engine.rows_bytes()
-        self._records = len(rows) // ROW.size
-        return rows
+        return self._engine.rows_bytes()
 
     def day(self) -> Optional[int]:
         """The day, counted from 1970, or None before the first, or if these procedures have no days."""
@@ -119,7 +116,7 @@ class Bank:
 
     def cut_if_long(self) -> bool:
         """Frees the history when it is time: it costs memory, and a cut costs a pass over the records. The database stays."""
-        if len(self._engine) < max(ENTRIES, self._records):
+        if len(self._engine) < max(ENTRIES, self.records):
             return False
         self._engine.cut()
         return True

@@ -1,11 +1,13 @@
 """The bank that the batches of a journal make: replay, appends and promotion, whatever the journal is."""
 
+import json
 import logging
 import time
-from typing import Any, Callable, Sequence, TypeVar, Union
+from typing import Any, Callable, Optional, Sequence, TypeVar, Union
 
 from bank import Bank, Call, Unusable, first_rows
-from journal import Away, Journal, Store, seal, unseal
+from journal import Away, Journal, seal, unseal
+from snapshots import Saving, Store
 
 PATIENCE = 60.0  # seconds that a primary waits for a journal that is away
 PAUSE = 0.05  # seconds between two times that a follower reads
@@ -14,9 +16,9 @@ Opening = dict[str, Any]  # what a batch has in place of calls: procedures, from
 Result = TypeVar("Result")
 
 
-def seal_batch(number: int, seq: int, calls: Union[Sequence[Call], Opening]) -> bytes:
-    """A batch as bytes: its number, the number of its first call, which follows call `seq`, and its calls."""
-    return seal([number, seq + 1, calls])
+def seal_batch(number: int, seq: int, calls: Union[Sequence[str], Opening]) -> bytes:
+    """A batch as bytes: its number, the number of its first call, which follows call `seq`, and the entries of its calls."""
+    return seal(f"[{number}, {seq + 1}, {json.dumps(calls) if isinstance(calls, dict) else '[' + ', '.join(calls) + ']'}]")
 
 
 def unseal_batch(data: bytes, number: int, seq: int) -> Union[list[Call], Opening]:
@@ -46,6 +48,7 @@ class Chain:
         self.store, self.journal, self.opening, self.server = store, journal, opening, server
         self.leads = self.ends = False
         self.trouble = ""  # of a follower with the journal
+        self.saving: Optional[Saving] = None
         self.number = max(store.numbers(), default=0)
         self.bank = store.load(self.number)
         self.fresh = self._next = time.monotonic()  # when the bank was as the journal; when to read on
@@ -119,8 +122,8 @@ class Chain:
         if self.bank.texts != self.opening["procedures"]:
             raise Unusable("the primary has other procedures")
 
-    def append(self, calls: Union[list[Call], Opening]) -> None:
-        """Returns once these calls are safe. They have run already, but for an opening."""
+    def append(self, calls: Union[list[str], Opening]) -> None:
+        """Returns once the calls of these entries are safe. They have run already, but for an opening."""
         parts = [calls[at : at + CALLS] for at in range(0, len(calls), CALLS)] if isinstance(calls, list) else []
         seq = self.bank.seq - sum(map(len, parts))
         for part in parts or [calls]:
@@ -134,7 +137,13 @@ class Chain:
         self.insist(self.journal.check)
 
     def cut(self) -> None:
-        """Stores a snapshot of the bank, so that older batches can be deleted. `NoSnapshot` if that fails: then nothing has changed."""
-        self.store.save(self.number, self.bank)
-        self.insist(lambda: self.journal.stored(self.server, self.number))
-        self.store.delete_before(self.number)
+        """Begins to store a snapshot of the bank, unless the one before is being stored still."""
+        self.saving = self.saving or self.store.begin(self.number, self.bank)
+
+    def end_cut(self) -> None:
+        """Once a snapshot is stored older batches can be deleted. `NoSnapshot` if it could not be: then nothing has changed."""
+        saving, self.saving = self.saving, None
+        if saving:
+            self.store.end(saving, self.bank)
+            self.insist(lambda: self.journal.stored(self.server, saving.number))
+            self.store.delete_before(saving.number)

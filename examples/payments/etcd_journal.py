@@ -1,24 +1,20 @@
-"""The journal in etcd, by its JSON gateway: consensus of its nodes. The keys NAME/..:
+"""The journal in etcd, by its JSON gateway: consensus of its nodes. What it has accepted is on the disks of a majority of them. The keys NAME/..:
 
     leader         who leads, by a lease: the key goes LEASE seconds after its server was heard of last
     batch/N        batch N
     stored/SERVER  the batch after which a server has a snapshot
-
-A write is one transaction, which asks that `leader` was created by this server, and that the batch is not there. So a primary that was
-replaced writes nothing more. What etcd has accepted is on the disks of a majority of its nodes.
 """
 
 import http.client
 import json
 import os
 from base64 import b64decode, b64encode
-from typing import Any, Sequence
+from typing import Any
+from urllib.parse import SplitResult
 
 from bank import Unusable
-from journal import LEASE, Away, Fenced, from_number, keep_alive, needed
+from journal import AT_ONCE, LEASE, TRY, Away, Fenced, from_number, keep_alive, needed
 
-TRY = 1.5  # seconds until another node is asked
-AT_ONCE = 200  # batches that are read
 REFUSED = {3, 9, 11, 12, 16}  # codes of errors that do not pass: the request is wrong, or there is no authority
 
 
@@ -29,8 +25,8 @@ def coded(data: bytes) -> str:
 class Gateway:
     """The JSON gateway of the nodes: one is asked until it fails, and then the next one."""
 
-    def __init__(self, nodes: Sequence[str]) -> None:
-        self.nodes, self._link = list(nodes), http.client.HTTPConnection(nodes[0], timeout=TRY)
+    def __init__(self, nodes: list[str]) -> None:
+        self.nodes, self._link = nodes, http.client.HTTPConnection(nodes[0], timeout=TRY)
 
     def ask(self, path: str, **body: Any) -> dict[str, Any]:
         """What etcd replies to a request. `Away` if no node does."""
@@ -53,11 +49,11 @@ class Gateway:
 
 
 class EtcdJournal:
-    """NAME in the etcd of these nodes, each an address with its port."""
+    """etcd://HOST:PORT,HOST:PORT/NAME. Each write asks that this server created `leader`, so a primary that was replaced writes nothing more."""
 
-    def __init__(self, nodes: Sequence[str], name: str) -> None:
-        self.nodes, self.name, self.report, self.nonce = nodes, name, "", os.urandom(8).hex().encode()
-        self._etcd, self._term = Gateway(nodes), -1
+    def __init__(self, address: SplitResult) -> None:
+        self.nodes, self.name, self.report = address.netloc.split(","), address.path.strip("/"), ""
+        self._etcd, self._term, self._nonce = Gateway(self.nodes), -1, coded(os.urandom(8))
 
     def _key(self, *parts: str) -> str:
         return coded("/".join((self.name, *parts)).encode())
@@ -69,32 +65,32 @@ class EtcdJournal:
         found = self._etcd.ask("kv/range", key=self._key("leader")).get("kvs")
         return dict(found[0]) if found else {}
 
-    def _is_ours(self) -> dict[str, Any]:
-        return {"key": self._key("leader"), "target": "CREATE", "create_revision": self._term}
+    def _created(self, key: str, revision: int) -> dict[str, Any]:
+        """The condition that a key was created so, by 0 that it is not there."""
+        return {"key": key, "target": "CREATE", "create_revision": revision}
 
     def lead(self) -> bool:
         leader = self._leader()
         if not leader and self._term < 0:
             lease = self._etcd.ask("lease/grant", TTL=LEASE)["ID"]
-            put = {"request_put": {"key": self._key("leader"), "value": coded(self.nonce), "lease": lease}}
-            none = {"key": self._key("leader"), "target": "CREATE", "create_revision": 0}
-            self._etcd.ask("kv/txn", compare=[none], success=[put])
+            put = {"request_put": {"key": self._key("leader"), "value": self._nonce, "lease": lease}}
+            self._etcd.ask("kv/txn", compare=[self._created(self._key("leader"), 0)], success=[put])
             leader = self._leader()
-        if self._term < 0 and leader.get("value") == coded(self.nonce):
+        if self._term < 0 and leader.get("value") == self._nonce:
             self._term, lease, beat = int(leader["create_revision"]), leader["lease"], Gateway(self.nodes)
-            keep_alive(lambda: beat.ask("lease/keepalive", ID=lease), LEASE / 6)
+            keep_alive(lambda: beat.ask("lease/keepalive", ID=lease))
         if self._term >= 0:
             self.check()
         return self._term >= 0
 
     def append(self, number: int, data: bytes) -> None:
-        key = self._batch(number)
-        absent = {"key": key, "target": "CREATE", "create_revision": 0}
-        put, there = {"request_put": {"key": key, "value": coded(data)}}, {"request_range": {"key": key}}
-        reply = self._etcd.ask("kv/txn", compare=[self._is_ours(), absent], success=[put], failure=[there])
+        key, value = self._batch(number), coded(data)
+        compare = [self._created(self._key("leader"), self._term), self._created(key, 0)]
+        put, there = {"request_put": {"key": key, "value": value}}, {"request_range": {"key": key}}
+        reply = self._etcd.ask("kv/txn", compare=compare, success=[put], failure=[there])
         if not reply.get("succeeded"):
             found = reply["responses"][0]["response_range"].get("kvs")
-            if not found or found[0]["value"] != coded(data):  # else an earlier try has written it
+            if not found or found[0]["value"] != value:  # else an earlier try has written it
                 raise Fenced(f"etcd: another primary leads, after batch {number - 1}")
 
     def check(self) -> None:

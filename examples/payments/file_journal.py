@@ -8,7 +8,7 @@ from bisect import bisect_right
 from bank import Unusable
 from journal import Missing, is_whole, seal, store, sync_names, write_all
 
-SHORTEST = len(seal([1, 1, [["a"]]])) + 2  # bytes of a batch that has a call
+SHORTEST = len(seal('[1, 1, [["a"]]]')) + 2  # bytes of a batch that has a call
 
 
 class FileJournal:
@@ -16,7 +16,7 @@ class FileJournal:
 
     def __init__(self, folder: pathlib.Path, keep: bool = False) -> None:
         self.folder, self.keep, self._newest = folder, keep, folder / "newest"
-        self.report, self._file = "", -1
+        self.report, self._file, self._next = "", -1, 1  # the number of the next batch
 
     def paths(self) -> list[pathlib.Path]:
         return sorted(self.folder.glob("*.batches"))
@@ -31,7 +31,8 @@ class FileJournal:
                 self._begin(1)
             path = self.paths()[-1]
             lines, tail = whole_lines(path)
-            self.report = self._told_of(int(path.stem) + len(lines) - 1, tail)
+            self._next = int(path.stem) + len(lines)
+            self.report = self._told_of(self._next - 1, tail)
             self._open(path)
             os.ftruncate(self._file, path.stat().st_size - len(tail))
         return True
@@ -49,6 +50,7 @@ class FileJournal:
         """An OSError must end the program: nobody knows what a failed fsync has kept. The newline before a line parts it from damage."""
         write_all(self._file, b"\n%b\n" % data)
         os.fsync(self._file)
+        self._next = number + 1
 
     def check(self) -> None:
         """Nobody else can lead."""
@@ -68,13 +70,14 @@ class FileJournal:
         return lines[number - firsts[at] :]
 
     def stored(self, server: str, number: int) -> None:
-        """Goes on in a new file."""
-        if self._file < 0 or self.folder / f"{number + 1:015}.batches" in self.paths():
+        """Goes on in a new file, and deletes the files of which no batch is needed."""
+        if self._file < 0 or number < int(self.paths()[-1].stem):
             return
-        older = self.paths()
-        self._begin(number + 1)
-        for path in () if self.keep else older:
-            path.unlink()
+        self._begin(self._next)
+        paths = self.paths()
+        for path, after in zip(paths, paths[1:]):
+            if int(after.stem) <= number + 1 and not self.keep:
+                path.unlink()
 
     def _begin(self, number: int) -> None:
         path = self.folder / f"{number:015}.batches"

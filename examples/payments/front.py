@@ -7,27 +7,17 @@ import resource
 import select
 import signal
 import socket
+import ssl
 import time
-from multiprocessing.connection import Connection, Pipe
+from multiprocessing.connection import Connection
 from multiprocessing.reduction import recv_handle
-from typing import NamedTuple, Optional
+from typing import Optional
 
 from lines import LONGEST, Line, Reader, Rights, Word
-from bank import Procedure
 from sgt import pack_calls, unpack_outcomes
 
-CLIENTS = 1000  # of a front, or fewer if it may open fewer files. Others wait until one of them has gone
+CLIENTS = 1000  # of a front, or fewer if it may open fewer files. Others wait until one of them has gone, or another front takes them
 OTHER_FILES = 32  # that a front has open, at most
-FRONTS = 3  # processes: each waits while the server runs what it has asked, so they are more than are busy at a time
-
-
-class Options(NamedTuple):
-    """How the fronts serve: where; after how many idle seconds a client is dropped; and the rights of tokens, if clients need some."""
-
-    host: str = "127.0.0.1"
-    port: int = 0
-    idle: float = 60
-    tokens: Optional[dict[str, Rights]] = None
 
 
 class Client:
@@ -37,39 +27,17 @@ class Client:
         self.link, self.heard, self.since, self.rights = link, b"", since, rights
 
 
-def start_fronts(options: Options, procedures: dict[str, Procedure]) -> tuple[int, list[Connection]]:
-    """Starts the front processes, before anything is opened that they must not share. Their port, and a connection to each.
-
-    The last one is for administrators alone: the server sends it a socket to listen at.
-    """
-    listener = socket.create_server((options.host, options.port), backlog=1024)
-    listener.setblocking(False)
-    listener.setsockopt(socket.IPPROTO_TCP, socket.TCP_NODELAY, 1)
-    fronts: list[Connection] = []
-    for listens_at in (*[listener] * FRONTS, None):
-        front, server = Pipe()
-        fronts.append(front)
-        if os.fork() == 0:
-            for it in fronts:
-                it.close()  # else a front would not see the end of the server
-            Front(listens_at, server, Reader(procedures, options.tokens, listens_at is None), options.idle).run()
-        server.close()
-    with listener:
-        return listener.getsockname()[1], fronts
-
-
 class Front:
     """It waits for the replies to what it has asked. What comes in meanwhile is asked next, at once."""
 
-    def __init__(self, listener: Optional[socket.socket], server: Connection, reader: Reader, idle: float) -> None:
-        self.server, self.reader, self.idle, self.now = server, reader, idle, time.monotonic()
-        self.swept = self.now
+    def __init__(self, listeners: list[socket.socket], server: Connection, reader: Reader, idle: float, tls: Optional[ssl.SSLContext]) -> None:
+        """The first listener is its own. Who waits at the others, as their fronts are full, is taken now and then."""
+        self.listeners, self.server, self.reader, self.idle, self.tls = listeners, server, reader, idle, tls
+        self.now = self.swept = time.monotonic()
         self.clients: dict[int, Client] = {}
         self.most = max(1, min(CLIENTS, resource.getrlimit(resource.RLIMIT_NOFILE)[0] - OTHER_FILES))
         self.poll = select.epoll()
         self.poll.register(server, select.EPOLLIN)  # it says nothing unasked, but ends
-        if listener:
-            self.listener = listener
 
     def run(self) -> None:
         """Runs until the server has ended. Signals are for the server."""
@@ -78,8 +46,10 @@ class Front:
         with contextlib.suppress(EOFError, ConnectionError):
             self.numbers: dict[str, int] = marshal.loads(self.server.recv_bytes())  # of the procedures, once the server has recovered
             if self.reader.takes_words:
-                self.listener = socket.socket(fileno=recv_handle(self.server))
-            self.poll.register(self.listener, select.EPOLLIN)
+                self.listeners = [socket.socket(fileno=recv_handle(self.server))]
+            for it in self.listeners:
+                it.setblocking(False)
+            self.poll.register(self.listeners[0], select.EPOLLIN)
             while True:
                 self.turn()
         os._exit(0)
@@ -87,12 +57,12 @@ class Front:
     def turn(self) -> None:
         """Waits for lines, has the server run what they ask, and replies."""
         asked = self.wait()
-        requests = [it for _, line in asked for it in line.requests]
-        calls = pack_calls([(self.numbers[it[0].name], *it[1]) for it in requests if not isinstance(it, (str, Word))])
-        words = [tuple(it) for it in requests if isinstance(it, Word)]
+        requests = [it for _, line in asked for it in line.requests if not isinstance(it, str)]
+        calls, words = [it for it in requests if not isinstance(it, Word)], [tuple(it) for it in requests if isinstance(it, Word)]
         outcomes, of_words, age = b"", [], ""
-        if calls or words:
-            self.server.send_bytes(marshal.dumps((calls, words)))
+        if requests:
+            packed = pack_calls([(self.numbers[procedure.name], *args) for procedure, args in calls])
+            self.server.send_bytes(marshal.dumps((packed, [procedure.entry % args for procedure, args in calls], words)))
             outcomes, of_words, age = marshal.loads(self.server.recv_bytes())
         left, words_left, replies = iter(unpack_outcomes(outcomes)), iter(of_words), {}
         for number, line in asked:
@@ -109,43 +79,52 @@ class Front:
         while not asked:
             ready, self.now = self.poll.poll(self.idle / 4), time.monotonic()
             for number, _ in ready:
-                if number == self.listener.fileno():
-                    self.accept()
+                if number == self.listeners[0].fileno():
+                    self.accept(self.listeners[0])
                 elif number == self.server.fileno():
                     raise EOFError
                 else:
                     asked += [(number, line) for line in self.receive(number)]
             if self.now >= self.swept + self.idle / 4:
-                self.drop_idle()
+                self.sweep()
         return asked
 
-    def accept(self) -> None:
+    def accept(self, listener: socket.socket) -> bool:
+        """Takes a client, if one waits there."""
         try:
-            link, _ = self.listener.accept()
+            link, _ = listener.accept()
+            link.setblocking(False)
+            if self.tls:
+                link = self.tls.wrap_socket(link, server_side=True, do_handshake_on_connect=False)
         except OSError:
-            return  # another front has it, or it is gone
-        link.setblocking(False)
+            return False  # another front has it, or it is gone
         self.poll.register(link, select.EPOLLIN)
         self.clients[link.fileno()] = Client(link, self.now, self.reader.first_rights)
         if len(self.clients) == self.most:
-            self.poll.unregister(self.listener)  # others wait for this front until one has gone, or go to the other fronts
+            self.poll.unregister(self.listeners[0])
+        return True
 
     def drop(self, number: int) -> None:
         if len(self.clients) == self.most:
-            self.poll.register(self.listener, select.EPOLLIN)
+            self.poll.register(self.listeners[0], select.EPOLLIN)
         self.clients.pop(number).link.close()
 
-    def drop_idle(self) -> None:
-        """Drops the clients that have asked nothing for so long. Parts of a line do not count."""
+    def sweep(self) -> None:
+        """Drops the clients that have asked nothing for so long: parts of a line do not count. Takes those who wait for full fronts."""
         self.swept = self.now
         for number in [number for number, it in self.clients.items() if it.since < self.now - self.idle]:
             self.drop(number)
+        for listener in self.listeners[1:]:
+            while len(self.clients) < self.most and self.accept(listener):
+                pass
 
     def receive(self, number: int) -> list[Line]:
         """The lines that have come from a client. One that is gone is dropped. Of a line that is too long only the beginning is kept."""
         client = self.clients[number]
         try:
             data = client.link.recv(65_536)
+        except (BlockingIOError, ssl.SSLWantReadError, ssl.SSLWantWriteError):
+            return []  # a part of what TLS needs
         except OSError:
             data = b""
         if not data:

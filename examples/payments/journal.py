@@ -1,20 +1,20 @@
-"""What a journal is, whatever keeps it; how a batch becomes bytes; and the snapshots, which each server stores for itself."""
+"""What a journal is, whatever keeps it; how a batch becomes bytes; and how files are written."""
 
 import contextlib
-import fcntl
 import json
 import os
 import pathlib
 import threading
 import time
 import zlib
-from typing import Any, Callable, Iterable, Iterator, Protocol, Sequence
+from typing import Any, Callable, Iterable, Protocol, Sequence
 
-from bank import Bank, NoSnapshot, Unusable
+from bank import NoSnapshot, Unusable
 
-CHUNK = 1 << 26  # bytes of a snapshot that are stored at a time
+AT_ONCE = 200  # batches that are read
 BEHIND = 50_000  # batches that stay for a server that is away
 LEASE = 3  # seconds without a word of the primary, after which another server leads
+TRY = 1.5  # seconds until a request is given up
 
 
 class Away(Exception):
@@ -56,22 +56,21 @@ def needed(stored: Iterable[int]) -> int:
     return max(numbers[-1], numbers[len(numbers) // 2] - BEHIND)
 
 
-def keep_alive(renew: Callable[[], object], seconds: float) -> None:
+def keep_alive(renew: Callable[[], object]) -> None:
     """Renews a lease from a thread while this process lives and is not stopped. If that fails, the next append is fenced."""
 
     def live() -> None:
         while True:
             with contextlib.suppress(Away, Unusable):
                 renew()
-            time.sleep(seconds)
+            time.sleep(LEASE / 6)
 
     threading.Thread(target=live, daemon=True).start()
 
 
-def seal(value: Any) -> bytes:
-    """A value as a line without its newline: a checksum, and JSON."""
-    body = json.dumps(value).encode()
-    return b"%08x %b" % (zlib.crc32(body), body)
+def seal(text: str) -> bytes:
+    """JSON as a line without its newline, after a checksum."""
+    return b"%08x %b" % (zlib.crc32(text.encode()), text.encode())
 
 
 def is_whole(line: bytes) -> bool:
@@ -93,14 +92,6 @@ def from_number(number: int, batches: list[bytes]) -> list[bytes]:
     return batches
 
 
-def seal_snapshot(bank: Bank) -> Iterator[bytes]:
-    """A bank in chunks: a line that has the procedures' texts, as a journal of calls means nothing without, and then the rows."""
-    rows = bank.rows()
-    yield seal([bank.seq, bank.texts, len(rows), zlib.crc32(rows)]) + b"\n"
-    for at in range(0, len(rows), CHUNK):
-        yield rows[at : at + CHUNK]
-
-
 def write_all(file: int, data: bytes) -> None:
     """Writes all. One call may take a part of it only: when it is over 2 GB, or the disk is nearly full."""
     rest = memoryview(data)
@@ -119,8 +110,7 @@ def store(path: pathlib.Path, chunks: Iterable[bytes]) -> None:
         new.rename(path)
         sync_names(path.parent)
     except (OSError, MemoryError) as why:
-        with contextlib.suppress(OSError):
-            new.unlink()
+        new.unlink(missing_ok=True)
         raise NoSnapshot(f"{new}: {why}") from None
 
 
@@ -131,50 +121,3 @@ def sync_names(folder: pathlib.Path) -> None:
         os.fsync(names)
     finally:
         os.close(names)
-
-
-class Store:
-    """A folder of one server: N.snapshot is the bank after batch N."""
-
-    def __init__(self, folder: pathlib.Path, keep: bool = False) -> None:
-        self.folder, self.keep = folder, keep
-
-    def claim(self) -> None:
-        """Makes the folder, and keeps other servers from it. What a killed server has left of a snapshot is removed."""
-        self.folder.mkdir(0o700, exist_ok=True)
-        sync_names(self.folder.parent)
-        self._claimed = os.open(self.folder, os.O_RDONLY)
-        try:
-            fcntl.flock(self._claimed, fcntl.LOCK_EX | fcntl.LOCK_NB)
-        except BlockingIOError:
-            raise Unusable(f"{self.folder}: another server has this folder") from None
-        for it in self.folder.glob("*.new"):
-            it.unlink()
-
-    def path(self, number: int) -> pathlib.Path:
-        return self.folder / f"{number:015}.snapshot"
-
-    def numbers(self) -> list[int]:
-        """The batches after which there is a snapshot."""
-        return sorted(int(path.stem) for path in self.folder.glob("*.snapshot"))
-
-    def load(self, number: int) -> Bank:
-        """The bank after this batch. After batch 0 it is empty. `Unusable` if the snapshot is damaged."""
-        if number == 0:
-            return Bank(0, {}, b"")
-        data = self.path(number).read_bytes()
-        at = data.find(b"\n") + 1
-        seq, texts, length, checksum = unseal(data[: at - 1]) or [0, {}, 0, -1]
-        if length != len(data) - at or zlib.crc32(data[at:]) != checksum:
-            raise Unusable(f"{self.path(number)}: the snapshot is damaged")
-        return Bank(seq, texts, data[at:])
-
-    def save(self, number: int, bank: Bank) -> None:
-        """Stores a snapshot. `NoSnapshot` if that fails: then nothing has changed."""
-        store(self.path(number), seal_snapshot(bank))
-
-    def delete_before(self, number: int) -> None:
-        """Deletes the snapshots before this batch, if they are not to be kept."""
-        for it in self.numbers():
-            if it < number and not self.keep:
-                self.path(it).unlink()

@@ -24,7 +24,7 @@ class Word(NamedTuple):
     value: int
 
 
-Request = Union[tuple[Procedure, list[int]], Word, str]  # a call, or a word; or what is wrong, as a reply
+Request = Union[tuple[Procedure, tuple[int, ...]], Word, str]  # a call, or a word; or what is wrong, as a reply
 
 
 class Line(NamedTuple):
@@ -70,7 +70,7 @@ class Reader:
         if type(asked) is list and asked:
             return Line([self.request(it, rights) for it in asked], True), rights
         if type(asked) is tuple and len(asked) == 1 and asked[0][0] == "token" and isinstance(asked[0][1], str) and self.tokens is not None:
-            found = self.tokens.get(hashlib.sha256(asked[0][1].encode()).hexdigest())
+            found = self.tokens.get(hashlib.sha256(asked[0][1].encode(errors="replace")).hexdigest())
             return Line(['{"token": true}' if found else NO_RIGHT]), found or {}
         return Line([self.request(asked, rights)]), rights
 
@@ -83,7 +83,7 @@ class Reader:
         if procedure and len(asked) == len(pairs) and all([type(value) is int and LEAST <= value <= MOST for value in asked.values()]):
             if rights is not None and not may(rights, procedure, asked):
                 return NO_RIGHT
-            return procedure, [asked[key] for key in procedure.request]
+            return procedure, tuple([asked[key] for key in procedure.request])
         if self.takes_words and len(pairs) == 1 and isinstance(pairs[0][1], int) and LEAST <= pairs[0][1] <= MOST:
             return Word(*pairs[0])
         return NO_REQUEST
@@ -91,9 +91,8 @@ class Reader:
 
 def may(rights: dict[str, list[list[int]]], procedure: Procedure, asked: dict[str, int]) -> bool:
     """Whether somebody with these rights may ask for this. What needs no right by its file is for administrators alone."""
-    return bool(procedure.rights) and all(
-        any(first <= asked[key] <= last for first, last in rights.get(right, ())) for key, right in procedure.rights.items()
-    )
+    needed = procedure.rights.items()
+    return bool(needed) and all(any(first <= asked[key] <= last for first, last in rights.get(right, ())) for key, right in needed)
 
 
 def load_tokens(path: pathlib.Path) -> dict[str, Rights]:

@@ -6,35 +6,29 @@ import pathlib
 import socket
 import sys
 import time
-from urllib.parse import parse_qs, urlsplit
+from importlib import import_module
+from ipaddress import ip_address
+from urllib.parse import urlsplit
 
 from audit import show, verify
 from bank import Unusable, load_procedures
 from chain import Chain
 from file_journal import FileJournal
-from front import Options, start_fronts
-from journal import Journal, Store
+from fronts import Options, load_tls, start_fronts
+from journal import Journal
 from lines import load_tokens
 from server import Server, end_by_signals, run
+from snapshots import Store
 
 
 def open_journal(words: argparse.Namespace) -> Journal:
     """The journal at an address, or without one the files of the folder."""
-    parts = urlsplit(words.journal)
+    address = urlsplit(words.journal)
+    kinds = {"etcd": "EtcdJournal", "redis": "RedisJournal", "postgresql": "PostgresJournal"}
     try:
-        if parts.scheme == "etcd":
-            from etcd_journal import EtcdJournal
-
-            return EtcdJournal(parts.netloc.split(","), parts.path.strip("/"))
-        if parts.scheme == "redis":
-            from redis_journal import RedisJournal
-
-            replicas = int(parse_qs(parts.query).get("replicas", ["0"])[0])
-            return RedisJournal(parts.hostname or "127.0.0.1", parts.port or 6379, parts.path.strip("/"), replicas)
-        if parts.scheme == "postgresql":
-            from postgres_journal import PostgresJournal
-
-            return PostgresJournal(words.journal)
+        if address.scheme in kinds:
+            journal: Journal = getattr(import_module(f"{address.scheme}_journal"), kinds[address.scheme])(address)
+            return journal
     except (ImportError, ValueError) as why:
         raise Unusable(f"{words.journal}: {why}") from None
     if words.journal:
@@ -45,8 +39,10 @@ def open_journal(words: argparse.Namespace) -> Journal:
 def serve(words: argparse.Namespace) -> None:
     """Recovers what the journal has, and serves."""
     begin, procedures = time.perf_counter(), load_procedures(words.procedures)
-    tokens = load_tokens(words.tokens) if words.tokens else None
-    port, fronts = start_fronts(Options(words.host, words.port, words.idle, tokens), procedures)
+    tokens, tls = words.tokens and load_tokens(words.tokens), words.tls and load_tls(words.tls)
+    if not (tls or words.plain or ip_address(socket.gethostbyname(words.host)).is_loopback):
+        raise Unusable(f"{words.host}: other machines reach it, so it takes --tls, or --plain in a network of its own")
+    port, fronts = start_fronts(Options(words.host, words.port, words.idle, tokens, tls), procedures)
     store, journal = Store(words.folder, words.keep), open_journal(words)
     store.claim()
     texts = {name: it.text for name, it in procedures.items()}
@@ -70,6 +66,8 @@ def main() -> None:
     parser.add_argument("--port", type=int, default=0, help="to serve on")
     parser.add_argument("--idle", type=float, default=60, help="seconds after which a client that asks nothing is dropped")
     parser.add_argument("--tokens", type=pathlib.Path, help="a file of the rights of clients")
+    parser.add_argument("--tls", type=pathlib.Path, help="a folder with server.pem and clients.pem: clients need a certificate")
+    parser.add_argument("--plain", action="store_true", help="serve other machines without TLS")
     parser.add_argument("--procedures", type=pathlib.Path, default=pathlib.Path(__file__).resolve().parent / "procedures")
     parser.add_argument("--accounts", type=int, default=1000, help="of a new journal")
     parser.add_argument("--cents", type=int, default=100_000, help="that each of them has")

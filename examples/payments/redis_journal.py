@@ -1,37 +1,33 @@
 """The journal in a Redis stream, by Debian's python3-redis. Batch N is the entry N-0; Redis refuses an id that is not above the last one.
 
-What Redis promises: with `appendonly yes` and `appendfsync always` a batch is on the disk of its machine before it is accepted. A primary
-that was replaced is fenced, as each batch is appended by a script that asks who leads.
-What it does not promise: its replication is asynchronous. A failover of Redis itself may lose what was acknowledged, also with `replicas`,
-by which a batch waits for so many of them: Redis may promote another one.
+What is not promised: replication is asynchronous. A failover of Redis itself may lose what was acknowledged, also with `replicas`, by
+which a batch waits for so many of them: Redis may promote another one.
 """
 
 import os
 from typing import Any
+from urllib.parse import SplitResult, parse_qs
 
 import redis
 
 from bank import Unusable
-from journal import LEASE, Away, Fenced, from_number, keep_alive, needed
+from journal import AT_ONCE, LEASE, TRY, Away, Fenced, from_number, keep_alive, needed
 
-TRY = 1.5  # seconds until a request is given up
-AT_ONCE = 200  # batches that are read
 RENEW = "return redis.call('get', KEYS[1]) == ARGV[1] and redis.call('pexpire', KEYS[1], ARGV[2])"
 APPEND = """
 if redis.call('get', KEYS[1]) ~= ARGV[1] then return 0 end
 local there = redis.call('xrange', KEYS[2], ARGV[2], ARGV[2])[1]
 if there then return there[2][2] == ARGV[3] and 1 or 0 end
-redis.call('xadd', KEYS[2], ARGV[2], 'batch', ARGV[3])
-return 1"""
+return redis.call('xadd', KEYS[2], ARGV[2], 'batch', ARGV[3]) and 1"""
 
 
 class RedisJournal:
-    """The stream NAME, and beside it NAME:leader, by a lease, and NAME:stored, the batches after which servers have snapshots."""
+    """redis://HOST:PORT/NAME: the stream NAME, and NAME:leader, by a lease, and NAME:stored, the batches after which servers have snapshots."""
 
-    def __init__(self, host: str, port: int, name: str, replicas: int = 0) -> None:
-        self.name, self.replicas, self.report, self.nonce = name, replicas, "", os.urandom(8).hex()
-        self._redis = redis.Redis(host, port, socket_timeout=TRY, socket_connect_timeout=TRY)
-        self._is_safe = self._leads = False
+    def __init__(self, address: SplitResult) -> None:
+        self.name, self.report, self._nonce, self._is_safe, self._leads = address.path.strip("/"), "", os.urandom(8).hex(), False, False
+        self._replicas = int(parse_qs(address.query).get("replicas", ["0"])[0])
+        self._redis = redis.Redis(address.hostname or "127.0.0.1", address.port or 6379, socket_timeout=TRY, socket_connect_timeout=TRY)
 
     def _ask(self, *words: Any) -> Any:
         try:
@@ -42,7 +38,7 @@ class RedisJournal:
             raise (Fenced if "equal or smaller" in str(why) else Unusable)(f"Redis: {why}") from None
 
     def _renew(self) -> bool:
-        return bool(self._ask("EVAL", RENEW, 1, self.name + ":leader", self.nonce, LEASE * 1000))
+        return bool(self._ask("EVAL", RENEW, 1, self.name + ":leader", self._nonce, LEASE * 1000))
 
     def lead(self) -> bool:
         if not self._is_safe:
@@ -50,20 +46,20 @@ class RedisJournal:
             if has != {b"appendonly": b"yes", b"appendfsync": b"always"} and has != {"appendonly": "yes", "appendfsync": "always"}:
                 raise Unusable("Redis: it must run with appendonly yes and appendfsync always")
             self._is_safe = True
-        self._ask("SET", self.name + ":leader", self.nonce, "NX", "PX", LEASE * 1000)
+        self._ask("SET", self.name + ":leader", self._nonce, "NX", "PX", LEASE * 1000)
         did, self._leads = self._leads, self._renew()
         if self._leads and not did:
-            keep_alive(self._renew, LEASE / 6)
+            keep_alive(self._renew)
         return self._leads
 
     def append(self, number: int, data: bytes) -> None:
-        if not self._ask("EVAL", APPEND, 2, self.name + ":leader", self.name, self.nonce, f"{number}-0", data):
+        if not self._ask("EVAL", APPEND, 2, self.name + ":leader", self.name, self._nonce, f"{number}-0", data):
             raise Fenced(f"Redis: another primary leads, after batch {number - 1}")
-        if self.replicas and self._ask("WAIT", self.replicas, int(TRY * 500)) < self.replicas:
+        if self._replicas and self._ask("WAIT", self._replicas, int(TRY * 500)) < self._replicas:
             raise Away("Redis: too few replicas have the batch")
 
     def check(self) -> None:
-        if self._ask("GET", self.name + ":leader") != self.nonce.encode():
+        if self._ask("GET", self.name + ":leader") != self._nonce.encode():
             raise Fenced("Redis: another primary leads")
 
     def read(self, number: int) -> list[bytes]:
@@ -72,5 +68,4 @@ class RedisJournal:
 
     def stored(self, server: str, number: int) -> None:
         self._ask("HSET", self.name + ":stored", server, number)
-        keep = needed(map(int, self._ask("HVALS", self.name + ":stored")))
-        self._ask("XTRIM", self.name, "MINID", f"{keep}-0")
+        self._ask("XTRIM", self.name, "MINID", f"{needed(map(int, self._ask('HVALS', self.name + ':stored')))}-0")

@@ -13,7 +13,7 @@ from multiprocessing.reduction import send_handle
 from typing import Any, Callable, Sequence
 
 from administration import listen_at
-from bank import NO_PROCEDURE, Call, NoSnapshot, Procedure
+from bank import NO_PROCEDURE, NoSnapshot, Procedure
 from chain import PAUSE, Chain
 from sgt import pack_calls, unpack_calls
 
@@ -25,24 +25,23 @@ class Server:
     """A primary, or a follower, which answers what does not write, and says how old its answers may be."""
 
     def __init__(self, chain: Chain, fronts: list[Connection], procedures: dict[str, Procedure]) -> None:
-        self.chain, self.fronts = chain, fronts
-        self.batch: list[Call] = []  # calls that ran, and are not safe yet
-        self.is_marked, self.day = True, -1
+        self.chain, self.fronts, self.procedures = chain, fronts, procedures
+        self.batch: list[str] = []  # the entries of calls that ran, and are not safe yet
+        self.is_marked, self.day, self.trouble = True, -1, ""  # the trouble is of the last snapshot
         self.began, self.calls, self.batches, self.appending = time.monotonic(), 0, 0, 0.0
-        self.trouble = ""  # of the last snapshot
-        self.words: dict[str, Callable[[int], dict[str, Any]]] = {
-            "rows": self.rows,
-            "health": self.health,
-            "figures": self.figures,
-            "day": self.set_day,
-        }
+        self.words: dict[str, Callable[[int], dict[str, Any]]]
+        self.words = {"rows": self.rows, "health": self.health, "figures": self.figures, "day": self.set_day}
         self.writers = {chain.bank.numbers[name] for name, it in procedures.items() if it.writes}
         for front in fronts:
             front.send_bytes(marshal.dumps(chain.bank.numbers))
 
     def turn(self) -> None:
         """Waits for requests, and replies to all that have come in. The next ones gather meanwhile."""
-        ready = select.select(self.fronts, (), (), IDLE if self.chain.leads else PAUSE)[0]
+        saving = [self.chain.saving] if self.chain.saving else []
+        ready = select.select([*self.fronts, *saving], (), (), IDLE if self.chain.leads else PAUSE)[0]
+        if saving and saving[0] in ready:
+            ready.remove(saving[0])
+            self.end_cut()
         if not self.chain.leads:
             self.chain.follow()
         self.begin_day()
@@ -50,24 +49,22 @@ class Server:
             replies = [self.run(*marshal.loads(front.recv_bytes())) for front in ready]
             self.forget()
             self.before_replies()
+            # What a follower adds to a reply: payments that were acknowledged later may be missing in it.
+            age = "" if self.chain.leads else f', "seconds_old": {time.monotonic() - self.chain.fresh:.3f}'
             for front, (outcomes, words) in zip(ready, replies):
-                front.send_bytes(marshal.dumps((outcomes, words, self.age())))
+                front.send_bytes(marshal.dumps((outcomes, words, age)))
         except (EOFError, ConnectionError):
             raise OSError("a front process has ended") from None
         if self.chain.bank.cut_if_long():
-            self.take_snapshot()
-
-    def age(self) -> str:
-        """What a follower adds to a reply: payments that were acknowledged later may be missing in it."""
-        return "" if self.chain.leads else f', "seconds_old": {time.monotonic() - self.chain.fresh:.3f}'
-
-    def take_snapshot(self) -> None:
-        """Stores a snapshot. One that can't be stored ends nothing: the next cut tries again."""
-        try:
             self.chain.cut()
-            self.trouble = ""
+
+    def end_cut(self) -> None:
+        """A snapshot that could not be stored ends nothing: the next cut tries again."""
+        self.trouble = ""
+        try:
+            self.chain.end_cut()
         except NoSnapshot as why:
-            self.trouble = f"no snapshot after call {self.chain.bank.seq}: {why}"
+            self.trouble = f"no snapshot: {why}"
             logging.warning(self.trouble)
 
     def before_replies(self) -> None:
@@ -84,14 +81,16 @@ class Server:
         elif self.chain.leads:
             self.chain.check()
 
-    def run(self, calls: bytes, words: Sequence[tuple[str, int]] = ()) -> tuple[bytes, list[str]]:
-        """Runs packed calls, and adds those that wrote to the batch. Their packed outcomes, and then the replies to words.
+    def call(self, name: str, *args: int, times: int = 1) -> None:
+        """Runs a call of the server's own, if these procedures have it."""
+        if name in self.procedures:
+            self.run(pack_calls([(self.chain.bank.numbers[name], *args)] * times), [self.procedures[name].entry % args] * times)
 
-        For what may write a follower has no procedure.
-        """
-        if not self.chain.leads:
+    def run(self, calls: bytes, entries: Sequence[str], words: Sequence[tuple[str, int]] = ()) -> tuple[bytes, list[str]]:
+        """Runs packed calls, and adds the entries of those that wrote to the batch. Their packed outcomes, and then the replies to words."""
+        if not self.chain.leads:  # for what may write a follower has no procedure
             calls = pack_calls([(NO_PROCEDURE if number in self.writers else number, *args) for number, *args in unpack_calls(calls)])
-        outcomes, wrote = self.chain.bank.run(calls)
+        outcomes, wrote = self.chain.bank.run(calls, entries)
         self.batch += wrote
         self.chain.bank.seq += len(wrote)
         self.calls += len(calls) // CALL_BYTES
@@ -119,20 +118,18 @@ class Server:
 
         The procedure takes the day after its own day alone. When the clock jumps, the bank keeps its day until an operator says another.
         """
-        day = today()
-        if day != self.day and self.chain.leads and "day" in self.chain.bank.numbers:
-            self.day = day
-            self.run(pack_calls([(self.chain.bank.numbers["day"], day)]))
-            if self.chain.bank.day() != day:
-                logging.warning(self.trouble_of_clock())
+        if self.day != today() and self.chain.leads:
+            self.day = today()
+            self.call("day", self.day)
+            if trouble := self.trouble_of_clock():
+                logging.warning(trouble)
 
     def forget(self) -> None:
         """Has the bank forget old ids, at most twice as many as calls of the batch. So they do not pile up, and nobody waits for long."""
-        number, calls = self.chain.bank.numbers.get("forget"), len(self.batch)
-        if calls and number is not None:
-            self.run(pack_calls([(number,)]))
+        if calls := len(self.batch):
+            self.call("forget")
             if len(self.batch) > calls:
-                self.run(pack_calls([(number,)] * (2 * calls - 1)))
+                self.call("forget", times=2 * calls - 1)
 
     def trouble_of_clock(self) -> str:
         """Whether the bank has another day than the clock. A follower may get the next day a moment late."""
@@ -141,8 +138,8 @@ class Server:
 
     def set_day(self, day: int) -> dict[str, Any]:
         """The day as an operator says it, whatever the clock says; with true in place of a number the day as it is."""
-        if not isinstance(day, bool) and "set_day" in self.chain.bank.numbers:
-            self.run(pack_calls([(self.chain.bank.numbers["set_day"], day)]))
+        if not isinstance(day, bool):
+            self.call("set_day", day)
         return {"day": self.chain.bank.day()}
 
 
@@ -155,8 +152,8 @@ def run(server: Server, port: int, admin: pathlib.Path, begin: float) -> None:
     """Runs a server until SIGTERM or SIGINT."""
     with listen_at(admin) as listener:
         send_handle(server.fronts[-1], listener.fileno(), None)
-    now = f"after call {server.chain.bank.seq}, started in {time.perf_counter() - begin:.2f} s"
-    print(f"serving on port {port} {now}", flush=True)
+    seconds = time.perf_counter() - begin
+    print(f"serving on port {port} after call {server.chain.bank.seq}, started in {seconds:.2f} s", flush=True)
     while not server.chain.ends:
         server.turn()
     server.before_replies()

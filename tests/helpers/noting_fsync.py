@@ -2,10 +2,12 @@
 
     [NOTE_FSYNC=FILE] [CUT_AFTER=ENTRIES] [CHUNK=BYTES] [LEASE=SECONDS] [PATIENCE=SECONDS] [DAYS_AHEAD=FILE] noting_fsync.py PROGRAM WORD..
 
+Its clock shows the time of day of a day that is always the same, so that no test depends on when it runs.
+
 A kill loses nothing of the page cache. With these notes a test can take away what only stood there, as a loss of power may.
 CUT_AFTER has the bank cut its history after so many entries, CHUNK has a snapshot stored in chunks of so many bytes, LEASE is after how
 many seconds a primary is replaced, and PATIENCE after how many it ends if its journal is away. The file of DAYS_AHEAD says how many days
-its clock is ahead, each time that it is read.
+its clock is ahead of that day, each time that it is read.
 """
 
 import os
@@ -14,18 +16,25 @@ import runpy
 import sys
 import time
 
-note = os.open(os.environ.get("NOTE_FSYNC", os.devnull), os.O_WRONLY | os.O_CREAT | os.O_APPEND, 0o600)
-fsync = os.fsync
+DAY = 20_000  # counted from 1970
+fsync, now = os.fsync, time.time
 
 
 def noting(file):
     number = file if isinstance(file, int) else file.fileno()
     fsync(number)
     name = os.readlink(f"/proc/self/fd/{number}")
-    os.write(note, b"%s %d\n" % (name.encode(), os.fstat(number).st_size))
+    if "NOTE_FSYNC" in os.environ:
+        with open(os.environ["NOTE_FSYNC"], "ab", buffering=0) as note:
+            note.write(b"%s %d\n" % (name.encode(), os.fstat(number).st_size))
+
+
+def days_ahead():
+    return int(pathlib.Path(os.environ["DAYS_AHEAD"]).read_text()) if "DAYS_AHEAD" in os.environ else 0
 
 
 os.fsync = noting
+time.time = lambda: 86_400 * (DAY + days_ahead()) + now() % 86_400
 sys.argv = sys.argv[1:]
 sys.path.insert(0, str(pathlib.Path(sys.argv[0]).resolve().parent))
 if "CUT_AFTER" in os.environ:
@@ -33,9 +42,9 @@ if "CUT_AFTER" in os.environ:
 
     bank.ENTRIES = int(os.environ["CUT_AFTER"])
 if "CHUNK" in os.environ:
-    import journal
+    import snapshots
 
-    journal.CHUNK = int(os.environ["CHUNK"])
+    snapshots.CHUNK = int(os.environ["CHUNK"])
 if "LEASE" in os.environ:
     import journal
 
@@ -44,7 +53,4 @@ if "PATIENCE" in os.environ:
     import chain
 
     chain.PATIENCE = float(os.environ["PATIENCE"])
-if "DAYS_AHEAD" in os.environ:
-    ahead, now = pathlib.Path(os.environ["DAYS_AHEAD"]), time.time
-    time.time = lambda: now() + 86_400 * int(ahead.read_text())
 runpy.run_path(sys.argv[0], run_name="__main__")
