@@ -5,6 +5,7 @@ pub mod PendingWrites
 pub mod LastWrites
 pub mod ChainIndices
 pub mod TableIndices
+pub mod RowIndices
 pub mod RecordSlots
 pub mod ChainsKept
 pub mod EntriesRead

@@ -6,5 +6,6 @@ pub mod Pendings
 pub mod PendingChains
 pub mod Indices
 pub mod Tables
+pub mod RowRecords
 pub mod Slots
 pub mod LiveWrites

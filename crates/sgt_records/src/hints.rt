@@ -23,6 +23,21 @@ impl Hints {
         }
     }
 
+    /// The guesses of records that have these keys, in the order of their indices.
+    ///
+    /// `NoMemory` if the allocation failed.
+    pub fn of(alloc: Global, keys: &[Key]) -> Result<Hints, NoMemory> {
+        let mut hints = Hints::new(alloc);
+        if keys.is_empty() {
+            return Ok(hints);
+        }
+        let Some(count) = keys.len().saturating_mul(2).checked_next_power_of_two() else {
+            return Err(NoMemory);
+        };
+        hints.store(keys, count.max(FEWEST))?;
+        Ok(hints)
+    }
+
     /// Two indices that the record of the key may have.
     #[inline(always)]
     pub fn guesses(&self, key: Key) -> (usize, usize) {
@@ -59,6 +74,11 @@ impl Hints {
     #[inline(never)]
     fn grow(&mut self, keys: &[Key]) -> Result<(), NoMemory> {
         let count = (self.pairs.len() * 2).max(FEWEST);
+        self.store(keys, count)
+    }
+
+    // Makes so many pairs, and stores the guesses of the records anew.
+    fn store(&mut self, keys: &[Key], count: usize) -> Result<(), NoMemory> {
         self.pairs.resize(count, (0, 0))?;
         for (index, key) in keys.iter().enumerate() {
             self.note(*key, index);

@@ -37,10 +37,7 @@ impl Index {
         ensures chain { IfOk result (λ i. (k : Key) → key_chain (record_in i.table) i.chains k ≡ []) }
         ensures settled { IfOk result (λ i. (k : Key) → committed_of (record_in i.table) k ≡ contents_of opening.now k) }
     {
-        let mut table = Table::new(alloc);
-        for (key, value) in opening.rows() {
-            table.add(*key, Some(*value))?;
-        }
+        let table = Table::of(alloc, opening.rows())?;
         Ok(Index {
             table,
             chains: Slab::new(alloc),

@@ -4,6 +4,7 @@ ghost use Rattle.std.specs.Prelude.{length};
 ghost use Rattle.sgt_records.specs.Indices.{AreIndices, AreKeys};
 
 mod by_key;
+mod of_rows;
 
 use crate::hints::Hints;
 use crate::record::Record;

@@ -5,27 +5,12 @@ ghost use Rattle.sgt_model.specs.Contents.{Key, key_eq};
 ghost use Rattle.sgt_records.specs.declared.written.Written.TheVariants.{Nothing};
 ghost use Rattle.sgt_records.specs.Tables.{index_in, record_in};
 
-use crate::hints::Hints;
 use crate::record::Record;
 use crate::table::Table;
 use crate::written::Written;
 use sgt_model::{Key, NoMemory};
-use std::alloc::Global;
-use std::collections::BTreeMap;
 
 impl Table {
-    /// No records. It allocates nothing.
-    pub fn new(alloc: Global) -> Table
-        ensures { (k : Key) → record_in result k ≡ None }
-    {
-        Table {
-            indices: BTreeMap::new(alloc),
-            records: Vec::new(alloc),
-            keys: Vec::new(alloc),
-            hints: Hints::new(alloc),
-        }
-    }
-
     /// The index of the key's record, if it has one.
     #[inline(always)]
     pub fn index(&self, key: Key) -> Option<usize>
