@@ -1,5 +1,5 @@
 -- A run that rests for a reason of its own rests for one that it may have.
-use Rattle.std.proofs.Common.{◌≡◌, ℕ, Option, Some, None, inr, inl}
+use Rattle.std.proofs.Common.{ℕ, Option, Some, None, inr, inl}
 use Rattle.sgt_model.specs.declared.short_reply.ShortReply.{ShortReply}
 use Rattle.sgt_desk.specs.declared.reason.Reason.{Reason}
 use Rattle.sgt_desk.specs.declared.reason.Reason.TheVariants.{Turn, Full, End, Busy, Cut}
