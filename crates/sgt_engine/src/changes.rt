@@ -1,11 +1,11 @@
 //! What a history has changed in the database that it began with.
-ghost use Rattle.std.specs.Prelude.{◌≡◌, ◌≢◌, false, Some, None, cond, IfOk, IfSome};
+ghost use Rattle.std.specs.Prelude.{◌≡◌, ◌≢◌, ◌||◌, false, Some, None, cond, IfOk, IfSome};
 ghost use Rattle.std.specs.BTreeMap.{get};
 ghost use Rattle.std.specs.Option.{is_some, option_flatten};
 ghost use Rattle.sgt_model.specs.Contents.{Key};
 ghost use Rattle.sgt_model.specs.Databases.{contents_of, key_cmp, IsByKey};
 ghost use Rattle.sgt_model.specs.Numbers.{IsValue};
-ghost use Rattle.sgt_engine.specs.Writes.{is_written};
+ghost use Rattle.sgt_engine.specs.Writes.{is_removal, is_written};
 
 use sgt_log::History;
 use sgt_model::{Database, Key, NoMemory, Reply, ShortReply};
@@ -34,10 +34,14 @@ pub fn changed<R: Records>(
     opening.updated(alloc, &newer)
 }
 
-/// Whether there was a removal, before or with this reply.
+/// Notes whether a removal has been found: before, or by this reply.
 #[inline(always)]
-pub fn removes_with(before: bool, reply: &ShortReply) -> bool {
-    before || matches!(reply, ShortReply::Wrote { value: None, .. })
+pub fn note_removal(found: &mut bool, reply: &ShortReply)
+    ensures { found.new ≡ found.old || is_removal reply.now }
+{
+    if let ShortReply::Wrote { value: None, .. } = reply {
+        *found = true;
+    }
 }
 
 // What a history has written.

@@ -27,7 +27,7 @@ mod cut;
 mod procedures;
 mod put;
 
-use crate::changes::{changed, removes_with};
+use crate::changes::{changed, note_removal};
 use crate::past::Past;
 use crate::room::make_room;
 pub use cut::CutError;
@@ -72,8 +72,8 @@ pub struct Engine<R: Records, A: Accesses, G: Graph> {
     history: History,
     // The lists of the newest entry's reply, if there is one.
     lists: ReplyLists,
-    // Whether there was a removal in the history, committed or not. The records may keep memory for what was removed.
-    removes: bool,
+    // Whether the history has a removal, committed or not. The records may keep memory for what was removed.
+    has_removal: bool,
 }
 
 impl<R: Records, A: Accesses, G: Graph> Model for Engine<R, A, G> {
@@ -128,7 +128,7 @@ impl<R: Records, A: Accesses, G: Graph> Engine<R, A, G> {
             sched,
             history: History::new(alloc),
             lists: ReplyLists::new(),
-            removes: false,
+            has_removal: false,
         })
     }
 
@@ -196,6 +196,28 @@ impl<R: Records, A: Accesses, G: Graph> Engine<R, A, G> {
             → IsOk result }
         ensures quits { (t : ℕ) → event.now ≡ Quit t → live self.old.past t ≡ true → IsOk result }
     {
+        self.answer_inline(event, reply)
+    }
+
+    /// The same, compiled into its caller: for one whose events are of one kind, so that the kind is not tested at run time.
+    #[inline(always)]
+    pub fn answer_inline(&mut self, event: &Event, reply: &mut ShortReply) -> Result<(), NoMemory>
+        ensures adds { OnOk result (Answers event.now self.old reply.new self.new) }
+        ensures legal { Legal (setting_of self.new) self.new.past }
+        ensures replay { ReplayAgrees (setting_of self.new) self.new.past }
+        ensures no_cycle { Acyclic (Pair self.new.past) }
+        ensures causes { AbortsHaveCause (setting_of self.new) self.new.past }
+        ensures order { CommitsInOrder self.new.past }
+        ensures real_time { KeepsRealTime (setting_of self.new) self.new.past }
+        ensures progress { MakesProgress (setting_of self.new) self.new.past }
+        ensures alone { OnOk result ((t : ℕ) → IsAlone self.old.past t → IsNoQuitOf event.now t → (r : Reply)
+            → short_reply r ≡ reply.new → is_hindered r ≡ false) }
+        ensures unchanged { OnErr result (self.new ≡ self.old) }
+        ensures no_memory { (r : Reply) → LegalReply (setting_of self.old) self.old.past event.now r
+            → is_ending r ≡ true
+            → IsOk result }
+        ensures quits { (t : ℕ) → event.now ≡ Quit t → live self.old.past t ≡ true → IsOk result }
+    {
         // The laws that the proof rests on, of calls and states, and of legal histories. They do nothing at run time.
         calls_simulate();
         states_are_sound();
@@ -207,7 +229,7 @@ impl<R: Records, A: Accesses, G: Graph> Engine<R, A, G> {
         make_room(&mut self.history, &self.sched, event)?;
         self.sched.answer(event, &mut self.lists, reply)?;
         self.history.push(event, reply, &self.lists);
-        self.removes = removes_with(self.removes, reply);
+        note_removal(&mut self.has_removal, reply);
         Ok(())
     }
 
@@ -328,7 +350,7 @@ impl<R: Records, A: Accesses, G: Graph> Engine<R, A, G> {
             sched: _,
             history,
             lists: _,
-            removes: _,
+            has_removal: _,
         } = self;
         Past { opening, history }
     }

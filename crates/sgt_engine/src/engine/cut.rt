@@ -78,8 +78,8 @@ impl<R: Records, A: Accesses, G: Graph> Engine<R, A, G> {
             return Err(CutError::StillLive);
         }
         let database = self.database(alloc)?;
-        restart(alloc, &mut self.sched, self.removes, &database)?;
-        self.removes = false;
+        restart(alloc, &mut self.sched, self.has_removal, &database)?;
+        self.has_removal = false;
         let opening = mem::replace(&mut self.opening, database);
         let history = mem::replace(&mut self.history, History::new(alloc));
         Ok(Past { opening, history })
