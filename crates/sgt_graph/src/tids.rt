@@ -6,7 +6,7 @@ ghost use Rattle.sgt_graph.specs.BitGraphs.{is_at, IsLeastAt};
 
 use crate::guesses::Guesses;
 use crate::pair_graph::smaller;
-use sgt_cycle::indices::{has, joined, only};
+use sgt_cycle::indices::{has, joined, least, minus, only};
 use sgt_model::{Tid, Tids};
 
 /// The index of a transaction, if it has one.
@@ -68,14 +68,11 @@ pub fn least_at(tids: &[Tid; 32], set: u32) -> Option<Tid>
     ensures some { IfSome result (IsLeastAt tids.now set) }
     ensures none { IsNone result → (i : ℕ) → is_set set i ≡ false }
 {
-    if set == 0 {
-        return None;
+    let mut found: Option<Tid> = None;
+    let mut left = set;
+    while let Some(index) = least(left) {
+        found = Some(smaller(found, tids[usize::from(index)]));
+        left = minus(left, only(index));
     }
-    let mut least: Option<Tid> = None;
-    for index in 0..32u8 {
-        if has(set, index) {
-            least = Some(smaller(least, tids[usize::from(index)]));
-        }
-    }
-    least
+    found
 }

@@ -1,4 +1,5 @@
 pub mod Lives
+pub mod Halves
 pub mod Lists
 pub mod Started
 pub mod Renewed

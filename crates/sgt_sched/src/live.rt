@@ -78,11 +78,14 @@ impl Live {
         tids
     }
 
-    /// The index of the transaction, if it is live.
+    /// The index of the transaction, if it is live. The list is searched by halves.
     pub fn index(&self, t: Tid) -> Option<usize>
+        requires rising { Rising (numbers self.now) }
         ensures { result ≡ position (has_number t) self.now }
     {
-        self.live().iter().position(|running| running.tid == t)
+        self.live()
+            .binary_search_by_key(&t, |running| running.tid)
+            .ok()
     }
 
     /// The transaction t, which is live and has this index.
