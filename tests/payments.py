@@ -1316,21 +1316,22 @@ def over_etcd():
 
 
 def nodes_die(rounds, seed):
-    """Nodes of etcd, its leader, two of three and the primary are killed and stopped under load, in turns. Clients pay at whoever leads."""
+    """Each node of etcd, its leader, two of three and the primary are killed and stopped under load. Clients pay at whoever leads."""
     if why := Etcd.missing():
         return f"left out: {why}"
-    draw = random.Random(seed)
-    load, fenced = Load(draw), 0
+    draw, events, fenced = random.Random(seed), [], 0
+    load, kinds = Load(draw), [(which, is_killed) for which in (0, 1, 2, "the leader", "two nodes", "the primary") for is_killed in (True, False)]
+    while len(events) < rounds:
+        events += draw.sample(kinds, len(kinds))
     with room() as folder, running(Etcd, folder) as etcd, contextlib.ExitStack() as stack:
         group = Group(etcd, folder, stack)
-        for number in range(rounds):
+        for which, is_killed in events[:rounds]:
             primary = group.primary()
-            event = (node_killed, node_stopped, kill_primary, leader_killed, leader_stopped, stop_primary, two_stopped)[number % 7]
-            fenced += event is stop_primary
-            if event in (kill_primary, stop_primary):
-                event(group, primary, load)
+            if which == "the primary":
+                (kill_primary if is_killed else stop_primary)(group, primary, load)
+                fenced += not is_killed
                 continue
-            trouble = threading.Thread(target=event, args=(etcd, draw))
+            trouble = threading.Thread(target=strike, args=(etcd, which, is_killed, draw))
             trouble.start()
             load.run(group.servers[primary], 1.5)
             trouble.join()
@@ -1339,34 +1340,23 @@ def nodes_die(rounds, seed):
     return f"{rounds} events, {fenced} primaries fenced; {len(load.acknowledged)} payments acknowledged, each there once"
 
 
-def node_killed(etcd, draw):
-    node_lost(etcd, draw.randrange(3))
-
-
-def leader_killed(etcd, draw):
-    node_lost(etcd, wait_until(lambda: (etcd.leader() or 0) + 1, "an etcd that has a leader") - 1)
-
-
-def node_lost(etcd, number):
+def strike(etcd, which, is_killed, draw):
+    """Kills or stops nodes of etcd for a second: the one with a number, the one that leads, or two of three."""
     time.sleep(0.2)
-    etcd.kill(number)
-    time.sleep(0.5)
-    etcd.start(number)
-
-
-def node_stopped(etcd, draw):
-    with etcd.stopped(draw.randrange(3)):
-        time.sleep(1)
-
-
-def leader_stopped(etcd, draw):
-    with etcd.stopped(etcd.leader() or 0):
-        time.sleep(1)
-
-
-def two_stopped(etcd, draw):
-    with etcd.stopped(*draw.sample(range(3), 2)):
-        time.sleep(1.5)
+    nodes = [which]
+    if which == "the leader":
+        nodes = wait_until(lambda: [it for it in [etcd.leader()] if it is not None], "an etcd that has a leader")
+    elif which == "two nodes":
+        nodes = draw.sample(range(3), 2)
+    if not is_killed:
+        with etcd.stopped(*nodes):
+            time.sleep(1)
+        return
+    for node in nodes:
+        etcd.kill(node)
+    time.sleep(1)
+    for node in nodes:
+        etcd.start(node)
 
 
 def on_host(name, folder):
@@ -1574,7 +1564,7 @@ def main():
         return crashes(rounds, seed)
 
     def dying_nodes():
-        return nodes_die(max(7, rounds // 4), seed)
+        return nodes_die(rounds, seed)
 
     crash_test.__name__, dying_nodes.__name__ = "crashes", "nodes_die"
     cases = [replies, holds, statements, forgotten, lists, tokens, tls, second_server, between_partitions, administration]
