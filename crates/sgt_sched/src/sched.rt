@@ -105,6 +105,7 @@ impl<R: Records, A: Accesses, G: Graph> Sched<R, A, G> {
     /// without its lists to `reply`, and those that the reply has to `lists`.
     ///
     /// `NoMemory` if an allocation failed; then nothing has changed. An event that ends a live transaction allocates nothing.
+    #[inline(always)]
     pub fn answer(
         &mut self,
         event: &Event,
