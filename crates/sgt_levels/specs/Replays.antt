@@ -79,3 +79,7 @@ pub record IsSnapshotHeld (h : List Transaction) (order : List ℕ) (i start : �
   pub early : start ≤ i
   pub reads : HoldOver h order i (Some start) (operations_of h (get_or order i 0))
   pub free : (u k v w : ℕ) → Has (take i order) u → Appends h u k v → Appends h (get_or order i 0) k w → Has (take start order) u
+
+-- the same for each place of the order, with the start that the list has there
+abbrev pub IsSnapshotReplay : List Transaction → List ℕ → List ℕ → Type 0
+IsSnapshotReplay h order starts = (i : ℕ) → i < length order → IsSnapshotHeld h order i (get_or starts i 0)

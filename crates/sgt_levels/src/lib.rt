@@ -10,6 +10,7 @@
 //! - write skew is snapshot isolated and not serializable; lost update is not snapshot isolated
 //! - `levels_of` answers `Run` only with a run, and *no* only if there is none: an order that the tests of `replay.rt`
 //!   accept is a run, and a cycle that those of `tie.rt` accept leaves none
+//! - `ruled_out` names the weakest level that a cycle rules out
 //!
 //! Tested, not proved: when `levels_of` leaves a level open (`survey.rt` and `search.rt`), and the time: n log n.
 //!

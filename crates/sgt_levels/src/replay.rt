@@ -5,7 +5,7 @@ ghost use Rattle.sgt_appends.specs.Runs.{operations_of};
 ghost use Rattle.sgt_appends.specs.Precedences.{appended};
 ghost use Rattle.sgt_levels.specs.Commits.{IsCommittedRun};
 ghost use Rattle.sgt_levels.specs.Snapshots.{IsSnapshotRun};
-ghost use Rattle.sgt_levels.specs.Replays.{values_in, places_in, IsFront, IsReplayed, StartIs, OperationHolds, HoldOver, AreHeld, IsSnapshotHeld};
+ghost use Rattle.sgt_levels.specs.Replays.{values_in, places_in, IsFront, IsReplayed, StartIs, OperationHolds, HoldOver, AreHeld, IsSnapshotHeld, IsSnapshotReplay};
 
 use crate::columns::Columns;
 use sgt_appends::{Operation, Transaction, ends_with, names_each};
@@ -31,8 +31,9 @@ pub fn is_snapshot_run(
     order: &[usize],
     starts: &[usize],
 ) -> Result<bool, NoMemory>
-    ensures { IfOk result (λ yes. IsTrue yes
+    ensures run { IfOk result (λ yes. IsTrue yes
         → (begin : ℕ → ℕ) × (commit : ℕ → ℕ) × IsSnapshotRun history.now order.now begin commit) }
+    ensures replay { IfOk result (λ yes. IsTrue yes → IsSnapshotReplay history.now order.now starts.now) }
 {
     Ok(names_each(alloc, history, order)? && replays_snapshots(alloc, history, order, starts)?)
 }

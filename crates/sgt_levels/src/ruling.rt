@@ -1,7 +1,7 @@
 //! The weakest level that a cycle rules out.
 ghost use Rattle.std.specs.Prelude.{◌≡◌, IsTrue, Bool, false};
 ghost use Rattle.sgt_levels.specs.Rounds.{is_miss, AreSpaced, ends_with_miss, IsSpacedCycle, HasNoMiss};
-ghost use Rattle.sgt_levels.specs.Ruled.{RulesOut};
+ghost use Rattle.sgt_levels.specs.Ruled.{RulesOut, IsWeakest};
 
 use sgt_appends::{Edge, Reason};
 
@@ -18,7 +18,8 @@ pub enum Level {
 
 /// The weakest of the levels that a cycle rules out.
 pub fn ruled_out(edges: &[Edge]) -> Level
-    ensures { RulesOut edges.now result }
+    ensures rules_out { RulesOut edges.now result }
+    ensures weakest { IsWeakest edges.now result }
 {
     if has_no_miss(edges) {
         return Level::ReadCommitted;
@@ -42,7 +43,8 @@ fn missed(reason: Reason) -> bool
 
 /// Whether no edge is a miss.
 fn has_no_miss(edges: &[Edge]) -> bool
-    ensures { IsTrue result → HasNoMiss edges.now }
+    ensures yes { IsTrue result → HasNoMiss edges.now }
+    ensures no { result ≡ false → ¬ HasNoMiss edges.now }
 {
     for edge in edges {
         if missed(edge.reason) {
@@ -65,7 +67,8 @@ fn last_missed(edges: &[Edge]) -> bool
 
 /// Whether no two misses are next to one another, after an edge that is one or not.
 fn are_spaced(first: bool, edges: &[Edge]) -> bool
-    ensures { IsTrue result → AreSpaced first edges.now }
+    ensures yes { IsTrue result → AreSpaced first edges.now }
+    ensures no { result ≡ false → ¬ AreSpaced first edges.now }
 {
     let mut before = first;
     for edge in edges {

@@ -3,7 +3,7 @@ use Rattle.sgt_levels.specs.Answers.{IsCommittedRight}
 use Rattle.sgt_levels.proofs.levels.is_no.Goals as goal
 
 pub returns-in-Fault : goal.returns-in-Fault
-returns-in-Fault c = λ h yes right. subst (λ x. IsCommittedRight h x) c.in-Fault.is right
+returns-in-Fault c = λ h yes right. (subst (λ x. IsCommittedRight h x) c.in-Fault.is right).1
 
 pub returns-in-Partial : goal.returns-in-Partial
 returns-in-Partial c = λ h yes right. subst (λ x. IsCommittedRight h x) c.in-Partial.is right
