@@ -11,7 +11,7 @@ use crate::fault::Fault;
 use crate::lines::Lines;
 use crate::source::Source;
 use sgt_format::{Opening, RecordLine, read_record_line};
-use sgt_model::Database;
+use sgt_rows::Rows;
 use std::alloc::Global;
 
 /// The next line, if it is a record line. It does not move to that line.
@@ -93,23 +93,23 @@ fn next_record<S: Source>(
 }
 
 /// Adds the record that the line of this number says.
-fn put_record(database: &mut Database, said: &RecordLine, number: u64) -> Result<(), Fault>
-    ensures put { OnOk result (PutsNew (contents_of database.old) said.now (contents_of database.new)) }
+fn put_record(rows: &mut Rows, said: &RecordLine, number: u64) -> Result<(), Fault>
+    ensures put { OnOk result (PutsNew (contents_of rows.old) said.now (contents_of rows.new)) }
     ensures bad { IfErr result (λ f. (f ≢ Fault.NoMemory) →
-        (f ≡ Fault.BadRecord number) × CantPut (contents_of database.old) said.now) }
+        (f ≡ Fault.BadRecord number) × CantPut (contents_of rows.old) said.now) }
     ensures own { (result ≢ Err Fault.Reading) × (result ≢ Err Fault.Writing) }
 {
     let Some(record) = said.record() else {
         return Err(Fault::BadRecord(number));
     };
-    if !database.put_new(record.key, record.value)? {
+    if !rows.put_new(record.key, record.value)? {
         return Err(Fault::BadRecord(number));
     }
     Ok(())
 }
 
 /// Adds the records of the record lines that come next to the opening's database. The first other line is left for
-/// `next_line`. A record in key order costs one search. One out of order also moves the records after it.
+/// `next_line`. The records may come in any order: each costs a search, and none moves another.
 ///
 /// # Errors
 ///
@@ -147,9 +147,19 @@ pub fn read_records<S: Source>(
     ensures failed { result ≡ Err Fault.Reading →
         S.failures source.new ≡ S.failures source.old + 1 }
 {
-    let mut opening = opening;
+    let Opening {
+        limits,
+        database,
+        procedures,
+    } = opening;
+    let mut rows = Rows::of(alloc, database);
     while let Some(said) = next_record(alloc, lines, source)? {
-        put_record(&mut opening.database, &said, lines.number())?;
+        put_record(&mut rows, &said, lines.number())?;
     }
-    Ok(opening)
+    let database = rows.database(alloc)?;
+    Ok(Opening {
+        limits,
+        database,
+        procedures,
+    })
 }

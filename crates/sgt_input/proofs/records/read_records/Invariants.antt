@@ -5,12 +5,10 @@ use Rattle.sgt_input.specs.Records.{Passes}
 use Rattle.sgt_input.proofs.RecordsPut.{Fills}
 use Rattle.sgt_input.proofs.records.read_records.Given as goal
 
-abbrev pub invariant-loop-opening : goal.invariant-loop-opening
-invariant-loop-opening g l = record {
-  limits : l.opening.limits ≡ l.fn.opening.limits;
-  procedures : l.opening.procedures ≡ l.fn.opening.procedures;
+abbrev pub invariant-loop-rows : goal.invariant-loop-rows
+invariant-loop-rows g l = record {
   fills : Fills l.fn.lines.number (contents_of l.fn.opening.database) (cut_left l.fn.lines (g.S.Source.rest l.fn.source))
-      l.lines.number (contents_of l.opening.database) (cut_left l.lines (g.S.Source.rest l.source));
+      l.lines.number (contents_of l.rows) (cut_left l.lines (g.S.Source.rest l.source));
   passed : l.lines.ended ≡ false → Passes l.fn.lines.number (bytes_left l.fn.lines (g.S.Source.rest l.fn.source))
       l.lines.number (bytes_left l.lines (g.S.Source.rest l.source));
   counted : g.S.Source.given l.source + come l.fn.lines ≤ g.S.Source.given l.fn.source + come l.lines;
@@ -19,5 +17,5 @@ invariant-loop-opening g l = record {
   well : g.S.Source.failures l.source ≡ g.S.Source.failures l.fn.source;
 }
 
-abbrev pub decreases-loop-opening : goal.decreases-loop-opening
-decreases-loop-opening g l = l.lines.within
+abbrev pub decreases-loop-rows : goal.decreases-loop-rows
+decreases-loop-rows g l = l.lines.within
