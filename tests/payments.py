@@ -11,6 +11,7 @@ statements, ids that are forgotten, lists of requests, tokens and TLS; and failo
 also of hosts that are cut off. Each case is reported, and the last line counts them. With names of cases only those run.
 """
 
+import ast
 import contextlib
 import hashlib
 import json
@@ -1555,6 +1556,24 @@ def redis_replicas():
             same("a payment", {"paid"}, {"paid"} & set(server.ask(pay(1, 1, 2, 5))[0]))
 
 
+def sizes():
+    """What one copies stays small: at most 1,100 lines of code, without blank lines, comments and docstrings, in files of at most 200 lines."""
+    total = 0
+    for path in PAYMENTS.glob("*.py"):
+        text = path.read_text()
+        lines = text.splitlines()
+        code = {number for number, line in enumerate(lines, 1) if line.strip() and not line.strip().startswith("#")}
+        for it in ast.walk(ast.parse(text)):
+            if isinstance(it, (ast.FunctionDef, ast.ClassDef, ast.Module)) and ast.get_docstring(it):
+                code -= set(range(it.body[0].lineno, it.body[0].end_lineno + 1))
+        if len(lines) > 200:
+            raise Differs(f"{path.name} has {len(lines)} lines")
+        total += len(code)
+    if total > 1_100:
+        raise Differs(f"there are {total} lines of code")
+    return f"{total} lines of code"
+
+
 def main():
     numbers = [int(word) for word in sys.argv[1:] if word.isdigit()]
     names = [word for word in sys.argv[1:] if not word.isdigit()]
@@ -1567,7 +1586,7 @@ def main():
         return nodes_die(rounds, seed)
 
     crash_test.__name__, dying_nodes.__name__ = "crashes", "nodes_die"
-    cases = [replies, holds, statements, forgotten, lists, tokens, tls, second_server, between_partitions, administration]
+    cases = [sizes, replies, holds, statements, forgotten, lists, tokens, tls, second_server, between_partitions, administration]
     cases += [torn_tails, damaged_tails, damage, newest_file_gone, forged_journal]
     cases += [full_disk, failing_fsync, large_snapshots, failed_snapshot, begun_snapshots]
     cases += [jumping_clock, other_procedures, bad_procedures]

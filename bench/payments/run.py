@@ -3,10 +3,11 @@
 
     bench/payments/run.py [ROUNDS [SECONDS]]
 
-1, 8 and 64 clients pay in a closed loop over 1000 accounts. The contestants take turns, ROUNDS times (3), each for SECONDS (3), as the
-machine's speed changes; the median of each is printed, with the least and the greatest. The generators of load are one thread (load.c) and
-two (pgbench): how many processors they take is printed too. It needs the library of `bindings/build` and `cc`. What else is missing here
-(PostgreSQL, redis-server) is left out, and said. It is no part of the gate.
+1, 8 and 64 clients pay in a closed loop over 1000 accounts, and 8 in lists of 100. The contestants take turns, ROUNDS times (3), each for
+SECONDS (3), as the machine's speed changes; the median of each is printed, with the least and the greatest. The generators of load are one
+thread (load.c) and two (pgbench): how many processors they take is printed too, and the processor time of the server's process, which is
+the only one that runs payments. It needs the library of `bindings/build` and `cc`. What else is missing here (PostgreSQL, redis-server) is
+left out, and said. It is no part of the gate.
 """
 
 import os
@@ -39,6 +40,12 @@ def taken():
     return used.ru_utime + used.ru_stime
 
 
+def used(process):
+    """Seconds of processor time that a process has taken."""
+    user, system = pathlib.Path(f"/proc/{process}/stat").read_text().rsplit(")", 1)[1].split()[11:13]
+    return (int(user) + int(system)) / os.sysconf("SC_CLK_TCK")
+
+
 def fsyncs(room):
     """How long an fsync of 60 appended bytes takes, in microseconds."""
     file, times = os.open(room / "f", os.O_WRONLY | os.O_CREAT | os.O_APPEND), []
@@ -54,12 +61,14 @@ def served(name, load, seconds, *words):
     """Loads a server, which says its port when it serves."""
     process = subprocess.Popen([sys.executable, *map(str, words)], stdout=subprocess.PIPE, text=True)
     port = re.search(r"port (\d+)", process.stdout.readline())[1]
-    for clients in CLIENTS:
-        words, before = [load, port, str(clients), str(seconds), "1000", str(random.randrange(10**6))], taken()
-        rate, median, _ = subprocess.run(words, capture_output=True, text=True, check=True).stdout.split()
-        note(name, clients, float(rate))
-        note(f"{name}: load, processors", clients, (taken() - before) / seconds)
-        note(f"{name}: median latency, ms", clients, float(median))
+    for clients, payments in (*((clients, 0) for clients in CLIENTS), (8, 100)):
+        words, before = [load, port, clients, seconds, 1000, random.randrange(10**6), payments], (taken(), used(process.pid))
+        rate, median, _ = subprocess.run([*map(str, words)], capture_output=True, text=True, check=True).stdout.split()
+        kind = name + (f", lists of {payments}" if payments else "")
+        note(kind, clients, float(rate))
+        note(f"{kind}: load, processors", clients, (taken() - before[0]) / seconds)
+        note(f"{kind}: server's process, microseconds a payment", clients, (used(process.pid) - before[1]) / seconds / max(1, float(rate)) * 1e6)
+        note(f"{kind}: median latency, ms", clients, float(median))
     process.kill()
     process.wait()
 

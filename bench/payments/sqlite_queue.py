@@ -11,7 +11,7 @@ import sqlite3
 import struct
 import sys
 import time
-from typing import NamedTuple
+from typing import Callable, NamedTuple
 
 PAYMENTS = pathlib.Path(__file__).resolve().parents[2] / "examples" / "payments"
 sys.path.insert(0, str(PAYMENTS))
@@ -105,14 +105,17 @@ class Chain:
     """In place of the journal: the batch is one transaction."""
 
     def __init__(self, bank: Bank) -> None:
-        self.bank, self.leads, self.ends, self.number, self.saving = bank, True, False, 0, None
+        self.bank, self.leads, self.ends, self.number, self.saving, self.journal = bank, True, False, 0, None, self
+
+    def check(self) -> None:
+        pass
 
     def append(self, _calls: list) -> None:
         if self.bank.database.in_transaction:
             self.bank.database.execute("commit")
 
-    def check(self) -> None:
-        pass
+    def insist(self, ask: Callable[[], None]) -> None:
+        ask()
 
 
 def worker(path: str, seconds: float, seed: int, queue: multiprocessing.Queue) -> None:

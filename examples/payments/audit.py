@@ -4,15 +4,13 @@ import argparse
 import contextlib
 import hashlib
 import sys
-from typing import Iterator, Union
+from typing import Iterator
 
 from administration import ask
-from bank import Bank, Call, Unusable, load_procedures
-from chain import Opening, applied, unseal_batch
+from bank import Bank, Unusable, load_procedures
+from chain import Batch, applied, unseal_batch
 from journal import Journal, Missing
 from snapshots import Store
-
-Batch = Union[list[Call], Opening]
 
 
 def batches(store: Store, journal: Journal) -> Iterator[tuple[Bank, int, Batch]]:

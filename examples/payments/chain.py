@@ -13,6 +13,7 @@ PATIENCE = 60.0  # seconds that a primary waits for a journal that is away
 PAUSE = 0.05  # seconds between two times that a follower reads
 CALLS = 10_000  # of a batch, at most: no journal takes batches of any size
 Opening = dict[str, Any]  # what a batch has in place of calls: procedures, from there on; accounts and cents, if it is the first batch
+Batch = Union[list[Call], Opening]
 Result = TypeVar("Result")
 
 
@@ -21,18 +22,18 @@ def seal_batch(number: int, seq: int, calls: Union[Sequence[str], Opening]) -> b
     return seal(f"[{number}, {seq + 1}, {json.dumps(calls) if isinstance(calls, dict) else '[' + ', '.join(calls) + ']'}]")
 
 
-def unseal_batch(data: bytes, number: int, seq: int) -> Union[list[Call], Opening]:
+def unseal_batch(data: bytes, number: int, seq: int) -> Batch:
     """The calls of a batch, which stands where batch `number` is due, after call `seq`."""
     found = unseal(data)
     if found is None:
         raise Unusable(f"batch {number} is damaged")
     if found[:2] != [number, seq + 1]:
         raise Unusable(f"where batch {number} with call {seq + 1} is due, there is batch {found[0]} with call {found[1]}")
-    calls: Union[list[Call], Opening] = found[2]
+    calls: Batch = found[2]
     return calls
 
 
-def applied(bank: Bank, calls: Union[list[Call], Opening]) -> Bank:
+def applied(bank: Bank, calls: Batch) -> Bank:
     """The bank after a batch."""
     if isinstance(calls, dict):
         rows = bank.rows() if bank.texts else first_rows(calls["accounts"], calls["cents"])
@@ -46,8 +47,7 @@ class Chain:
 
     def __init__(self, store: Store, journal: Journal, opening: Opening, server: str) -> None:
         self.store, self.journal, self.opening, self.server = store, journal, opening, server
-        self.leads = self.ends = False
-        self.trouble = ""  # of a follower with the journal
+        self.leads, self.ends, self.trouble = False, False, ""  # the trouble is of a follower with the journal
         self.saving: Optional[Saving] = None
         self.number = max(store.numbers(), default=0)
         self.bank = store.load(self.number)
@@ -132,18 +132,13 @@ class Chain:
             seq += len(part) if isinstance(part, list) else 0
             self.number += 1
 
-    def check(self) -> None:
-        """Before replies that rest on no new batch."""
-        self.insist(self.journal.check)
-
     def cut(self) -> None:
         """Begins to store a snapshot of the bank, unless the one before is being stored still."""
         self.saving = self.saving or self.store.begin(self.number, self.bank)
 
-    def end_cut(self) -> None:
+    def end_cut(self, saving: Saving) -> None:
         """Once a snapshot is stored older batches can be deleted. `NoSnapshot` if it could not be: then nothing has changed."""
-        saving, self.saving = self.saving, None
-        if saving:
-            self.store.end(saving, self.bank)
-            self.insist(lambda: self.journal.stored(self.server, saving.number))
-            self.store.delete_before(saving.number)
+        self.saving = None
+        self.store.end(saving, self.bank)
+        self.insist(lambda: self.journal.stored(self.server, saving.number))
+        self.store.delete_before(saving.number)

@@ -70,7 +70,8 @@ def keep_alive(renew: Callable[[], object]) -> None:
 
 def seal(text: str) -> bytes:
     """JSON as a line without its newline, after a checksum."""
-    return b"%08x %b" % (zlib.crc32(text.encode()), text.encode())
+    body = text.encode()
+    return b"%08x %b" % (zlib.crc32(body), body)
 
 
 def is_whole(line: bytes) -> bool:

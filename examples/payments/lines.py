@@ -35,14 +35,10 @@ class Line(NamedTuple):
 
     def reply(self, outcomes: Iterator[BatchOutcome], of_words: Iterator[str], age: str) -> str:
         """The line that a client gets, from the next outcomes of calls and the next replies to words."""
-        told = []
-        for it in self.requests:
-            if isinstance(it, str):
-                told.append(it)
-            elif isinstance(it, Word):
-                told.append(next(of_words))
-            else:
-                told.append(it[0].reply(it[1][0], next(outcomes).reply, age))
+        told = [
+            it if isinstance(it, str) else next(of_words) if isinstance(it, Word) else it[0].reply(it[1][0], next(outcomes).reply, age)
+            for it in self.requests
+        ]
         return (f"[{', '.join(told)}]" if self.is_list else told[0]) + "\n"
 
 
@@ -64,10 +60,10 @@ class Reader:
             text = line.strip().decode()
             asked, end = read_json(text)
         except (ValueError, RecursionError):
+            asked, end = None, 0
+        if not asked or end < len(text):
             return Line([NO_REQUEST]), rights
-        if end < len(text):
-            return Line([NO_REQUEST]), rights
-        if type(asked) is list and asked:
+        if type(asked) is list:
             return Line([self.request(it, rights) for it in asked], True), rights
         if type(asked) is tuple and len(asked) == 1 and asked[0][0] == "token" and isinstance(asked[0][1], str) and self.tokens is not None:
             found = self.tokens.get(hashlib.sha256(asked[0][1].encode(errors="replace")).hexdigest())
@@ -99,8 +95,7 @@ def load_tokens(path: pathlib.Path) -> dict[str, Rights]:
     """The file of tokens: for the SHA-256 of each token the rights, as {"pay": [[1, 9]], "read": [[1, 9], [20, 20]]}."""
     try:
         tokens: dict[str, Rights] = json.loads(path.read_text())
-        for first, last in [it for rights in tokens.values() for accounts in dict(rights or 0).values() for it in accounts]:
-            int(first), int(last)
+        [(int(first), int(last)) for it in tokens.values() for accounts in dict(it or 0).values() for first, last in accounts]
         return tokens
     except (ValueError, TypeError, AttributeError) as why:
         raise Unusable(f"{path}: no file of tokens: {why}") from None

@@ -24,29 +24,25 @@ from snapshots import Store
 def open_journal(words: argparse.Namespace) -> Journal:
     """The journal at an address, or without one the files of the folder."""
     address = urlsplit(words.journal)
-    kinds = {"etcd": "EtcdJournal", "redis": "RedisJournal", "postgresql": "PostgresJournal"}
+    if not words.journal:
+        return FileJournal(words.folder, words.keep)
     try:
-        if address.scheme in kinds:
-            journal: Journal = getattr(import_module(f"{address.scheme}_journal"), kinds[address.scheme])(address)
-            return journal
-    except (ImportError, ValueError) as why:
-        raise Unusable(f"{words.journal}: {why}") from None
-    if words.journal:
-        raise Unusable(f"{words.journal}: no address of a journal")
-    return FileJournal(words.folder, words.keep)
+        kind = {"etcd": "EtcdJournal", "redis": "RedisJournal", "postgresql": "PostgresJournal"}[address.scheme]
+        journal: Journal = getattr(import_module(f"{address.scheme}_journal"), kind)(address)
+        return journal
+    except (ImportError, ValueError, KeyError) as why:
+        raise Unusable(f"{words.journal}: no address of a journal here: {why}") from None
 
 
-def serve(words: argparse.Namespace) -> None:
+def serve(words: argparse.Namespace, journal: Journal) -> None:
     """Recovers what the journal has, and serves."""
-    begin, procedures = time.perf_counter(), load_procedures(words.procedures)
+    begin, procedures, store = time.perf_counter(), load_procedures(words.procedures), Store(words.folder, words.keep)
     tokens, tls = words.tokens and load_tokens(words.tokens), words.tls and load_tls(words.tls)
     if not (tls or words.plain or ip_address(socket.gethostbyname(words.host)).is_loopback):
         raise Unusable(f"{words.host}: other machines reach it, so it takes --tls, or --plain in a network of its own")
     port, fronts = start_fronts(Options(words.host, words.port, words.idle, tokens, tls), procedures)
-    store, journal = Store(words.folder, words.keep), open_journal(words)
     store.claim()
-    texts = {name: it.text for name, it in procedures.items()}
-    opening = {"procedures": texts, "accounts": words.accounts, "cents": words.cents}
+    opening = {"procedures": {name: it.text for name, it in procedures.items()}, "accounts": words.accounts, "cents": words.cents}
     chain = Chain(store, journal, opening, f"{socket.gethostname()}:{words.folder.resolve()}")
     end_by_signals(chain)
     chain.start()
@@ -73,10 +69,7 @@ def main() -> None:
     parser.add_argument("--cents", type=int, default=100_000, help="that each of them has")
     words = parser.parse_args()
     try:
-        if words.command == "serve":
-            serve(words)
-        else:
-            {"show": show, "verify": verify}[words.command](words, open_journal(words))
+        {"serve": serve, "show": show, "verify": verify}[words.command](words, open_journal(words))
     except (Unusable, OSError, ValueError) as why:
         sys.exit(f"payments: {why}")
 

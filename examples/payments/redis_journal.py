@@ -25,7 +25,7 @@ class RedisJournal:
     """redis://HOST:PORT/NAME: the stream NAME, and NAME:leader, by a lease, and NAME:stored, the batches after which servers have snapshots."""
 
     def __init__(self, address: SplitResult) -> None:
-        self.name, self.report, self._nonce, self._is_safe, self._leads = address.path.strip("/"), "", os.urandom(8).hex(), False, False
+        self.name, self.report, self._nonce, self._leads = address.path.strip("/"), "", os.urandom(8).hex(), False
         self._replicas = int(parse_qs(address.query).get("replicas", ["0"])[0])
         self._redis = redis.Redis(address.hostname or "127.0.0.1", address.port or 6379, socket_timeout=TRY, socket_connect_timeout=TRY)
 
@@ -41,11 +41,9 @@ class RedisJournal:
         return bool(self._ask("EVAL", RENEW, 1, self.name + ":leader", self._nonce, LEASE * 1000))
 
     def lead(self) -> bool:
-        if not self._is_safe:
-            has = {**self._ask("CONFIG GET", "appendonly"), **self._ask("CONFIG GET", "appendfsync")}
-            if has != {b"appendonly": b"yes", b"appendfsync": b"always"} and has != {"appendonly": "yes", "appendfsync": "always"}:
-                raise Unusable("Redis: it must run with appendonly yes and appendfsync always")
-            self._is_safe = True
+        has = {**self._ask("CONFIG GET", "appendonly"), **self._ask("CONFIG GET", "appendfsync")}
+        if has != {b"appendonly": b"yes", b"appendfsync": b"always"} and has != {"appendonly": "yes", "appendfsync": "always"}:
+            raise Unusable("Redis: it must run with appendonly yes and appendfsync always")
         self._ask("SET", self.name + ":leader", self._nonce, "NX", "PX", LEASE * 1000)
         did, self._leads = self._leads, self._renew()
         if self._leads and not did:

@@ -10,15 +10,16 @@ import signal
 import time
 from multiprocessing.connection import Connection
 from multiprocessing.reduction import send_handle
-from typing import Any, Callable, Sequence
+from typing import Any, Sequence
 
 from administration import listen_at
 from bank import NO_PROCEDURE, NoSnapshot, Procedure
 from chain import PAUSE, Chain
 from sgt import pack_calls, unpack_calls
+from snapshots import Saving
 
-CALL_BYTES = len(pack_calls([(0,)]))
 IDLE = 0.1  # seconds without a request, after which the journal notes what is safe
+UNKNOWN = {"error": "no word of this server"}
 
 
 class Server:
@@ -29,7 +30,6 @@ class Server:
         self.batch: list[str] = []  # the entries of calls that ran, and are not safe yet
         self.is_marked, self.day, self.trouble = True, -1, ""  # the trouble is of the last snapshot
         self.began, self.calls, self.batches, self.appending = time.monotonic(), 0, 0, 0.0
-        self.words: dict[str, Callable[[int], dict[str, Any]]]
         self.words = {"rows": self.rows, "health": self.health, "figures": self.figures, "day": self.set_day}
         self.writers = {chain.bank.numbers[name] for name, it in procedures.items() if it.writes}
         for front in fronts:
@@ -37,11 +37,11 @@ class Server:
 
     def turn(self) -> None:
         """Waits for requests, and replies to all that have come in. The next ones gather meanwhile."""
-        saving = [self.chain.saving] if self.chain.saving else []
-        ready = select.select([*self.fronts, *saving], (), (), IDLE if self.chain.leads else PAUSE)[0]
-        if saving and saving[0] in ready:
-            ready.remove(saving[0])
-            self.end_cut()
+        saving = self.chain.saving
+        ready = select.select([*self.fronts, *([saving.said] if saving else [])], (), (), IDLE if self.chain.leads else PAUSE)[0]
+        if saving and saving.said in ready:
+            ready.remove(saving.said)
+            self.end_cut(saving)
         if not self.chain.leads:
             self.chain.follow()
         self.begin_day()
@@ -58,11 +58,11 @@ class Server:
         if self.chain.bank.cut_if_long():
             self.chain.cut()
 
-    def end_cut(self) -> None:
+    def end_cut(self, saving: Saving) -> None:
         """A snapshot that could not be stored ends nothing: the next cut tries again."""
         self.trouble = ""
         try:
-            self.chain.end_cut()
+            self.chain.end_cut(saving)
         except NoSnapshot as why:
             self.trouble = f"no snapshot: {why}"
             logging.warning(self.trouble)
@@ -79,7 +79,7 @@ class Server:
             self.batches += 1
             self.batch, self.is_marked = [], not self.batch
         elif self.chain.leads:
-            self.chain.check()
+            self.chain.insist(self.chain.journal.check)  # as replies rest on no new batch
 
     def call(self, name: str, *args: int, times: int = 1) -> None:
         """Runs a call of the server's own, if these procedures have it."""
@@ -93,8 +93,8 @@ class Server:
         outcomes, wrote = self.chain.bank.run(calls, entries)
         self.batch += wrote
         self.chain.bank.seq += len(wrote)
-        self.calls += len(calls) // CALL_BYTES
-        return outcomes, [json.dumps(self.words.get(word, self.unknown)(value)) for word, value in words]
+        self.calls += len(entries)
+        return outcomes, [json.dumps(self.words[word](value) if word in self.words else UNKNOWN) for word, value in words]
 
     def rows(self, _: int) -> dict[str, Any]:
         """A digest of all rows. Nobody is served while it is made: a second for some ten million rows."""
@@ -109,9 +109,6 @@ class Server:
         """Since the start: seconds, calls, batches, and seconds in which batches were made safe. And how large the bank is now."""
         seconds = {"seconds": round(time.monotonic() - self.began, 3), "append_seconds": round(self.appending, 3)}
         return {"seq": self.chain.bank.seq, "calls": self.calls, "batches": self.batches, **seconds, **self.chain.bank.sizes()}
-
-    def unknown(self, _: int) -> dict[str, Any]:
-        return {"error": "no word of this server"}
 
     def begin_day(self) -> None:
         """Tells the bank the day, as a call: a procedure has no clock, so the day stands in the journal.

@@ -20,9 +20,6 @@ class Saving(NamedTuple):
     process: int
     said: int
 
-    def fileno(self) -> int:
-        return self.said
-
 
 def seal_snapshot(bank: Bank) -> Iterator[bytes]:
     """A bank in chunks: a line that has the procedures' texts, as a journal of calls means nothing without, and then the rows."""
@@ -94,6 +91,5 @@ class Store:
 
     def delete_before(self, number: int) -> None:
         """Deletes the snapshots before this batch, if they are not to be kept."""
-        for it in self.numbers():
-            if it < number and not self.keep:
-                self.path(it).unlink()
+        for it in [it for it in self.numbers() if it < number and not self.keep]:
+            self.path(it).unlink()
