@@ -868,6 +868,28 @@ def failed_snapshot():
         same("the payments", [(it["id"], it["from_has"], it["to_has"]) for it in paid], payments_in(folder / "j"))
 
 
+def snapshots_aside():
+    """The server replies while a snapshot is being stored. If the process that stores it is killed, that ends nothing, and the next one is taken."""
+    with room() as folder:
+        admin, waits = folder / "j" / "admin", folder / "waits"
+        waits.touch()
+        with Server("serve", folder / "j", "--accounts", 1000, **adjusted(CUT_AFTER=100, SNAPSHOT_WAITS=waits)) as server:
+            numbers = iter(range(1, 10**6))
+
+            def pay_some():
+                return server.ask(*[pay(next(numbers), 1, 2, 1) for _ in range(50)])
+
+            stores = wait_until(lambda: pay_some() and server.fronts()[FRONTS + 1 :], "a process that stores a snapshot")
+            same("replies meanwhile", [True] * 50, [it["paid"] for it in pay_some()])
+            same("processes that store snapshots, and snapshots", (stores, []), (server.fronts()[FRONTS + 1 :], list((folder / "j").glob("*.snapshot"))))
+            os.kill(stores[0], signal.SIGKILL)
+            wait_until(lambda: ask(admin, "health")["health"] == "no snapshot: the process that stored it was killed", "a server that says so")
+            waits.unlink()
+            wait_until(lambda: pay_some() and list((folder / "j").glob("*.snapshot")), "the next snapshot")
+            wait_until(lambda: ask(admin, "health")["health"] == "ok", "a server that has it")
+            same("verify", 0, run("verify", folder / "j")[0])
+
+
 def begun_snapshots():
     """What is left of a snapshot in which the server was killed is removed by the next start, and nothing else is."""
     with room() as folder:
@@ -1588,7 +1610,7 @@ def main():
     crash_test.__name__, dying_nodes.__name__ = "crashes", "nodes_die"
     cases = [sizes, replies, holds, statements, forgotten, lists, tokens, tls, second_server, between_partitions, administration]
     cases += [torn_tails, damaged_tails, damage, newest_file_gone, forged_journal]
-    cases += [full_disk, failing_fsync, large_snapshots, failed_snapshot, begun_snapshots]
+    cases += [full_disk, failing_fsync, large_snapshots, failed_snapshot, snapshots_aside, begun_snapshots]
     cases += [jumping_clock, other_procedures, bad_procedures]
     cases += [killed_fronts, vanished_clients, idle_clients]
     cases += [over_etcd, dying_nodes, ended_while_away, partitions, over_redis, forgetful_redis, redis_replicas, over_postgresql, forgetful_postgresql, crash_test]

@@ -74,8 +74,7 @@ class FileJournal:
         if self._file < 0 or number < int(self.paths()[-1].stem):
             return
         self._begin(self._next)
-        paths = self.paths()
-        for path, after in zip(paths, paths[1:]):
+        for path, after in zip(self.paths(), self.paths()[1:]):
             if int(after.stem) <= number + 1 and not self.keep:
                 path.unlink()
 

@@ -75,17 +75,17 @@ class Store:
             os.closerange(3, says)  # the server's: its fronts must see its end, and its folder be free then
             os.closerange(says + 1, 4096)
             store(self.path(number), seal_snapshot(bank))
+            os._exit(0)
         except (OSError, MemoryError) as why:
             os.write(says, str(why).encode())
         finally:
-            os._exit(0)
+            os._exit(1)
 
     def end(self, saving: Saving, bank: Bank) -> None:
         """Waits for the end of a snapshot. `NoSnapshot` if it could not be stored: then nothing has changed."""
         why = os.read(saving.said, 4096).decode()
         os.close(saving.said)
-        os.waitpid(saving.process, 0)
-        if not self.path(saving.number).exists():
+        if os.waitpid(saving.process, 0)[1]:
             raise NoSnapshot(why or "the process that stored it was killed")
         bank.records = self.path(saving.number).stat().st_size // ROW.size
 

@@ -7,7 +7,7 @@ Its clock shows the time of day of a day that is always the same, so that no tes
 A kill loses nothing of the page cache. With these notes a test can take away what only stood there, as a loss of power may.
 CUT_AFTER has the bank cut its history after so many entries, CHUNK has a snapshot stored in chunks of so many bytes, LEASE is after how
 many seconds a primary is replaced, and PATIENCE after how many it ends if its journal is away. The file of DAYS_AHEAD says how many days
-its clock is ahead of that day, each time that it is read.
+its clock is ahead of that day, each time that it is read. While the file of SNAPSHOT_WAITS is there, no snapshot becomes whole.
 """
 
 import os
@@ -22,8 +22,10 @@ fsync, now = os.fsync, time.time
 
 def noting(file):
     number = file if isinstance(file, int) else file.fileno()
-    fsync(number)
     name = os.readlink(f"/proc/self/fd/{number}")
+    while name.endswith(".new") and os.path.exists(os.environ.get("SNAPSHOT_WAITS", "")):
+        time.sleep(0.05)
+    fsync(number)
     if "NOTE_FSYNC" in os.environ:
         with open(os.environ["NOTE_FSYNC"], "ab", buffering=0) as note:
             note.write(b"%s %d\n" % (name.encode(), os.fstat(number).st_size))
