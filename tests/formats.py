@@ -769,6 +769,11 @@ EXPLAINED_EVENTS = (
     ("7", 'expected an event, as ["step",0], found 7'),
     ("[]", 'expected an event, as ["step",0], found []'),
     ('[["step",0]]', 'expected an event, as ["step",0], found [["step",0]]'),
+    ('{"step" : 0, "at" : [ ], "b" : 1}', 'expected an event, as ["step",0], found {"step":0,"at":[],"b":1}'),
+    ('["step",100000000000000000000]', "expected a transaction from 0 to 4294967295, found 100000000000000000000"),
+    ('["start",1,[1, 123456789012345678901 ]]', "expected a whole number as argument 1, found 123456789012345678901"),
+    ('["write",0,3,1,1E5]', "expected a whole number as the value, found 1E5"),
+    ('["step",0,"]",{"z":"\\\\","a":1}]', 'expected ["step",transaction], found ["step",0,"]",{"z":"\\\\","a":1}]'),
     ('["stop",0]', 'unknown word "stop"'),
     ('["job",0,[]]', 'a job stands in the input of "sgt script", which takes events: ["start",procedure,[argument,..]]'),
     ('["step"]', 'expected ["step",transaction], found ["step"]'),
@@ -847,7 +852,7 @@ def explains_openings(sgt):
 
 
 def explains_too_few_for_the_workers(sgt):
-    tells_more(sgt, ["bank"], opening("[3,1]"), "line 1: bad limits\n", '"limits": the first number is 3, and has to be at least 4, the number of workers\n')
+    tells_more(sgt, ["bank"], opening("[3,1]"), "line 1: bad limits\n", '"limits": the first number is 3, and the workers are 4: more than transactions may be live; take fewer with --workers\n')
 
 
 def explains_procedures(sgt):
@@ -919,6 +924,7 @@ def explains_lines_of_no_json(sgt):
     deep = b"[" * 130
     for line, more in (
         (b"", "column 1: the line ends where its JSON has to go on"),
+        (b"\xef\xbb\xbf[]", "column 1: a byte order mark: save the input without it"),
         (b'["step",0', "column 10: the line ends where its JSON has to go on"),
         (b'["step",0]]', "column 11: not JSON from here"),
         (b"step 0", "column 1: not JSON from here"),

@@ -1,17 +1,20 @@
 //! Errors in the accounts of an opening, the first line of an input.
 use crate::message::{Piece, told};
+use crate::typed::Typed;
 use serde_json::Value;
 use sgt_format::items;
 use sgt_model::{LEAST, MOST, NoMemory, is_value};
-use std::alloc::Global;
 
 /// The names of the four numbers of an account.
 pub(crate) const NAMES: [&str; 4] = ["name", "customer", "saving", "checking"];
 
 /// The error of the first account that has one. Accounts are counted from 1.
-pub(crate) fn account_fault(alloc: Global, accounts: &[Value]) -> Result<Option<String>, NoMemory> {
+pub(crate) fn account_fault(
+    typed: Typed<'_>,
+    accounts: &[Value],
+) -> Result<Option<String>, NoMemory> {
     for (index, account) in accounts.iter().enumerate() {
-        let fault = fault_behind(alloc, &accounts[..index], account)?;
+        let fault = fault_behind(typed, &accounts[..index], account)?;
         if fault.is_some() {
             return Ok(fault);
         }
@@ -21,14 +24,14 @@ pub(crate) fn account_fault(alloc: Global, accounts: &[Value]) -> Result<Option<
 
 // The error of an account after these.
 fn fault_behind(
-    alloc: Global,
+    typed: Typed<'_>,
     earlier: &[Value],
     account: &Value,
 ) -> Result<Option<String>, NoMemory> {
     match out_of_range(account) {
         Some((name, amount)) => {
             told(
-                alloc,
+                typed,
                 &[
                     Piece::Words("\"accounts\": the "),
                     Piece::Words(name),
@@ -43,7 +46,7 @@ fn fault_behind(
                 ],
             )
         }
-        None => taken_fault(alloc, earlier, account),
+        None => taken_fault(typed, earlier, account),
     }
 }
 
@@ -61,14 +64,14 @@ fn out_of_range(account: &Value) -> Option<(&'static str, i64)> {
 
 // The message that an earlier account has the name or the customer of this one.
 fn taken_fault(
-    alloc: Global,
+    typed: Typed<'_>,
     earlier: &[Value],
     account: &Value,
 ) -> Result<Option<String>, NoMemory> {
     for (position, name) in ["name", "customer"].iter().enumerate() {
         if let Some((number, first)) = taken(earlier, account, position) {
             return told(
-                alloc,
+                typed,
                 &[
                     Piece::Words("\"accounts\": account "),
                     Piece::Count(number_behind(earlier)),

@@ -8,6 +8,7 @@ use crate::message::{Piece, told};
 use crate::record::record_fault;
 use crate::refusal::explain_opening;
 use crate::request::{event_fault, job_fault};
+use crate::typed::Typed;
 use serde_json::Value;
 use sgt_format::read_tree;
 use sgt_input::Fault;
@@ -28,17 +29,18 @@ pub fn diagnose(
 ) -> Result<Option<String>, NoMemory>
     ensures none { IfOk result (λ text. line_of fault.now ≡ None → text ≡ None) }
 {
+    let typed = Typed { alloc, text: line };
     match fault {
-        Fault::NoOpening => told(alloc, &[Piece::Words("the input is empty")]),
-        Fault::LongLine(_) => told(alloc, &[Piece::Words("a line has at most 65536 bytes")]),
-        Fault::NotJson(_) => json_fault(alloc, line),
+        Fault::NoOpening => told(typed, &[Piece::Words("the input is empty")]),
+        Fault::LongLine(_) => told(typed, &[Piece::Words("a line has at most 65536 bytes")]),
+        Fault::NotJson(_) => json_fault(typed),
         Fault::BadLine(1)
         | Fault::BadLimits
         | Fault::BadOpening(_)
         | Fault::ProcShape(_, _)
         | Fault::ProcFlaw(_, _) => explain_opening(alloc, least_live(command), line),
         Fault::BadLine(_) | Fault::BadRecord(_) => match read_tree(alloc, line)? {
-            Some(tree) => tree_fault(alloc, fault, command, &tree),
+            Some(tree) => tree_fault(typed, fault, command, &tree),
             None => Ok(None),
         },
         _ => Ok(None),
@@ -47,15 +49,15 @@ pub fn diagnose(
 
 // The error in the tree of a line after the opening.
 fn tree_fault(
-    alloc: Global,
+    typed: Typed<'_>,
     fault: &Fault,
     command: Command,
     tree: &Value,
 ) -> Result<Option<String>, NoMemory> {
     match (fault, command) {
-        (Fault::BadRecord(_), _) => record_fault(alloc, tree),
-        (_, Command::Script) => event_fault(alloc, tree),
-        (_, Command::Bank { .. }) => job_fault(alloc, tree),
+        (Fault::BadRecord(_), _) => record_fault(typed, tree),
+        (_, Command::Script) => event_fault(typed, tree),
+        (_, Command::Bank { .. }) => job_fault(typed, tree),
     }
 }
 

@@ -1,13 +1,13 @@
 //! The flaws of a procedure in words.
 use crate::message::{Piece, message};
 use crate::search::Search;
+use crate::typed::Typed;
 use serde_json::Value;
 use sgt_format::items;
 use sgt_model::{LAST_TABLE, NoMemory};
 use sgt_proc::{
     DEEPEST, Flaw, LAST_CODE, LAST_REGISTER, MOST_ANSWERS, MOST_ARGUMENTS, MOST_STATEMENTS,
 };
-use std::alloc::Global;
 
 /// A flaw, with its position.
 #[derive(Drop)]
@@ -20,17 +20,17 @@ pub(crate) struct Found {
 
 /// The first position of this flaw in a procedure, and what is wrong there.
 pub(crate) fn find_flaw(
-    alloc: Global,
+    typed: Typed<'_>,
     procedure: &Value,
     flaw: Flaw,
 ) -> Result<Option<Found>, NoMemory> {
     let Some(arguments) = arguments_of(procedure) else {
         return Ok(None);
     };
-    let mut search = Search::new(alloc, flaw, arguments);
+    let mut search = Search::new(typed.alloc, flaw, arguments);
     match search.run(procedure)? {
         Some(number) => Ok(Some(Found {
-            what: flaw_text(alloc, flaw, number, arguments)?,
+            what: flaw_text(typed, flaw, number, arguments)?,
             place: search.into_place(),
         })),
         None => Ok(None),
@@ -43,12 +43,17 @@ fn arguments_of(procedure: &Value) -> Option<i64> {
 }
 
 // A flaw of a number in words, in a procedure that takes so many arguments.
-fn flaw_text(alloc: Global, flaw: Flaw, number: i64, arguments: i64) -> Result<String, NoMemory> {
+fn flaw_text(
+    typed: Typed<'_>,
+    flaw: Flaw,
+    number: i64,
+    arguments: i64,
+) -> Result<String, NoMemory> {
     let (before, behind) = words_around(flaw);
     match most(flaw, arguments) {
         Some(most) => {
             message(
-                alloc,
+                typed,
                 &[
                     Piece::Words(before),
                     Piece::Number(number),
@@ -60,7 +65,7 @@ fn flaw_text(alloc: Global, flaw: Flaw, number: i64, arguments: i64) -> Result<S
         }
         None => {
             message(
-                alloc,
+                typed,
                 &[
                     Piece::Words(before),
                     Piece::Number(number),

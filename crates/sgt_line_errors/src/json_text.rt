@@ -1,56 +1,63 @@
 //! Where a line stops being JSON.
 use crate::message::{Piece, told};
+use crate::typed::Typed;
 use json::{Scratch, is_valid};
 use serde_json::Value;
 use sgt_model::NoMemory;
-use std::alloc::Global;
+
+/// The byte order mark that some programs put before a text in UTF-8.
+const BYTE_ORDER_MARK: &[u8] = b"\xef\xbb\xbf";
 
 /// The maximum nesting of lists and objects.
 const DEEPEST: u64 = 127;
 
-/// The position at which a line that is no JSON text stops being one. Columns are bytes, counted from 1.
-pub(crate) fn json_fault(alloc: Global, line: &[u8]) -> Result<Option<String>, NoMemory> {
+/// The position at which a text that is no JSON stops being it. Columns are bytes, counted from 1.
+pub(crate) fn json_fault(typed: Typed<'_>) -> Result<Option<String>, NoMemory> {
+    let line = typed.text;
+    if line.starts_with(BYTE_ORDER_MARK) {
+        return at_column(typed, 1, "a byte order mark: save the input without it");
+    }
     let text = match str::from_utf8(line) {
         Ok(text) => text,
         Err(error) => {
             return at_column(
-                alloc,
+                typed,
                 error.valid_up_to().saturating_add(1),
                 "not UTF-8 from here",
             );
         }
     };
-    match Value::from_str(alloc, text) {
+    match Value::from_str(typed.alloc, text) {
         Ok(_) => Ok(None),
         Err(error) => if error.is_memory() {
             Err(NoMemory)
         } else if error.is_eof() {
             at_column(
-                alloc,
+                typed,
                 line.len().saturating_add(1),
                 "the line ends where its JSON has to go on",
             )
         } else {
-            text_fault(alloc, text, error.column())
+            text_fault(typed, text, error.column())
         },
     }
 }
 
 // The error of a text that stops being JSON at this column.
-fn text_fault(alloc: Global, text: &str, column: usize) -> Result<Option<String>, NoMemory> {
+fn text_fault(typed: Typed<'_>, text: &str, column: usize) -> Result<Option<String>, NoMemory> {
     let before = &text.as_bytes()[..column.min(text.len())];
     if depth(before) > DEEPEST {
-        return at_column(alloc, column, "lists and objects are more than 127 deep");
+        return at_column(typed, column, "lists and objects are more than 127 deep");
     }
-    if is_valid(text, &mut Scratch::new(alloc))? {
-        return at_column(alloc, column, "the number before it is too large");
+    if is_valid(text, &mut Scratch::new(typed.alloc))? {
+        return at_column(typed, column, "the number before it is too large");
     }
-    at_column(alloc, column, "not JSON from here")
+    at_column(typed, column, "not JSON from here")
 }
 
-fn at_column(alloc: Global, column: usize, words: &str) -> Result<Option<String>, NoMemory> {
+fn at_column(typed: Typed<'_>, column: usize, words: &str) -> Result<Option<String>, NoMemory> {
     told(
-        alloc,
+        typed,
         &[
             Piece::Words("column "),
             Piece::Count(column as u64),

@@ -1,10 +1,9 @@
-//! Explains in words what is wrong with a line of the input, for a person who has the fault of a run and asks for
-//! more.
+//! Explains in words what is wrong with a line of the input, for a person who has the fault of a run.
 //!
 //! A [`Fault`](sgt_input::Fault) names a line and a kind. After the run has ended, [`diagnose`] reads that line once
 //! more. It says in one line where the error is and what was expected there. A [`Remembering`] source passes on the
-//! bytes of another source and stores them, so the line can be read again. [`explain`] combines the two. No run
-//! depends on this: its output and its end stay the same. If memory runs out for an explanation, there is none.
+//! bytes of another source and stores the newest lines, so the line can be read again. [`explain`] combines the two.
+//! No run depends on this: its output and its end stay the same. If memory runs out for an explanation, there is none.
 //!
 //! [`explain_opening`] and [`explain_procedure`] explain a text that is refused, without a run.
 //!
@@ -32,6 +31,7 @@ mod json_text;
 mod limit;
 mod message;
 mod misfit;
+mod newest;
 mod opening;
 mod part;
 mod record;
@@ -40,6 +40,7 @@ mod remembering;
 mod request;
 mod search;
 mod tree;
+mod typed;
 
 pub use command::Command;
 pub use diagnosis::diagnose;

@@ -1,12 +1,12 @@
 //! Errors in the limits of an opening, the first line of an input.
 use crate::message::{Piece, told};
+use crate::typed::Typed;
 use serde_json::Value;
 use sgt_model::{MOST_BEGINS, MOST_LIVE, NoMemory};
-use std::alloc::Global;
 
 /// The first of these limits that is out of range. At least so many live transactions must be allowed.
 pub(crate) fn limit_fault(
-    alloc: Global,
+    typed: Typed<'_>,
     least: u32,
     limits: &[Value],
 ) -> Result<Option<String>, NoMemory> {
@@ -17,7 +17,7 @@ pub(crate) fn limit_fault(
         let (first, last) = range(position);
         if number < first || last < number {
             return told(
-                alloc,
+                typed,
                 &[
                     Piece::Words("\"limits\": the "),
                     Piece::Words(ordinal(position)),
@@ -31,7 +31,7 @@ pub(crate) fn limit_fault(
             );
         }
     }
-    worker_fault(alloc, least, limits)
+    worker_fault(typed, least, limits)
 }
 
 // The range of a limit.
@@ -44,17 +44,21 @@ fn range(position: usize) -> (i64, i64) {
 }
 
 // The message that fewer transactions may be live than there are workers.
-fn worker_fault(alloc: Global, least: u32, limits: &[Value]) -> Result<Option<String>, NoMemory> {
+fn worker_fault(
+    typed: Typed<'_>,
+    least: u32,
+    limits: &[Value],
+) -> Result<Option<String>, NoMemory> {
     match live(limits) {
         Some(live) if live < i64::from(least) => {
             told(
-                alloc,
+                typed,
                 &[
                     Piece::Words("\"limits\": the first number is "),
                     Piece::Number(live),
-                    Piece::Words(", and has to be at least "),
+                    Piece::Words(", and the workers are "),
                     Piece::Count(u64::from(least)),
-                    Piece::Words(", the number of workers"),
+                    Piece::Words(": more than transactions may be live; take fewer with --workers"),
                 ],
             )
         }

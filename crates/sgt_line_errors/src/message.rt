@@ -1,8 +1,8 @@
 //! Messages made of pieces.
-use crate::excerpt::append_excerpt;
+use crate::excerpt::{append_excerpt, append_word};
+use crate::typed::Typed;
 use serde_json::Value;
 use sgt_model::NoMemory;
-use std::alloc::Global;
 
 /// A piece of a message.
 #[derive(Clone, Copy)]
@@ -20,27 +20,27 @@ pub(crate) enum Piece<'a> {
 }
 
 /// The message of these pieces.
-pub(crate) fn message(alloc: Global, pieces: &[Piece<'_>]) -> Result<String, NoMemory> {
-    let mut message = String::new(alloc);
+pub(crate) fn message(typed: Typed<'_>, pieces: &[Piece<'_>]) -> Result<String, NoMemory> {
+    let mut message = String::new(typed.alloc);
     for piece in pieces {
-        append_piece(alloc, &mut message, *piece)?;
+        append_piece(typed, &mut message, *piece)?;
     }
     Ok(message)
 }
 
 /// The same, as an option.
-pub(crate) fn told(alloc: Global, pieces: &[Piece<'_>]) -> Result<Option<String>, NoMemory> {
-    Ok(Some(message(alloc, pieces)?))
+pub(crate) fn told(typed: Typed<'_>, pieces: &[Piece<'_>]) -> Result<Option<String>, NoMemory> {
+    Ok(Some(message(typed, pieces)?))
 }
 
 /// The message that something else was expected than this tree.
 pub(crate) fn unexpected<'a>(
-    alloc: Global,
+    typed: Typed<'_>,
     wanted: &'a str,
     tree: &'a Value,
 ) -> Result<Option<String>, NoMemory> {
     told(
-        alloc,
+        typed,
         &[
             Piece::Words("expected "),
             Piece::Words(wanted),
@@ -51,18 +51,18 @@ pub(crate) fn unexpected<'a>(
 }
 
 /// The message that nothing starts with this word.
-pub(crate) fn unknown(alloc: Global, word: &str) -> Result<Option<String>, NoMemory> {
-    told(alloc, &[Piece::Words("unknown word "), Piece::Word(word)])
+pub(crate) fn unknown(typed: Typed<'_>, word: &str) -> Result<Option<String>, NoMemory> {
+    told(typed, &[Piece::Words("unknown word "), Piece::Word(word)])
 }
 
-fn append_piece(alloc: Global, message: &mut String, piece: Piece<'_>) -> Result<(), NoMemory> {
+fn append_piece(typed: Typed<'_>, message: &mut String, piece: Piece<'_>) -> Result<(), NoMemory> {
     match piece {
         Piece::Words(words) => append(message, words),
-        Piece::Number(number) => append(message, format!(in alloc; "{number}")?.as_str()),
-        Piece::Count(count) => append_count(alloc, message, count),
-        Piece::Tree(tree) => append_excerpt(alloc, message, tree),
-        Piece::Word(word) => append_excerpt(alloc, message, &Value::try_from_str(alloc, word)?),
-        Piece::Place(place) => append_place(alloc, message, place),
+        Piece::Number(number) => append(message, format!(in typed.alloc; "{number}")?.as_str()),
+        Piece::Count(count) => append_count(typed, message, count),
+        Piece::Tree(tree) => append_excerpt(typed, message, tree),
+        Piece::Word(word) => append_word(typed, message, &Value::try_from_str(typed.alloc, word)?),
+        Piece::Place(place) => append_place(typed, message, place),
     }
 }
 
@@ -71,17 +71,17 @@ fn append(message: &mut String, words: &str) -> Result<(), NoMemory> {
     Ok(())
 }
 
-fn append_count(alloc: Global, message: &mut String, count: u64) -> Result<(), NoMemory> {
-    append(message, format!(in alloc; "{count}")?.as_str())
+fn append_count(typed: Typed<'_>, message: &mut String, count: u64) -> Result<(), NoMemory> {
+    append(message, format!(in typed.alloc; "{count}")?.as_str())
 }
 
-fn append_place(alloc: Global, message: &mut String, place: &[u64]) -> Result<(), NoMemory> {
+fn append_place(typed: Typed<'_>, message: &mut String, place: &[u64]) -> Result<(), NoMemory> {
     if place.is_empty() {
         return append(message, "top");
     }
     for (index, position) in place.iter().enumerate() {
         append(message, if index == 0 { "" } else { " " })?;
-        append_count(alloc, message, *position)?;
+        append_count(typed, message, *position)?;
     }
     Ok(())
 }

@@ -2,14 +2,14 @@
 use crate::message::{Piece, told, unexpected, unknown};
 use crate::part::{Part, is_known};
 use crate::tree::word_of;
+use crate::typed::Typed;
 use serde_json::Value;
 use sgt_format::items;
 use sgt_model::NoMemory;
-use std::alloc::Global;
 
 /// The message for the first shape error of a procedure.
 pub(crate) fn misfit(
-    alloc: Global,
+    typed: Typed<'_>,
     procedure: &Value,
     place: &[u64],
 ) -> Result<Option<String>, NoMemory> {
@@ -22,7 +22,7 @@ pub(crate) fn misfit(
         part = next;
         tree = item;
     }
-    misfit_of(alloc, part, tree)
+    misfit_of(typed, part, tree)
 }
 
 // What may be at a position of a list, and what is there.
@@ -32,25 +32,25 @@ fn item_at(part: Part, tree: &Value, position: usize) -> Option<(Part, &Value)> 
 }
 
 // Why a tree does not fit where this is required.
-fn misfit_of(alloc: Global, part: Part, tree: &Value) -> Result<Option<String>, NoMemory> {
+fn misfit_of(typed: Typed<'_>, part: Part, tree: &Value) -> Result<Option<String>, NoMemory> {
     match word_in(part, tree) {
-        Some(word) => word_misfit(alloc, part, word, tree),
-        None => unexpected(alloc, part.words(), tree),
+        Some(word) => word_misfit(typed, part, word, tree),
+        None => unexpected(typed, part.words(), tree),
     }
 }
 
 // Why a list that starts with this word does not fit where this is required.
 fn word_misfit(
-    alloc: Global,
+    typed: Typed<'_>,
     part: Part,
     word: &str,
     tree: &Value,
 ) -> Result<Option<String>, NoMemory> {
     match part.behind(word) {
-        Some(parts) => unexpected(alloc, Part::form(alloc, word, parts)?.as_str(), tree),
+        Some(parts) => unexpected(typed, Part::form(typed.alloc, word, parts)?.as_str(), tree),
         None => if is_known(word) {
             told(
-                alloc,
+                typed,
                 &[
                     Piece::Word(word),
                     Piece::Words(" does not begin "),
@@ -58,7 +58,7 @@ fn word_misfit(
                 ],
             )
         } else {
-            unknown(alloc, word)
+            unknown(typed, word)
         },
     }
 }

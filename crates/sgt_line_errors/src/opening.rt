@@ -3,10 +3,10 @@ use crate::account::NAMES;
 use crate::limit::ordinal;
 use crate::message::{Piece, told, unexpected};
 use crate::tree::first_not_whole;
+use crate::typed::Typed;
 use serde_json::Value;
 use sgt_format::items;
 use sgt_model::NoMemory;
-use std::alloc::Global;
 
 /// The members of an opening.
 const MEMBERS: [&str; 3] = ["limits", "accounts", "procedures"];
@@ -29,14 +29,14 @@ enum Misshapen<'a> {
 }
 
 /// Why a tree is no opening: the first error, in the order in which a run tests them.
-pub(crate) fn opening_fault(alloc: Global, tree: &Value) -> Result<Option<String>, NoMemory> {
+pub(crate) fn opening_fault(typed: Typed<'_>, tree: &Value) -> Result<Option<String>, NoMemory> {
     if !tree.is_object() {
-        return unexpected(alloc, OPENING, tree);
+        return unexpected(typed, OPENING, tree);
     }
     match (missing_member(tree), unknown_member(tree)) {
         (Some(name), Some(unknown)) => {
             told(
-                alloc,
+                typed,
                 &[
                     Piece::Words("the member \""),
                     Piece::Words(name),
@@ -48,7 +48,7 @@ pub(crate) fn opening_fault(alloc: Global, tree: &Value) -> Result<Option<String
         }
         (Some(name), None) => {
             told(
-                alloc,
+                typed,
                 &[
                     Piece::Words("the member \""),
                     Piece::Words(name),
@@ -58,7 +58,7 @@ pub(crate) fn opening_fault(alloc: Global, tree: &Value) -> Result<Option<String
         }
         (None, Some(unknown)) => {
             told(
-                alloc,
+                typed,
                 &[
                     Piece::Words("the member "),
                     Piece::Word(unknown),
@@ -66,7 +66,7 @@ pub(crate) fn opening_fault(alloc: Global, tree: &Value) -> Result<Option<String
                 ],
             )
         }
-        (None, None) => shape_fault(alloc, tree),
+        (None, None) => shape_fault(typed, tree),
     }
 }
 
@@ -91,19 +91,19 @@ fn unknown_member(tree: &Value) -> Option<&str> {
 }
 
 // The shape error in the members of an opening.
-fn shape_fault(alloc: Global, tree: &Value) -> Result<Option<String>, NoMemory> {
+fn shape_fault(typed: Typed<'_>, tree: &Value) -> Result<Option<String>, NoMemory> {
     match first_misshapen(tree) {
-        Some(part) => part_fault(alloc, part),
+        Some(part) => part_fault(typed, part),
         None => Ok(None),
     }
 }
 
 // What was expected in place of a part of an opening with a shape error.
-fn part_fault(alloc: Global, part: Misshapen<'_>) -> Result<Option<String>, NoMemory> {
+fn part_fault(typed: Typed<'_>, part: Misshapen<'_>) -> Result<Option<String>, NoMemory> {
     match part {
         Misshapen::Limits(tree) => {
             told(
-                alloc,
+                typed,
                 &[
                     Piece::Words(
                         "\"limits\": expected a list of two or three whole numbers, found ",
@@ -114,7 +114,7 @@ fn part_fault(alloc: Global, part: Misshapen<'_>) -> Result<Option<String>, NoMe
         }
         Misshapen::Limit(position, tree) => {
             told(
-                alloc,
+                typed,
                 &[
                     Piece::Words("\"limits\": expected a whole number as the "),
                     Piece::Words(ordinal(position)),
@@ -125,7 +125,7 @@ fn part_fault(alloc: Global, part: Misshapen<'_>) -> Result<Option<String>, NoMe
         }
         Misshapen::Member(name, tree) => {
             told(
-                alloc,
+                typed,
                 &[
                     Piece::Words("\""),
                     Piece::Words(name),
@@ -136,7 +136,7 @@ fn part_fault(alloc: Global, part: Misshapen<'_>) -> Result<Option<String>, NoMe
         }
         Misshapen::Account(number, tree) => {
             told(
-                alloc,
+                typed,
                 &[
                     Piece::Words(
                         "\"accounts\": expected [name,customer,saving,checking] as account ",
@@ -149,7 +149,7 @@ fn part_fault(alloc: Global, part: Misshapen<'_>) -> Result<Option<String>, NoMe
         }
         Misshapen::Amount(name, number, tree) => {
             told(
-                alloc,
+                typed,
                 &[
                     Piece::Words("\"accounts\": expected a whole number as the "),
                     Piece::Words(name),

@@ -1,9 +1,9 @@
 //! Errors in a record line.
 use crate::message::{Piece, told};
+use crate::typed::Typed;
 use serde_json::Value;
 use sgt_format::items;
 use sgt_model::{LAST_TABLE, LEAST, MOST, NoMemory};
-use std::alloc::Global;
 
 /// The numbers of a record line, in or out of range.
 #[derive(Clone, Copy)]
@@ -26,15 +26,15 @@ pub(crate) fn numbers(tree: &Value) -> Option<RecordNumbers> {
 }
 
 /// Why a record line adds no record, or none if a tree does not have its form.
-pub(crate) fn record_fault(alloc: Global, tree: &Value) -> Result<Option<String>, NoMemory> {
+pub(crate) fn record_fault(typed: Typed<'_>, tree: &Value) -> Result<Option<String>, NoMemory> {
     match numbers(tree) {
-        Some(said) => numbers_fault(alloc, said),
+        Some(said) => numbers_fault(typed, said),
         None => Ok(None),
     }
 }
 
 // The first of the numbers that is out of range; else the message that the record exists already.
-fn numbers_fault(alloc: Global, said: RecordNumbers) -> Result<Option<String>, NoMemory> {
+fn numbers_fault(typed: Typed<'_>, said: RecordNumbers) -> Result<Option<String>, NoMemory> {
     let ranges = [
         ("table", said.table, 0, i64::from(LAST_TABLE)),
         ("number", said.number, LEAST, MOST),
@@ -43,7 +43,7 @@ fn numbers_fault(alloc: Global, said: RecordNumbers) -> Result<Option<String>, N
     for (name, given, first, last) in ranges.iter() {
         if *given < *first || *last < *given {
             return told(
-                alloc,
+                typed,
                 &[
                     Piece::Words("the "),
                     Piece::Words(*name),
@@ -58,7 +58,7 @@ fn numbers_fault(alloc: Global, said: RecordNumbers) -> Result<Option<String>, N
         }
     }
     told(
-        alloc,
+        typed,
         &[
             Piece::Words("record "),
             Piece::Number(said.table),

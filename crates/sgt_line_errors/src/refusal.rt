@@ -10,6 +10,7 @@ use crate::limit::limit_fault;
 use crate::message::{Piece, told};
 use crate::misfit::misfit;
 use crate::opening::opening_fault;
+use crate::typed::Typed;
 use serde_json::Value;
 use sgt_format::{OpeningError, items, read_opening, read_procedure_line, read_tree};
 use sgt_model::NoMemory;
@@ -33,7 +34,11 @@ pub fn explain_opening(
     let Err(error) = read_opening(alloc, least, opening) else {
         return Ok(None);
     };
-    opening_text(alloc, &error, least, opening)
+    let typed = Typed {
+        alloc,
+        text: opening,
+    };
+    opening_text(typed, &error, least)
 }
 
 /// Explains in the same way why a text is no procedure, as one item of an opening's list. The explanation names the
@@ -52,23 +57,26 @@ pub fn explain_procedure(
     let Err(error) = read_procedure_line(alloc, number, procedure) else {
         return Ok(None);
     };
-    procedure_text(alloc, &error, procedure)
+    let typed = Typed {
+        alloc,
+        text: procedure,
+    };
+    procedure_text(typed, &error)
 }
 
 // The error of an opening, from its text.
 fn opening_text(
-    alloc: Global,
+    typed: Typed<'_>,
     error: &OpeningError,
     least: u32,
-    opening: &[u8],
 ) -> Result<Option<String>, NoMemory>
     ensures { OnOk result (error.now ≢ OpeningError.NoMemory) }
 {
     match error {
         OpeningError::NoMemory => Err(NoMemory),
-        OpeningError::NotJson => json_fault(alloc, opening),
-        _ => match read_tree(alloc, opening)? {
-            Some(tree) => opening_tree_fault(alloc, error, least, &tree),
+        OpeningError::NotJson => json_fault(typed),
+        _ => match read_tree(typed.alloc, typed.text)? {
+            Some(tree) => opening_tree_fault(typed, error, least, &tree),
             None => Ok(None),
         },
     }
@@ -76,18 +84,18 @@ fn opening_text(
 
 // The error of an opening, from its tree.
 fn opening_tree_fault(
-    alloc: Global,
+    typed: Typed<'_>,
     error: &OpeningError,
     least: u32,
     opening: &Value,
 ) -> Result<Option<String>, NoMemory> {
     match error {
-        OpeningError::BadLine => opening_fault(alloc, opening),
-        OpeningError::BadLimits => limit_fault(alloc, least, member(opening, "limits")),
-        OpeningError::BadOpening(_) => account_fault(alloc, member(opening, "accounts")),
+        OpeningError::BadLine => opening_fault(typed, opening),
+        OpeningError::BadLimits => limit_fault(typed, least, member(opening, "limits")),
+        OpeningError::BadOpening(_) => account_fault(typed, member(opening, "accounts")),
         OpeningError::ProcShape(number, _) | OpeningError::ProcFlaw(number, _) => {
             match procedure(opening, *number) {
-                Some(tree) => procedure_fault(alloc, error, tree),
+                Some(tree) => procedure_fault(typed, error, tree),
                 None => Ok(None),
             }
         }
@@ -96,18 +104,14 @@ fn opening_tree_fault(
 }
 
 // The error of a procedure, from its text.
-fn procedure_text(
-    alloc: Global,
-    error: &OpeningError,
-    procedure: &[u8],
-) -> Result<Option<String>, NoMemory>
+fn procedure_text(typed: Typed<'_>, error: &OpeningError) -> Result<Option<String>, NoMemory>
     ensures { OnOk result (error.now ≢ OpeningError.NoMemory) }
 {
     match error {
         OpeningError::NoMemory => Err(NoMemory),
-        OpeningError::NotJson => json_fault(alloc, procedure),
-        _ => match read_tree(alloc, procedure)? {
-            Some(tree) => procedure_fault(alloc, error, &tree),
+        OpeningError::NotJson => json_fault(typed),
+        _ => match read_tree(typed.alloc, typed.text)? {
+            Some(tree) => procedure_fault(typed, error, &tree),
             None => Ok(None),
         },
     }
@@ -115,54 +119,54 @@ fn procedure_text(
 
 // The error of a procedure, from its tree.
 fn procedure_fault(
-    alloc: Global,
+    typed: Typed<'_>,
     error: &OpeningError,
     procedure: &Value,
 ) -> Result<Option<String>, NoMemory> {
     match error {
         OpeningError::ProcShape(number, place) => {
-            misfit_fault(alloc, *number, procedure, place.as_slice())
+            misfit_fault(typed, *number, procedure, place.as_slice())
         }
-        OpeningError::ProcFlaw(number, flaw) => flaw_fault(alloc, *number, procedure, *flaw),
+        OpeningError::ProcFlaw(number, flaw) => flaw_fault(typed, *number, procedure, *flaw),
         _ => Ok(None),
     }
 }
 
 // The error in the procedure of this number, at the position of its first shape error.
 fn misfit_fault(
-    alloc: Global,
+    typed: Typed<'_>,
     number: u64,
     procedure: &Value,
     place: &[u64],
 ) -> Result<Option<String>, NoMemory> {
-    match misfit(alloc, procedure, place)? {
-        Some(what) => located(alloc, number, place, &what),
+    match misfit(typed, procedure, place)? {
+        Some(what) => located(typed, number, place, &what),
         None => Ok(None),
     }
 }
 
 // The error in the procedure of this number, which has this flaw.
 fn flaw_fault(
-    alloc: Global,
+    typed: Typed<'_>,
     number: u64,
     procedure: &Value,
     flaw: Flaw,
 ) -> Result<Option<String>, NoMemory> {
-    match find_flaw(alloc, procedure, flaw)? {
-        Some(found) => located(alloc, number, found.place.as_slice(), &found.what),
+    match find_flaw(typed, procedure, flaw)? {
+        Some(found) => located(typed, number, found.place.as_slice(), &found.what),
         None => Ok(None),
     }
 }
 
 // The error at a position of the procedure of this number. The position is shown as in the fault's own line.
 fn located<'a>(
-    alloc: Global,
+    typed: Typed<'_>,
     number: u64,
     place: &'a [u64],
     what: &'a str,
 ) -> Result<Option<String>, NoMemory> {
     told(
-        alloc,
+        typed,
         &[
             Piece::Words("procedure "),
             Piece::Count(number),

@@ -2,11 +2,11 @@
 use crate::message::{Piece, told, unexpected, unknown};
 use crate::record::numbers;
 use crate::tree::{first_not_whole, word_of};
+use crate::typed::Typed;
 use serde_json::Value;
 use sgt_format::items;
 use sgt_model::{LAST_TABLE, NoMemory, is_value};
 use sgt_proc::MOST_ARGUMENTS;
-use std::alloc::Global;
 
 /// The form of a start.
 const START: &str = "[\"start\",procedure,[argument,..]]";
@@ -21,42 +21,42 @@ const RECORD: &str = "[\"record\",table,number,value]";
 const WRITE: &str = "[\"write\",transaction,table,number,value]";
 
 /// Why a tree is no event of a script.
-pub(crate) fn event_fault(alloc: Global, tree: &Value) -> Result<Option<String>, NoMemory> {
+pub(crate) fn event_fault(typed: Typed<'_>, tree: &Value) -> Result<Option<String>, NoMemory> {
     match word_in(tree) {
-        Some("start") => call_fault(alloc, START, tree),
-        Some("begin") => unexpected(alloc, "[\"begin\"]", tree),
-        Some("read") => key_fault(alloc, "[\"read\",transaction,table,number]", tree),
-        Some("remove") => key_fault(alloc, "[\"remove\",transaction,table,number]", tree),
-        Some("write") => write_fault(alloc, tree),
-        Some("step") => transaction_fault(alloc, "[\"step\",transaction]", tree),
-        Some("commit") => transaction_fault(alloc, "[\"commit\",transaction]", tree),
-        Some("quit") => transaction_fault(alloc, "[\"quit\",transaction]", tree),
-        Some("cut") => unexpected(alloc, "[\"cut\"]", tree),
-        Some("record") => misplaced_record(alloc, "event or cut", tree),
+        Some("start") => call_fault(typed, START, tree),
+        Some("begin") => unexpected(typed, "[\"begin\"]", tree),
+        Some("read") => key_fault(typed, "[\"read\",transaction,table,number]", tree),
+        Some("remove") => key_fault(typed, "[\"remove\",transaction,table,number]", tree),
+        Some("write") => write_fault(typed, tree),
+        Some("step") => transaction_fault(typed, "[\"step\",transaction]", tree),
+        Some("commit") => transaction_fault(typed, "[\"commit\",transaction]", tree),
+        Some("quit") => transaction_fault(typed, "[\"quit\",transaction]", tree),
+        Some("cut") => unexpected(typed, "[\"cut\"]", tree),
+        Some("record") => misplaced_record(typed, "event or cut", tree),
         Some("job") => misplaced_request(
-            alloc,
+            typed,
             "a job stands in the input of \"sgt script\", which takes events: ",
             START,
         ),
-        Some(word) => unknown(alloc, word),
-        None => unexpected(alloc, "an event, as [\"step\",0]", tree),
+        Some(word) => unknown(typed, word),
+        None => unexpected(typed, "an event, as [\"step\",0]", tree),
     }
 }
 
 /// Why a tree is no job of a bank.
-pub(crate) fn job_fault(alloc: Global, tree: &Value) -> Result<Option<String>, NoMemory> {
+pub(crate) fn job_fault(typed: Typed<'_>, tree: &Value) -> Result<Option<String>, NoMemory> {
     match word_in(tree) {
-        Some("job") => call_fault(alloc, JOB, tree),
-        Some("record") => misplaced_record(alloc, "job", tree),
+        Some("job") => call_fault(typed, JOB, tree),
+        Some("record") => misplaced_record(typed, "job", tree),
         Some(
             "begin" | "start" | "step" | "read" | "write" | "remove" | "commit" | "quit" | "cut",
         ) => misplaced_request(
-            alloc,
+            typed,
             "an event stands in the input of \"sgt bank\", which takes jobs: ",
             JOB,
         ),
-        Some(word) => unknown(alloc, word),
-        None => unexpected(alloc, "a job, as [\"job\",0,[1]]", tree),
+        Some(word) => unknown(typed, word),
+        None => unexpected(typed, "a job, as [\"job\",0,[1]]", tree),
     }
 }
 
@@ -67,97 +67,105 @@ fn word_in(tree: &Value) -> Option<&str> {
 
 // The message that a request of the other kind is there in place of this form.
 fn misplaced_request<'a>(
-    alloc: Global,
+    typed: Typed<'_>,
     words: &'a str,
     form: &'a str,
 ) -> Result<Option<String>, NoMemory> {
-    told(alloc, &[Piece::Words(words), Piece::Words(form)])
+    told(typed, &[Piece::Words(words), Piece::Words(form)])
 }
 
 // Why a list that starts with the word of a record adds none: its form, or that records must come before the first of
 // these.
-fn misplaced_record(alloc: Global, first: &str, tree: &Value) -> Result<Option<String>, NoMemory> {
+fn misplaced_record(
+    typed: Typed<'_>,
+    first: &str,
+    tree: &Value,
+) -> Result<Option<String>, NoMemory> {
     match numbers(tree) {
         Some(_) => told(
-            alloc,
+            typed,
             &[
                 Piece::Words("records stand before the first "),
                 Piece::Words(first),
             ],
         ),
-        None => unexpected(alloc, RECORD, tree),
+        None => unexpected(typed, RECORD, tree),
     }
 }
 
 // The error of a list that must be a word and a transaction, in this form.
-fn transaction_fault(alloc: Global, form: &str, tree: &Value) -> Result<Option<String>, NoMemory> {
+fn transaction_fault(
+    typed: Typed<'_>,
+    form: &str,
+    tree: &Value,
+) -> Result<Option<String>, NoMemory> {
     match items(tree) {
         Some([_, number]) => if is_from_zero(number, u32::MAX) {
             Ok(None)
         } else {
-            range_fault(alloc, "a transaction", number, u32::MAX)
+            range_fault(typed, "a transaction", number, u32::MAX)
         },
-        _ => unexpected(alloc, form, tree),
+        _ => unexpected(typed, form, tree),
     }
 }
 
 // The error of a list that must be a word, a transaction and the key of a record, in this form.
-fn key_fault(alloc: Global, form: &str, tree: &Value) -> Result<Option<String>, NoMemory> {
+fn key_fault(typed: Typed<'_>, form: &str, tree: &Value) -> Result<Option<String>, NoMemory> {
     match items(tree) {
-        Some([_, number, table, id]) => access_fault(alloc, number, table, id),
-        _ => unexpected(alloc, form, tree),
+        Some([_, number, table, id]) => access_fault(typed, number, table, id),
+        _ => unexpected(typed, form, tree),
     }
 }
 
 // The error of a list that must be a write.
-fn write_fault(alloc: Global, tree: &Value) -> Result<Option<String>, NoMemory> {
+fn write_fault(typed: Typed<'_>, tree: &Value) -> Result<Option<String>, NoMemory> {
     match items(tree) {
-        Some([_, number, table, id, value]) => match access_fault(alloc, number, table, id)? {
+        Some([_, number, table, id, value]) => match access_fault(typed, number, table, id)? {
             Some(text) => Ok(Some(text)),
-            None => value_fault(alloc, value),
+            None => value_fault(typed, value),
         },
-        _ => unexpected(alloc, WRITE, tree),
+        _ => unexpected(typed, WRITE, tree),
     }
 }
 
 // The error in a transaction, or in the table or the number of a record. A number is a value.
 fn access_fault(
-    alloc: Global,
+    typed: Typed<'_>,
     number: &Value,
     table: &Value,
     id: &Value,
 ) -> Result<Option<String>, NoMemory> {
     let last = u32::from(LAST_TABLE);
     if !is_from_zero(number, u32::MAX) {
-        return range_fault(alloc, "a transaction", number, u32::MAX);
+        return range_fault(typed, "a transaction", number, u32::MAX);
     }
     if !is_from_zero(table, last) {
-        return range_fault(alloc, "a table", table, last);
+        return range_fault(typed, "a table", table, last);
     }
     match id.as_i64() {
         Some(found) if is_value(found) => Ok(None),
-        _ => unexpected(alloc, "a number of at most 15 digits", id),
+        _ => unexpected(typed, "a number of at most 15 digits", id),
     }
 }
 
 // The error in the value of a write. What is out of a value's range is answered, as an argument is.
-fn value_fault(alloc: Global, value: &Value) -> Result<Option<String>, NoMemory> {
+fn value_fault(typed: Typed<'_>, value: &Value) -> Result<Option<String>, NoMemory> {
     match value.as_i64() {
         Some(_) => Ok(None),
-        None => unexpected(alloc, "a whole number as the value", value),
+        None => unexpected(typed, "a whole number as the value", value),
     }
 }
 
 // The error of a list that must be a word, a procedure and its arguments, in this form.
-fn call_fault(alloc: Global, form: &str, tree: &Value) -> Result<Option<String>, NoMemory> {
+fn call_fault(typed: Typed<'_>, form: &str, tree: &Value) -> Result<Option<String>, NoMemory> {
     let last = u32::from(u16::MAX);
     match items(tree) {
         Some([_, number, arguments]) => if is_from_zero(number, last) {
-            arguments_fault(alloc, arguments)
+            arguments_fault(typed, arguments)
         } else {
-            range_fault(alloc, "a procedure", number, last)
+            range_fault(typed, "a procedure", number, last)
         },
-        _ => unexpected(alloc, form, tree),
+        _ => unexpected(typed, form, tree),
     }
 }
 
@@ -171,13 +179,13 @@ fn is_from_zero(tree: &Value, last: u32) -> bool {
 
 // The message that a tree is no whole number from 0 to `last`.
 fn range_fault<'a>(
-    alloc: Global,
+    typed: Typed<'_>,
     name: &'a str,
     tree: &'a Value,
     last: u32,
 ) -> Result<Option<String>, NoMemory> {
     told(
-        alloc,
+        typed,
         &[
             Piece::Words("expected "),
             Piece::Words(name),
@@ -190,13 +198,13 @@ fn range_fault<'a>(
 }
 
 // The error in the arguments of a call. They are numbered from 0.
-fn arguments_fault(alloc: Global, tree: &Value) -> Result<Option<String>, NoMemory> {
+fn arguments_fault(typed: Typed<'_>, tree: &Value) -> Result<Option<String>, NoMemory> {
     let Some(arguments) = items(tree) else {
-        return unexpected(alloc, "a list of arguments", tree);
+        return unexpected(typed, "a list of arguments", tree);
     };
     if arguments.len() > usize::from(MOST_ARGUMENTS) {
         return told(
-            alloc,
+            typed,
             &[
                 Piece::Count(arguments.len() as u64),
                 Piece::Words(" arguments are given, and at most "),
@@ -207,7 +215,7 @@ fn arguments_fault(alloc: Global, tree: &Value) -> Result<Option<String>, NoMemo
     }
     match first_not_whole(arguments) {
         Some((number, argument)) => told(
-            alloc,
+            typed,
             &[
                 Piece::Words("expected a whole number as argument "),
                 Piece::Count(number as u64),

@@ -2,7 +2,7 @@ use Rattle.std.proofs.Common.{◌≡◌, ◌+◌, arith, false, refl, subst, tak
 use Rattle.std.specs.Option.{option_map}
 use Rattle.sgt_input.specs.Lines.{IsBreak, has_break}
 use Rattle.sgt_input.proofs.Breaks.{break-behind}
-use Rattle.sgt_line_errors.proofs.remembering.until_break.Goals as goal
+use Rattle.sgt_line_errors.proofs.newest.until_break.Goals as goal
 
 pub returns-in-Some : goal.returns-in-Some
 returns-in-Some c =

@@ -1,0 +1,109 @@
+//! The newest lines of an input.
+ghost use Rattle.std.specs.Prelude.{IfSome, false, length, ◌≡◌, ◌≤◌};
+ghost use Rattle.sgt_input.specs.Lines.{has_break};
+
+use memchr::memchr;
+use std::alloc::{AllocError, Global};
+
+/// How many bytes are stored before the oldest lines are dropped.
+const MOST_STORED: usize = 1_048_576;
+
+/// How many of the newest bytes stay, but for the line in which they start: more than a run reads ahead of the line that
+/// it tests.
+const LEAST_STORED: usize = 262_144;
+
+/// The newest lines of an input, as many as fit about a mebibyte.
+#[derive(Drop)]
+pub(crate) struct NewestLines {
+    /// The newest bytes, from the start of a line on.
+    bytes: Vec<u8>,
+    /// How many lines came before these bytes.
+    dropped: u64,
+}
+
+impl NewestLines {
+    /// No bytes yet. It allocates nothing.
+    pub(crate) fn new(alloc: Global) -> Self {
+        NewestLines {
+            bytes: Vec::new(alloc),
+            dropped: 0,
+        }
+    }
+
+    /// Stores the next bytes of the input. If there are too many, the oldest lines are dropped.
+    ///
+    /// # Errors
+    ///
+    /// `AllocError` if an allocation failed.
+    pub(crate) fn store(&mut self, bytes: &[u8]) -> Result<(), AllocError> {
+        if self.bytes.len() >= MOST_STORED {
+            self.drop_oldest();
+        }
+        self.bytes.extend_from_slice(bytes)
+    }
+
+    /// The line of this number, from 1, without its newline, if its bytes are stored.
+    pub(crate) fn line(&self, number: u64) -> Option<&[u8]>
+        ensures unbroken { IfSome result (λ l. has_break l.now ≡ false) }
+    {
+        if number <= self.dropped {
+            return None;
+        }
+        line_in(self.bytes.as_slice(), number - self.dropped)
+    }
+
+    // Drops the lines that start before the bytes that stay.
+    fn drop_oldest(&mut self) {
+        let oldest = self.bytes.len().saturating_sub(LEAST_STORED);
+        let Some(rest) = behind_break(&self.bytes[oldest..]) else {
+            return;
+        };
+        let end = self.bytes.len();
+        let len = rest.len().min(end);
+        let start = end - len;
+        let count = count_breaks(&self.bytes[..start]) as u64;
+        self.dropped = self.dropped.saturating_add(count);
+        self.bytes.copy_within(start..end, 0);
+        self.bytes.truncate(len);
+    }
+}
+
+// The line of this number, from 1, if the text has so many lines.
+fn line_in(text: &[u8], number: u64) -> Option<&[u8]>
+    ensures { IfSome result (λ l. has_break l.now ≡ false) }
+{
+    let mut rest = text;
+    for _ in 1..number {
+        rest = behind_break(rest)?;
+    }
+    Some(until_break(rest))
+}
+
+// The bytes after the first newline, if there is one.
+fn behind_break(bytes: &[u8]) -> Option<&[u8]> {
+    let place = memchr(b'\n', bytes)?;
+    Some(&bytes[place + 1..])
+}
+
+// The bytes before the first newline, or all.
+fn until_break(bytes: &[u8]) -> &[u8]
+    ensures { has_break result.now ≡ false }
+{
+    match memchr(b'\n', bytes) {
+        Some(place) => &bytes[..place],
+        None => bytes,
+    }
+}
+
+// The number of newlines.
+fn count_breaks(bytes: &[u8]) -> usize
+    ensures { result ≤ length bytes.now }
+{
+    let mut at = 0;
+    let mut count = 0;
+    while at < bytes.len() {
+        count += usize::from(bytes[at] == b'\n');
+        at += 1;
+    }
+    count
+}
