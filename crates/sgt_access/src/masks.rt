@@ -129,7 +129,7 @@ impl Masks {
         }
     }
 
-    /// The place of a transaction as a set; the empty set if it has none. From here its accesses may be removed.
+    /// The place of a transaction whose accesses are to be removed, as a set; the empty set if it has none.
     #[inline(always)]
     pub fn places_of(&self, t: Tid) -> u32
         ensures { (accesses : List ListedAccess) → Covers self.now accesses → IsLeaving self.now t result accesses }

@@ -77,9 +77,6 @@ fn search(taken: u32, tids: &[Tid; 32], t: Tid) -> Option<u8>
     ensures some { IfSome result (λ i. (i < 32) × (is_at taken tids.now t i ≡ true)) }
     ensures none { IsNone result → (i : ℕ) → is_at taken tids.now t i ≡ false }
 {
-    if taken == 0 {
-        return None;
-    }
     for place in 0..32u8 {
         if tids[usize::from(place)] == t && has(taken, place) {
             return Some(place);
