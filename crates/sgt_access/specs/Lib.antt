@@ -1,3 +1,2 @@
-pub mod Masks
-pub mod Places
+pub mod Filters
 pub mod WholeLists
