@@ -2,9 +2,11 @@
  * Events of SmallBank's five procedures on an engine of the library for C, for bench/library.
  *
  *     library EVENTS LIVE ACCOUNTS
+ *     library TRANSACTIONS 1 ACCOUNTS ACCESSES
  *
  * So many transactions are live at once, and make their events in turn. Which procedure comes next, and on which accounts, is drawn
  * by a generator with a fixed seed. It tells the nanoseconds of processor time for each event, and how many were answered by a commit.
+ * With a fourth number, transactions run one after another, and their caller decides so many accesses of each: reads and writes in turn.
  */
 #include <inttypes.h>
 #include <stdio.h>
@@ -60,10 +62,23 @@ static uint32_t event(sgt_engine *engine, int64_t accounts, uint32_t *tid, int *
     return status;
 }
 
+/* One transaction whose caller decides its accesses, from its start to its commit. */
+static int own_transaction(sgt_engine *engine, int64_t first, int64_t accounts, int64_t accesses, sgt_reply *reply)
+{
+    if (sgt_begin(engine, reply) != SGT_OK) return 1;
+    const uint32_t tid = reply->tid;
+    for (int64_t n = 0; n < accesses; n++) {
+        const int64_t customer = 20000 + (first + n) % accounts;
+        uint32_t status = n % 2 ? sgt_write(engine, tid, 2, customer, n, reply) : sgt_read(engine, tid, 1, customer, reply);
+        if (status != SGT_OK) return 1;
+    }
+    return sgt_commit(engine, tid, reply) != SGT_OK || reply->kind != SGT_COMMITTED;
+}
+
 int main(int argc, char **argv)
 {
-    if (argc != 4) return 2;
-    const int64_t events = atoll(argv[1]), live = atoll(argv[2]), accounts = atoll(argv[3]);
+    if (argc != 4 && argc != 5) return 2;
+    const int64_t events = atoll(argv[1]), live = atoll(argv[2]), accounts = atoll(argv[3]), accesses = argc == 5 ? atoll(argv[4]) : 0;
     if (live < 1 || live > MOST_LIVE || accounts < 1) return 2;
     sgt_engine engine = {0};
     sgt_fault fault = {0};
@@ -76,7 +91,11 @@ int main(int argc, char **argv)
     free(text);
     struct timespec from, to;
     clock_gettime(CLOCK_PROCESS_CPUTIME_ID, &from);
-    for (int64_t made = 0; made < events; made++) {
+    for (int64_t made = 0; accesses && made < events; made++) {
+        if (own_transaction(&engine, made, accounts, accesses, &reply)) return 1;
+        committed++;
+    }
+    for (int64_t made = 0; !accesses && made < events; made++) {
         if (event(&engine, accounts, &tid[made % live], &state[made % live], &reply) != SGT_OK) return 1;
         committed += reply.kind == SGT_COMMITTED;
     }
