@@ -156,7 +156,7 @@ fn answer(held: &mut Held, event: Event, reply: &mut SgtReply) -> Result<(), NoM
     ensures quits { (t : ℕ) → event ≡ Quit t → live held.old.engine.past t ≡ true → IsOk result }
 {
     let mut short = ShortReply::Unknown;
-    match held.engine.answer(&event, &mut short) {
+    match held.engine.answer_inline(&event, &mut short) {
         Ok(()) => {
             write_reply(reply, &short, held.engine.reply_lists());
             Ok(())

@@ -117,7 +117,7 @@ pub fn run(engine: &mut SgtEngine, procedure: u16, args: Args) -> Result<Outcome
         ((started : Option ℕ) × GivesUp (Start procedure args) started engine.old engine.new) }
 {
     let mut reply = ShortReply::Unknown;
-    engine.answer(&Event::Start { procedure, args }, &mut reply)?;
+    engine.answer_inline(&Event::Start { procedure, args }, &mut reply)?;
     match reply {
         ShortReply::Started(t) => match run_on(engine, t) {
             Ok(Steps { wrote, last }) => Ok(Outcome {
@@ -149,7 +149,7 @@ fn run_on(engine: &mut SgtEngine, t: Tid) -> Result<Steps, NoMemory>
         return Ok(steps);
     }
     let mut last = ShortReply::Unknown;
-    engine.answer(&Event::Commit(t), &mut last)?;
+    engine.answer_inline(&Event::Commit(t), &mut last)?;
     Ok(Steps {
         wrote: steps.wrote,
         last,
@@ -167,7 +167,7 @@ fn step_on(engine: &mut SgtEngine, t: Tid) -> Result<Steps, NoMemory>
     let mut wrote = false;
     let mut last = ShortReply::Unknown;
     for _ in 0..u64::MAX {
-        engine.answer(&step, &mut last)?;
+        engine.answer_inline(&step, &mut last)?;
         if !is_access(&last) {
             return Ok(Steps { wrote, last });
         }
@@ -183,7 +183,7 @@ fn quit(engine: &mut SgtEngine, t: Tid)
     ensures { (r : Reply) × (engine.new ≡ with_entry (Quit t) r engine.old) }
 {
     let mut reply = ShortReply::Unknown;
-    match engine.answer(&Event::Quit(t), &mut reply) {
+    match engine.answer_inline(&Event::Quit(t), &mut reply) {
         Ok(()) => (),
         Err(NoMemory) => unreachable!(),
     }
