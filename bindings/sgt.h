@@ -242,8 +242,8 @@ uint32_t sgt_open(sgt_engine *engine, const uint8_t *opening, size_t length, sgt
 
 /*
  * The same, and then writes `count` rows of the caller into the database of the opening's accounts, one after another. Each
- * row replaces the value of its record, or is a new record. Use it to continue from a database that is stored elsewhere. Rows
- * in the order of sgt_rows are written fastest.
+ * row replaces the value of its record, or is a new record. The rows may come in any order. Use it to continue from a database
+ * that is stored elsewhere.
  *
  *   - SGT_OPEN, tested first: the engine is open.
  *   - SGT_BAD_CALL, tested next: a table is over 7, or a number or a value is out of range.

@@ -15,8 +15,9 @@ use crate::held::Held;
 use crate::row_struct::{SgtRow, first_bad, keyed_row};
 use crate::status;
 use sgt_assembly::open_engine;
-use sgt_format::{OpeningError, read_opening};
+use sgt_format::{Opening, OpeningError, read_opening};
 use sgt_model::{Database, NoMemory};
+use sgt_rows::Rows;
 use std::alloc::Global;
 
 /// Opens an engine as `sgt_open` does, and then writes these rows into the database of the opening's accounts, one
@@ -74,29 +75,40 @@ fn make(alloc: Global, opening: &[u8], rows: &[SgtRow]) -> Result<Box<Held>, Ope
     ensures first_part { IfOk result (λ h. h.value.part ≡ 0) }
     ensures refused { IfErr result (Refuses 1 opening.now) }
 {
-    let mut opening = read_opening(alloc, 1, opening)?;
-    put_rows(&mut opening.database, rows)?;
-    let engine = open_engine(alloc, opening)?;
+    let opening = read_opening(alloc, 1, opening)?;
+    let Opening {
+        limits,
+        database,
+        procedures,
+    } = opening;
+    let database = with_rows(alloc, database, rows)?;
+    let opened = Opening {
+        limits,
+        database,
+        procedures,
+    };
+    let engine = open_engine(alloc, opened)?;
     Ok(Held::boxed(alloc, engine)?)
 }
 
-/// Writes rows into a database, one after another.
-fn put_rows(database: &mut Database, rows: &[SgtRow]) -> Result<(), NoMemory>
+/// The database after rows are written into it, one after another.
+fn with_rows(alloc: Global, database: Database, rows: &[SgtRow]) -> Result<Database, NoMemory>
     requires { All IsRow rows.now }
-    ensures { OnOk result ((k : Key) → contents_of database.new k ≡ with_rows (contents_of database.old) rows.now k) }
+    ensures { IfOk result (λ d. (k : Key) → contents_of d k ≡ with_rows (contents_of database) rows.now k) }
 {
+    let mut all = Rows::of(alloc, database);
     for row in rows {
-        put_row(database, row)?;
+        put_row(&mut all, row)?;
     }
-    Ok(())
+    all.database(alloc)
 }
 
 /// Writes a row: it replaces the value of its key, or is a new record.
-fn put_row(database: &mut Database, row: &SgtRow) -> Result<(), NoMemory>
+fn put_row(rows: &mut Rows, row: &SgtRow) -> Result<(), NoMemory>
     requires { IsRow row.now }
     ensures { OnOk result ((k : Key) →
-        contents_of database.new k ≡ put_in (contents_of database.old) (row_of row.now).0 row.now.value k) }
+        contents_of rows.new k ≡ put_in (contents_of rows.old) (row_of row.now).0 row.now.value k) }
 {
     let (key, value) = keyed_row(row);
-    database.put(key, value)
+    rows.put(key, value)
 }

@@ -7,7 +7,7 @@ returns-clause-opened c =
       c.in_ok-opening.opening,
       _,
       c.in_ok-opening.ensures.opening,
-      (refl, refl, c.in_ok-put_rows.ensures),
+      (refl, refl, c.in_ok-database.ensures),
       c.in_ok-engine.ensures.setting,
       c.in_ok-engine.ensures.fresh,
     )
