@@ -86,8 +86,16 @@ def quits_ask_for_no_memory(program):
     for order in ("oldest", "newest"):
         for number in range(1, program.allocations(order) + 1):
             asked = program.counted(order, refuse_first=number, refuse_last=FOREVER, count_refused=1)
-            same(f"{order} first, growth {number} and all later ones: allocations", 1, asked)
+            what = f"{order} first, growth {number} and all later ones: allocations"
+            if program.run(order, refuse_first=number, refuse_last=FOREVER) == NO_ENGINE:
+                # The rows of the opening are sorted in place if there is no memory to sort them in.
+                if asked not in (1, 2):
+                    raise Differs(f"{what}: wanted 1 or 2, came {asked}")
+                continue
+            same(what, 1, asked)
             refused += 1
+    if not refused:
+        raise Differs("no growth was refused")
     return f"{refused} growths refused"
 
 
