@@ -148,7 +148,7 @@ def tells_what_callers_decide(room):
 def goes_on_where_each_allocation_is_refused(room):
     told = run([built(room, "cc", C_FLAGS, BINDINGS / "c" / "refused.c", WRAPS)])
     count = int(told.split()[2])
-    same("what is told", f"{count - 1} of {count} allocations were told as refused, 1 done without\n", told)
+    same("what is told", f"{count - 2} of {count} allocations were told as refused, 2 done without\n", told)
     return f"{count} allocations"
 
 

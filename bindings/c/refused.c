@@ -13,7 +13,10 @@ static const char opening[] = "{\"limits\":[8,100],\"accounts\":[[1,101,500,1000
 static const sgt_row own = {7, 0, 5, 51}; /* a record of the caller's */
 static long asked, refuse;
 
-/* How many allocations were done without: the rows of an opening are sorted in place if there is no memory to sort them in. */
+/*
+ * How many allocations were done without: the rows of an engine's database are sorted in place if there is no memory to sort them in.
+ * They are sorted when the engine is opened, and again when rows are put.
+ */
 static int done_without;
 
 void *__real_malloc(size_t size);
@@ -137,14 +140,15 @@ static int run(void)
     uint64_t had = 0, has = 0;
     int64_t value = 0;
     uint32_t status;
-    long before_event;
+    long before_event, opened;
     int refused = 0, added, more, told, cut;
     while ((status = sgt_open_with(&engine, (const uint8_t *)opening, strlen(opening), &own, 1, &fault)) == SGT_NO_MEMORY) {
         if (engine.is_open || engine.at) return -1;
         refused++;
     }
-    done_without += refused == 0 && asked >= refuse;
+    opened = asked;
     if (status != SGT_OK || (added = adds(&engine, &fault)) < 0) return -1;
+    if (asked >= refuse) done_without += opened < refuse ? added == 0 : refused == 0;
     for (int number = 0; number < 10; number++) {
         do {
             before = reply;
