@@ -1,5 +1,5 @@
 -- The first read from a transaction that is aborted there, position by position.
-use Rattle.std.proofs.Common.{◌≡◌, ℕ, ◌+◌, ◌<◌, List, reverse, Option, Some, None, IfNone, IsSome, length, refl, sym, ap, subst, inl, inr, ◌∙◌, arith, slice_get}
+use Rattle.std.proofs.Common.{◌≡◌, ℕ, ◌+◌, ◌<◌, ◌≤◌, min, Bool, not, List, reverse, Option, Some, None, IfNone, IsSome, length, refl, sym, ap, subst, inl, inr, ◌∙◌, arith, slice_get}
 use Rattle.std.proofs.lemmas.Bool.{cases_eq}
 use Rattle.sgt_model.specs.declared.entry.Entry.{Entry}
 use Rattle.sgt_model.specs.Settings.{Setting}
@@ -8,9 +8,15 @@ use Rattle.sgt_model.proofs.Facts.{some_is}
 use Rattle.sgt_model.specs.ShortReplies.{fell_in}
 use Rattle.sgt_explain.specs.declared.source.Source.{Source}
 use Rattle.sgt_explain.specs.Firsts.{NoneBelow, IsFirst}
-use Rattle.sgt_explain.specs.Places.{listed_by, placed_falls}
+use Rattle.sgt_model.specs.Accesses.{Access}
+use Rattle.sgt_model.specs.ReadFrom.{IsBy, LooksFrom}
+use Rattle.sgt_model.specs.Fates.{aborted}
+use Rattle.sgt_model.specs.Values.{newest_store}
+use Rattle.sgt_explain.specs.Places.{entries_before, listed_by, placed_access, placed_falls}
+use Rattle.sgt_explain.specs.Indexes.{IsUntouched}
 use Rattle.sgt_explain.specs.Sources.{IsUndoneAt, ReadsAt, ReadsUndoneAt, TellsLook, TellsSource}
 use Rattle.sgt_explain.proofs.LegalFalls.{source_there}
+use Rattle.sgt_explain.proofs.Untouched.{store_placed}
 
 pub none_more : (P : ℕ → Type 0) (n : ℕ) → NoneBelow P n → (P n → ⊥) → NoneBelow P (n + 1)
 none_more P n none here m below holds = elim (cases_eq m n) [
@@ -18,13 +24,41 @@ none_more P n none here m below holds = elim (cases_eq m n) [
   | inr other ↦ none m (omega (arith, below, other)) holds
 ]
 
-pub reads_none : (entries : List Entry) (end t place : ℕ)
-    → ((v : ℕ) → ReadsAt entries t v place → ⊥) → ReadsUndoneAt entries end t place → ⊥
-reads_none entries end t place none (v, undone, reads) = none v reads
-
 pub reads_standing : (entries : List Entry) (end t place w : ℕ) → ((v : ℕ) → ReadsAt entries t v place → w ≡ v)
     → (IsUndoneAt entries end w → ⊥) → ReadsUndoneAt entries end t place → ⊥
 reads_standing entries end t place w one stands (v, undone, reads) = stands (subst (IsUndoneAt entries end) (sym (one v reads)) undone)
+
+looks_by : (past : List Entry) (o : Option Access) (t u : ℕ) → LooksFrom past o t u → IsBy o t
+looks_by past None t u h = h
+looks_by past (Some a) t u h = h.1
+
+pub reads_by : (entries : List Entry) (end t n : ℕ) → ReadsUndoneAt entries end t n → IsBy (placed_access entries n) t
+reads_by entries end t n (v, undone, reads) = looks_by (entries_before entries n) (placed_access entries n) t v reads.1
+
+-- a read of a write before a position is from none whose accesses are all after it
+pub reads_low : (entries : List Entry) (end t place low : ℕ)
+    → ((v n : ℕ) → IsUndoneAt entries end v → n < low → IsUntouched entries v n)
+    → ((v : ℕ) → ReadsAt entries t v place → (n : ℕ) × (n < low) × IsBy (placed_access entries n) v)
+    → ReadsUndoneAt entries end t place → ⊥
+reads_low entries end t place low clear below (v, undone, reads) =
+    let (n, under, by) = below v reads in (clear v n undone under).0 by
+
+-- a read finds no write since the position, so it is from a write before it, if from any
+pub reads_below : (entries : List Entry) (place low t : ℕ) (m : Access) → place ≤ length entries → Some m ≡ placed_access entries place
+    → newest_store (λ u. not (aborted (entries_before entries place) u)) m.key (entries_before entries place)
+    ≡ newest_store (λ u. not (aborted (entries_before entries place) u)) m.key (entries_before entries (min low place))
+    → (v : ℕ) → ReadsAt entries t v place → (n : ℕ) × (n < low) × IsBy (placed_access entries n) v
+reads_below entries place low t m within is same v reads =
+    let counts : ℕ → Bool = λ u. not (aborted (entries_before entries place) u) in
+    let from : LooksFrom (entries_before entries place) (Some m) t v =
+    subst (λ o. LooksFrom (entries_before entries place) o t v) (sym is) reads.1 in
+    let by : IsBy (newest_store counts m.key (entries_before entries (min low place))) v = subst (λ o. IsBy o v) same from.2 in
+    let (n, below, at) = store_placed entries m.key counts v (min low place) (omega (arith, within)) by in
+    (n, omega (arith, below), at)
+
+pub if_none : {P : Type 0} (o : Option Source) → P → IfNone o P
+if_none None h = h
+if_none (Some x) h = tt
 
 pub source_first : (entries : List Entry) (end t place : ℕ) (told : Source) → place < end → NoneBelow (ReadsUndoneAt entries end t) place
     → TellsLook entries t place told → IsUndoneAt entries end told.source → TellsSource entries end t told

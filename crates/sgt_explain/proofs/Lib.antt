@@ -7,3 +7,7 @@ pub mod Requests
 pub mod Endings
 pub mod NewestStores
 pub mod FirstSources
+pub mod IndexSteps
+pub mod Backward
+pub mod Pairs
+pub mod Untouched

@@ -1,5 +1,6 @@
 pub mod Firsts
 pub mod Places
+pub mod Indexes
 pub mod Edges
 pub mod WalkEdges
 pub mod Sources

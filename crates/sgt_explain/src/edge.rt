@@ -7,9 +7,9 @@ ghost use Rattle.sgt_explain.specs.Places.{entries_before, placed_cycle};
 ghost use Rattle.sgt_explain.specs.Edges.{FollowsAt, TellsAccess, TellsPair, TellsPending};
 ghost use Rattle.sgt_explain.specs.WalkEdges.{TellsEdge, HasEdge, WasAbout, IsPairAt};
 
-use crate::made::made_at;
+use crate::indexed_history::IndexedHistory;
+use crate::made::{accesses_before, made_at};
 use crate::search::earlier;
-use sgt_log::History;
 use sgt_model::{Cause, Key, Kind, Reply, Tid, Tids};
 
 /// A transaction's first accesses of a key that conflict with a later one, by their positions. At least one of them
@@ -47,30 +47,30 @@ pub struct Edge {
 /// None if the entry aborts no transaction by a cycle, the cycle has no such edge, or no such accesses exist. In a
 /// legal history, with the access that the procedure was at, every edge of the cycle is returned.
 pub fn cycle_edge(
-    history: &History,
+    history: &IndexedHistory,
     place: usize,
     number: usize,
     key: Key,
     kind: Kind,
 ) -> Option<Edge>
     ensures told { IfSome result
-        (TellsEdge history.now.entries place key kind (placed_cycle history.now.entries place) number) }
+        (TellsEdge history.now place key kind (placed_cycle history.now place) number) }
     ensures some { IsSome result
-        ↔ HasEdge history.now.entries place key kind (placed_cycle history.now.entries place) number }
-    ensures all { (s : Setting) → Legal s (reverse history.now.entries) → WasAbout s history.now.entries place key kind
-        → number < length (placed_cycle history.now.entries place) → IsSome result }
-    ensures pairs { IfSome result (λ edge. (s : Setting) → Legal s (reverse history.now.entries)
-        → WasAbout s history.now.entries place key kind → IsPairAt history.now.entries place edge) }
+        ↔ HasEdge history.now place key kind (placed_cycle history.now place) number }
+    ensures all { (s : Setting) → Legal s (reverse history.now) → WasAbout s history.now place key kind
+        → number < length (placed_cycle history.now place) → IsSome result }
+    ensures pairs { IfSome result (λ edge. (s : Setting) → Legal s (reverse history.now)
+        → WasAbout s history.now place key kind → IsPairAt history.now place edge) }
 {
     let walk = cycle_at(history, place)?;
     walk_edge(history, place, walk.as_slice(), number, key, kind)
 }
 
 // The cycle of the abort at a position, if there is one.
-fn cycle_at(history: &History, place: usize) -> Option<Tids>
-    ensures some { IfSome result (λ walk. walk ≡ placed_cycle history.now.entries place) }
-    ensures within { IsSome result → place < length history.now.entries }
-    ensures none { IfNone result (placed_cycle history.now.entries place ≡ []) }
+fn cycle_at(history: &IndexedHistory, place: usize) -> Option<Tids>
+    ensures some { IfSome result (λ walk. walk ≡ placed_cycle history.now place) }
+    ensures within { IsSome result → place < length history.now }
+    ensures none { IfNone result (placed_cycle history.now place ≡ []) }
 {
     let entry = history.get_entry(place)?;
     if !entry.is_by_cycle() {
@@ -87,16 +87,16 @@ fn cycle_at(history: &History, place: usize) -> Option<Tids>
 
 // An edge of a cycle that starts with the transaction aborted there.
 fn walk_edge(
-    history: &History,
+    history: &IndexedHistory,
     end: usize,
     walk: &[Tid],
     number: usize,
     key: Key,
     kind: Kind,
 ) -> Option<Edge>
-    requires { end ≤ length history.now.entries }
-    ensures told { IfSome result (TellsEdge history.now.entries end key kind walk.now number) }
-    ensures some { IsSome result ↔ HasEdge history.now.entries end key kind walk.now number }
+    requires { end ≤ length history.now }
+    ensures told { IfSome result (TellsEdge history.now end key kind walk.now number) }
+    ensures some { IsSome result ↔ HasEdge history.now end key kind walk.now number }
 {
     if number >= walk.len() {
         return None;
@@ -109,16 +109,16 @@ fn walk_edge(
 
 // Why one would come before another, because of an access that the other was about to make.
 fn pending_edge(
-    history: &History,
+    history: &IndexedHistory,
     end: usize,
     from: Tid,
     to: Tid,
     key: Key,
     kind: Kind,
 ) -> Option<Edge>
-    requires { end ≤ length history.now.entries }
-    ensures told { IfSome result (TellsPending history.now.entries end from to key kind) }
-    ensures some { IsSome result ↔ (has_conflicting (entries_before history.now.entries end) from key kind ≡ true) }
+    requires { end ≤ length history.now }
+    ensures told { IfSome result (TellsPending history.now end from to key kind) }
+    ensures some { IsSome result ↔ (has_conflicting (entries_before history.now end) from key kind ≡ true) }
 {
     match earlier(history, end, from, key, kind) {
         Some(earlier) => Some(Edge {
@@ -134,24 +134,30 @@ fn pending_edge(
 }
 
 // Why one comes before another in the entries before `end`, if it does.
-fn pair_edge(history: &History, end: usize, from: Tid, to: Tid) -> Option<Edge>
-    requires { end ≤ length history.now.entries }
-    ensures told { IfSome result (TellsPair history.now.entries end from to) }
-    ensures some { IsSome result ↔ Precedes (entries_before history.now.entries end) from to }
+fn pair_edge(history: &IndexedHistory, end: usize, from: Tid, to: Tid) -> Option<Edge>
+    requires { end ≤ length history.now }
+    ensures told { IfSome result (TellsPair history.now end from to) }
+    ensures some { IsSome result ↔ Precedes (entries_before history.now end) from to }
 {
-    for place in 0..end {
-        if let Some(edge) = access_edge(history, place, from, to) {
-            return Some(edge);
+    let mut first = None;
+    let mut rest = history.accesses_end(to);
+    while 0 < rest {
+        let place = rest - 1;
+        if place < end {
+            if let Some(edge) = access_edge(history, place, from, to) {
+                first = Some(edge);
+            }
         }
+        rest = accesses_before(history, place, to);
     }
-    None
+    first
 }
 
 // The access of the second at this position, and the conflicting ones of the first before it, if there are any.
-fn access_edge(history: &History, place: usize, from: Tid, to: Tid) -> Option<Edge>
-    requires { place < length history.now.entries }
-    ensures told { IfSome result (TellsAccess history.now.entries from to place) }
-    ensures some { IsSome result ↔ FollowsAt history.now.entries from to place }
+fn access_edge(history: &IndexedHistory, place: usize, from: Tid, to: Tid) -> Option<Edge>
+    requires { place < length history.now }
+    ensures told { IfSome result (TellsAccess history.now from to place) }
+    ensures some { IsSome result ↔ FollowsAt history.now from to place }
 {
     let made = made_at(history, place)?;
     if made.by != to {

@@ -2,9 +2,9 @@
 ghost use Rattle.std.specs.Prelude.{◌≡◌, take, OnErr, vec_len};
 
 use crate::edge::{Edge, cycle_edge};
+use crate::indexed_history::IndexedHistory;
 use crate::source::{Source, fall_source};
 use crate::text::{append_edge_line, append_source_line};
-use sgt_log::History;
 use sgt_model::{Key, Kind, NoMemory};
 use std::alloc::AllocError;
 
@@ -30,7 +30,7 @@ pub struct Pending {
 /// `NoMemory` if an allocation failed; then the text is unchanged.
 pub fn append_explanation(
     text: &mut Vec<u8>,
-    history: &History,
+    history: &IndexedHistory,
     place: usize,
     pending: Option<Pending>,
     lines: &[u64],
@@ -47,7 +47,7 @@ pub fn append_explanation(
 // Appends the lines of both kinds.
 fn append_all(
     text: &mut Vec<u8>,
-    history: &History,
+    history: &IndexedHistory,
     place: usize,
     pending: Option<Pending>,
     lines: &[u64],
@@ -61,7 +61,7 @@ fn append_all(
 // Appends a line for each edge of the cycle.
 fn append_edges(
     text: &mut Vec<u8>,
-    history: &History,
+    history: &IndexedHistory,
     place: usize,
     pending: Pending,
     lines: &[u64],
@@ -89,7 +89,7 @@ fn append_if_edge(
 // Appends a line for each cascading abort.
 fn append_sources(
     text: &mut Vec<u8>,
-    history: &History,
+    history: &IndexedHistory,
     place: usize,
     lines: &[u64],
 ) -> Result<(), AllocError> {

@@ -2,12 +2,14 @@
 //! For a cascading abort it finds the read from a transaction that was aborted.
 //!
 //! The reply of an abort names a cycle and the transactions that are aborted in cascade. This crate searches the
-//! history for the accesses that caused it. It names each by its position: the number of entries before it. Nothing
-//! is stored for this while a history grows, so an abort without explanation costs nothing. An explanation costs
-//! passes over the entries before the abort:
+//! history for the accesses that caused it. It names each by its position: the number of entries before it.
 //!
-//! - an edge: one pass, and at most two for each access of its second transaction;
-//! - a cascading abort: one pass, and about two for each of its reads.
+//! It searches an [`IndexedHistory`], to which the caller appends each entry. The engine's own history has no index, so
+//! an abort without explanation costs nothing. What an explanation costs does not grow with the history:
+//!
+//! - an edge: one search of its second transaction's accesses, and for each of them two of the first one's;
+//! - a cascading abort: one pass over the entries since the reader began, and for each of its reads one over those since
+//!   the first that is aborted began.
 //!
 //! [`cycle_edge`] returns an edge, and [`fall_source`] the read of a cascading abort. [`append_explanation`] writes
 //! both as lines of text.
@@ -27,8 +29,10 @@
 //! ```
 #![tactic(auto)]
 
+mod bounds;
 mod edge;
 mod explanation;
+mod indexed_history;
 mod made;
 mod progress;
 mod requested;
@@ -39,6 +43,7 @@ mod writers;
 
 pub use edge::{Earlier, Edge, cycle_edge};
 pub use explanation::{Pending, append_explanation};
+pub use indexed_history::IndexedHistory;
 pub use progress::{Call, Progress, call_before, progress_before};
 pub use requested::requested_at;
 pub use source::{Source, fall_source};

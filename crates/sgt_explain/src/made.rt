@@ -1,9 +1,11 @@
 //! An access that an entry of a history records.
-ghost use Rattle.std.specs.Prelude.{◌≡◌, ◌<◌, length};
+ghost use Rattle.std.specs.Prelude.{◌≡◌, ◌<◌, ◌≤◌, ℕ, length};
 ghost use Rattle.sgt_model.specs.Accesses.{access_at, access_of};
+ghost use Rattle.sgt_model.specs.ReadFrom.{IsBy};
 ghost use Rattle.sgt_explain.specs.Places.{placed_access};
 
-use sgt_log::{EntryRef, History};
+use crate::indexed_history::IndexedHistory;
+use sgt_log::EntryRef;
 use sgt_model::{Event, Key, Kind, Reply, Tid};
 use std::marker::Model;
 
@@ -27,15 +29,34 @@ impl Model for Made {
 }
 
 /// The access at a position, if the entry there is one.
-pub(crate) fn made_at(history: &History, place: usize) -> Option<Made>
-    requires { place < length history.now.entries }
-    ensures { result ≡ placed_access history.now.entries place }
+pub(crate) fn made_at(history: &IndexedHistory, place: usize) -> Option<Made>
+    requires { place < length history.now }
+    ensures { result ≡ placed_access history.now place }
 {
     made_in(&history.entry(place))
 }
 
-// The access of an entry, if it is one.
-fn made_in(entry: &EntryRef<'_>) -> Option<Made>
+/// A position at or before this one, between which the transaction has no access: the next to look at when its accesses
+/// are followed back from this position.
+pub(crate) fn accesses_before(history: &IndexedHistory, place: usize, t: Tid) -> usize
+    requires { place < length history.now }
+    ensures within { result ≤ place }
+    ensures none { (n : ℕ) → result ≤ n → n < place → IsBy (placed_access history.now n) t → ⊥ }
+{
+    match made_at(history, place) {
+        Some(made) => {
+            if made.by == t {
+                history.link(place)
+            } else {
+                place
+            }
+        }
+        None => place,
+    }
+}
+
+/// The access of an entry, if it is one.
+pub(crate) fn made_in(entry: &EntryRef<'_>) -> Option<Made>
     ensures { result ≡ access_of entry.now }
 {
     if !entry.is_access() {

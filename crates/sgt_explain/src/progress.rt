@@ -6,8 +6,9 @@ ghost use Rattle.sgt_model.specs.Progress.{call_in, call_of, reads, made, values
 ghost use Rattle.sgt_explain.specs.Places.{entries_before};
 ghost use Rattle.sgt_explain.specs.Calls.{called, placed_call};
 
+use crate::indexed_history::IndexedHistory;
 use crate::made::{Made, made_at};
-use sgt_log::{EntryRef, History};
+use sgt_log::EntryRef;
 use sgt_model::{Args, Event, Kind, NoMemory, Tid};
 use std::alloc::Global;
 
@@ -31,10 +32,10 @@ pub struct Progress {
 
 /// The call that started a transaction, in the entries before a position. None if none of them starts it. The call
 /// and the progress determine the next step of the procedure.
-pub fn call_before(history: &History, place: usize, t: Tid) -> Option<Call>
-    ensures call { IfSome result (λ call. call_of (entries_before history.now.entries place) t ≡ called call) }
+pub fn call_before(history: &IndexedHistory, place: usize, t: Tid) -> Option<Call>
+    ensures call { IfSome result (λ call. call_of (entries_before history.now place) t ≡ called call) }
     ensures none { IfNone result
-        ((n : ℕ) → n < place → placed_call history.now.entries t n ≡ None) }
+        ((n : ℕ) → n < place → placed_call history.now t n ≡ None) }
 {
     let mut at = place.min(history.len());
     while 0 < at {
@@ -64,18 +65,19 @@ fn call_by(entry: &EntryRef<'_>, t: Tid) -> Option<Call>
 /// `NoMemory` if an allocation failed.
 pub fn progress_before(
     alloc: Global,
-    history: &History,
+    history: &IndexedHistory,
     place: usize,
     t: Tid,
 ) -> Result<Progress, NoMemory>
-    ensures read { IfOk result (λ p. p.read.items ≡ reads (entries_before history.now.entries place) t) }
-    ensures made { IfOk result (λ p. p.made ≡ made (entries_before history.now.entries place) t) }
+    ensures read { IfOk result (λ p. p.read.items ≡ reads (entries_before history.now place) t) }
+    ensures made { IfOk result (λ p. p.made ≡ made (entries_before history.now place) t) }
 {
     let mut progress = Progress {
         read: Vec::new(alloc),
         made: 0,
     };
-    for at in 0..place.min(history.len()) {
+    let end = place.min(history.len());
+    for at in history.first(t).min(end)..end {
         note(&mut progress, made_at(history, at), t)?;
     }
     Ok(progress)

@@ -6,15 +6,15 @@ ghost use Rattle.sgt_model.specs.Settings.{Setting};
 ghost use Rattle.sgt_explain.specs.WalkEdges.{requested_access, WasAbout};
 
 use crate::explanation::Pending;
-use sgt_log::History;
+use crate::indexed_history::IndexedHistory;
 use sgt_model::{Event, Kind, Request};
 
 /// The access on which a transaction's caller decided, as the event at this position requests it. None if the event there is of
 /// another kind. If the entry aborts the transaction by a cycle, this is the access that it was about to make.
-pub fn requested_at(history: &History, place: usize) -> Option<Pending>
+pub fn requested_at(history: &IndexedHistory, place: usize) -> Option<Pending>
     ensures access { result
-        ≡ option_and_then (λ (e : Entry). requested_access e.event) (slice_get history.now.entries place) }
-    ensures about { IfSome result (λ p. (s : Setting) → WasAbout s history.now.entries place p.key p.kind) }
+        ≡ option_and_then (λ (e : Entry). requested_access e.event) (slice_get history.now place) }
+    ensures about { IfSome result (λ p. (s : Setting) → WasAbout s history.now place p.key p.kind) }
 {
     let entry = history.get_entry(place)?;
     requested_in(&entry.event())

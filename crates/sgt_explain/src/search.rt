@@ -7,22 +7,22 @@ ghost use Rattle.sgt_explain.specs.Places.{entries_before, placed_access};
 ghost use Rattle.sgt_explain.specs.Edges.{ConflictsAt, TellsEarlier};
 
 use crate::edge::Earlier;
-use crate::made::made_at;
-use sgt_log::History;
+use crate::indexed_history::IndexedHistory;
+use crate::made::{accesses_before, made_at};
 use sgt_model::{Key, Kind, Tid};
 
 /// A transaction's first read and first write of the key, before the end, that conflict with an access of that kind.
 /// None if there is neither.
 pub(crate) fn earlier(
-    history: &History,
+    history: &IndexedHistory,
     end: usize,
     by: Tid,
     key: Key,
     kind: Kind,
 ) -> Option<Earlier>
-    requires { end ≤ length history.now.entries }
-    ensures told { IfSome result (TellsEarlier history.now.entries end by key kind) }
-    ensures some { IsSome result ↔ (has_conflicting (entries_before history.now.entries end) by key kind ≡ true) }
+    requires { end ≤ length history.now }
+    ensures told { IfSome result (TellsEarlier history.now end by key kind) }
+    ensures some { IsSome result ↔ (has_conflicting (entries_before history.now end) by key kind ≡ true) }
 {
     let looked = first_conflict(history, end, by, key, Kind::Look, kind);
     let stored = first_conflict(history, end, by, key, Kind::Store, kind);
@@ -35,22 +35,31 @@ pub(crate) fn earlier(
 // The position of the transaction's first access of the key of kind `kind`, before the end, that conflicts with one
 // of kind `later`.
 fn first_conflict(
-    history: &History,
+    history: &IndexedHistory,
     end: usize,
     by: Tid,
     key: Key,
     kind: Kind,
     later: Kind,
 ) -> Option<usize>
-    requires { end ≤ length history.now.entries }
-    ensures { FirstOrNone (ConflictsAt history.now.entries by key kind later) end result }
+    requires { end ≤ length history.now }
+    ensures { FirstOrNone (ConflictsAt history.now by key kind later) end result }
 {
-    for place in 0..end {
-        if does_conflict(kind, later) && has_access(history, place, by, key, kind) {
-            return Some(place);
-        }
+    if !does_conflict(kind, later) {
+        return None;
     }
-    None
+    let mut first = None;
+    let mut rest = history.accesses_end(by);
+    while 0 < rest {
+        let place = rest - 1;
+        if place < end {
+            if has_access(history, place, by, key, kind) {
+                first = Some(place);
+            }
+        }
+        rest = accesses_before(history, place, by);
+    }
+    first
 }
 
 // Whether two accesses of these kinds to the same key conflict.
@@ -61,9 +70,9 @@ fn does_conflict(earlier: Kind, later: Kind) -> bool
 }
 
 // Whether the entry at a position is the transaction's access of that kind of the key.
-fn has_access(history: &History, place: usize, by: Tid, key: Key, kind: Kind) -> bool
-    requires { place < length history.now.entries }
-    ensures { IsTrue result ↔ IsAccessBy (placed_access history.now.entries place) by key kind }
+fn has_access(history: &IndexedHistory, place: usize, by: Tid, key: Key, kind: Kind) -> bool
+    requires { place < length history.now }
+    ensures { IsTrue result ↔ IsAccessBy (placed_access history.now place) by key kind }
 {
     match made_at(history, place) {
         Some(made) => made.by == by && made.key == key && made.kind == kind,

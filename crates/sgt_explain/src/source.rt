@@ -1,14 +1,17 @@
 //! Why a transaction was aborted in cascade: its read from a transaction that was aborted.
-ghost use Rattle.std.specs.Prelude.{◌≡◌, ◌<◌, ◌↔◌, ℕ, Some, length, reverse, slice_get, IfSome, IfNone, IsSome, IsSomeAnd, IsTrue};
+ghost use Rattle.std.specs.Prelude.{◌≡◌, ◌<◌, ◌≤◌, ◌↔◌, ℕ, Some, length, reverse, slice_get, IfSome, IfNone, IsSome, IsSomeAnd, IsTrue};
 ghost use Rattle.sgt_model.specs.Settings.{Setting};
 ghost use Rattle.sgt_model.specs.Legality.{Legal};
 ghost use Rattle.sgt_explain.specs.Firsts.{NoneBelow};
-ghost use Rattle.sgt_explain.specs.Places.{placed_falls};
+ghost use Rattle.sgt_model.specs.ReadFrom.{IsBy};
+ghost use Rattle.sgt_model.specs.Walks.{Member};
+ghost use Rattle.sgt_explain.specs.Indexes.{IsUntouched};
+ghost use Rattle.sgt_explain.specs.Places.{placed_access, placed_falls};
 ghost use Rattle.sgt_explain.specs.Sources.{IsUndoneAt, ReadsAt, ReadsUndoneAt, TellsLook, TellsSource};
 
+use crate::indexed_history::IndexedHistory;
 use crate::made::made_at;
 use crate::writers::{is_among, newest_writer};
-use sgt_log::History;
 use sgt_model::{Key, Kind, Tid};
 
 /// A read of another transaction's value.
@@ -30,14 +33,14 @@ pub struct Source {
 ///
 /// None if no transaction is aborted there, if there is none of this number, or if there is no such read. In a legal
 /// history each has one.
-pub fn fall_source(history: &History, place: usize, number: usize) -> Option<Source>
-    ensures told { IfSome result (λ source. (t : ℕ) → slice_get (placed_falls history.now.entries place) number ≡ Some t
-        → TellsSource history.now.entries place t source) }
-    ensures one { IsSome result → number < length (placed_falls history.now.entries place) }
-    ensures some { (t n : ℕ) → slice_get (placed_falls history.now.entries place) number ≡ Some t → n < place
-        → ReadsUndoneAt history.now.entries place t n → IsSome result }
-    ensures all { (s : Setting) → Legal s (reverse history.now.entries)
-        → number < length (placed_falls history.now.entries place) → IsSome result }
+pub fn fall_source(history: &IndexedHistory, place: usize, number: usize) -> Option<Source>
+    ensures told { IfSome result (λ source. (t : ℕ) → slice_get (placed_falls history.now place) number ≡ Some t
+        → TellsSource history.now place t source) }
+    ensures one { IsSome result → number < length (placed_falls history.now place) }
+    ensures some { (t n : ℕ) → slice_get (placed_falls history.now place) number ≡ Some t → n < place
+        → ReadsUndoneAt history.now place t n → IsSome result }
+    ensures all { (s : Setting) → Legal s (reverse history.now)
+        → number < length (placed_falls history.now place) → IsSome result }
 {
     let fell = history.get_entry(place)?.fell();
     if number < fell.len() {
@@ -48,13 +51,14 @@ pub fn fall_source(history: &History, place: usize, number: usize) -> Option<Sou
 }
 
 // The transaction's first read before the end from one that is aborted there.
-fn first_source(history: &History, end: usize, reader: Tid) -> Option<Source>
-    requires { end < length history.now.entries }
-    ensures told { IfSome result (TellsSource history.now.entries end reader) }
-    ensures none { IfNone result (NoneBelow (ReadsUndoneAt history.now.entries end reader) end) }
+fn first_source(history: &IndexedHistory, end: usize, reader: Tid) -> Option<Source>
+    requires { end < length history.now }
+    ensures told { IfSome result (TellsSource history.now end reader) }
+    ensures none { IfNone result (NoneBelow (ReadsUndoneAt history.now end reader) end) }
 {
-    for place in 0..end {
-        if let Some(source) = source_at(history, place, reader) {
+    let low = first_undone(history, end);
+    for place in history.first(reader).min(end)..end {
+        if let Some(source) = source_at(history, low, place, reader) {
             if is_undone(history, end, source.source) {
                 return Some(source);
             }
@@ -63,26 +67,60 @@ fn first_source(history: &History, end: usize, reader: Tid) -> Option<Source>
     None
 }
 
+// A position before which none of the transactions that are aborted at the end has an access.
+fn first_undone(history: &IndexedHistory, end: usize) -> usize
+    requires { end < length history.now }
+    ensures { (v n : ℕ) → IsUndoneAt history.now end v → n < result → IsUntouched history.now v n }
+{
+    let entry = history.entry(end);
+    let first = first_if(history, entry.named(), end);
+    first_of_all(history, entry.fell(), first)
+}
+
+// A position before which the transaction has no access, or this one if there is no transaction.
+fn first_if(history: &IndexedHistory, t: Option<Tid>, other: usize) -> usize
+    ensures { (v n : ℕ) → t ≡ Some v → n < result → IsUntouched history.now v n }
+{
+    match t {
+        Some(t) => history.first(t),
+        None => other,
+    }
+}
+
+// A position before which none of these transactions has an access, and which is at most this one.
+fn first_of_all(history: &IndexedHistory, tids: &[Tid], most: usize) -> usize
+    ensures within { result ≤ most }
+    ensures none { (v n : ℕ) → Member v tids.now → n < result → IsUntouched history.now v n }
+{
+    let mut first = most;
+    for i in 0..tids.len() {
+        first = first.min(history.first(tids[i]));
+    }
+    first
+}
+
 // Whether the entry at the end aborts the transaction, in cascade or not.
-fn is_undone(history: &History, end: usize, t: Tid) -> bool
-    requires { end < length history.now.entries }
-    ensures { IsTrue result ↔ IsUndoneAt history.now.entries end t }
+fn is_undone(history: &IndexedHistory, end: usize, t: Tid) -> bool
+    requires { end < length history.now }
+    ensures { IsTrue result ↔ IsUndoneAt history.now end t }
 {
     let entry = history.entry(end);
     entry.named() == Some(t) || is_among(entry.fell(), t)
 }
 
-// The transaction that is read from at this position, if there is one.
-fn source_at(history: &History, place: usize, reader: Tid) -> Option<Source>
-    requires { place < length history.now.entries }
-    ensures told { IfSome result (TellsLook history.now.entries reader place) }
-    ensures some { (v : ℕ) → ReadsAt history.now.entries reader v place → IsSomeAnd result (λ source. source.source ≡ v) }
+// The transaction that is read from at this position, if there is one, and its write is not before the low position.
+fn source_at(history: &IndexedHistory, low: usize, place: usize, reader: Tid) -> Option<Source>
+    requires { place < length history.now }
+    ensures told { IfSome result (TellsLook history.now reader place) }
+    ensures some { IfSome result (λ source. (v : ℕ) → ReadsAt history.now reader v place → source.source ≡ v) }
+    ensures none { IfNone result ((v : ℕ) → ReadsAt history.now reader v place
+        → (n : ℕ) × (n < low) × IsBy (placed_access history.now n) v) }
 {
     let made = made_at(history, place)?;
     if made.by != reader || made.kind != Kind::Look {
         return None;
     }
-    let source = newest_writer(history, place, made.key)?;
+    let source = newest_writer(history, low, place, made.key)?;
     if source == reader {
         return None;
     }

@@ -5,7 +5,7 @@ use crate::live_text::append_live;
 use crate::observer::Observer;
 use crate::pending::pending_at;
 use sgt_assembly::SgtEngine;
-use sgt_explain::append_explanation;
+use sgt_explain::{IndexedHistory, append_explanation};
 use sgt_input::{Lines, Sink, write_all};
 use sgt_log::History;
 use sgt_model::NoMemory;
@@ -25,6 +25,8 @@ pub(crate) struct Explainer<'a, E: Sink> {
     has_failed: bool,
     /// Whether memory ran out for an explanation.
     has_lost: bool,
+    /// The entries since the last cut. If memory ran out for one, they end before it.
+    history: IndexedHistory,
     /// The line number of each entry. If memory ran out for one, the list ends before it.
     lines: Vec<u64>,
     /// The explanations that are not yet written.
@@ -51,6 +53,7 @@ impl<'a, E: Sink> Explainer<'a, E> {
             errors,
             has_failed: false,
             has_lost: false,
+            history: IndexedHistory::new(alloc),
             lines: Vec::new(alloc),
             text: Vec::new(alloc),
         }
@@ -87,6 +90,18 @@ impl<'a, E: Sink> Explainer<'a, E> {
         }
     }
 
+    // Records the entry at a position, if all entries before it are recorded. The first entry begins a new history.
+    fn note_entry(&mut self, history: &History, place: usize) {
+        if place == 0 {
+            self.history = IndexedHistory::new(self.alloc);
+        }
+        if self.history.len() == place {
+            if let Some(entry) = history.get_entry(place) {
+                let _ = self.history.push(&entry);
+            }
+        }
+    }
+
     // Gathers the explanation of the entry at a position, if it aborts a transaction.
     fn explain_at(&mut self, engine: &SgtEngine, place: usize) {
         if aborts_at(engine.history(), place) && self.append(engine, place).is_err() {
@@ -94,13 +109,16 @@ impl<'a, E: Sink> Explainer<'a, E> {
         }
     }
 
-    // Appends that explanation. If an allocation fails, it appends nothing.
+    // Appends that explanation. If an allocation fails, or failed for an entry, it appends nothing.
     fn append(&mut self, engine: &SgtEngine, place: usize) -> Result<(), NoMemory> {
-        let history = engine.history();
-        let pending = pending_at(self.alloc, history, place, engine.sched().procedures())?;
+        if self.history.len() <= place {
+            return Err(NoMemory);
+        }
+        let procedures = engine.sched().procedures();
+        let pending = pending_at(self.alloc, &self.history, place, procedures)?;
         append_explanation(
             &mut self.text,
-            history,
+            &self.history,
             place,
             pending,
             self.lines.as_slice(),
@@ -113,6 +131,7 @@ impl<E: Sink> Observer for Explainer<'_, E> {
         let entries = engine.history().len();
         if entries > 0 {
             self.note_line(entries - 1, line);
+            self.note_entry(engine.history(), entries - 1);
             self.explain_at(engine, entries - 1);
         }
     }

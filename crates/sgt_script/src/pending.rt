@@ -1,7 +1,8 @@
 //! The access that a transaction was about to make when a cycle aborted it.
 
-use sgt_explain::{Call, Pending, Progress, call_before, progress_before, requested_at};
-use sgt_log::History;
+use sgt_explain::{
+    Call, IndexedHistory, Pending, Progress, call_before, progress_before, requested_at,
+};
 use sgt_model::{Kind, NoMemory, Tid};
 use sgt_proc::{Checked, Next};
 use std::alloc::Global;
@@ -12,7 +13,7 @@ use std::alloc::Global;
 /// `NoMemory` if an allocation failed.
 pub(crate) fn pending_at(
     alloc: Global,
-    history: &History,
+    history: &IndexedHistory,
     place: usize,
     procedures: &[Checked],
 ) -> Result<Option<Pending>, NoMemory> {
@@ -26,7 +27,7 @@ pub(crate) fn pending_at(
 }
 
 // The transaction that the entry at this position aborts by a cycle, if it does.
-fn rejected_at(history: &History, place: usize) -> Option<Tid> {
+fn rejected_at(history: &IndexedHistory, place: usize) -> Option<Tid> {
     let entry = history.get_entry(place)?;
     if entry.is_by_cycle() {
         entry.named()
@@ -38,7 +39,7 @@ fn rejected_at(history: &History, place: usize) -> Option<Tid> {
 // The next access of the transaction's procedure, after the entries before a position.
 fn pending_of(
     alloc: Global,
-    history: &History,
+    history: &IndexedHistory,
     place: usize,
     t: Tid,
     procedures: &[Checked],

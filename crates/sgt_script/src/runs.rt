@@ -67,8 +67,8 @@ pub fn run_script<S: Source, T: Sink>(
 /// The explanations of a line follow its answer, and name lines by their numbers.
 ///
 /// Explanations do not affect the run. After a failed write no more are written. If memory runs out, some are left
-/// out, and a line at the end says so. Neither is a fault. An explanation costs passes over the history since the
-/// last cut.
+/// out, and a line at the end says so. Neither is a fault. An explanation costs passes over what its transactions did,
+/// not over the whole history.
 ///
 /// # Errors
 ///

@@ -1,16 +1,32 @@
-use Rattle.std.proofs.Common.{rules, refl}
-use Rattle.sgt_explain.proofs.Conflicts.{none_follows, follows_precede}
+use Rattle.std.proofs.Common.{rules, refl, sym, subst}
+use Rattle.sgt_explain.proofs.Pairs.{PairFrom, pair_back, pair_here, pair_told, pair_some}
 use Rattle.sgt_explain.proofs.edge.pair_edge.Goals as goal
+use Rattle.sgt_explain.proofs.edge.pair_edge.Goals.{then-place-end+in-Some, then-place-end+in_default, else-place-end}
 
-pub returns-in-Some-clause-some : goal.returns-in-Some-clause-some
-returns-in-Some-clause-some c = (
-  λ h. follows_precede c.args.history.now.entries c.args.end c.args.from c.args.to c.loop-place.place c.requires (search rules)
-      (c.in-Some.ensures.some.0 refl),
-  λ h. refl,
-)
+pub loop-rest-preserved : goal.loop-rest-preserved
+loop-rest-preserved c =
+    let P = PairFrom c.args.history.now c.args.end c.args.from c.args.to c.accesses_before-rest.result in
+    record {
+      within = search rules;
+      found = elim c.if-place-end.branch [
+        | then-place-end+in-Some w ↦ subst P (sym w.first-is)
+            (pair_here c.args.history.now c.args.end c.args.from c.args.to c.loop-rest.rest c.accesses_before-rest.result w.in-Some.edge
+            (search rules) (w.in-Some.ensures.some.0 refl) w.in-Some.ensures.told c.accesses_before-rest.ensures.none)
+        | then-place-end+in_default w ↦ subst P (sym w.first-is)
+            (pair_back c.args.history.now c.args.end c.args.from c.args.to c.loop-rest.rest c.accesses_before-rest.result c.loop-rest.first
+            (search rules) c.loop-rest.invariant.found (search rules) c.accesses_before-rest.ensures.none)
+        | else-place-end w ↦ subst P (sym w.first-is)
+            (pair_back c.args.history.now c.args.end c.args.from c.args.to c.loop-rest.rest c.accesses_before-rest.result c.loop-rest.first
+            (search rules) c.loop-rest.invariant.found (search rules) c.accesses_before-rest.ensures.none)
+      ];
+    }
+
+pub returns-clause-told : goal.returns-clause-told
+returns-clause-told c =
+    pair_told c.args.history.now c.args.end c.args.from c.args.to c.loop-rest.rest c.loop-rest.first (search rules)
+    c.loop-rest.invariant.found
 
 pub returns-clause-some : goal.returns-clause-some
-returns-clause-some c = (
-  λ h. absurd (cc),
-  λ h. absurd (none_follows c.args.history.now.entries c.args.end c.args.from c.args.to c.requires (search rules) h),
-)
+returns-clause-some c =
+    pair_some c.args.history.now c.args.end c.args.from c.args.to c.loop-rest.rest c.loop-rest.first c.requires (search rules)
+    c.loop-rest.invariant.found

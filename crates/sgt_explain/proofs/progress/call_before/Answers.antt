@@ -9,7 +9,7 @@ loop-at-preserved c =
     record {
       within = search rules;
       none_since = c.loop-at.invariant.none_since
-          ∙ no_call_here c.args.history.now.entries c.loop-at.at c.args.t c.entry.result (search rules) c.entry.ensures.entry none;
-      none = no_call_more c.args.history.now.entries c.args.place c.loop-at.at c.args.t c.entry.result (search rules)
+          ∙ no_call_here c.args.history.now c.loop-at.at c.args.t c.entry.result (search rules) c.entry.ensures.entry none;
+      none = no_call_more c.args.history.now c.args.place c.loop-at.at c.args.t c.entry.result (search rules)
           c.entry.ensures.entry none c.loop-at.invariant.none;
     }

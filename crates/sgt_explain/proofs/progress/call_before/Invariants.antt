@@ -6,9 +6,9 @@ use Rattle.sgt_explain.proofs.progress.call_before.Given as goal
 
 abbrev pub invariant-loop-at : goal.invariant-loop-at
 invariant-loop-at l = record {
-  within : l.at ≤ length l.history.entries;
-  none_since : call_of (entries_before l.history.entries l.fn.place) l.t ≡ call_of (entries_before l.history.entries l.at) l.t;
-  none : (n : ℕ) → l.at ≤ n → n < l.fn.place → placed_call l.history.entries l.t n ≡ None;
+  within : l.at ≤ length l.history;
+  none_since : call_of (entries_before l.history l.fn.place) l.t ≡ call_of (entries_before l.history l.at) l.t;
+  none : (n : ℕ) → l.at ≤ n → n < l.fn.place → placed_call l.history l.t n ≡ None;
 }
 
 abbrev pub decreases-loop-at : goal.decreases-loop-at

@@ -6,7 +6,8 @@ use Rattle.sgt_explain.proofs.writers.is_aborted.Given as goal
 abbrev pub invariant-loop-place : goal.invariant-loop-place
 invariant-loop-place l = record {
   within : l.place ≤ l.end;
-  none_since : fate_of (entries_before l.history.entries l.end) l.t ≡ fate_of (entries_before l.history.entries l.place) l.t;
+  from : l.floor ≤ l.place;
+  none_since : fate_of (entries_before l.history l.end) l.t ≡ fate_of (entries_before l.history l.place) l.t;
 }
 
 abbrev pub decreases-loop-place : goal.decreases-loop-place

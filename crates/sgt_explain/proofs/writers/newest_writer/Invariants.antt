@@ -7,8 +7,9 @@ use Rattle.sgt_explain.proofs.writers.newest_writer.Given as goal
 abbrev pub invariant-loop-place : goal.invariant-loop-place
 invariant-loop-place l = record {
   within : l.place ≤ l.end;
-  none_since : newest_store (λ v. not (aborted (entries_before l.history.entries l.end) v)) l.key (entries_before l.history.entries l.end)
-      ≡ newest_store (λ v. not (aborted (entries_before l.history.entries l.end) v)) l.key (entries_before l.history.entries l.place);
+  from : l.floor ≤ l.place;
+  none_since : newest_store (λ v. not (aborted (entries_before l.history l.end) v)) l.key (entries_before l.history l.end)
+      ≡ newest_store (λ v. not (aborted (entries_before l.history l.end) v)) l.key (entries_before l.history l.place);
 }
 
 abbrev pub decreases-loop-place : goal.decreases-loop-place
