@@ -1,7 +1,8 @@
 //! The report as one object of JSON.
 
 ghost use Rattle.std.specs.Prelude.{◌≡◌, ◌++◌, flat_map, OnOk};
-ghost use Rattle.sgt_clients.specs.JsonText.{truth_text, next_item, items_text, counts_members, skipped_member, number_text, because_text, ends_text, step_object, anomaly_member, order_member, cycle_member, reader_members, finding_members, head_text, json_text};
+ghost use Rattle.sgt_clients.specs.JsonText.{truth_text, next_item, items_text, counts_members, skipped_member, number_text, because_text, ends_text, step_object, anomaly_member, order_member, cycle_member, reader_members, finding_members, head_text};
+ghost use Rattle.sgt_clients.specs.LevelJson.{json_text};
 
 use crate::clients::Clients;
 use crate::counts::count;
