@@ -10,7 +10,9 @@ pub(crate) const HELP: &str =
 
 A script and a bank are lines of JSON. A history is text in the notation of the textbook.
 'sgt script --help', 'sgt bank --help' and 'sgt check --help' describe the inputs. An error is one
-line on standard error; the exit status is then 2.
+line on standard error, and mostly a second line that says what was expected; the exit status is
+then 2. If nobody reads the output any more, a run ends in silence, with that status.
+On a terminal, standard error says once a second how much was read and how many jobs have ended.
 
 Limits:
 
@@ -81,23 +83,25 @@ Here 0/1 is record 1 of table 0, and 9 events were answered since line 1. A tran
 the number in the reply to its start.
 
 With --explain, standard error says after each abort which accesses make the edges of the cycle, and
-which reads made other transactions abort in cascade. At the end it lists the live transactions:
+which reads made other transactions abort in cascade. It says why an event is refused. At the end it
+lists the live transactions:
 
   line 9: 0 wrote 1/101 at line 8, which 1 read at line 6
   line 9: 1 would write 2/101, which 0 read at line 5
   line 25: 3 read 2/101 of 2 at line 20
+  line 26: DepositChecking takes 2 arguments, found 1
   1 transaction is live at the end: 4
-
-If a line is faulty, a second line of standard error explains the error:
-
-  line 26: bad line
-  expected ["step",transaction], found ["step"]
 
 Standard output and the status are as without --explain. It excludes --history and --records.
 
 The first bad line ends the script. The replies to the lines before it are written, and the error is
-on standard error. A line has at most 65536 bytes, the input 16777216. A value or a key is a whole
-number of at most 15 digits.
+on standard error, with a second line that explains it:
+
+  line 27: bad line
+  expected ["step",transaction], found ["step"]
+
+A line has at most 65536 bytes, the input 16777216. A value or a key is a whole number of at most 15
+digits.
 In the repository: docs/FORMATS.md has every line and reply, docs/LANGUAGE.md the procedures, and
 examples/ has scripts."#;
 
@@ -134,22 +138,21 @@ With a third limit of 1, as in [32,1000,1], each code is the code of the serial 
 If you act on codes, set the third limit to 1. Otherwise a code may rest on a value that another job
 wrote and that was undone later.
 
-All jobs are read before the first one runs, at most 1000000. If a line is bad, it is reported and
-no job runs. A line has at most 65536 bytes, the input 16777216. A value or a key is a whole
+All jobs are read before the first one runs, at most 1000000. If a line is bad, it is reported with
+what was expected, and no job runs. A line has at most 65536 bytes, the input 16777216. A value or a key is a whole
 number of at most 15 digits. The first limit, from 1 to 32, must be at least the number of workers.
 The order of two jobs is not fixed. Run serially in commit order, the committed jobs give the same
 answers and the same database.
 
-With --explain, standard error says after the report how often each job was tried, with the
-transaction of each try, and why the failed tries were aborted:
+With --explain, standard error says after the report of each job that did not commit at its first
+try how it ended, and which jobs aborted the failed tries. A summary comes last:
 
-  job 0: 1 try: 0
-  job 1: 3 tries: 1 (cycle with 0, 2), 3 (fell with 2), 4
-  job 2: 0 tries
+  job 1: committed at try 3; try 1: cycle with job 0, 2; try 2: aborted in cascade with job 2
+  job 4: aborted with code 1 at try 1
+  job 5: refused: DepositChecking takes 2 arguments, found 1
+  6 jobs: 4 committed, 1 aborted with a code, 0 given up, 1 refused, 0 without memory; 7 tries
 
-While the jobs run, a terminal shows once a second how many have ended. If a line is faulty, a
-second line explains the error. Standard output and the status are as without --explain. It excludes
---history and --records.
+Standard output and the status are as without --explain. It excludes --history and --records.
 In the repository: docs/FORMATS.md has every line, and examples/ has banks."#;
 
 /// What `sgt check --help` prints after the options.
@@ -241,8 +244,8 @@ and --timeline show the cycle. If the objects are not one a line, 'entry 3' in p
 names the third object.
 
 The status is 0 if the history is serializable and recoverable (list-append: serializable), 1 if
-not, and 2 after an error. The error is on standard error, and nothing is written to standard
-output. An input has at most 268435456 bytes.
+not, and 2 after an error. The error is on standard error, with a second line that explains it, and
+nothing is written to standard output. An input has at most 268435456 bytes.
 The classes are those of Bernstein, Hadzilacos and Goodman (1987), chapter 2.
 In the repository: docs/FORMATS.md has each line, examples/histories more histories, and
 examples/clients what clients saw of PostgreSQL."#;

@@ -3,9 +3,11 @@
 //! A [`Fault`](sgt_input::Fault) names a line and a kind. After the run has ended, [`diagnose`] reads that line once
 //! more. It says in one line where the error is and what was expected there. A [`Remembering`] source passes on the
 //! bytes of another source and stores the newest lines, so the line can be read again. [`explain`] combines the two.
-//! No run depends on this: its output and its end stay the same. If memory runs out for an explanation, there is none.
+//! [`advise`] says what to do about a fault that names no line. No run depends on this: its output and its end stay
+//! the same. If memory runs out for an explanation, there is none.
 //!
-//! [`explain_opening`] and [`explain_procedure`] explain a text that is refused, without a run.
+//! [`explain_opening`] and [`explain_procedure`] explain a text that is refused, without a run. [`append_refusal`] says
+//! why an engine has refused an event.
 //!
 //! Parts of the input are shortened when shown, and contain only printable ASCII.
 //!
@@ -21,6 +23,7 @@
 #![tactic(auto)]
 
 mod account;
+mod advice;
 mod command;
 mod diagnosis;
 mod excerpt;
@@ -36,14 +39,17 @@ mod opening;
 mod part;
 mod record;
 mod refusal;
+mod refused_event;
 mod remembering;
 mod request;
 mod search;
 mod tree;
 mod typed;
 
+pub use advice::advise;
 pub use command::Command;
 pub use diagnosis::diagnose;
 pub use explanation::explain;
 pub use refusal::{explain_opening, explain_procedure};
+pub use refused_event::{append_refusal, is_refusal};
 pub use remembering::Remembering;

@@ -67,7 +67,7 @@ read_more all rest w n items more new ops op many next read grown one active dis
 pub first_fault : (all rest : List Word) (w : Word) (n : ℕ) (items : List (List ℕ)) (ops : List Operation) (f : NotationFault)
     → n ≡ length ops → drop n all ≡ w ∷ rest → AreRead (take n all) items ops → IsFaultAt ops w f → IsFirstFault all f
 first_fault all rest w n items ops NoMemory many next read fault = tt
-first_fault all rest w n items ops (NoOperation line shown) many next read fault =
+first_fault all rest w n items ops (NoOperation line shown start) many next read fault =
     record { place = n; word = w; items = items; before = ops; read = read; at = (take_next n all rest w next).2; fault = fault }
 first_fault all rest w n items ops (Ended line t) many next read fault =
     record { place = n; word = w; items = items; before = ops; read = read; at = (take_next n all rest w next).2; fault = fault }

@@ -26,7 +26,7 @@ pub record AreRead (ws : List Word) (items : List (List ℕ)) (operations : List
 
 -- the word is wrong after these operations: it spells none, or one of a transaction that has ended
 abbrev pub IsFaultAt : List Operation → Word → NotationFault → Type 0
-IsFaultAt before w (NoOperation line shown) =
+IsFaultAt before w (NoOperation line shown start) =
     (line ≡ w.line) × (shown.text.items ≡ map shown_byte (take 32 w.text)) × ¬ IsOperation w.text
 IsFaultAt before w (Ended line t) = (line ≡ w.line) × EndedBefore before t (length before)
     × ((items : List (List ℕ)) × (op : Operation) × IsSpelled w.text items op × (op.transaction ≡ t))

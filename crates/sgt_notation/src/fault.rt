@@ -3,6 +3,7 @@ ghost use Rattle.std.specs.Prelude.{◌≡◌, map, take, IfOk};
 ghost use Rattle.sgt_notation.specs.declared.fault.NotationFault.TheVariants as fault;
 ghost use Rattle.sgt_notation.specs.Readings.{shown_byte};
 
+use memchr::memrchr;
 use sgt_model::NoMemory;
 use std::alloc::Global;
 use std::fmt::{self, Display, Formatter};
@@ -12,9 +13,9 @@ use thiserror::Error;
 /// An error of a text. Lines are numbered from 1.
 #[derive(Debug, Drop, PartialEq, Eq, Error)]
 pub enum NotationFault {
-    /// A word of the line spells no operation.
+    /// A word of the line spells no operation. It starts like this.
     #[error("line {0}: no operation: {1}")]
-    NoOperation(u64, Shown),
+    NoOperation(u64, Shown, WordStart),
     /// The line has an operation of this transaction, which has ended.
     #[error("line {0}: transaction {1} has ended")]
     Ended(u64, u32),
@@ -28,6 +29,32 @@ impl From<NoMemory> for NotationFault {
 
     fn from(_: NoMemory) -> Self {
         NotationFault::NoMemory
+    }
+}
+
+/// The byte order mark that some programs put before a text in UTF-8.
+const BYTE_ORDER_MARK: &[u8] = b"\xef\xbb\xbf";
+
+/// Where a word starts that spells no operation, and how.
+#[derive(Clone, Copy, Debug, PartialEq, Eq)]
+pub struct WordStart {
+    /// The column of its first byte in its line. Columns are bytes, counted from 1.
+    pub column: u64,
+    /// Whether it starts with a byte order mark.
+    pub is_marked: bool,
+}
+
+impl WordStart {
+    /// The start of the word, which follows this text.
+    pub(crate) fn of(before: &[u8], word: &[u8]) -> Self {
+        let line = match memrchr(b'\n', before) {
+            Some(place) => place + 1,
+            None => 0,
+        };
+        WordStart {
+            column: ((before.len() - line) as u64).saturating_add(1),
+            is_marked: word.starts_with(BYTE_ORDER_MARK),
+        }
     }
 }
 

@@ -32,7 +32,7 @@ mod spelling;
 mod transcript;
 mod words;
 
-pub use fault::{NotationFault, Shown};
+pub use fault::{NotationFault, Shown, WordStart};
 pub use history::History;
 pub use items::Items;
 pub use laws::transcripts_spell_textbooks;

@@ -8,7 +8,7 @@ ghost use Rattle.sgt_notation.specs.Spellings.{IsSpelled};
 ghost use Rattle.sgt_notation.specs.Readings.{AreRead, IsFaultAt, IsFirstFault, texts};
 ghost use Rattle.sgt_notation.specs.Numbering.{KnowsHistory, KnowsItems, KnowsEnds, is_end, texts_of, TakesWord};
 
-use crate::fault::{NotationFault, Shown};
+use crate::fault::{NotationFault, Shown, WordStart};
 use crate::history::History;
 use crate::items::Items;
 use crate::spelled::{Spelled, read_word};
@@ -39,7 +39,7 @@ pub fn read_history(alloc: Global, text: &[u8]) -> Result<History, NotationFault
     let mut place = next_word(text, Place { at: 0, line: 1 });
     while place.at < text.len() {
         let end = word_end(text, place.at, place.line);
-        reader.take(alloc, place.line, &text[place.at..end])?;
+        reader.take(alloc, place.line, &text[..place.at], &text[place.at..end])?;
         place = next_word(
             text,
             Place {
@@ -77,12 +77,18 @@ impl HistoryReader {
         }
     }
 
-    /// Reads the next word, from the line with this number.
+    /// Reads the next word, from the line with this number. It follows this text.
     ///
     /// # Errors
     ///
     /// The error of the word, or `NoMemory`. Read nothing more then.
-    pub fn take(&mut self, alloc: Global, line: u64, word: &[u8]) -> Result<(), NotationFault>
+    pub fn take(
+        &mut self,
+        alloc: Global,
+        line: u64,
+        before: &[u8],
+        word: &[u8],
+    ) -> Result<(), NotationFault>
         requires few { length (texts_of self.old.items) + 1 < 2 ^ 32 }
         requires known { KnowsHistory self.old }
         ensures known { OnOk result (KnowsHistory self.new) }
@@ -91,7 +97,8 @@ impl HistoryReader {
         ensures fault { IfErr result (IsFaultAt self.old.operations.items (record { line = line; text = word.now })) }
     {
         let Some(spelled) = read_word(word) else {
-            return Err(NotationFault::NoOperation(line, Shown::of(alloc, word)?));
+            let start = WordStart::of(before, word);
+            return Err(NotationFault::NoOperation(line, Shown::of(alloc, word)?, start));
         };
         let transaction = spelled.operation.transaction;
         if self.ended.contains_key(transaction) {

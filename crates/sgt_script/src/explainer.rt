@@ -4,6 +4,7 @@ ghost use Rattle.std.specs.Prelude.{◌+◌, ◌^◌, ◌<◌};
 use crate::live_text::append_live;
 use crate::observer::Observer;
 use crate::pending::pending_at;
+use crate::refused::append_refused;
 use sgt_assembly::SgtEngine;
 use sgt_explain::append_explanation;
 use sgt_input::{Lines, Sink, write_all};
@@ -94,6 +95,13 @@ impl<'a, E: Sink> Explainer<'a, E> {
         }
     }
 
+    // Gathers why the newest entry, of this line, is refused, if it is.
+    fn explain_refusal(&mut self, engine: &SgtEngine, line: u64) {
+        if append_refused(&mut self.text, engine, line).is_err() {
+            self.has_lost = true;
+        }
+    }
+
     // Appends that explanation. If an allocation fails, it appends nothing.
     fn append(&mut self, engine: &SgtEngine, place: usize) -> Result<(), NoMemory> {
         let history = engine.history();
@@ -114,6 +122,7 @@ impl<E: Sink> Observer for Explainer<'_, E> {
         if entries > 0 {
             self.note_line(entries - 1, line);
             self.explain_at(engine, entries - 1);
+            self.explain_refusal(engine, line);
         }
     }
 

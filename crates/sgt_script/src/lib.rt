@@ -19,6 +19,7 @@ mod live_text;
 mod observer;
 mod output;
 mod pending;
+mod refused;
 mod runs;
 mod script;
 
