@@ -44,25 +44,27 @@ BANK = ("bank", "--workers", "1")
 # Memory
 
 
-# The program may succeed without the allocations before the run, while the options are parsed.
+# The program may succeed without the allocations before the run, while the options are parsed, and without the one that stores the
+# newest lines.
 
 def refused_growths(sgt, script, replies):
     """One allocation fails, or all from one on: what was written is the replies to the first lines, and no database."""
     starts = {"".join(replies.splitlines(True)[:n]) for n in range(len(replies.splitlines()) + 1)}
     before = sgt.allocations("--version", given="")
     count = sgt.allocations("script", given=script)
-    done_without = 0
+    done_without = [0, 0]
     for number in range(1, count + 1):
         for last in (number, FOREVER):
             came = sgt.run("script", given=script, refuse_first=number, refuse_last=last)
-            if came == (0, replies + LEFT, "") and number == last and number < before:
-                done_without += 1
+            if came == (0, replies + LEFT, "") and number == last:
+                done_without[number >= before] += 1
                 continue
             status, out, told = came
             same(f"allocations {number} to {last}", (2, "no memory\n"), (status, told))
             if out not in starts:
                 raise Differs(f"allocations {number} to {last}: came {out!r:.400}")
-    return f"{count} growths refused, one and all from there on; {done_without} done without"
+    same("without storing the lines, which an error would explain", 1, done_without[1])
+    return f"{count} growths refused, one and all from there on; {sum(done_without)} done without"
 
 
 def refuses_each_growth_of_a_script(sgt):
