@@ -1,19 +1,21 @@
 //! The committed database, row by row.
-ghost use Rattle.std.specs.Prelude.{◌≡◌, ◌≢◌, ◌≤◌, ◌↔◌, length, drop};
+ghost use Rattle.std.specs.Prelude.{◌≡◌, ◌≢◌, ◌≤◌, ◌↔◌, IfOk, OnErr, length, drop};
+ghost use Rattle.sgt_model.specs.Databases.{IsByKey};
 ghost use Rattle.sgt_model.specs.Numbers.{IsValue};
-ghost use Rattle.sgt_c.specs.Rows.{CountsRows, HoldRows, ReturnsRows, row_of, rows_from};
+ghost use Rattle.sgt_c.specs.Rows.{AreCounted, AreWritten, CountsRows, HoldRows, ReturnsRows, row_of, rows_from};
 ghost use Rattle.sgt_c.specs.Handles.{IsBusy, IsClosed};
 
 use crate::asked::keyed;
 use crate::handle::Handle;
 use crate::row_struct::SgtRow;
 use crate::status;
+use sgt_assembly::SgtEngine;
 use sgt_model::{Key, NoMemory};
 use std::alloc::Global;
 
 /// The committed database from a key on, by table and then by number. The first rows are written to `rows`, as many as
-/// fit. `count` is the number of all rows from there. The call scans all records, and allocates memory for them
-/// meanwhile.
+/// fit. `count` is the number of all rows from there. If the history is empty, the call costs a search and the rows that
+/// it writes. Else it scans all records, and allocates memory for them meanwhile.
 ///
 /// - `BAD_CALL`, tested first: the table is over 7, or the number is no value.
 /// - `BUSY`; `CLOSED`; `NO_MEMORY`.
@@ -47,20 +49,19 @@ pub extern "C" fn sgt_rows(
     let Some(held) = engine.take(alloc) else {
         return status::CLOSED;
     };
-    let database = held.engine.database(alloc);
+    let written = write_committed(alloc, &held.engine, key, rows);
     engine.put(held);
-    match database {
-        Ok(database) => {
-            let from_key = rows_from(database.rows(), key);
-            write_rows(rows, from_key);
-            *count = from_key.len() as u64;
+    match written {
+        Ok(all) => {
+            *count = all as u64;
             status::OK
         }
         Err(NoMemory) => status::NO_MEMORY,
     }
 }
 
-/// How many records the committed database has. The call scans all records, and allocates memory for them meanwhile.
+/// How many records the committed database has. If the history is not empty, the call scans all records, and allocates
+/// memory for them meanwhile.
 ///
 /// `BUSY`; `CLOSED`; `NO_MEMORY`.
 #[unsafe(no_mangle)]
@@ -80,26 +81,82 @@ pub extern "C" fn sgt_records(alloc: Global, engine: &mut Handle, count: &mut u6
     let Some(held) = engine.take(alloc) else {
         return status::CLOSED;
     };
-    let database = held.engine.database(alloc);
+    let counted = count_committed(alloc, &held.engine);
     engine.put(held);
-    match database {
-        Ok(database) => {
-            *count = database.rows().len() as u64;
+    match counted {
+        Ok(all) => {
+            *count = all as u64;
             status::OK
         }
         Err(NoMemory) => status::NO_MEMORY,
     }
 }
 
-/// The rows from the first key that is not less than this one.
+/// Writes the committed rows from a key on, as many as fit, and returns the number of all from there. While the history
+/// is empty, they are rows of the initial database.
+#[tactic(auto, using(crate::proofs::RowSteps::opening_committed))]
+fn write_committed(
+    alloc: Global,
+    engine: &SgtEngine,
+    key: Key,
+    to: &mut [SgtRow],
+) -> Result<usize, NoMemory>
+    ensures returned { IfOk result (λ count. AreWritten engine.now key to.new count) }
+    ensures rest { IfOk result (λ count. drop count to.new ≡ drop count to.old) }
+    ensures room { length to.new ≡ length to.old }
+    ensures unwritten { OnErr result (to.new ≡ to.old) }
+{
+    if engine.is_new() {
+        // The replay of the history that this call borrows leaves the committed database.
+        let _ = engine.history();
+        return Ok(write_from(engine.opening(), key, to));
+    }
+    let database = engine.database(alloc)?;
+    Ok(write_from(database.rows(), key, to))
+}
+
+/// How many rows are committed. While the history is empty, they are those of the initial database.
+#[tactic(auto, using(crate::proofs::RowSteps::opening_committed))]
+fn count_committed(alloc: Global, engine: &SgtEngine) -> Result<usize, NoMemory>
+    ensures { IfOk result (AreCounted engine.now) }
+{
+    if engine.is_new() {
+        // The replay of the history that this call borrows leaves the committed database.
+        let _ = engine.history();
+        return Ok(engine.opening().len());
+    }
+    Ok(engine.database(alloc)?.rows().len())
+}
+
+/// Writes the rows from a key on, as many as fit, and returns the number of all from there.
+fn write_from(rows: &[(Key, i64)], key: Key, to: &mut [SgtRow]) -> usize
+    requires { IsByKey rows.now }
+    ensures written { HoldRows to.new (rows_from key rows.now) }
+    ensures count { result ≡ length (rows_from key rows.now) }
+    ensures rest { drop result to.new ≡ drop result to.old }
+    ensures room { length to.new ≡ length to.old }
+{
+    let from_key = rows_from(rows, key);
+    write_rows(to, from_key);
+    from_key.len()
+}
+
+/// The rows from the first key that is not less than this one, by binary search.
 fn rows_from(rows: &[(Key, i64)], key: Key) -> &[(Key, i64)]
+    requires { IsByKey rows.now }
     ensures { result.now ≡ rows_from key rows.now }
 {
-    let mut before = 0;
-    while before < rows.len() && rows[before].0 < key {
-        before += 1;
+    let mut low = 0;
+    let mut high = rows.len();
+    while low < high {
+        let middle = low + (high - low) / 2;
+        if rows[middle].0 < key {
+            low = middle + 1;
+        } else {
+            high = middle;
+        }
     }
-    &rows[before..]
+    &rows[low..]
 }
 
 /// Writes rows for C, as many as fit, and leaves the rest.

@@ -258,6 +258,14 @@ impl<R: Records, A: Accesses, G: Graph> Engine<R, A, G> {
         &self.sched
     }
 
+    /// The rows of the initial database, sorted by table and then by number.
+    pub fn opening(&self) -> &[(Key, i64)]
+        ensures rows { result.now ≡ self.now.opening }
+        ensures by_key { IsByKey result.now }
+    {
+        self.opening.rows()
+    }
+
     /// Whether the history is empty: no event was answered since the engine was made or cut.
     pub fn is_new(&self) -> bool
         ensures { IsTrue result ↔ (self.now.past ≡ []) }
