@@ -45,6 +45,15 @@ impl<N: Named, R: Records, A: Accesses, G: Graph> Shared<N, R, A, G> {
         let Ok(list) = Vec::with_capacity(alloc, usize::from(sessions)) else {
             return Err(NewError { engine, blank });
         };
+        let engine = match Box::new(alloc, engine) {
+            Ok(engine) => engine,
+            Err(failed) => {
+                return Err(NewError {
+                    engine: failed.value,
+                    blank,
+                });
+            }
+        };
         let (calls, all) = blank.open::<N>();
         let list = first_sessions(alloc, list, all, sessions);
         let round = Mutex::new(Round::new(engine, calls));

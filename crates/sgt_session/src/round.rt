@@ -22,10 +22,11 @@ use sgt_records::Records;
 use std::marker::Model;
 use std::sync::ledger::{Book, Share};
 
-/// The state under the lock: the engine, with a book of the sessions' calls. Contracts see it as its engine.
+/// The state under the lock: the engine, with a book of the sessions' calls. Contracts see it as its engine. The engine
+/// has kilobytes, so it stands in a box, and only the box is moved.
 #[derive(Drop)]
 pub struct Round<N: Named, R: Records, A: Accesses, G: Graph> {
-    engine: Engine<R, A, G>,
+    engine: Box<Engine<R, A, G>>,
     calls: Book<N>,
 }
 
@@ -39,18 +40,18 @@ impl<N: Named, R: Records, A: Accesses, G: Graph> Model for Round<N, R, A, G> {
 
     ghost coded = { Prim.hlevel (codes, coded_procedure) };
 
-    ghost view = { λ r. r.engine };
+    ghost view = { λ r. r.engine.value };
 
-    ghost invariant = { λ r. (setting_of r.engine ≡ N.setting) × (length r.engine.past ≡ r.calls.total) };
+    ghost invariant = { λ r. (setting_of r.engine.value ≡ N.setting) × (length r.engine.value.past ≡ r.calls.total) };
 }
 
 impl<N: Named, R: Records, A: Accesses, G: Graph> Round<N, R, A, G> {
     /// An engine with an empty history, and a book with no calls.
-    pub fn new(engine: Engine<R, A, G>, calls: Book<N>) -> Self
-        requires setting { setting_of engine ≡ N.setting }
-        requires empty { engine.past ≡ [] }
+    pub fn new(engine: Box<Engine<R, A, G>>, calls: Book<N>) -> Self
+        requires setting { setting_of engine.value ≡ N.setting }
+        requires empty { engine.value.past ≡ [] }
         requires calls { calls.total ≡ 0 }
-        ensures { result ≡ engine }
+        ensures { result ≡ engine.value }
     {
         Round { engine, calls }
     }
@@ -112,6 +113,6 @@ impl<N: Named, R: Records, A: Accesses, G: Graph> Round<N, R, A, G> {
     {
         let Round { engine, calls: _ } = self;
         let _ = engine.history();
-        engine
+        Box::into_inner(engine)
     }
 }
