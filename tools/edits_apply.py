@@ -49,7 +49,7 @@ def applied(edit, crate):
 def lost_lines():
     """The lines of TRIED whose mutant is gone, and how many mutants of tools/edits have no line."""
     lines = TRIED.read_text(encoding="utf-8").splitlines() if TRIED.is_file() else []
-    noted = {tuple(line.split(" ", 2)[:2]): line for line in lines}
+    noted = {tuple(line.split(" ")[:2]): line for line in lines}
     there = {(edit.parent.name, edit.stem) for edit in EDITS.glob("*/*.edit")}
     return [line for key, line in noted.items() if key not in there], len(there - noted.keys())
 

@@ -1,9 +1,9 @@
 #!/usr/bin/env python3
-"""Makes the lists of docs/PROOFS.md from the sources: the laws of each crate, and the mutants that its table does not name.
+"""Makes the lists of docs/PROOFS.md from the sources: the laws of each crate, and how many mutants it has.
 
 Run it anywhere in the repository: tools/proof_lists.py. Between each line `<!-- lists CRATE.. -->` and the next empty line it
 writes these lists. It prints how many laws and mutants there are. A law is a public function without parameters and
-result, whose contract is the law. A mutant in brackets is one of tools/edits, which the test command does not try.
+result, whose contract is the law. The tables of the page name the mutants that teach; all are files, named after what they do.
 """
 import re
 import sys
@@ -38,42 +38,34 @@ def marked_mutants_of(crate):
     return [f"`{name}`" for name in tried] + [f"(`{name}`)" for name in others]
 
 
-def item(title, crates, named):
-    """The wrapped lines of a list item with the names of each crate; none if there are no names."""
-    parts = []
-    for crate in crates:
-        names = named(crate)
-        if names:
-            prefix = f"`{crate}` " if len(crates) > 1 else ""
-            parts.append(prefix + ", ".join(names))
+def item(title, parts):
+    """The wrapped lines of a list item; none if it has no parts."""
     if not parts:
         return []
-    text = f"- **{title}**: " + "; ".join(parts) + "."
-    return textwrap.wrap(text, WIDTH, subsequent_indent="  ", break_on_hyphens=False)
+    return textwrap.wrap(f"- **{title}**: " + "; ".join(parts) + ".", WIDTH, subsequent_indent="  ", break_on_hyphens=False)
 
 
-def lists_of(crates, table):
-    """The lines of these crates' lists, after the lines of their table."""
-    named = set(re.findall(r"\(?`[^`]+`\)?", "\n".join(table)))
-
-    def laws(crate):
-        return [f"`{name}`" for name in laws_of(crate)]
-
-    def others(crate):
-        return [name for name in marked_mutants_of(crate) if name not in named]
-
-    return item("Laws", crates, laws) + item("Other mutants", crates, others)
+def lists_of(crates):
+    """The lines of these crates' lists."""
+    laws, mutants = [], []
+    for crate in crates:
+        prefix = f"`{crate}` " if len(crates) > 1 else ""
+        names = laws_of(crate)
+        if names:
+            laws.append(prefix + ", ".join(f"`{name}`" for name in names))
+        tried, others = map(len, mutants_of(crate))
+        if tried or others:
+            mutants.append(prefix + " and ".join([str(tried)] * bool(tried) + [f"({others})"] * bool(others)))
+    return item("Laws", laws) + item("Mutants", mutants)
 
 
 def made(text):
     """The page with its lists made anew: what stands between a mark and the next empty line."""
-    lines, inside, heading = [], False, 0
+    lines, inside = [], False
     for line in text.split("\n"):
         found = MARK.match(line)
-        if line.startswith("#"):
-            heading = len(lines)
         if found:
-            lines += [line, *lists_of(found.group(1).split(), lines[heading:])]
+            lines += [line, *lists_of(found.group(1).split())]
             inside = True
         elif not line:
             inside = False

@@ -6,8 +6,8 @@ of crates/CRATE/must-fail. It works on a copy of the repository in which these m
 try them there; what earlier checks have stored of the crates below is taken over. A crate takes as long as a check of it from
 nothing, and half a minute for each further mutant. It ends with status 1 where a mutant is not refused.
 
-Each mutant that was refused gets a line in tools/edits/TRIED: its crate, its name, the commit at which it was tried, and what refused
-it. A commit ends in `+` where the crates or the mutants differed from it. One that was tried and not refused loses its line.
+Each mutant that was refused gets a line in tools/edits/TRIED: its crate, its name, and the commit at which it was tried. A commit ends
+in `+` where the crates or the mutants differed from it. One that was tried and not refused loses its line.
 """
 import os
 import re
@@ -21,7 +21,7 @@ ROOT = Path(__file__).resolve().parent.parent
 EDITS = ROOT / "tools" / "edits"
 TRIED = EDITS / "TRIED"
 VERDICT = re.compile(r".*must-fail (\w+)/([\w.-]+)\.edit: (.*)")
-REFUSED = re.compile(r"refused, as it must be(?:: (?:error: )?)?(.*)")
+REFUSED = "refused, as it must be"
 
 
 def copied(crate, room):
@@ -60,13 +60,12 @@ def record(found, at):
     """Writes the verdicts into TRIED, in the place of earlier ones, and drops the lines of mutants that are gone."""
     lines = {}
     for line in TRIED.read_text(encoding="utf-8").splitlines() if TRIED.is_file() else []:
-        crate, name, _ = line.split(" ", 2)
+        crate, name, _ = line.split(" ")
         lines[crate, name] = line
     for (crate, name), said in found.items():
-        refused = REFUSED.fullmatch(said)
         lines.pop((crate, name), None)
-        if refused:
-            lines[crate, name] = f"{crate} {name} {at} {refused[1].strip()}".rstrip()
+        if said.startswith(REFUSED):
+            lines[crate, name] = f"{crate} {name} {at}"
     there = [line for (crate, name), line in sorted(lines.items()) if (EDITS / crate / f"{name}.edit").is_file()]
     TRIED.write_text("".join(f"{line}\n" for line in there), encoding="utf-8")
 
