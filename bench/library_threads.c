@@ -1,11 +1,12 @@
 /*
  * Threads on one shared engine, for bench/library_threads.
  *
- *     library_threads WAY THREADS CALLS
+ *     library_threads WAY THREADS CALLS [ACCOUNTS]
  *
- * So many calls of SmallBank's procedures, over 4 accounts, are made by so many threads. WAY is `alone` (sgt_run on an engine without a
- * lock, by one thread), `run` (sgt_shared_run) or `steps` (each event a call, in a shared engine; what aborts is started again). It
- * prints how many calls were carried out each second, and the nanoseconds of processor time for each.
+ * So many calls of SmallBank's procedures, over 4 accounts or as many as are given, are made by so many threads. WAY is `alone` (sgt_run
+ * on an engine without a lock, by one thread), `run` (sgt_shared_run) or `steps` (each event a call, in a shared engine; what aborts is
+ * started again). It prints how many calls were carried out each second, the nanoseconds of processor time for each, and how many
+ * attempts of `run` were aborted for each 1,000 calls.
  */
 #include <pthread.h>
 #include <stdio.h>
@@ -15,22 +16,32 @@
 
 #include "sgt_shared.h"
 
-enum { MOST_THREADS = 64, ACCOUNTS = 4, PART = 500000 };
+enum { MOST_THREADS = 64, MOST_ACCOUNTS = 10000, ACCOUNT_BYTES = 40, PART = 500000 };
 
-static const char opening[] = "{\"limits\":[32,4000000000,1],\"accounts\":[[0,100,100000,100000],[1,101,100000,100000],"
-                              "[2,102,100000,100000],[3,103,100000,100000]],\"procedures\":[]}";
+static char opening[MOST_ACCOUNTS * ACCOUNT_BYTES + 100];
+static size_t opening_len;
 static const size_t takes[] = {1, 2, 2, 2, 2};
 static sgt_shared *shared;
-static long each;
+static long each, accounts = 4;
 
 struct thread {
     pthread_t id;
     uint64_t drawn;
+    /* Attempts of its runs that did not commit. */
+    uint64_t aborted;
 };
 
 static void must(int holds)
 {
     if (!holds) exit(1);
+}
+
+static void write_opening(void)
+{
+    char *at = opening + sprintf(opening, "{\"limits\":[32,4000000000,1],\"accounts\":[");
+    for (long name = 0; name < accounts; name++) at += sprintf(at, "%s[%ld,%ld,100000,100000]", name ? "," : "", name, name + 20000);
+    at += sprintf(at, "],\"procedures\":[]}");
+    opening_len = (size_t)(at - opening);
 }
 
 static double seconds(clockid_t clock)
@@ -49,8 +60,8 @@ static int64_t draw(struct thread *it, int64_t below)
 static uint16_t draw_call(struct thread *it, int64_t *args)
 {
     const uint16_t procedure = (uint16_t)draw(it, 5);
-    args[0] = draw(it, ACCOUNTS);
-    args[1] = procedure == 3 ? draw(it, ACCOUNTS) : 1 + draw(it, 99);
+    args[0] = draw(it, accounts);
+    args[1] = procedure == 3 ? draw(it, accounts) : 1 + draw(it, 99);
     return procedure;
 }
 
@@ -61,7 +72,7 @@ static void *run_alone(void *of)
     sgt_fault fault = {0};
     sgt_reply reply = {0};
     uint64_t entries = 0, live = 0;
-    must(sgt_open(&engine, (const uint8_t *)opening, sizeof opening - 1, &fault) == SGT_OK);
+    must(sgt_open(&engine, (const uint8_t *)opening, opening_len, &fault) == SGT_OK);
     for (long made = 0; made < each; made++) {
         int64_t args[2];
         uint32_t tid = 0;
@@ -82,6 +93,7 @@ static void *run_shared(void *of)
         int64_t args[2];
         const uint16_t procedure = draw_call(it, args);
         must(sgt_shared_run(shared, procedure, args, takes[procedure], 0, &outcome) == SGT_OK);
+        it->aborted += outcome.tries - 1;
     }
     return 0;
 }
@@ -116,22 +128,29 @@ static void *step_shared(void *of)
 int main(int argc, char **argv)
 {
     static struct thread threads[MOST_THREADS];
-    if (argc != 4) return 2;
+    if (argc != 4 && argc != 5) return 2;
     const int many = atoi(argv[2]);
-    if (many < 1 || many > MOST_THREADS) return 2;
+    if (argc == 5) accounts = atol(argv[4]);
+    if (many < 1 || many > MOST_THREADS || accounts < 1 || accounts > MOST_ACCOUNTS) return 2;
+    write_opening();
     each = atol(argv[3]) / many;
     void *(*work)(void *) = strcmp(argv[1], "alone") == 0 ? run_alone : strcmp(argv[1], "run") == 0 ? run_shared : step_shared;
     sgt_fault fault = {0};
     sgt_shared_config config = SGT_SHARED_CONFIG;
     config.cut_after = PART, config.cut_wait_ns = 10000000;
-    must(sgt_shared_open(&shared, (const uint8_t *)opening, sizeof opening - 1, 0, 0, &config, &fault) == SGT_OK);
+    must(sgt_shared_open(&shared, (const uint8_t *)opening, opening_len, 0, 0, &config, &fault) == SGT_OK);
     const double from = seconds(CLOCK_MONOTONIC), worked = seconds(CLOCK_PROCESS_CPUTIME_ID);
     for (int i = 0; i < many; i++) {
         threads[i].drawn = 20190408u + (unsigned)i;
         must(pthread_create(&threads[i].id, 0, work, &threads[i]) == 0);
     }
-    for (int i = 0; i < many; i++) pthread_join(threads[i].id, 0);
+    uint64_t aborted = 0;
+    for (int i = 0; i < many; i++) {
+        pthread_join(threads[i].id, 0);
+        aborted += threads[i].aborted;
+    }
     const double took = seconds(CLOCK_MONOTONIC) - from, work_time = seconds(CLOCK_PROCESS_CPUTIME_ID) - worked;
-    printf("%.0f %.0f\n", (double)(each * many) / took, work_time * 1e9 / (double)(each * many));
+    const double made = (double)(each * many);
+    printf("%.0f %.0f %.1f\n", made / took, work_time * 1e9 / made, 1e3 * (double)aborted / made);
     return sgt_shared_close(&shared) == SGT_OK ? 0 : 1;
 }
