@@ -1,11 +1,11 @@
 -- How many accesses pass a test: after a change of the list, and what it says of whether some do.
 use Rattle.std.proofs.Common.{◌≡◌, ℕ, ◌+◌, ◌<◌, ◌≤◌, suc, Bool, true, false, ◌||◌, ◌&&◌, not, cond, nat_eq, nat_lt, count_by, List, [], ◌∷◌, ◌++◌, length, get_or, filter, swap_remove, arith, refl, sym, ap, ◌∙◌}
 use Rattle.std.specs.List.{list_any, AllWithin}
-use Rattle.std.proofs.lemmas.Bool.{true≢false, lt-ltb}
+use Rattle.std.proofs.lemmas.Bool.{true≢false, lt-ltb, or_from}
 use Rattle.std.proofs.lemmas.List.Sums.{sum_by-cons, sum_by-append, sum_by-swap_remove}
 use Rattle.std.proofs.lemmas.List.{get_or_default}
-use Rattle.sgt_model.specs.AccessList.{ListedAccess, forgotten}
-use Rattle.sgt_access.specs.Filters.{StandsFor, IsOneLess}
+use Rattle.sgt_model.specs.AccessList.{ListedAccess, is_listed, forgotten}
+use Rattle.sgt_access.specs.Masks.{StandsFor, IsOneLess}
 
 -- how many one item is that passes or fails
 abbrev pub bit : Bool → ℕ
@@ -111,6 +111,13 @@ pub stands_forgotten : (list old new : List ListedAccess) (t : ℕ) → StandsFo
 stands_forgotten list old new t stands same none p =
     sym (count_kept p (λ a. nat_eq a.by t) new none) ∙ same p ∙ stands (λ a. p a && not (nat_eq a.by t))
     ∙ sym (count_filtered p (λ a. nat_eq a.by t) list)
+
+-- none is listed
+pub none_listed : (t : ℕ) (accesses : List ListedAccess) → AllWithin (λ (a : ListedAccess). nat_eq a.by t ≡ false) accesses 0 (length accesses)
+    → is_listed accesses t ≡ false
+none_listed t [] none = refl
+none_listed t (a ∷ accesses) none = or_from (nat_eq a.by t) (is_listed accesses t) (none 0 a (omega arith) (omega arith))
+    (none_listed t accesses (λ k d low high. none (suc k) d (omega arith) (omega arith)))
 
 -- one access of the transaction less does not change how many others there are
 pub others_taken : (old new : List ListedAccess) (a : ListedAccess) (t : ℕ) → a.by ≡ t → nat_eq a.by t ≡ true → IsOneLess a old new

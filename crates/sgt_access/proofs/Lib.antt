@@ -1,5 +1,10 @@
+pub mod Collected
 pub mod Counts
+pub mod Covering
+pub mod Guesses
 pub mod Keys
+pub mod Marks
+pub mod Owned
 pub mod RisingLists
 pub mod Rivals
 pub mod Spots

@@ -36,7 +36,7 @@ member_inserted xs i t u =
     )
 
 -- a number at an index is a member
-member_at : (xs : List ℕ) (i t : ℕ) → i < length xs → get_or xs i 0 ≡ t → Member t xs
+pub member_at : (xs : List ℕ) (i t : ℕ) → i < length xs → get_or xs i 0 ≡ t → Member t xs
 member_at [] i t short e = omega arith
 member_at (x ∷ xs) zero t short e = inl (sym e)
 member_at (x ∷ xs) (suc i) t short e = inr (member_at xs i t (omega arith) e)
@@ -140,4 +140,12 @@ room_left most counts xs t few h all also out =
     let whole : length (t ∷ xs) ≤ length few.among = fits (t ∷ xs) few.among (out, rising_distinct xs h)
     (λ u m. elim m [ inl e ↦ few.all u (subst (λ z. counts z ≡ true) (sym e) also) | inr m' ↦ few.all u (all u m') ]) in
     let enough = few.few in
+    omega arith
+
+-- different numbers that are all in a list, without one of it, are fewer than it has
+pub room_among : (ys xs : List ℕ) (t : ℕ) → Rising xs → ((u : ℕ) → Member u xs → Member u ys) → Member t ys → (Member t xs → ⊥)
+    → length xs < length ys
+room_among ys xs t h all also out =
+    let whole : length (t ∷ xs) ≤ length ys = fits (t ∷ xs) ys (out, rising_distinct xs h)
+    (λ u m. elim m [ inl e ↦ subst (λ z. Member z ys) (sym e) also | inr m' ↦ all u m' ]) in
     omega arith

@@ -1,189 +1,199 @@
--- A spot knows its accesses after each change of the list.
-use Rattle.std.proofs.Common.{◌≡◌, ◌≢◌, ℕ, ◌+◌, ◌-◌, ◌<◌, ◌≤◌, ◌⊎◌, min, Bool, true, false, ◌||◌, ◌&&◌, not, cond, nat_eq, count_by, List, [], ◌∷◌, ◌++◌, length, get_or, set, arith, refl, sym, ap, subst, ◌∙◌, inl, inr, ⊎_elim}
-use Rattle.std.proofs.lemmas.Bool.{true≢false, cases_Bool, cases_eq, cases_lt, eqb-true, eqb-false, or_parts, and_parts, and_cases}
-use Rattle.std.proofs.lemmas.List.{length-set, get_or-set_same, get_or-set_other}
+-- A spot knows the places of its readers and writers, and its key, after each change.
+use Rattle.std.proofs.Common.{◌≡◌, ℕ, ◌⊎◌, Bool, true, false, ◌||◌, ◌&&◌, not, nat_eq, List, [], ◌∷◌, ◌++◌, length, refl, sym, ap, subst, ◌∙◌, inl, inr}
+use Rattle.std.specs.List.{list_any}
+use Rattle.std.proofs.lemmas.Bool.{cases_Bool, eqb-true, eq-eqb, or_cases, or_left, or_right, and_parts, and_from, not-true, not_from_false, false_from_ne_true, both_ways}
+use Rattle.std.proofs.lemmas.Bool.Decides.{Decides-int_eq}
+use Rattle.std.specs.Ordering.{int_eq}
 use Rattle.sgt_model.specs.declared.kind.Kind.{Kind}
 use Rattle.sgt_model.specs.Contents.{Key, key_eq}
-use Rattle.sgt_model.specs.Pairs.{one_stores}
-use Rattle.sgt_model.specs.AccessList.{ListedAccess, is_conflicting, lists_conflicting}
+use Rattle.sgt_model.specs.Accesses.{is_store}
+use Rattle.sgt_model.specs.AccessList.{ListedAccess, is_listed}
+use Rattle.sgt_cycle.specs.Indices.{is_set}
+use Rattle.sgt_cycle.proofs.Bits.{none_in}
+use Rattle.sgt_access.specs.Places.{is_at, IsTaken}
 use Rattle.sgt_access.specs.declared.spot.Spot.{Spot}
-use Rattle.sgt_access.specs.Filters.{IsOneLess, spot_at, is_at, is_of_other, IsSpotOf, Covers}
-use Rattle.sgt_access.proofs.Counts.{bit, zero_and, count_noted, count_both, none_counted}
-use Rattle.sgt_access.proofs.Keys.{same_key}
+use Rattle.sgt_access.specs.Masks.{spot_at, reads_at, writes_at, has_other_key, IsOneLess, IsSpotOf, ArePlaces, IsSpotBut}
+use Rattle.sgt_access.proofs.Marks.{any_implied, any_either, any_owner, any_cases, any_fewer, has_from, mask_noted, mask_placed, mask_leaves, mask_removed, mask_left}
 
-same_nat : (n : ℕ) → nat_eq n n ≡ true
-same_nat n = ⊎_elim (λ e. e) (λ e. absurd (eqb-false n n e refl)) (cases_Bool (nat_eq n n))
+pub equal_keys : (a b : Key) → a ≡ b → key_eq a b ≡ true
+equal_keys a b e = and_from (nat_eq a.0 b.0) (int_eq a.1 b.1) (eq-eqb a.0 b.0 (ap (λ (k : Key). k.0) e))
+    ((Decides-int_eq a.1 b.1).1 (ap (λ (k : Key). k.1) e))
 
-module _ (accesses : List ListedAccess) (index : ℕ) (a : ListedAccess) (old : Spot) where
-  -- an access of another spot changes nothing
-  pub spot_apart : is_at index a ≡ false → IsSpotOf accesses index old → IsSpotOf (accesses ++ a ∷ []) index old
-  spot_apart apart knows = record {
-    counted = subst (λ n. (n ≤ old.count) ⊎ (old.count ≡ 4294967295)) (sym same) knows.counted;
-    owned = λ alone. other ∙ knows.owned alone;
-  }
+pub zero_none : (n i : ℕ) → n ≡ 0 → is_set n i ≡ true → ⊥
+zero_none n i e h = both_ways (is_set 0 i) (none_in i) (subst (λ x. is_set x i ≡ true) e h)
+
+-- what adding an access does to a spot
+pub record IsRaised (old new : Spot) (places : ℕ) (key : Key) (kind : Kind) : Type 0 where
+  pub readers : (i : ℕ) → is_set new.readers i ≡ (is_set old.readers i || (not (is_store kind) && is_set places i))
+  pub writers : (i : ℕ) → is_set new.writers i ≡ (is_set old.writers i || (is_store kind && is_set places i))
+  pub one_key : new.is_mixed ≡ false → (new.key ≡ key)
+      × (((old.readers ≡ 0) × (old.writers ≡ 0)) ⊎ ((old.is_mixed ≡ false) × (old.key ≡ key)))
+
+-- what removing places does to it
+pub record IsLowered (old new : Spot) (places : ℕ) : Type 0 where
+  pub readers : (i : ℕ) → is_set new.readers i ≡ (is_set old.readers i && not (is_set places i))
+  pub writers : (i : ℕ) → is_set new.writers i ≡ (is_set old.writers i && not (is_set places i))
+  pub key : new.key ≡ old.key
+  pub mixed : new.is_mixed ≡ old.is_mixed
+
+module _ (taken : ℕ) (tids : List ℕ) (index : ℕ) where
+  -- an access at a spot has its transaction in one of the masks
+  pub spot_some : (accesses : List ListedAccess) (spot : Spot) (q : ListedAccess → Bool) → ArePlaces taken tids accesses
+      → IsSpotOf taken tids accesses index spot → ((a : ListedAccess) → q a ≡ true → nat_eq (spot_at a.key) index ≡ true)
+      → list_any q accesses ≡ true → ((i : ℕ) × (is_set spot.readers i ≡ true)) ⊎ ((i : ℕ) × (is_set spot.writers i ≡ true))
+  spot_some accesses spot q places knows here some =
+      let (u, his) = any_owner q accesses some in
+      let (i, at) = places.listed u (any_implied (λ (a : ListedAccess). nat_eq a.by u && q a) (λ (a : ListedAccess). nat_eq a.by u)
+      (λ a h. (and_parts (nat_eq a.by u) (q a) h).0) accesses his) in
+      elim (any_either (λ (a : ListedAccess). nat_eq a.by u && q a) (λ (a : ListedAccess). nat_eq a.by u && reads_at index a)
+      (λ (a : ListedAccess). nat_eq a.by u && writes_at index a) (split u) accesses his) [
+        | inl read ↦ inl (i, (knows.readers i).1 (has_from taken tids (reads_at index) accesses u i read at))
+        | inr written ↦ inr (i, (knows.writers i).1 (has_from taken tids (writes_at index) accesses u i written at))
+      ]
     where
-      same : count_by (is_at index) (accesses ++ a ∷ []) ≡ count_by (is_at index) accesses
-      same = count_noted (is_at index) accesses a ∙ ap (λ b. count_by (is_at index) accesses + bit b) apart ∙ omega arith
+      split : (u : ℕ) (a : ListedAccess) → (nat_eq a.by u && q a) ≡ true
+          → ((nat_eq a.by u && reads_at index a) ≡ true) ⊎ ((nat_eq a.by u && writes_at index a) ≡ true)
+      split u a h =
+          let parts = and_parts (nat_eq a.by u) (q a) h in
+          let there = here a parts.1 in
+          elim (cases_Bool (is_store a.kind)) [
+            | inl store ↦ inr (and_from (nat_eq a.by u) (writes_at index a) parts.0 (and_from (nat_eq (spot_at a.key) index) (is_store a.kind) there store))
+            | inr look ↦ inl (and_from (nat_eq a.by u) (reads_at index a) parts.0
+                (and_from (nat_eq (spot_at a.key) index) (not (is_store a.kind)) there (not_from_false (is_store a.kind) look)))
+          ]
 
-      other : count_by (is_of_other index old.by) (accesses ++ a ∷ []) ≡ count_by (is_of_other index old.by) accesses
-      other = count_noted (is_of_other index old.by) accesses a
-          ∙ ap (λ b. count_by (is_of_other index old.by) accesses + bit (b && not (nat_eq a.by old.by))) apart ∙ omega arith
-
-  -- the first access of a spot
-  abbrev pub first_spot : Spot
-  first_spot = record { count = 1; by = a.by; is_shared = false }
-
-  abbrev pub next_spot : Spot
-  next_spot = record { count = min (old.count + 1) 4294967295; by = old.by; is_shared = old.is_shared || not (nat_eq old.by a.by) }
-
-  -- its own access is none of another transaction
-  own : (u : ℕ) → u ≡ a.by → count_by (is_of_other index u) accesses ≡ 0 → count_by (is_of_other index u) (accesses ++ a ∷ []) ≡ 0
-  own u e zeros = count_noted (is_of_other index u) accesses a
-      ∙ ap (λ n. n + bit (is_of_other index u a)) zeros
-      ∙ sym (zero_and (bit (is_of_other index u a)))
-      ∙ ap (λ b. bit (is_at index a && not b)) (ap (nat_eq a.by) e ∙ same_nat a.by)
-      ∙ none (is_at index a)
-    where
-      none : (b : Bool) → bit (b && false) ≡ 0
-      none true = refl
-      none false = refl
-
-  module _ (here : is_at index a ≡ true) (knows : IsSpotOf accesses index old) where
-    one_more : count_by (is_at index) (accesses ++ a ∷ []) ≡ count_by (is_at index) accesses + 1
-    one_more = count_noted (is_at index) accesses a ∙ ap (λ b. count_by (is_at index) accesses + bit b) here
-
-    none_yet : old.count ≡ 0 → count_by (is_at index) accesses ≡ 0
-    none_yet e = ⊎_elim (λ le. omega (arith, le, e)) (λ full. absurd (omega (arith, full, e))) knows.counted
-
-    spot_first : old.count ≡ 0 → IsSpotOf (accesses ++ a ∷ []) index first_spot
-    spot_first e =
-        let zeros = none_yet e in
-        record {
-          counted = inl (omega (arith, one_more, zeros));
-          owned = λ alone. own a.by refl (let both = count_both (is_at index) (λ x. not (nat_eq x.by a.by)) accesses in omega (arith, both, zeros));
-        }
-
-    spot_next : IsSpotOf (accesses ++ a ∷ []) index next_spot
-    spot_next = record {
-      counted = ⊎_elim
-          (λ le. ⊎_elim
-          (λ full. inr full)
-          (λ below. inl (omega (arith, one_more, le, below)))
-          (at_most (old.count + 1)))
-          (λ full. inr (omega (arith, full)))
-          knows.counted;
-      owned = λ alone.
-          let parts = or_parts old.is_shared (not (nat_eq old.by a.by)) alone in
-          own old.by (eqb-true old.by a.by (unnot (nat_eq old.by a.by) parts.1)) (knows.owned parts.0);
+  -- one access more, of the transaction at a place
+  module _ (accesses : List ListedAccess) (a : ListedAccess) (p : ℕ) (places : ArePlaces taken tids accesses)
+      (at : is_at taken tids a.by p ≡ true) where
+    pub spot_apart : (spot : Spot) → nat_eq (spot_at a.key) index ≡ false → IsSpotOf taken tids accesses index spot
+        → IsSpotOf taken tids (accesses ++ a ∷ []) index spot
+    spot_apart spot apart knows = record {
+      readers = mask_noted taken tids (reads_at index) accesses a p spot.readers spot.readers places.apart at
+          (λ i h. inl h) (λ i h. h) (λ t. absurd (none (not (is_store a.kind)) t)) knows.readers;
+      writers = mask_noted taken tids (writes_at index) accesses a p spot.writers spot.writers places.apart at
+          (λ i h. inl h) (λ i h. h) (λ t. absurd (none (is_store a.kind) t)) knows.writers;
+      one_key = λ alone. false_from_ne_true (list_any (has_other_key index spot.key) (accesses ++ a ∷ [])) (λ h.
+          elim (any_cases (has_other_key index spot.key) accesses a h) [
+            | inl old ↦ both_ways (list_any (has_other_key index spot.key) accesses) (knows.one_key alone) old
+            | inr new ↦ none (not (key_eq a.key spot.key)) new
+          ]);
     }
       where
-        at_most : (n : ℕ) → (min n 4294967295 ≡ 4294967295) ⊎ (min n 4294967295 ≡ n)
-        at_most n = ⊎_elim (λ lt. inr (omega (arith, lt))) (λ ge. inl (omega (arith, ge))) (cases_lt n 4294967295)
+        none : (b : Bool) → (nat_eq (spot_at a.key) index && b) ≡ true → ⊥
+        none b t = both_ways (nat_eq (spot_at a.key) index) apart (and_parts (nat_eq (spot_at a.key) index) b t).0
 
-        unnot : (b : Bool) → not b ≡ false → b ≡ true
-        unnot true e = refl
-        unnot false e = absurd (true≢false e)
+    module _ (old new : Spot) (set : ℕ) (only : (i : ℕ) → is_set set i ≡ nat_eq i p) (here : nat_eq (spot_at a.key) index ≡ true)
+        (raised : IsRaised old new set a.key a.kind) (knows : IsSpotOf taken tids accesses index old) where
+      -- of a mask
+      grown : (mask mask' : ℕ) (b : Bool) → ((i : ℕ) → is_set mask' i ≡ (is_set mask i || (b && is_set set i)))
+          → (i : ℕ) → is_set mask' i ≡ true → (is_set mask i ≡ true) ⊎ (((nat_eq (spot_at a.key) index && b) ≡ true) × (i ≡ p))
+      grown mask mask' b grows i h = elim (or_cases (is_set mask i) (b && is_set set i) (sym (grows i) ∙ h)) [
+        | inl before ↦ inl before
+        | inr now ↦
+            let parts = and_parts b (is_set set i) now in
+            inr (and_from (nat_eq (spot_at a.key) index) b here parts.0, eqb-true i p (sym (only i) ∙ parts.1))
+      ]
 
-    pub spot_raised : (new : Spot) → (old.count ≡ 0 → new ≡ first_spot) → (old.count ≢ 0 → new ≡ next_spot)
-        → IsSpotOf (accesses ++ a ∷ []) index new
-    spot_raised new first next = ⊎_elim
-        (λ e. subst (IsSpotOf (accesses ++ a ∷ []) index) (sym (first e)) (spot_first e))
-        (λ more. subst (IsSpotOf (accesses ++ a ∷ []) index) (sym (next more)) spot_next)
-        (cases_eq old.count 0)
+      added : (mask mask' : ℕ) (b : Bool) → ((i : ℕ) → is_set mask' i ≡ (is_set mask i || (b && is_set set i)))
+          → (nat_eq (spot_at a.key) index && b) ≡ true → is_set mask' p ≡ true
+      added mask mask' b grows t = grows p ∙ or_right (is_set mask p) (b && is_set set p)
+          (and_from b (is_set set p) (and_parts (nat_eq (spot_at a.key) index) b t).1 (only p ∙ eq-eqb p p refl))
 
--- a spot with one access less
-abbrev pub lowered_spot : Spot → Spot
-lowered_spot old = record { count = cond (nat_eq old.count 4294967295) old.count (old.count - 1); by = old.by; is_shared = old.is_shared }
+      other_key : new.is_mixed ≡ false → list_any (has_other_key index new.key) (accesses ++ a ∷ []) ≡ true → ⊥
+      other_key alone h =
+          let (same, before) = raised.one_key alone in
+          elim (any_cases (has_other_key index new.key) accesses a h) [
+            | inr now ↦ both_ways (key_eq a.key new.key)
+                (not-true (key_eq a.key new.key) (and_parts (nat_eq (spot_at a.key) index) (not (key_eq a.key new.key)) now).1)
+                (equal_keys a.key new.key (sym same))
+            | inl earlier ↦ elim before [
+              | inl empty ↦ elim (spot_some accesses old (has_other_key index new.key) places knows
+                  (λ x t. (and_parts (nat_eq (spot_at x.key) index) (not (key_eq x.key new.key)) t).0) earlier) [
+                    | inl reader ↦ zero_none old.readers reader.0 empty.0 reader.1
+                    | inr writer ↦ zero_none old.writers writer.0 empty.1 writer.1
+                  ]
+              | inr one ↦ both_ways (list_any (has_other_key index old.key) accesses) (knows.one_key one.0)
+                  (subst (λ k. list_any (has_other_key index k) accesses ≡ true) (same ∙ sym one.1) earlier)
+            ]
+          ]
 
-module _ (accesses rest : List ListedAccess) (index : ℕ) (a : ListedAccess) (less : IsOneLess a accesses rest) (old : Spot) where
-  fewer_others : (u : ℕ) → count_by (is_of_other index u) accesses ≡ 0 → count_by (is_of_other index u) rest ≡ 0
-  fewer_others u zeros = let sum = less (is_of_other index u) in omega (arith, sum, zeros)
+      pub spot_noted : IsSpotOf taken tids (accesses ++ a ∷ []) index new
+      spot_noted = record {
+        readers = mask_noted taken tids (reads_at index) accesses a p old.readers new.readers places.apart at
+            (grown old.readers new.readers (not (is_store a.kind)) raised.readers)
+            (λ i h. raised.readers i ∙ or_left (is_set old.readers i) (not (is_store a.kind) && is_set set i) h)
+            (added old.readers new.readers (not (is_store a.kind)) raised.readers) knows.readers;
+        writers = mask_noted taken tids (writes_at index) accesses a p old.writers new.writers places.apart at
+            (grown old.writers new.writers (is_store a.kind) raised.writers)
+            (λ i h. raised.writers i ∙ or_left (is_set old.writers i) (is_store a.kind && is_set set i) h)
+            (added old.writers new.writers (is_store a.kind) raised.writers) knows.writers;
+        one_key = λ alone. false_from_ne_true (list_any (has_other_key index new.key) (accesses ++ a ∷ [])) (other_key alone);
+      }
 
-  pub spot_kept : IsSpotOf accesses index old → IsSpotOf rest index old
-  spot_kept knows = record {
-    counted = ⊎_elim (λ le. inl (let sum = less (is_at index) in omega (arith, sum, le))) (λ full. inr full) knows.counted;
-    owned = λ alone. fewer_others old.by (knows.owned alone);
+  -- a place more
+  pub spot_placed : (accesses : List ListedAccess) (spot : Spot) (t p taken' : ℕ) (tids' : List ℕ) → length tids ≡ 32
+      → IsTaken taken tids t p taken' tids' → is_listed accesses t ≡ false → IsSpotOf taken tids accesses index spot
+      → IsSpotOf taken' tids' accesses index spot
+  spot_placed accesses spot t p taken' tids' size new none knows = record {
+    readers = mask_placed taken tids (reads_at index) accesses spot.readers t p taken' tids' size new none knows.readers;
+    writers = mask_placed taken tids (writes_at index) accesses spot.writers t p taken' tids' size new none knows.writers;
+    one_key = knows.one_key;
   }
 
-  pub spot_lowered : is_at index a ≡ true → IsSpotOf accesses index old → IsSpotOf rest index (lowered_spot old)
-  spot_lowered here knows = record {
-    counted = at (nat_eq old.count 4294967295) refl;
-    owned = λ alone. fewer_others old.by (knows.owned alone);
+  -- the accesses of t are removed
+  pub spot_leaves : (accesses : List ListedAccess) (spot : Spot) (t : ℕ) → IsSpotOf taken tids accesses index spot
+      → IsSpotBut taken tids t accesses index spot
+  spot_leaves accesses spot t knows = record {
+    readers = mask_leaves taken tids (reads_at index) accesses t spot.readers knows.readers;
+    writers = mask_leaves taken tids (writes_at index) accesses t spot.writers knows.writers;
+    one_key = knows.one_key;
   }
-    where
-      sum : count_by (is_at index) rest + 1 ≡ count_by (is_at index) accesses
-      sum = ap (λ b. count_by (is_at index) rest + bit b) (sym here) ∙ less (is_at index)
 
-      at : (b : Bool) → nat_eq old.count 4294967295 ≡ b
-          → (count_by (is_at index) rest ≤ cond b old.count (old.count - 1)) ⊎ (cond b old.count (old.count - 1) ≡ 4294967295)
-      at true e = inr (eqb-true old.count 4294967295 e)
-      at false e = ⊎_elim (λ le. inl (omega (arith, sum, le))) (λ full. absurd (eqb-false old.count 4294967295 e full)) knows.counted
+  module _ (accesses rest : List ListedAccess) (a : ListedAccess) (t : ℕ) (by : a.by ≡ t) (less : IsOneLess a accesses rest) where
+    still_one : (key : Key) → list_any (has_other_key index key) accesses ≡ false → list_any (has_other_key index key) rest ≡ false
+    still_one key none = false_from_ne_true (list_any (has_other_key index key) rest)
+        (λ h. both_ways (list_any (has_other_key index key) accesses) none (any_fewer (has_other_key index key) accesses a rest less h))
 
-module _ (spots : List Spot) (i : ℕ) (old new : Spot) (a : ListedAccess) (at_key : i ≡ spot_at a.key) (short : i < length spots)
-    (is : get_or spots i old ≡ old) (accesses : List ListedAccess) (covers : Covers spots accesses) where
-  here : (index : ℕ) → index ≡ i → is_at index a ≡ true
-  here index e = ap (λ n. nat_eq n index) (sym at_key ∙ sym e) ∙ same_nat index
+    pub spot_removed_apart : (spot : Spot) → nat_eq (spot_at a.key) index ≡ false → IsSpotBut taken tids t accesses index spot
+        → IsSpotBut taken tids t rest index spot
+    spot_removed_apart spot apart knows = record {
+      readers = mask_removed taken tids (reads_at index) accesses rest a t spot.readers spot.readers by less
+          (λ i h. (h, λ test. absurd (none (not (is_store a.kind)) test))) (λ i h other. h) knows.readers;
+      writers = mask_removed taken tids (writes_at index) accesses rest a t spot.writers spot.writers by less
+          (λ i h. (h, λ test. absurd (none (is_store a.kind) test))) (λ i h other. h) knows.writers;
+      one_key = λ alone. still_one spot.key (knows.one_key alone);
+    }
+      where
+        none : (b : Bool) → (nat_eq (spot_at a.key) index && b) ≡ true → ⊥
+        none b h = both_ways (nat_eq (spot_at a.key) index) apart (and_parts (nat_eq (spot_at a.key) index) b h).0
 
-  apart : (index : ℕ) → (index ≡ i → ⊥) → is_at index a ≡ false
-  apart index ne = ⊎_elim (λ e. absurd (ne (sym (eqb-true (spot_at a.key) index e) ∙ sym at_key))) (λ e. e) (cases_Bool (is_at index a))
+    pub spot_removed : (old new : Spot) (set : ℕ) → ((i : ℕ) → is_set set i ≡ is_at taken tids t i) → IsLowered old new set
+        → IsSpotBut taken tids t accesses index old → IsSpotBut taken tids t rest index new
+    spot_removed old new set place lowered knows = record {
+      readers = mask_removed taken tids (reads_at index) accesses rest a t old.readers new.readers by less
+          (goes old.readers new.readers lowered.readers (reads_at index)) (stays old.readers new.readers lowered.readers) knows.readers;
+      writers = mask_removed taken tids (writes_at index) accesses rest a t old.writers new.writers by less
+          (goes old.writers new.writers lowered.writers (writes_at index)) (stays old.writers new.writers lowered.writers) knows.writers;
+      one_key = λ alone. subst (λ k. list_any (has_other_key index k) rest ≡ false) (sym lowered.key)
+          (still_one old.key (knows.one_key (sym lowered.mixed ∙ alone)));
+    }
+      where
+        goes : (mask mask' : ℕ) → ((i : ℕ) → is_set mask' i ≡ (is_set mask i && not (is_set set i))) → (test : ListedAccess → Bool)
+            → (i : ℕ) → is_set mask' i ≡ true → (is_set mask i ≡ true) × (test a ≡ true → is_at taken tids t i ≡ false)
+        goes mask mask' falls test i h =
+            let parts = and_parts (is_set mask i) (not (is_set set i)) (sym (falls i) ∙ h) in
+            (parts.0, λ passes. sym (place i) ∙ not-true (is_set set i) parts.1)
 
-  knows : (index : ℕ) → index ≡ i → IsSpotOf accesses index old
-  knows index e = subst (IsSpotOf accesses index) (ap (λ n. get_or spots n old) e ∙ is) (covers index old (subst (λ n. n < length spots) (sym e) short))
+        stays : (mask mask' : ℕ) → ((i : ℕ) → is_set mask' i ≡ (is_set mask i && not (is_set set i))) → (i : ℕ) → is_set mask i ≡ true
+            → is_at taken tids t i ≡ false → is_set mask' i ≡ true
+        stays mask mask' falls i h other = falls i
+            ∙ and_from (is_set mask i) (not (is_set set i)) h (not_from_false (is_set set i) (place i ∙ other))
 
-  put_there : (index : ℕ) (d : Spot) → index ≡ i → get_or (set spots i new) index d ≡ new
-  put_there index d e = ap (λ n. get_or (set spots i new) n d) e ∙ get_or-set_same spots i new d short
-
-  pub covers_raised : (old.count ≡ 0 → new ≡ first_spot accesses i a old) → (old.count ≢ 0 → new ≡ next_spot accesses i a old)
-      → Covers (set spots i new) (accesses ++ a ∷ [])
-  covers_raised first next index d within = ⊎_elim
-      (λ e. subst (IsSpotOf (accesses ++ a ∷ []) index) (sym (put_there index d e))
-      (spot_raised accesses index a old (here index e) (knows index e) new first next))
-      (λ ne. subst (IsSpotOf (accesses ++ a ∷ []) index) (sym (get_or-set_other spots i index new d ne))
-      (spot_apart accesses index a (get_or spots index d) (apart index ne) (covers index d inside)))
-      (cases_eq index i)
-    where
-      inside : index < length spots
-      inside = subst (λ n. index < n) (length-set spots i new) within
-
-  pub covers_lowered : (rest : List ListedAccess) → IsOneLess a accesses rest → new ≡ lowered_spot old → Covers (set spots i new) rest
-  covers_lowered rest less lowered index d within = ⊎_elim
-      (λ e. subst (IsSpotOf rest index) (sym (put_there index d e ∙ lowered))
-      (spot_lowered accesses rest index a less old (here index e) (knows index e)))
-      (λ ne. subst (IsSpotOf rest index) (sym (get_or-set_other spots i index new d ne))
-      (spot_kept accesses rest index a less (get_or spots index d) (covers index d inside)))
-      (cases_eq index i)
-    where
-      inside : index < length spots
-      inside = subst (λ n. index < n) (length-set spots i new) within
-
--- a spot without accesses of others: no other transaction conflicts with an access of its keys
-pub none_conflicting : (accesses : List ListedAccess) (key : Key) (t : ℕ) (spot : Spot) → IsSpotOf accesses (spot_at key) spot
-    → (not (nat_eq spot.count 0) && (spot.is_shared || not (nat_eq spot.by t))) ≡ false
-    → (u : ℕ) (kind : Kind) → u ≢ t → lists_conflicting accesses u key kind ≡ false
-none_conflicting accesses key t spot knows alone u kind other = ⊎_elim
-    (λ empty. none_counted (is_conflicting u key kind) (is_at (spot_at key)) accesses at_spot (zeros empty))
-    (λ owned.
-    let parts = or_parts spot.is_shared (not (nat_eq spot.by t)) owned in
-    none_counted (is_conflicting u key kind) (is_of_other (spot_at key) spot.by) accesses
-    (by_other (eqb-true spot.by t (unnot (nat_eq spot.by t) parts.1))) (knows.owned parts.0))
-    (and_cases (not (nat_eq spot.count 0)) (spot.is_shared || not (nat_eq spot.by t)) alone)
-  where
-    unnot : (b : Bool) → not b ≡ false → b ≡ true
-    unnot true e = refl
-    unnot false e = absurd (true≢false e)
-
-    zeros : not (nat_eq spot.count 0) ≡ false → count_by (is_at (spot_at key)) accesses ≡ 0
-    zeros e =
-        let none = eqb-true spot.count 0 (unnot (nat_eq spot.count 0) e) in
-        ⊎_elim (λ le. omega (arith, le, none)) (λ full. absurd (omega (arith, full, none))) knows.counted
-
-    at_spot : (a : ListedAccess) → is_conflicting u key kind a ≡ true → is_at (spot_at key) a ≡ true
-    at_spot a h =
-        let of_key = (and_parts (key_eq a.key key) (one_stores a.kind kind) (and_parts (nat_eq a.by u) _ h).1).0 in
-        ap (λ k. nat_eq (spot_at k) (spot_at key)) (same_key a.key key of_key) ∙ same_nat (spot_at key)
-
-    by_other : spot.by ≡ t → (a : ListedAccess) → is_conflicting u key kind a ≡ true → is_of_other (spot_at key) spot.by a ≡ true
-    by_other owner a h =
-        let by = eqb-true a.by u (and_parts (nat_eq a.by u) _ h).0 in
-        ap (λ b. b && not (nat_eq a.by spot.by)) (at_spot a h)
-        ∙ ap not (⊎_elim (λ e. absurd (other (sym by ∙ eqb-true a.by spot.by e ∙ owner))) (λ e. e) (cases_Bool (nat_eq a.by spot.by)))
+  pub spot_left : (accesses : List ListedAccess) (spot : Spot) (t taken' : ℕ) → is_listed accesses t ≡ false
+      → ((i : ℕ) → is_set taken' i ≡ (is_set taken i && not (is_at taken tids t i))) → IsSpotBut taken tids t accesses index spot
+      → IsSpotOf taken' tids accesses index spot
+  spot_left accesses spot t taken' none fewer knows = record {
+    readers = mask_left taken tids (reads_at index) accesses t spot.readers taken' none fewer knows.readers;
+    writers = mask_left taken tids (writes_at index) accesses t spot.writers taken' none fewer knows.writers;
+    one_key = knows.one_key;
+  }

@@ -2,7 +2,7 @@
 //!
 //! It stores no value and no history, and it decides nothing. It names the rivals of an access, and the scheduler makes
 //! edges of them. `Accesses` is the contract. `OneList`, one list for all keys, is the plain implementation that tests compare
-//! with. `PerKey` has a filter by key in front of them.
+//! with. `PerKey` has masks by key in front of them.
 //!
 //! ```
 //! let mut accesses = OneList::empty(alloc);
@@ -15,9 +15,11 @@
 mod access;
 mod accesses;
 mod conflicts;
-mod filter;
+mod known;
+mod masks;
 mod one_list;
 mod per_key;
+mod places;
 mod rising;
 mod spot;
 mod whole_list;

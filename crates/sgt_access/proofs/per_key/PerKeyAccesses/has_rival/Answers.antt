@@ -1,10 +1,32 @@
-use Rattle.std.proofs.Common.{◌≡◌, ℕ, sym, ap, ◌∙◌}
+use Rattle.std.proofs.Common.{rules, refl, ◌≡◌, ◌↔◌, ℕ, true, IsTrue, sym, ap, ◌∙◌}
 use Rattle.sgt_model.specs.AccessList.{is_conflicting, lists_conflicting}
+use Rattle.sgt_cycle.specs.Indices.{is_set}
+use Rattle.sgt_access.specs.Masks.{AreRivalsAt}
 use Rattle.sgt_access.proofs.Counts.{any_same}
 use Rattle.sgt_access.proofs.per_key.PerKeyAccesses.has_rival.Goals as goal
 
-pub returns-then-has_other : goal.returns-then-has_other
-returns-then-has_other c = record {
+pub returns-in-At : goal.returns-in-At
+returns-in-At c = record {
+  exact = (
+    λ is. let (i, there) = some.0 is in
+        let rival = (said _).0 (i, there, refl) in (_, rival.0, sym (same _) ∙ rival.1),
+    λ h. let (u, other, conflict) = h in
+        let (i, there, at) = (said u).1 (other, same u ∙ conflict) in some.1 (i, there),
+  );
+}
+  where
+    same : (u : ℕ) → lists_conflicting c.self.inside.accesses.items u c.args.key c.args.kind ≡ lists_conflicting c.args.self.now.0 u c.args.key c.args.kind
+    same u = any_same c.self.inside.whole c.self.inside.accesses.items c.self.invariant.0 (is_conflicting u c.args.key c.args.kind)
+        ∙ ap (λ v. lists_conflicting v.0 u c.args.key c.args.kind) c.self.view_is
+
+    said : AreRivalsAt c.self.inside.accesses.items c.self.inside.known.masks.places.tids c.args.t c.args.key c.args.kind c.in-At.places
+    said = c.in-At.ensures c.self.inside.accesses.items c.self.invariant.1
+
+    some : IsTrue c.is_some.result ↔ ((i : ℕ) × (is_set c.in-At.places i ≡ true))
+    some = search rules
+
+pub returns-in-Unknown : goal.returns-in-Unknown
+returns-in-Unknown c = record {
   exact = (
     λ is. let some = c.has_rival_among.ensures.exact.0 is in (some.0, some.1, sym (same some.0) ∙ some.2),
     λ some. c.has_rival_among.ensures.exact.1 (some.0, some.1, same some.0 ∙ some.2),

@@ -1,5 +1,6 @@
 use Rattle.std.proofs.Common.{◌≡◌, ℕ, true, nat_eq, sym, ap, ◌∙◌}
 use Rattle.sgt_model.specs.AccessList.{ListedAccess, is_conflicting, is_listed, lists_conflicting}
+use Rattle.sgt_access.specs.Masks.{AreRivalsAt}
 use Rattle.sgt_access.proofs.Counts.{any_same}
 use Rattle.sgt_access.proofs.per_key.PerKeyAccesses.rivals.Goals as goal
 
@@ -18,8 +19,8 @@ rivals_among-requires c =
         ∙ sym (any_same c.self.inside.whole c.self.inside.accesses.items c.self.invariant.0 (λ (a : ListedAccess). nat_eq a.by t))
         ∙ ap (λ xs. is_listed xs t) (sym c.as_slice.ensures.value) ∙ h
 
-pub returns-clause-exact : goal.returns-clause-exact
-returns-clause-exact c = λ u. (
+pub returns-in-Unknown-clause-exact : goal.returns-in-Unknown-clause-exact
+returns-in-Unknown-clause-exact c = λ u. (
   λ m. let both = (c.rivals_among.ensures.exact u).0 m in (both.0, sym (same u) ∙ both.1),
   λ h. (c.rivals_among.ensures.exact u).1 (h.0, same u ∙ h.1),
 )
@@ -28,3 +29,16 @@ returns-clause-exact c = λ u. (
     same u = ap (λ xs. lists_conflicting xs u c.args.key c.args.kind) c.as_slice.ensures.value
         ∙ any_same c.self.inside.whole c.self.inside.accesses.items c.self.invariant.0 (is_conflicting u c.args.key c.args.kind)
         ∙ ap (λ v. lists_conflicting v.0 u c.args.key c.args.kind) c.self.view_is
+
+pub returns-in-At-clause-exact : goal.returns-in-At-clause-exact
+returns-in-At-clause-exact c = λ u. (
+  λ m. let rival = (said u).0 ((c.tids_at.ensures.members u).0 m) in (rival.0, sym (same u) ∙ rival.1),
+  λ h. (c.tids_at.ensures.members u).1 ((said u).1 (h.0, same u ∙ h.1)),
+)
+  where
+    same : (u : ℕ) → lists_conflicting c.self.inside.accesses.items u c.args.key c.args.kind ≡ lists_conflicting c.args.self.now.0 u c.args.key c.args.kind
+    same u = any_same c.self.inside.whole c.self.inside.accesses.items c.self.invariant.0 (is_conflicting u c.args.key c.args.kind)
+        ∙ ap (λ v. lists_conflicting v.0 u c.args.key c.args.kind) c.self.view_is
+
+    said : AreRivalsAt c.self.inside.accesses.items c.self.inside.known.masks.places.tids c.args.t c.args.key c.args.kind c.in-At.places
+    said = c.in-At.ensures c.self.inside.accesses.items c.self.invariant.1

@@ -3,9 +3,9 @@ use Rattle.std.specs.List.{AllWithin}
 use Rattle.std.proofs.lemmas.Bool.{cases_eq, eqb-true}
 use Rattle.std.proofs.lemmas.List.{get_or_default}
 use Rattle.sgt_model.specs.AccessList.{ListedAccess}
-use Rattle.sgt_access.specs.Filters.{IsOneLess}
-use Rattle.sgt_access.proofs.Counts.{one_taken, others_taken, stands_forgotten, same_read}
-use Rattle.sgt_access.proofs.per_key.take_out.Goals as goal
+use Rattle.sgt_access.specs.Masks.{IsOneLess}
+use Rattle.sgt_access.proofs.Counts.{one_taken, others_taken, stands_forgotten, none_listed, same_read}
+use Rattle.sgt_access.proofs.known.take_out.Goals as goal
 
 pub loop-index-preserved-then-eq : goal.loop-index-preserved-then-eq
 loop-index-preserved-then-eq c =
@@ -13,7 +13,7 @@ loop-index-preserved-then-eq c =
       within = let within = c.loop-index.invariant.within in omega (arith, within, long);
       none = none;
       others = λ p. others_taken old new x c.args.t (eqb-true x.by c.args.t test) test less p ∙ c.loop-index.invariant.others p;
-      covered = λ start. c.lower.ensures old new (c.loop-index.invariant.covered start) less;
+      leaving = λ start. c.remove.ensures c.args.t old new (eqb-true x.by c.args.t test) (c.loop-index.invariant.leaving start) less;
     }
   where
     x : ListedAccess
@@ -72,7 +72,7 @@ loop-index-preserved c =
           (λ ne. c.loop-index.invariant.none k d (omega (arith, low, ne, some)) high)
           (cases_eq k at);
       others = c.loop-index.invariant.others;
-      covered = c.loop-index.invariant.covered;
+      leaving = c.loop-index.invariant.leaving;
     }
   where
     old : List ListedAccess
@@ -93,5 +93,10 @@ returns-clause-rest c list stands =
     stands_forgotten list c.args.accesses.now.items c.loop-index.accesses.items c.args.t stands c.loop-index.invariant.others
     (λ k d low high. c.loop-index.invariant.none k d (omega (arith, done)) high)
 
-pub returns-clause-covered : goal.returns-clause-covered
-returns-clause-covered c start = c.loop-index.invariant.covered start
+pub returns-clause-none : goal.returns-clause-none
+returns-clause-none c =
+    let done = c.loop-index-test.false in
+    none_listed c.args.t c.loop-index.accesses.items (λ k d low high. c.loop-index.invariant.none k d (omega (arith, done)) high)
+
+pub returns-clause-leaving : goal.returns-clause-leaving
+returns-clause-leaving c start = c.loop-index.invariant.leaving start
