@@ -11,6 +11,7 @@ use crate::reason::Reason;
 use sgt_model::{Event, NoMemory, ShortReply, Tid};
 
 /// A turn of a commit: it is made, or the call rests for a transaction that is live.
+#[inline(always)]
 pub fn commit_turn<E: Answering>(
     desk: &mut Desk<E>,
     ask: &mut Ask,

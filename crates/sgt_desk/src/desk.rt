@@ -88,6 +88,7 @@ impl<E: Answering> Desk<E> {
     }
 
     /// Makes an event of the engine. `wakes` becomes true if a reason to rest may have ceased.
+    #[inline(always)]
     pub fn answer(
         &mut self,
         event: &Event,
@@ -114,6 +115,7 @@ impl<E: Answering> Desk<E> {
     }
 
     /// Counts a call among the commits that rest. No cut comes before it has returned its end.
+    #[inline(always)]
     pub fn begin_commit(&mut self, ask: &mut Ask)
         ensures history { SameHistory (state E.state self.old) (state E.state self.new) }
         ensures stays { (r : Reason) → holds r (state E.state self.old) ≡ true → holds r (state E.state self.new) ≡ true }
@@ -126,6 +128,7 @@ impl<E: Answering> Desk<E> {
     }
 
     /// Counts it no longer.
+    #[inline(always)]
     pub fn end_commit(&mut self, ask: &mut Ask, wakes: &mut bool)
         ensures history { SameHistory (state E.state self.old) (state E.state self.new) }
         ensures stays { (r : Option Reason) → is_of_cut r ≡ false → is_held r (state E.state self.old) ≡ true

@@ -69,6 +69,7 @@ pub fn is_conflict(reply: &ShortReply) -> bool
 }
 
 /// Aborts the transaction, if it is live. This takes no memory.
+#[inline(never)]
 fn end<E: Answering>(desk: &mut Desk<E>, ask: &mut Ask, t: Tid, wakes: &mut bool)
     ensures gone { live (state E.state desk.new).past t ≡ false }
     ensures ask { SameButReply ask.old ask.new }
@@ -94,6 +95,7 @@ fn end<E: Answering>(desk: &mut Desk<E>, ask: &mut Ask, t: Tid, wakes: &mut bool
 }
 
 /// Steps a live transaction until a step makes no access, and returns the reply to that one.
+#[inline(always)]
 fn step_on<E: Answering>(
     desk: &mut Desk<E>,
     t: Tid,
@@ -121,11 +123,13 @@ fn step_on<E: Answering>(
     Err(NoMemory)
 }
 
+#[inline(always)]
 fn is_access(reply: &ShortReply) -> bool {
     matches!(reply, ShortReply::Looked { .. } | ShortReply::Wrote { .. })
 }
 
 /// Ends an attempt, whose newest reply this is: the run is done, or tries again, at once or after another transaction has ended.
+#[inline(always)]
 fn settle<E: Answering>(
     desk: &mut Desk<E>,
     run: &mut Run,
@@ -170,11 +174,13 @@ fn settle<E: Answering>(
 }
 
 /// Whether a reply says that the transaction has ended before, so that another one has just ended.
+#[inline(always)]
 fn is_over_by(reply: &ShortReply) -> bool {
     matches!(reply, ShortReply::Over(_))
 }
 
 /// Commits an attempt, or has it rest. Where its deadline comes, or an allocation fails, its transaction is aborted.
+#[inline(always)]
 fn commit_attempt<E: Answering>(
     desk: &mut Desk<E>,
     run: &mut Run,
@@ -221,6 +227,7 @@ fn commit_attempt<E: Answering>(
 }
 
 /// An attempt: it starts a transaction and runs it to its commit, unless it may not begin.
+#[inline(always)]
 fn try_once<E: Answering>(
     desk: &mut Desk<E>,
     run: &mut Run,
@@ -287,6 +294,7 @@ fn try_once<E: Answering>(
 }
 
 /// Steps a transaction that was just started to the end of its procedure, and commits it.
+#[inline(always)]
 fn attempt<E: Answering>(
     desk: &mut Desk<E>,
     run: &mut Run,
@@ -384,6 +392,7 @@ pub fn run_procedure<E: Answering>(
 }
 
 /// The same, without the count of those that rest in a commit.
+#[inline(always)]
 fn run_turn<E: Answering>(
     desk: &mut Desk<E>,
     run: &mut Run,
