@@ -360,6 +360,19 @@ def takes_processes_of_any_name(program):
     same("7 and its text", (2, "", told), check(program, lines_of([began, began | {"process": "7"}])))
 
 
+def takes_keys_of_any_name(program):
+    """Numbers of 15 digits, and texts, which are strings or keywords in EDN: the same report, with these names."""
+    entries, _ = entries_of(random.Random(1), NAMED["G2-item"])
+    wanted = check(program, lines_of(entries))
+    names = [(999_999_999_999_999, 123_456_789_012_345), ("users/1", "a-1.b:c_D"), ("x" * 64, "0"), ("007", 7)]
+    for first, second in names:
+        name = {1: first, 2: second}
+        renamed = [it | {"value": [[word, name[key], what] for word, key, what in it["value"]]} if it["value"] else it for it in entries]
+        report = re.sub(r"key (\d)", lambda it: f"key {name[int(it[1])]}", wanted[1])
+        same(f"keys {name}", (1, report, ""), check(program, lines_of(renamed)))
+        same(f"keys {name} in EDN", (1, report, ""), check(program, "".join(edn(it) + "\n" for it in renamed)))
+
+
 def skips_what_is_no_transaction(program):
     """It is counted; alone it is nothing to judge."""
     nemesis = '{"type":"info","process":"nemesis","f":"start-partition","value":"majority"}\n'
@@ -599,7 +612,7 @@ def records_databases(program):
 
 CASES = [on_all_small_histories, on_drawn_histories, on_drawn_histories_strictly, names_anomalies, names_the_operations,
          shows_values_of_a_long_read, ends_on_long_ones, reads_each_form, reads_edn,
-         takes_null_for_the_empty_list, takes_processes_of_any_name, skips_what_is_no_transaction, refuses_nothing,
+         takes_null_for_the_empty_list, takes_processes_of_any_name, takes_keys_of_any_name, skips_what_is_no_transaction, refuses_nothing,
          refuses_an_end_of_other_operations, keeps_time_only_with_invocations, tells_faults, survives_hostile_bytes, needs_its_model, hints_at_its_model, draws_its_witness, recorded_ones,
          records_databases]
 

@@ -18,11 +18,11 @@ use Rattle.sgt_appends.proofs.Filed.{at_appends}
 use Rattle.sgt_appends.proofs.Passed.{reads_at}
 use Rattle.sgt_appends.proofs.Sortings.{among_at, among_append, round_on, never_empty}
 
-edges_lead_one : (a : ℕ) (es : List Edge) (e : Edge) → EdgesLead a es e.from → EdgesLead a (es ++ e ∷ []) e.to
+pub edges_lead_one : (a : ℕ) (es : List Edge) (e : Edge) → EdgesLead a es e.from → EdgesLead a (es ++ e ∷ []) e.to
 edges_lead_one a [] e same = (sym same, refl)
 edges_lead_one a (d ∷ es) e leads = (leads.0, edges_lead_one d.to es e leads.1)
 
-shown_one : (h : List Transaction) (es : List Edge) (e : Edge) → AreShown h es → EdgeIsShown h e → AreShown h (es ++ e ∷ [])
+pub shown_one : (h : List Transaction) (es : List Edge) (e : Edge) → AreShown h es → EdgeIsShown h e → AreShown h (es ++ e ∷ [])
 shown_one h [] e shown here = (here, tt)
 shown_one h (d ∷ es) e shown here = (shown.0, shown_one h es e shown.1 here)
 

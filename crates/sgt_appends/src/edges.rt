@@ -56,7 +56,7 @@ fn edges_along(
 }
 
 /// Adds the edge of the link and of the one that waits. A link that leads to the end of a line waits for the next one.
-fn add_edge(
+pub(crate) fn add_edge(
     edges: &mut Vec<Edge>,
     transactions: usize,
     before: Option<Link>,

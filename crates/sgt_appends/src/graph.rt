@@ -463,7 +463,11 @@ fn end_before(
 }
 
 /// The key and the value of the append at the position, if the transaction is not aborted.
-fn append_of(history: &[Transaction], number: usize, position: usize) -> Option<(u32, u32)>
+pub(crate) fn append_of(
+    history: &[Transaction],
+    number: usize,
+    position: usize,
+) -> Option<(u32, u32)>
     ensures some { IfSome result (λ x. AppendAt history.now number position x.0 x.1) }
     ensures none { IsNone result → (k v : ℕ) → MayRun history.now number → ¬ AppendAt history.now number position k v }
 {

@@ -26,6 +26,7 @@
 
 mod anomaly;
 mod append_index;
+mod chains;
 mod check;
 mod compatible;
 mod contents;
@@ -34,9 +35,13 @@ mod fault;
 mod graph;
 mod laws;
 mod lines;
+mod merge;
 mod order;
 mod premises;
 mod reads;
+mod search;
+mod short;
+mod shown;
 mod solver;
 mod sorting;
 mod transaction;
@@ -55,6 +60,7 @@ pub use laws::{
 pub use order::{is_serial_run, names_each};
 pub use premises::unknown_read;
 pub use reads::{Read, first_fault, read_of};
+pub use shown::{is_shown, is_shown_cycle};
 pub use sorting::{Link, Sorted, sort};
 pub use transaction::{Operation, Status, Transaction};
 pub use witness::{Edge, Reason, all_hold, append_at, has, is_cycle, read_at, stands_before};

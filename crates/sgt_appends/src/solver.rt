@@ -11,6 +11,7 @@ use crate::append_index::AppendIndex;
 use crate::edges::edges_of;
 use crate::graph::links_of;
 use crate::lines::Lines;
+use crate::short::shorten;
 use crate::sorting::sort;
 use crate::transaction::{Status, Transaction};
 use crate::witness::Edge;
@@ -37,7 +38,11 @@ pub fn solve(
     let links = links_of(alloc, history, appends, &lines)?;
     match sort(alloc, links.as_slice(), nodes)? {
         Ok(sorted) => Ok(Ok(not_aborted(alloc, history, sorted.order.as_slice())?)),
-        Err(cycle) => Ok(Err(edges_of(alloc, history, cycle.as_slice())?)),
+        Err(cycle) => {
+            let edges = edges_of(alloc, history, cycle.as_slice())?;
+            let short = shorten(alloc, history, links.as_slice(), nodes, edges)?;
+            Ok(Err(short))
+        }
     }
 }
 
