@@ -241,7 +241,7 @@ def administration():
             same("verify", (0, "calls 1 to 2 give the rows of the server\n", ""), run("verify", folder / "j"))
             same("health", {"health": "ok", "leads": True, "seq": 2}, {key: value for key, value in ask(admin, "health").items() if key != "batch"})
             figures = ask(admin, "figures")
-            same("the figures", {"seq": 2, "records": 3 + 2 + 8 + 2 + 1 + 1}, {key: figures[key] for key in ("seq", "records")})
+            same("the figures", {"seq": 2, "records": 3 + 2 + 9 + 2 + 1 + 1}, {key: figures[key] for key in ("seq", "records")})
             same("an unknown word", [{"error"}] * 2, [set(ask(admin, word)) for word in ("nothing", "promote")])
             same("a second server", 1, run(*words)[0])
             same("health beside a second server", "ok", ask(admin, "health")["health"])
@@ -361,9 +361,9 @@ def forgotten():
         (again,) = server.ask(pay(5, 1, 2, 1))
         same("one that is paid again", (True, first[-2]["from_has"] - 1), (again["paid"], again["from_has"]))
         same("one that is held", {"capture": 99, "captured": True, "to_has": 102_121}, server.ask({"capture": 99, "to": 2})[0])
-        # Eight of each payment, and the state of the held one; the newest payment of three accounts; what two have paid today; three
+        # Nine of each payment, and of the held one its state and its second number; the newest payment of three accounts; what two have paid today; three
         # days that began; and how many ids came, and were forgotten.
-        same("records", records + 8 * (paid + 2) + 1 + 3 + 2 + 3 + 2, ask(admin, "figures")["records"])
+        same("records", records + 9 * (paid + 2) + 2 + 3 + 2 + 3 + 2, ask(admin, "figures")["records"])
         same("verify", 0, run("verify", folder / "j")[0])
 
 
@@ -583,8 +583,11 @@ class Load:
 
     def judge(self, seq, found, opened=ACCOUNTS * CENTS):
         """Each acknowledged payment is there once, as it was asked and answered; no refused one is; and no money is lost."""
-        # Negative numbers have the statements, which is another test's matter.
-        _, balance, payer, payee, amount, from_has, to_has, _ = [{key: value for key, value in it.items() if key >= 0} for it in found]
+        # By its number the nth payment has its id in table 0. Negative numbers have the statements, which is another test's matter.
+        ids = {number: name for number, name in found[0].items() if number > 0}
+        balance = {key: value for key, value in found[1].items() if key >= 0}
+        payer, payee, amount, from_has, to_has = [{ids[key]: value for key, value in it.items() if key >= 0} for it in found[2:7]]
+        same("the numbers of the payments", {-ids[number]: number for number in ids}, {key: it for key, it in found[1].items() if key < 0})
         refused = {number for number, code in from_has.items() if code < 0}
         wanted = {account: CENTS for account in range(ACCOUNTS)}
         for number in payer:

@@ -1,15 +1,18 @@
 #!/usr/bin/env python3
-"""Measures durable payments: examples/payments beside PostgreSQL, SQLite and its own journal in Redis, in one run.
+"""Measures durable payments: examples/payments by each journal, beside SQLite behind the same server, and PostgreSQL. It takes three minutes.
 
     bench/payments/run.py [ROUNDS [SECONDS]]
 
-1, 8 and 64 clients pay in a closed loop over 1000 accounts, and 8 in lists of 100. The contestants take turns, ROUNDS times (3), each for
-SECONDS (3), as the machine's speed changes; the median of each is printed, with the least and the greatest. The generators of load are one
-thread (load.c) and two (pgbench): how many processors they take is printed too, and the processor time of the server's process, which is
-the only one that runs payments. It needs the library of `bindings/build` and `cc`. What else is missing here (PostgreSQL, redis-server) is
-left out, and said. It is no part of the gate.
+1, 8 and 64 clients pay in a closed loop over 1000 accounts, and 8 in lists of 100. The contestants take turns, ROUNDS times (2), each for
+SECONDS (3), as the machine's speed changes. Tables of medians are printed: payments a second, with the least and the greatest; the median
+latency; and what a payment takes of the processors: of the server's process, which is the only one that runs payments, of its fronts, of
+the generator of load, one thread (load.c) or two (pgbench), and of the Redis or the three nodes of etcd, which are on this machine too.
+
+It needs the library of `bindings/build` and `cc`. The servers run by the Python that runs this: Debian's, /usr/bin/python3, is faster than
+one that was built without optimization. What else is missing (etcd, Redis, PostgreSQL) is left out, and said. It is no part of the gate.
 """
 
+import contextlib
 import os
 import pathlib
 import pwd
@@ -25,13 +28,18 @@ import time
 
 HERE = pathlib.Path(__file__).resolve().parent
 PAYMENTS = HERE.parents[1] / "examples" / "payments"
+sys.path.insert(0, str(HERE.parents[1] / "tests"))
+from helpers.machines import Etcd, Redis, running  # noqa: E402
+
 CLIENTS = (1, 8, 64)
+LISTS = "8 in lists of 100"
 CENTS = 100_000_000
-told: dict = {}
+RATE, LATENCY, TIME = "Payments a second", "Median latency, ms", "Processor time a payment, microseconds"
+told: dict = {}  # by what is measured, contestant and clients
 
 
-def note(name, clients, value):
-    told.setdefault((name, clients), []).append(value)
+def note(what, name, clients, value):
+    told.setdefault(what, {}).setdefault(name, {}).setdefault(clients, []).append(value)
 
 
 def taken():
@@ -40,10 +48,10 @@ def taken():
     return used.ru_utime + used.ru_stime
 
 
-def used(process):
-    """Seconds of processor time that a process has taken."""
-    user, system = pathlib.Path(f"/proc/{process}/stat").read_text().rsplit(")", 1)[1].split()[11:13]
-    return (int(user) + int(system)) / os.sysconf("SC_CLK_TCK")
+def used(processes):
+    """Seconds of processor time that processes have taken."""
+    times = [pathlib.Path(f"/proc/{process}/stat").read_text().rsplit(")", 1)[1].split()[11:13] for process in processes]
+    return sum(int(it) for user_and_system in times for it in user_and_system) / os.sysconf("SC_CLK_TCK")
 
 
 def fsyncs(room):
@@ -54,21 +62,30 @@ def fsyncs(room):
         os.write(file, bytes(60))
         os.fsync(file)
         times.append((time.perf_counter() - begin) * 1e6)
-    note("fsync, microseconds", 1, statistics.median(times))
+    os.close(file)
+    note("An fsync of 60 bytes, microseconds", "the disk", 1, statistics.median(times))
 
 
-def served(name, load, seconds, *words):
-    """Loads a server, which says its port when it serves."""
-    process = subprocess.Popen([sys.executable, *map(str, words)], stdout=subprocess.PIPE, text=True)
+def served(name, python, load, seconds, *words, others=()):
+    """Loads a server, which says its port when it serves. Others are processes that work for it."""
+    process = subprocess.Popen([python, *map(str, words)], stdout=subprocess.PIPE, text=True)
     port = re.search(r"port (\d+)", process.stdout.readline())[1]
-    for clients, payments in (*((clients, 0) for clients in CLIENTS), (8, 100)):
-        words, before = [load, port, clients, seconds, 1000, random.randrange(10**6), payments], (taken(), used(process.pid))
-        rate, median, _ = subprocess.run([*map(str, words)], capture_output=True, text=True, check=True).stdout.split()
-        kind = name + (f", lists of {payments}" if payments else "")
-        note(kind, clients, float(rate))
-        note(f"{kind}: load, processors", clients, (taken() - before[0]) / seconds)
-        note(f"{kind}: server's process, microseconds a payment", clients, (used(process.pid) - before[1]) / seconds / max(1, float(rate)) * 1e6)
-        note(f"{kind}: median latency, ms", clients, float(median))
+    fronts = pathlib.Path(f"/proc/{process.pid}/task/{process.pid}/children").read_text().split()
+    parts = {"server": [process.pid], "fronts": fronts, **({"journal's processes": others} if others else {})}
+    for column, clients, payments in (*((clients, clients, 0) for clients in CLIENTS), (LISTS, 8, 100)):
+        command, load_before = [load, port, clients, seconds, 1000, random.randrange(10**6), payments], taken()
+        before = {part: used(processes) for part, processes in parts.items()}
+        ran = subprocess.run([*map(str, command)], capture_output=True, text=True, check=False)
+        if ran.returncode:
+            print(f"{name}, {column}: left out: {ran.stderr.strip() or 'no reply came'}", flush=True)
+            continue
+        rate, latency, _ = ran.stdout.split()
+        paid = max(1, float(rate) * seconds)
+        note(RATE, name, column, float(rate))
+        note(LATENCY, name, column, float(latency))
+        for part, processes in parts.items():
+            note(TIME, f"{name}: {part}", column, (used(processes) - before[part]) / paid * 1e6)
+        note(TIME, f"{name}: load", column, (taken() - load_before) / paid * 1e6)
     process.kill()
     process.wait()
 
@@ -99,58 +116,75 @@ class Postgres:
         return subprocess.run(command, stdout=subprocess.PIPE, stderr=subprocess.STDOUT, text=True, check=True, cwd=self.room).stdout
 
     def turn(self, seconds):
-        for clients in CLIENTS:
-            words = ("-h", self.room, "-n", "--max-tries=100000", "-f", self.room / "postgres.pgbench", "-c", clients, "-j", min(clients, 2))
-            before = taken()
-            said = self.run("pgbench", *words, "-T", seconds, "postgres")
-            note("PostgreSQL, SERIALIZABLE, a commit a payment", clients, float(re.search(r"tps = ([\d.]+)", said)[1]))
-            note("PostgreSQL, SERIALIZABLE, a commit a payment: load, processors", clients, (taken() - before) / seconds)
+        """With the row of the fees, which every two payments of the same moment want, and without it."""
+        for has_fee, name in ((1, "PostgreSQL, SERIALIZABLE, with the row of the fees"), (0, "PostgreSQL, SERIALIZABLE, without it")):
+            for clients in CLIENTS:
+                words = ("-h", self.room, "-n", "-D", f"has_fee={has_fee}", "--max-tries=100000", "-f", self.room / "postgres.pgbench")
+                said = self.run("pgbench", *words, "-c", clients, "-j", min(clients, 2), "-T", seconds, "postgres")
+                note(RATE, name, clients, float(re.search(r"tps = ([\d.]+)", said)[1]))
+                note(LATENCY, name, clients, float(re.search(r"latency average = ([\d.]+)", said)[1]))
 
     def end(self):
         if self.is_there:
             self.run("pg_ctl", "-D", self.room / "data", "-m", "immediate", "stop")
 
 
+def take_turn(room, python, load, seconds):
+    """All contestants but PostgreSQL, each with a journal of its own."""
+    serve = (PAYMENTS / "payments.py", "serve")
+    fsyncs(room)
+    served("sgt, file", python, load, seconds, *serve, room / "file", "--cents", CENTS)
+    served("SQLite behind the same server", python, load, seconds, HERE / "sqlite_queue.py", "serve", room / "served.db")
+    if not Redis.missing():
+        (room / "redis").mkdir()
+        with running(Redis, room / "redis") as redis:
+            words = (*serve, room / "by_redis", "--journal", redis.address, "--cents", CENTS)
+            served("sgt, Redis", redis.python, load, seconds, *words, others=[redis.process.pid])
+    if not Etcd.missing():
+        with running(Etcd, room) as etcd:
+            words = (*serve, room / "by_etcd", "--journal", etcd.address, "--cents", CENTS)
+            served("sgt, etcd", python, load, seconds, *words, others=[it.pid for it in etcd.processes])
+
+
+def shown(values, is_rate):
+    """The median of some values, and of rates the least and the greatest."""
+    digits = 0 if is_rate else 2
+    text = f"{statistics.median(values):,.{digits}f}"
+    return f"{text} ({min(values):,.0f} to {max(values):,.0f})" if is_rate else text
+
+
+def print_tables():
+    for what, names in told.items():
+        columns = [column for column in (*CLIENTS, LISTS) if any(column in values for values in names.values())]
+        print(f"\n| {what} | {' | '.join(map(str, columns))} |\n|{'---|' * (len(columns) + 1)}")
+        for name, values in names.items():
+            print(f"| {name} | {' | '.join(shown(values[column], what == RATE) if column in values else '' for column in columns)} |")
+
+
 def main():
-    numbers = [int(word) for word in sys.argv[1:]]
-    rounds, seconds = (numbers + [3, 3][len(numbers) :])[:2]
+    rounds, seconds = ([int(word) for word in sys.argv[1:]] + [2, 3][len(sys.argv) - 1 :])[:2]
     # A folder that other users may enter, for PostgreSQL's.
     room = pathlib.Path(tempfile.mkdtemp(prefix="payments-", dir=os.environ.get("ROOM", "/var/tmp")))
     room.chmod(0o755)
     load = room / "load"
     subprocess.run(["cc", "-O2", "-Wall", "-Wextra", "-o", load, HERE / "load.c"], check=True)
-    postgres = Postgres(room)
-    redis = shutil.which("redis-server")
-    for number in range(rounds):
-        fsyncs(room)
-        served("sgt, file journal", load, seconds, PAYMENTS / "payments.py", "serve", room / f"journal{number}", "--cents", CENTS)
-        served("SQLite behind the same server, a commit a batch", load, seconds, HERE / "sqlite_queue.py", "serve", room / f"served{number}.db")
-        for clients in CLIENTS:
-            words = [sys.executable, HERE / "sqlite_queue.py", "pay", room / f"{number}.{clients}.db", str(clients), str(seconds)]
-            ran = subprocess.run(words, capture_output=True, text=True, check=False)
-            if ran.returncode == 0:
-                note("SQLite, a process a client, a commit a payment", clients, float(ran.stdout))
-            else:
-                print(f"SQLite, {clients} processes: left out, as they locked one another out")
-        if redis:
-            port = str(random.randrange(20_000, 30_000))
-            (room / f"redis{number}").mkdir()
-            server = subprocess.Popen([redis, "--port", port, "--dir", room / f"redis{number}", "--appendonly", "yes", "--appendfsync", "always", "--save", ""], stdout=subprocess.DEVNULL)
-            time.sleep(0.5)
-            words = ("serve", room / f"store{number}", "--journal", f"redis://127.0.0.1:{port}/bank", "--cents", CENTS)
-            served("sgt, Redis stream, appendfsync always", load, seconds, PAYMENTS / "payments.py", *words)
-            server.kill()
-            server.wait()
-        if postgres.is_there:
-            postgres.turn(seconds)
-        print(f"round {number + 1}: load {os.getloadavg()[0]:.1f}", flush=True)
-    postgres.end()
-    shutil.rmtree(room)
-    for name, there in (("PostgreSQL", postgres.is_there), ("redis-server", redis)):
-        if not there:
-            print(f"{name} is not on this machine, and was left out")
-    for (name, clients), values in sorted(told.items()):
-        print(f"{name:65} {clients:3}: {statistics.median(values):10.2f}   ({min(values):.2f} to {max(values):.2f})")
+    print(f"Python {sys.version.split()[0]}, {sys.executable}; {os.cpu_count()} processors", flush=True)
+    with contextlib.ExitStack() as ends:
+        ends.callback(shutil.rmtree, room)
+        postgres = Postgres(room)
+        ends.callback(postgres.end)
+        for number in range(rounds):
+            own = room / f"round{number}"
+            own.mkdir()
+            take_turn(own, sys.executable, load, seconds)
+            if postgres.is_there:
+                postgres.turn(seconds)
+            print(f"round {number + 1}: load {os.getloadavg()[0]:.1f}", flush=True)
+    missing = {"etcd": Etcd.missing(), "Redis": Redis.missing(), "PostgreSQL": None if postgres.is_there else "it is not on this machine"}
+    for name, why in missing.items():
+        if why:
+            print(f"{name} was left out: {why}")
+    print_tables()
 
 
 if __name__ == "__main__":

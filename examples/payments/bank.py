@@ -8,11 +8,14 @@ from itertools import compress
 from typing import Any, Optional, Sequence
 
 sys.path.insert(0, str(pathlib.Path(__file__).resolve().parents[2] / "bindings" / "python"))
-from sgt import Engine, Kind, Reply, pack_calls, wrote  # noqa: E402
+from sgt import Engine, Kind, pack_calls, wrote  # noqa: E402
 
-ENTRIES = 4_000_000  # the history is cut after so many entries, or as many as there are records; a payment makes 27
+ENTRIES = 4_000_000  # the history is cut after so many entries, or as many as there are records; a payment makes 28
 ROW = struct.Struct("<I4xqq")  # table, number and value of a row
-AT_ONCE = 10_000  # calls that are replayed: an outcome takes 392 bytes
+AT_ONCE = 10_000  # calls that are replayed: an outcome takes 384 bytes
+COMMITTED = int(Kind.COMMITTED)  # a member of an enum is compared slowly
+# Of an outcome, laid out as `sgt_outcome` of sgt.h, what a client is told of: its reply's kind, the code, and how many answers; then these.
+read_outcomes = struct.Struct("=8xI8xI24xI12x8q256x").iter_unpack
 NO_PROCEDURE = 65_535  # the number of none
 Call = Sequence[Any]  # the name of a procedure, and its arguments; as JSON it is an entry of the journal
 
@@ -35,31 +38,29 @@ class Procedure:
         self.is_for_administrators: bool = file.get("administration", False)
         self.rights: dict[str, str] = file.get("rights", {})  # by the key that has the account: pay, or read
         self.writes = any(f'["{word}"' in json.dumps(self.text) for word in ("put", "remove"))
-        # The parts of a reply, in which %d stands for a number. To put JSON together by `dumps` takes four times as long.
+        # Replies by how many answers they have, in which %d stands for a number. To put JSON together by `dumps` takes four times as long.
         told = file.get("reply", [])
         self._list = f", {json.dumps(told)}: " if isinstance(told, str) else ""  # of all answers, under one key
-        keys = [*(self.request or [""])[:1], *([] if self._list else told)]
-        self._begin, *self._answers = [json.dumps(key).replace("%", "%%") + ": %d" for key in keys]
-        self._done = f", {json.dumps(file['done'])}: true" if "done" in file else ""
+        keys = [json.dumps(key).replace("%", "%%") + ": %d" for key in [*(self.request or [""])[:1], *([] if self._list else told)]]
+        done = f", {json.dumps(file['done'])}: true".replace("%", "%%") if "done" in file else ""
+        self._begin, self._most = "{" + keys[0], 8 if self._list else len(keys) - 1  # how many answers a client is told
+        self._told = [self._begin + done + "".join([", " + key for key in keys[1 : count + 1]]) + "%s}" for count in range(len(keys))]
         self._reasons = {int(code): reason for code, reason in file.get("refused", {}).items()}
         self._remembers: bool = file.get("remembers", False)  # that a first answer -N is a refusal by code N
         Engine.bare(1, 1).procedure(self.text)  # says what is wrong with it
         if self.request and len(self.request) != self.text[0]:
             raise ValueError(f"the request has {len(self.request)} keys, and the procedure takes {self.text[0]} arguments")
 
-    def reply(self, first: int, reply: Reply, age: str) -> str:
+    def reply(self, outcome: Sequence[int], first: int, age: str) -> str:
         """What a client gets: its first argument, and the answers, or why it was refused; and how old that is, if a follower says it."""
-        code, answers = reply.code or 0, reply.answers
-        if self._remembers and answers and answers[0] < 0:
-            code = -answers[0]
-        if code:
-            told = ', "refused": ' + json.dumps(self._reasons.get(code, f"code {code}"))
-        elif reply.kind is Kind.COMMITTED:
-            told = self._done + "".join([", " + key % value for key, value in zip(self._answers, answers)])
-            told += self._list and self._list + str([*answers])
-        else:
-            told = ', "error": "this server does not run it"'  # as it follows another one
-        return "{" + self._begin % first + told + age + "}"
+        kind, code, count = outcome[:3]
+        if kind == COMMITTED:
+            code = -outcome[3] if self._remembers and outcome[3] < 0 else 0
+        if code or kind != COMMITTED:  # a follower of another server has no procedure that writes
+            why = {"refused": self._reasons.get(code, f"code {code}")} if code else {"error": "this server does not run it"}
+            return self._begin % first + ", " + json.dumps(why)[1:-1] + age + "}"
+        answers = outcome[3 : 3 + min(count, self._most)]
+        return self._told[0] % (first, self._list + str([*answers]) + age) if self._list else self._told[len(answers)] % (first, *answers, age)
 
 
 def load_procedures(folder: pathlib.Path) -> dict[str, Procedure]:
@@ -116,10 +117,9 @@ class Bank:
 
     def cut_if_long(self) -> bool:
         """Frees the history when it is time: it costs memory, and a cut costs a pass over the records. The database stays."""
-        if len(self._engine) < max(ENTRIES, self.records):
-            return False
-        self._engine.cut()
-        return True
+        if is_long := len(self._engine) >= max(ENTRIES, self.records):
+            self._engine.cut()
+        return is_long
 
 
 def first_rows(accounts: int, cents: int) -> bytes:

@@ -76,8 +76,7 @@ class Chain:
     def catch_up(self) -> None:
         """Runs the batches that were not read yet."""
         while True:
-            now = time.monotonic()
-            batches = self.journal.read(self.number + 1)
+            now, batches = time.monotonic(), self.journal.read(self.number + 1)
             calls: list[Call] = []  # of these batches: to run them at once takes half as long
             for data in batches:
                 found = unseal_batch(data, self.number + 1, self.bank.seq + len(calls))

@@ -88,10 +88,9 @@ class EtcdJournal:
         compare = [self._created(self._key("leader"), self._term), self._created(key, 0)]
         put, there = {"request_put": {"key": key, "value": value}}, {"request_range": {"key": key}}
         reply = self._etcd.ask("kv/txn", compare=compare, success=[put], failure=[there])
-        if not reply.get("succeeded"):
-            found = reply["responses"][0]["response_range"].get("kvs")
-            if not found or found[0]["value"] != value:  # else an earlier try has written it
-                raise Fenced(f"etcd: another primary leads, after batch {number - 1}")
+        # If the value is there, an earlier try has written it.
+        if not reply.get("succeeded") and [it["value"] for it in reply["responses"][0]["response_range"].get("kvs", ())] != [value]:
+            raise Fenced(f"etcd: another primary leads, after batch {number - 1}")
 
     def check(self) -> None:
         if int(self._leader().get("create_revision", 0)) != self._term:

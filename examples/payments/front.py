@@ -9,12 +9,14 @@ import signal
 import socket
 import ssl
 import time
+from itertools import islice
 from multiprocessing.connection import Connection
 from multiprocessing.reduction import recv_handle
 from typing import Optional
 
-from lines import LONGEST, Line, Reader, Rights, Word
-from sgt import pack_calls, unpack_outcomes
+from bank import read_outcomes
+from lines import LONGEST, Line, Reader, Request, Rights
+from sgt import pack_calls
 
 CLIENTS = 1000  # of a front, or fewer if it may open fewer files. Others wait until one of them has gone, or another front takes them
 OTHER_FILES = 32  # that a front has open, at most
@@ -41,8 +43,7 @@ class Front:
 
     def run(self) -> None:
         """Runs until the server has ended. Signals are for the server."""
-        for number in (signal.SIGTERM, signal.SIGINT):
-            signal.signal(number, signal.SIG_IGN)
+        signal.pthread_sigmask(signal.SIG_BLOCK, {signal.SIGTERM, signal.SIGINT})
         with contextlib.suppress(EOFError, ConnectionError):
             self.numbers: dict[str, int] = marshal.loads(self.server.recv_bytes())  # of the procedures, once the server has recovered
             if self.reader.takes_words:
@@ -57,21 +58,28 @@ class Front:
     def turn(self) -> None:
         """Waits for lines, has the server run what they ask, and replies."""
         asked = self.wait()
-        requests = [it for _, line in asked for it in line.requests if not isinstance(it, str)]
-        calls, words = [it for it in requests if not isinstance(it, Word)], [tuple(it) for it in requests if isinstance(it, Word)]
-        outcomes, of_words, age = b"", [], ""
-        if requests:
-            packed = pack_calls([(self.numbers[procedure.name], *args) for procedure, args in calls])
-            self.server.send_bytes(marshal.dumps((packed, [procedure.entry % args for procedure, args in calls], words)))
-            outcomes, of_words, age = marshal.loads(self.server.recv_bytes())
-        left, words_left, replies = iter(unpack_outcomes(outcomes)), iter(of_words), {}
+        replies: dict[int, str] = {}
+        told = iter(self.told([it for _, line in asked for it in (line if type(line) is list else (line,))]))
         for number, line in asked:
-            replies[number] = replies.get(number, "") + line.reply(left, words_left, age)
+            text = f"[{', '.join(islice(told, len(line)))}]\n" if type(line) is list else next(told) + "\n"
+            replies[number] = replies.get(number, "") + text
         for number, reply in replies.items():
             try:
                 self.clients[number].link.sendall(reply.encode())
             except OSError:  # it is gone, or takes no replies; it can ask again with its id
                 self.drop(number)
+
+    def told(self, requests: list[Request]) -> list[str]:
+        """The reply to each request."""
+        calls = [it for it in requests if type(it) is tuple]
+        words = [it for it in requests if type(it) is dict]
+        if not calls and not words:
+            return requests  # they are replies
+        packed = pack_calls([(self.numbers[procedure.name], *args) for procedure, args in calls])
+        self.server.send_bytes(marshal.dumps((packed, [procedure.entry % args for procedure, args in calls], words)))
+        outcomes, of_words, age = marshal.loads(self.server.recv_bytes())
+        told = iter([procedure.reply(outcome, args[0], age) for (procedure, args), outcome in zip(calls, read_outcomes(outcomes))])
+        return [next(told) if type(it) is tuple else it if type(it) is str else of_words.pop(0) for it in requests]
 
     def wait(self) -> list[tuple[int, Line]]:
         """The next lines, with the numbers of their clients. Meanwhile clients come and go."""
@@ -136,6 +144,5 @@ class Front:
         for text in texts:
             line, client.rights = self.reader.read(text, client.rights)
             lines.append(line)
-        if lines:
-            client.since = self.now
+        client.since = self.now if lines else client.since
         return lines

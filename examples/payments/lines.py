@@ -3,10 +3,12 @@
 import hashlib
 import json
 import pathlib
-from typing import Any, Iterator, NamedTuple, Optional, Union
+from itertools import permutations
+from operator import itemgetter
+from typing import Any, Optional, Union
 
 from bank import Procedure, Unusable
-from sgt import LEAST, MOST, BatchOutcome
+from sgt import LEAST, MOST
 
 LONGEST = 10_000  # bytes of a line
 TOO_LONG = f'{{"error": "a line has at most {LONGEST} bytes"}}'
@@ -17,29 +19,9 @@ read_json = json.JSONDecoder(object_pairs_hook=tuple).raw_decode
 Rights = Optional[dict[str, list[list[int]]]]  # by "pay" and "read": from which account to which; None if all is allowed
 
 
-class Word(NamedTuple):
-    """What an administrator asks of the server itself: {"rows": true}, or {"day": 20784}."""
-
-    name: str
-    value: int
-
-
-Request = Union[tuple[Procedure, tuple[int, ...]], Word, str]  # a call, or a word; or what is wrong, as a reply
-
-
-class Line(NamedTuple):
-    """A line of a client: a request, or a list of them, which is answered by a list."""
-
-    requests: list[Request]
-    is_list: bool = False
-
-    def reply(self, outcomes: Iterator[BatchOutcome], of_words: Iterator[str], age: str) -> str:
-        """The line that a client gets, from the next outcomes of calls and the next replies to words."""
-        told = [
-            it if isinstance(it, str) else next(of_words) if isinstance(it, Word) else it[0].reply(it[1][0], next(outcomes).reply, age)
-            for it in self.requests
-        ]
-        return (f"[{', '.join(told)}]" if self.is_list else told[0]) + "\n"
+# A call; what an administrator asks of the server itself, as {"rows": True}, or {"day": 20784}; or what is wrong, as a reply.
+Request = Union[tuple[Procedure, tuple[int, ...]], dict[str, int], str]
+Line = Union[Request, list[Request]]  # a list of requests is answered by a list
 
 
 class Reader:
@@ -50,38 +32,40 @@ class Reader:
         self.takes_words, self.tokens = is_for_administrators, tokens
         self.first_rights: Rights = None if tokens is None or is_for_administrators else {}
         served = [it for it in procedures.values() if it.request and (is_for_administrators or not it.is_for_administrators)]
-        self.requests = {frozenset(it.request): it for it in served}
+        orders = [(keys, it, [*map(keys.index, it.request)]) for it in served for keys in permutations(it.request)]
+        # By the keys of a request, in any order: its procedure, and what takes the arguments out of its values.
+        self.requests = {keys: (it, itemgetter(*places) if places != sorted(places) else tuple) for keys, it, places in orders}
 
     def read(self, line: bytes, rights: Rights) -> tuple[Line, Rights]:
         """What a line asks for, and the rights of its client from then on."""
         if len(line) > LONGEST:
-            return Line([TOO_LONG]), rights
+            return TOO_LONG, rights
         try:
-            text = line.strip().decode()
-            asked, end = read_json(text)
+            asked, end = read_json(text := line.strip().decode())
         except (ValueError, RecursionError):
-            asked, end = None, 0
+            return NO_REQUEST, rights
         if not asked or end < len(text):
-            return Line([NO_REQUEST]), rights
+            return NO_REQUEST, rights
         if type(asked) is list:
-            return Line([self.request(it, rights) for it in asked], True), rights
+            return [self.request(it, rights) for it in asked], rights
         if type(asked) is tuple and len(asked) == 1 and asked[0][0] == "token" and isinstance(asked[0][1], str) and self.tokens is not None:
             found = self.tokens.get(hashlib.sha256(asked[0][1].encode(errors="replace")).hexdigest())
-            return Line(['{"token": true}' if found else NO_RIGHT]), found or {}
-        return Line([self.request(asked, rights)]), rights
+            return '{"token": true}' if found else NO_RIGHT, found or {}
+        return self.request(asked, rights), rights
 
     def request(self, pairs: Any, rights: Rights) -> Request:
         """What an object asks for."""
-        if type(pairs) is not tuple:
+        if type(pairs) is not tuple or not pairs:
             return NO_REQUEST
-        asked = dict(pairs)
-        procedure = self.requests.get(frozenset(asked))
-        if procedure and len(asked) == len(pairs) and all([type(value) is int and LEAST <= value <= MOST for value in asked.values()]):
-            if rights is not None and not may(rights, procedure, asked):
-                return NO_RIGHT
-            return procedure, tuple([asked[key] for key in procedure.request])
-        if self.takes_words and len(pairs) == 1 and isinstance(pairs[0][1], int) and LEAST <= pairs[0][1] <= MOST:
-            return Word(*pairs[0])
+        keys, values = zip(*pairs)
+        found = self.requests.get(keys)
+        for value in values:  # twice as fast as by `all`
+            if type(value) is not int or not LEAST <= value <= MOST:
+                found = None
+        if found:
+            return NO_RIGHT if rights is not None and not may(rights, found[0], dict(pairs)) else (found[0], found[1](values))
+        if self.takes_words and len(pairs) == 1 and isinstance(values[0], int) and LEAST <= values[0] <= MOST:
+            return dict(pairs)
         return NO_REQUEST
 
 

@@ -10,7 +10,7 @@ import signal
 import time
 from multiprocessing.connection import Connection
 from multiprocessing.reduction import send_handle
-from typing import Any, Sequence
+from typing import Any, Optional, Sequence
 
 from administration import listen_at
 from bank import NO_PROCEDURE, NoSnapshot, Procedure
@@ -18,8 +18,8 @@ from chain import PAUSE, Chain
 from sgt import pack_calls, unpack_calls
 from snapshots import Saving
 
+QUICK = 0.0005  # seconds of an append. If one takes longer, a turn waits for the fronts that asked in the last one, half as long at most
 IDLE = 0.1  # seconds without a request, after which the journal notes what is safe
-UNKNOWN = {"error": "no word of this server"}
 
 
 class Server:
@@ -29,7 +29,9 @@ class Server:
         self.chain, self.fronts, self.procedures = chain, fronts, procedures
         self.batch: list[str] = []  # the entries of calls that ran, and are not safe yet
         self.is_marked, self.day, self.trouble = True, -1, ""  # the trouble is of the last snapshot
+        self.forgot: Optional[int] = -1  # the day of the bank on which no old id was left
         self.began, self.calls, self.batches, self.appending = time.monotonic(), 0, 0, 0.0
+        self.asked = 0  # how many fronts asked in the last turn
         self.words = {"rows": self.rows, "health": self.health, "figures": self.figures, "day": self.set_day}
         self.writers = {chain.bank.numbers[name] for name, it in procedures.items() if it.writes}
         for front in fronts:
@@ -37,10 +39,13 @@ class Server:
 
     def turn(self) -> None:
         """Waits for requests, and replies to all that have come in. The next ones gather meanwhile."""
-        saving = self.chain.saving
-        ready = select.select([*self.fronts, *([saving.said] if saving else [])], (), (), IDLE if self.chain.leads else PAUSE)[0]
-        if saving and saving.said in ready:
-            ready.remove(saving.said)
+        ready = select.select(self.fronts, (), (), IDLE if self.chain.leads else PAUSE)[0]
+        end = time.monotonic() + (min(self.appending / max(1, self.batches), 0.02) - QUICK) / 2
+        while 0 < len(ready) < self.asked and time.monotonic() < end:  # the other fronts are about to ask, and one batch costs less than two
+            time.sleep(0.0002)
+            ready = select.select(self.fronts, (), (), 0)[0]
+        self.asked = len(ready)
+        if (saving := self.chain.saving) and select.select([saving.said], (), (), 0)[0]:
             self.end_cut(saving)
         if not self.chain.leads:
             self.chain.follow()
@@ -86,7 +91,7 @@ class Server:
         if name in self.procedures:
             self.run(pack_calls([(self.chain.bank.numbers[name], *args)] * times), [self.procedures[name].entry % args] * times)
 
-    def run(self, calls: bytes, entries: Sequence[str], words: Sequence[tuple[str, int]] = ()) -> tuple[bytes, list[str]]:
+    def run(self, calls: bytes, entries: Sequence[str], words: Sequence[dict[str, int]] = ()) -> tuple[bytes, list[str]]:
         """Runs packed calls, and adds the entries of those that wrote to the batch. Their packed outcomes, and then the replies to words."""
         if not self.chain.leads:  # for what may write a follower has no procedure
             calls = pack_calls([(NO_PROCEDURE if number in self.writers else number, *args) for number, *args in unpack_calls(calls)])
@@ -94,7 +99,8 @@ class Server:
         self.batch += wrote
         self.chain.bank.seq += len(wrote)
         self.calls += len(entries)
-        return outcomes, [json.dumps(self.words[word](value) if word in self.words else UNKNOWN) for word, value in words]
+        told = [self.words[word](value) if word in self.words else {"error": "no word of this server"} for it in words for word, value in it.items()]
+        return outcomes, [*map(json.dumps, told)]
 
     def rows(self, _: int) -> dict[str, Any]:
         """A digest of all rows. Nobody is served while it is made: a second for some ten million rows."""
@@ -123,10 +129,12 @@ class Server:
 
     def forget(self) -> None:
         """Has the bank forget old ids, at most twice as many as calls of the batch. So they do not pile up, and nobody waits for long."""
-        if calls := len(self.batch):
+        if (calls := len(self.batch)) and self.forgot != (day := self.chain.bank.day()):
             self.call("forget")
             if len(self.batch) > calls:
                 self.call("forget", times=2 * calls - 1)
+            else:
+                self.forgot = day
 
     def trouble_of_clock(self) -> str:
         """Whether the bank has another day than the clock. A follower may get the next day a moment late."""
@@ -149,8 +157,7 @@ def run(server: Server, port: int, admin: pathlib.Path, begin: float) -> None:
     """Runs a server until SIGTERM or SIGINT."""
     with listen_at(admin) as listener:
         send_handle(server.fronts[-1], listener.fileno(), None)
-    seconds = time.perf_counter() - begin
-    print(f"serving on port {port} after call {server.chain.bank.seq}, started in {seconds:.2f} s", flush=True)
+    print(f"serving on port {port} after call {server.chain.bank.seq}, started in {time.perf_counter() - begin:.2f} s", flush=True)
     while not server.chain.ends:
         server.turn()
     server.before_replies()
