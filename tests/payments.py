@@ -180,6 +180,8 @@ def replies():
             (pay(18, 1, 2, 0), {"id": 18, "refused": "the amount is not above zero"}),
             (pay(18, 1, 1, 5), {"id": 18, "refused": "payer and payee are the same account"}),
             (pay(26, -2, 1, 5), {"id": 26, "refused": "there is no such payer"}),
+            (pay(26, 1, 2, 5), {"id": 26, "refused": "the id belongs to another payment"}),
+            ({"amount": 250, "to": 2, "id": 17, "from": 1}, {"id": 17, "paid": True, "from_has": 1_999_748, "to_has": 2_000_250}),
             (pay(27, 1, -2, 5), {"id": 27, "refused": "there is no such payee"}),
             (pay(0, 1, 2, 5), {"id": 0, "refused": "an id is a number from 1 on"}),
             (pay(18, 1, 2, 10**15 - 1), {"id": 18, "refused": "a number would pass fifteen digits"}),
@@ -1002,9 +1004,14 @@ def other_procedures():
         gift = {"request": ["gift", "amount"], "reply": ["has"], "procedure": [2, [["look", 0, 1, ["arg", 0], 1], ["let", 0, ["sum", ["reg", 0], ["arg", 1]]], ["put", 1, ["arg", 0], ["reg", 0]], ["answer", ["reg", 0]]]]}
         (procedures / "gift.json").write_text(json.dumps(gift))
         (procedures / "open.json").unlink()
+        few = {"request": ["few"], "done": "100 %d", "reply": ["one", "two"], "procedure": [1, [["answer", ["arg", 0]]]]}
+        many = {"request": ["many %s"], "reply": ["one"], "procedure": [1, [["answer", ["arg", 0]], ["answer", 9]]]}
+        for name, it in (("few", few), ("many", many)):
+            (procedures / f"{name}.json").write_text(json.dumps(it))
         own = (*words, "--procedures", procedures)
         with Server(*own) as server:
             asked(server, [({"gift": 2, "amount": 5}, {"gift": 2, "has": 101_005}), ({"balance": 1}, {"balance": 1, "has": 98_990}), ({"gift": 7, "amount": 5}, {"gift": 7, "refused": "code 1"})])
+            asked(server, [({"few": 5}, {"few": 5, "100 %d": True, "one": 5}), ({"many %s": -7}, {"many %s": -7, "one": -7})])
             server.process.kill()
         with Server(*own) as server:
             asked(server, [({"balance": 2}, {"balance": 2, "has": 101_005})])
@@ -1225,7 +1232,7 @@ def follower_answers(group, load):
         came, refused = group.servers[(primary + 1) % 3].ask({"balance": 1}, payment)
         if None in (told, came, refused) or "seconds_old" in told or "seconds_old" not in came or "seconds_old" not in refused:
             return False
-        if not 0 <= came["seconds_old"] < SECONDS or refused.get("error") != "this server does not run it":
+        if not 0 <= came["seconds_old"] < SECONDS or refused.get("error") != "this server follows another one":
             raise Differs(f"a follower replies {came} and {refused}")
         return came["has"] == told["has"]
 

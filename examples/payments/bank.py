@@ -56,8 +56,8 @@ class Procedure:
         kind, code, count = outcome[:3]
         if kind == COMMITTED:
             code = -outcome[3] if self._remembers and outcome[3] < 0 else 0
-        if code or kind != COMMITTED:  # a follower of another server has no procedure that writes
-            why = {"refused": self._reasons.get(code, f"code {code}")} if code else {"error": "this server does not run it"}
+        if code or kind != COMMITTED:  # a follower has no procedure that writes
+            why = {"refused": self._reasons.get(code, f"code {code}")} if code else {"error": "this server follows another one"}
             return self._begin % first + ", " + json.dumps(why)[1:-1] + age + "}"
         answers = outcome[3 : 3 + min(count, self._most)]
         return self._told[0] % (first, self._list + str([*answers]) + age) if self._list else self._told[len(answers)] % (first, *answers, age)
