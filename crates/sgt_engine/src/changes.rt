@@ -44,6 +44,26 @@ pub fn note_removal(found: &mut bool, reply: &ShortReply)
     }
 }
 
+/// The keys that the history has writes of and that have no committed value.
+///
+/// Nothing is promised of the list: a key too few keeps memory that nobody needs, and one too many is no harm.
+pub fn keys_without_value<R: Records>(
+    alloc: Global,
+    history: &History,
+    records: &R,
+) -> Result<Vec<Key>, NoMemory> {
+    let mut keys = Vec::new(alloc);
+    for place in 0..history.len() {
+        let reply = history.reply_at(place);
+        if let Reply::Wrote { key, .. } = reply {
+            if records.committed(key).is_none() {
+                keys.push(key)?;
+            }
+        }
+    }
+    Ok(keys)
+}
+
 // What a history has written.
 #[derive(Drop)]
 struct Written {
