@@ -53,6 +53,29 @@ def serial_orders(history):
                     yield order
 
 
+def precedences(history):
+    """The pairs of transactions of which what was read shows that the first comes before the second in each serial run."""
+    by = {(key, what): number for number, one in enumerate(history) for word, key, what in one.operations if word == "append"}
+    pairs = set()
+    for reader, one in enumerate(history):
+        for word, key, seen in one.effective():
+            if word == "append":
+                continue
+            pairs |= {(number, reader) if value in seen else (reader, number) for (of, value), number in by.items() if of == key}
+            pairs |= {(by[key, first], by[key, second]) for first, second in itertools.combinations(seen, 2)}
+    return {(one, other) for one, other in pairs if one != other}
+
+
+def shortest_cycle(pairs):
+    """How many pairs the shortest cycle has, or None if there is none."""
+    nodes, walks, length = {it for pair in pairs for it in pair}, set(pairs), 1
+    while walks and length <= len(nodes):
+        if any(one == other for one, other in walks):
+            return length
+        walks, length = {(one, then) for one, other in walks for begin, then in pairs if begin == other}, length + 1
+    return None
+
+
 FOREVER = 10**9
 
 
