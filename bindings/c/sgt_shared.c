@@ -1,40 +1,23 @@
 /*
- * See sgt_shared.h. Every call enters, holds the lock while it works, releases it where it rests, and leaves.
- *
- * A run takes less than a microsecond, which is less than it takes to move the lock and the engine's memory to another processor, or to
- * wake a thread. So a thread that comes back for the lock takes it again, though others wait: they sleep, in the order in which they
- * came, and only the first of them looks now and then. When it has waited long the lock is owed to it, and others leave it alone.
+ * See sgt_shared.h. Every call enters, holds the lock (sgt_lock.h) while it works, releases it where it rests, and leaves.
  */
 #define _POSIX_C_SOURCE 200809L
-#include <pthread.h>
-#include <stdalign.h>
-#include <stdatomic.h>
-#include <stdbool.h>
 #include <stddef.h>
 #include <stdlib.h>
 #include <string.h>
-#include <time.h>
 
+#include "sgt_lock.h"
 #include "sgt_shared.h"
 
 enum { MOST_LIVE = 32, MOST_ARGS = 4, MOST_PROCEDURE = 65535, MOST_ABORTS = 8 };
 enum { IN_BODY = 2 }; /* `is_live` of a transaction whose body is under way */
 
 enum {
-    MOST_SPIN = 5000,    /* nanoseconds for which a thread looks whether the lock is free, before it sleeps */
-    PATIENCE = 200,      /* nanoseconds for which the lock has to stay free then: its last holder may be about to come back */
-    LOOK = 1000,         /* nanoseconds of a look of the first of those that wait */
-    NAP = 50000,         /* nanoseconds for which the first of those that wait sleeps between two looks */
-    MOST_NAPS = 16,      /* so often it sleeps. Then the lock is owed to it */
-    MOST_PASSED = 500,   /* so often others come first while a thread that has rested waits for the lock. Then the lock is owed to it */
-    TURNS = 16,          /* threads that wait are woken one by one, if they are not more than these */
-    WATCH = 100000000,   /* nanoseconds between two questions to a thread that waits, whether it is interrupted */
-    SET_ASIDE = 64,      /* so many engines have to be closed after one before its memory serves another */
-    APART = 128          /* bytes from what one thread writes to what another does: processors fetch two cache lines at once */
+    WATCH = 100000000,   /* nanoseconds between two questions to a thread that waits, whether it is interrupted: as soon as a person notices */
+    SET_ASIDE = 64       /* so many engines have to be closed after one before its memory serves another */
 };
 
 static const uint32_t NO_TID = UINT32_MAX; /* the limits never allow this number */
-static const int64_t SECOND = 1000000000;
 
 /* A call of a procedure. */
 struct call {
@@ -46,7 +29,7 @@ struct call {
 struct deadline {
     bool never, at_once;
     bool is_over;            /* whether the call ends now, since its thread was interrupted */
-    struct timespec at;
+    int64_t at;              /* INT64_MAX: never */
 };
 
 /* A run that a thread asks for. */
@@ -54,14 +37,6 @@ struct run {
     struct call call;
     struct deadline until;
     uint32_t tries;
-};
-
-/* What threads rest for until it is announced. */
-struct event {
-    pthread_cond_t announced;
-    uint64_t count;          /* how often it was */
-    uint32_t resting;        /* threads that rest for it */
-    uint32_t waking;         /* those of them to whom it was announced, so that they sleep for the lock */
 };
 
 /* A transaction that is live between two calls to the engine. */
@@ -82,28 +57,12 @@ struct queue {
     size_t first, count, room;
 };
 
-/* Those that wait for the lock, in the order in which they came. */
-struct line {
-    pthread_mutex_t lock;
-    pthread_cond_t turns[TURNS]; /* each waits at that of its ticket */
-    uint64_t tickets;            /* so many have come */
-    uint64_t first;              /* the ticket of the first that waits */
-};
-
 struct sgt_shared {
-    alignas(APART) atomic_bool is_held; /* whether the lock is, to look at before trying it */
-    atomic_bool is_owed;         /* whether the lock is owed to a thread that has rested */
-    atomic_bool is_claimed;      /* whether it is owed to the first that waits in line */
-    atomic_uint asleep;          /* threads that have rested, and sleep for the lock */
-    atomic_uint waiting;         /* threads that wait for the lock and have not rested */
-    atomic_uint closing;         /* threads that close: while there are any, those that have not rested leave the lock alone */
-    atomic_bool is_hooked;       /* whether the thread that holds the lock is in a hook */
+    struct lock lock;            /* of all that follows */
     atomic_uint forks;           /* how many forks this process comes from, as of the opening */
-    alignas(APART) struct line line;
-    alignas(APART) pthread_mutex_t lock; /* of all that follows */
+    atomic_uint draining;        /* threads that wait for a call to drain */
     bool is_open;
     bool tells;                  /* whether the hook has to be called for `ended` */
-    unsigned passed;             /* how often others came first while a thread slept for the lock */
     struct event changed;        /* a transaction has ended, or a cut is over */
     struct event queued;         /* a call can be drained */
     atomic_uint_fast64_t number; /* of this engine, in its tickets: looked at before the lock is taken */
@@ -124,7 +83,7 @@ struct sgt_shared {
     bool abandons;               /* whether a live transaction is abandoned */
     uint64_t cut_at;             /* so many entries make a cut due */
     bool pauses;                 /* starts wait for a cut that is due, until `pause` */
-    struct timespec pause;
+    int64_t pause;
     struct queue queue;
     sgt_ended ended;
     sgt_shared *next;            /* of those that are closed */
@@ -164,200 +123,20 @@ static atomic_uint forks;
 static atomic_uint_fast64_t opened;
 static atomic_uint_fast64_t threads;
 
-/* Time */
-
-static int64_t now(void)
-{
-    struct timespec at;
-    clock_gettime(CLOCK_MONOTONIC, &at);
-    return (int64_t)at.tv_sec * SECOND + at.tv_nsec;
-}
-
-static struct timespec in_ns(int64_t ns)
-{
-    struct timespec at;
-    clock_gettime(CLOCK_MONOTONIC, &at);
-    if (ns <= 0) return at;
-    at.tv_sec += (time_t)(ns / SECOND);
-    at.tv_nsec += (long)(ns % SECOND);
-    if (at.tv_nsec >= SECOND) at.tv_sec++, at.tv_nsec -= (long)SECOND;
-    return at;
-}
+/* Deadlines */
 
 static struct deadline deadline_in(int64_t ns)
 {
-    struct deadline until = {.never = ns == SGT_FOREVER, .at_once = ns <= 0};
-    if (!until.never) until.at = in_ns(ns);
-    return until;
-}
-
-static bool is_before(const struct timespec *a, const struct timespec *b)
-{
-    return a->tv_sec < b->tv_sec || (a->tv_sec == b->tv_sec && a->tv_nsec < b->tv_nsec);
+    const bool never = ns == SGT_FOREVER;
+    return (struct deadline){.never = never, .at_once = ns <= 0, .at = never ? INT64_MAX : in_ns(ns)};
 }
 
 /* Whether the deadline came while the call waited for its turn. A call that never waits for others does wait for that. */
-static bool is_late(const struct deadline *until)
-{
-    if (until->never || until->at_once) return false;
-    const struct timespec at = in_ns(0);
-    return !is_before(&at, &until->at);
-}
+static bool is_late(const struct deadline *until) { return !until->never && !until->at_once && now() >= until->at; }
 
-/* The lock */
+static inline void lock(sgt_shared *s) { take_lock(&s->lock); }
 
-static bool try_lock(sgt_shared *s)
-{
-    if (pthread_mutex_trylock(&s->lock) != 0) return false;
-    atomic_store_explicit(&s->is_held, true, memory_order_relaxed);
-    return true;
-}
-
-/* What a thread does that has slept for the lock, and has got it. */
-static void wake(sgt_shared *s)
-{
-    atomic_fetch_sub_explicit(&s->asleep, 1, memory_order_relaxed);
-    atomic_store_explicit(&s->is_owed, false, memory_order_relaxed);
-    s->passed = 0;
-}
-
-/* Leaves the processor to the thread that shares it, for a moment. */
-static void relax(void)
-{
-#if defined(__x86_64__) || defined(__i386__)
-    __builtin_ia32_pause();
-#elif defined(__aarch64__)
-    __asm__ volatile("yield");
-#endif
-}
-
-/* Whether the lock looks free for a thread that is owed it, or not. */
-static bool is_free(const sgt_shared *s, bool claims)
-{
-    return !atomic_load_explicit(&s->is_held, memory_order_relaxed) && !atomic_load_explicit(&s->is_owed, memory_order_relaxed)
-        && atomic_load_explicit(&s->closing, memory_order_relaxed) == 0
-        && (claims || !atomic_load_explicit(&s->is_claimed, memory_order_relaxed));
-}
-
-/* Looks for so many nanoseconds whether the lock is free, and stays so for a moment. Whether it has got the lock. */
-static bool look_out(sgt_shared *s, int64_t ns, bool claims)
-{
-    const int64_t begin = now();
-    int64_t since = INT64_MAX; /* when it was found free */
-    for (int64_t at = begin; at - begin < ns; at = now()) {
-        if (!is_free(s, claims)) since = INT64_MAX;
-        else if (since == INT64_MAX) since = at;
-        if (since != INT64_MAX && (claims || at - since >= PATIENCE) && try_lock(s)) return true;
-        relax();
-    }
-    return false;
-}
-
-/*
- * Waits for the condition, or until then, unless that is null. A thread that is cancelled meanwhile goes on, as nobody else would release
- * what it holds.
- */
-static int wait_for(pthread_cond_t *condition, pthread_mutex_t *lock, const struct timespec *until)
-{
-    int cancels = 0;
-    pthread_setcancelstate(PTHREAD_CANCEL_DISABLE, &cancels);
-    const int failed = until ? pthread_cond_timedwait(condition, lock, until) : pthread_cond_wait(condition, lock);
-    pthread_setcancelstate(cancels, &cancels);
-    return failed;
-}
-
-/* Waits in line for the lock. */
-static void line_up(sgt_shared *s)
-{
-    struct line *line = &s->line;
-    pthread_mutex_lock(&line->lock);
-    const uint64_t ticket = line->tickets++;
-    pthread_cond_t *turn = &line->turns[ticket % TURNS];
-    while (ticket != line->first) wait_for(turn, &line->lock, 0);
-    for (unsigned naps = 0; !look_out(s, naps > MOST_NAPS ? MOST_SPIN : LOOK, naps > MOST_NAPS); naps++) {
-        if (naps >= MOST_NAPS) atomic_store_explicit(&s->is_claimed, true, memory_order_relaxed);
-        const struct timespec end = in_ns(NAP);
-        if (naps != MOST_NAPS) wait_for(turn, &line->lock, &end);
-    }
-    atomic_store_explicit(&s->is_claimed, false, memory_order_relaxed);
-    line->first++;
-    pthread_cond_broadcast(&line->turns[line->first % TURNS]);
-    pthread_mutex_unlock(&line->lock);
-}
-
-/* Wakes the first that waits in line: this thread is about to rest, and does not come back soon. */
-static void beckon(sgt_shared *s)
-{
-    if (atomic_load_explicit(&s->waiting, memory_order_relaxed) == 0) return;
-    pthread_mutex_lock(&s->line.lock);
-    pthread_cond_broadcast(&s->line.turns[s->line.first % TURNS]);
-    pthread_mutex_unlock(&s->line.lock);
-}
-
-/* Waits for the lock. */
-static void await_lock(sgt_shared *s)
-{
-    const bool is_alone = atomic_fetch_add_explicit(&s->waiting, 1, memory_order_relaxed) == 0;
-    if (!is_alone || !look_out(s, MOST_SPIN, false)) line_up(s);
-    atomic_fetch_sub_explicit(&s->waiting, 1, memory_order_relaxed);
-}
-
-/* Takes the lock: at once if it is free. */
-static inline void lock(sgt_shared *s)
-{
-    if (!is_free(s, false) || !try_lock(s)) await_lock(s);
-}
-
-/* Sleeps for a moment. A thread that is cancelled meanwhile goes on. */
-static void nap(void)
-{
-    const struct timespec moment = {0, NAP};
-    int cancels = 0;
-    pthread_setcancelstate(PTHREAD_CANCEL_DISABLE, &cancels);
-    nanosleep(&moment, 0);
-    pthread_setcancelstate(cancels, &cancels);
-}
-
-/*
- * Takes the lock to close the engine, before all that have not rested. Whether it did: it does not wait for a hook, which may wait for
- * this thread. Else the lock is released soon, and only threads that had looked before, or have rested, take it meanwhile, once each.
- */
-static bool lock_to_close(sgt_shared *s)
-{
-    bool has = false;
-    atomic_fetch_add_explicit(&s->closing, 1, memory_order_relaxed);
-    while (!(has = try_lock(s)) && !atomic_load_explicit(&s->is_hooked, memory_order_relaxed)) nap();
-    atomic_fetch_sub_explicit(&s->closing, 1, memory_order_relaxed);
-    return has;
-}
-
-/* Counts a call that came before those of threads that sleep for the lock. */
-static void pass(sgt_shared *s)
-{
-    if (atomic_load_explicit(&s->asleep, memory_order_relaxed) == 0) return;
-    if (++s->passed == MOST_PASSED) atomic_store_explicit(&s->is_owed, true, memory_order_relaxed);
-}
-
-static inline void unlock(sgt_shared *s)
-{
-    pass(s);
-    atomic_store_explicit(&s->is_held, false, memory_order_relaxed);
-    pthread_mutex_unlock(&s->lock);
-}
-
-/* Releases the lock until the event is announced, or until then, unless that is null. Whether the time has not come. */
-static bool doze(sgt_shared *s, struct event *event, const struct timespec *until)
-{
-    const uint64_t count = event->count;
-    event->resting++;
-    beckon(s);
-    atomic_store_explicit(&s->is_held, false, memory_order_relaxed);
-    const int failed = wait_for(&event->announced, &s->lock, until);
-    atomic_store_explicit(&s->is_held, true, memory_order_relaxed);
-    event->resting--;
-    if (event->count != count) event->waking--, wake(s);
-    return !failed;
-}
+static inline void unlock(sgt_shared *s) { release_lock(&s->lock); }
 
 /* Asks this thread without the lock, whether it is interrupted. */
 static bool is_interrupted(sgt_shared *s)
@@ -377,23 +156,13 @@ static bool rest(sgt_shared *s, struct event *event, struct deadline *until)
 {
     const uint64_t count = event->count;
     while (!until->is_over && watch.interrupted && !watch.is_asking) {
-        const struct timespec look = in_ns(WATCH);
-        if (!until->never && is_before(&until->at, &look)) break;
-        if (doze(s, event, &look)) return true;
+        const int64_t look = in_ns(WATCH);
+        if (until->at < look) break;
+        if (doze(&s->lock, event, look)) return true;
         until->is_over = is_interrupted(s);
         if (event->count != count) return true;
     }
-    return !until->is_over && doze(s, event, until->never ? 0 : &until->at);
-}
-
-/* Wakes all who rest for the event. From now on they sleep for the lock. */
-static void announce(sgt_shared *s, struct event *event)
-{
-    if (event->resting == event->waking) return;
-    atomic_fetch_add_explicit(&s->asleep, event->resting - event->waking, memory_order_relaxed);
-    event->waking = event->resting;
-    event->count++;
-    pthread_cond_broadcast(&event->announced);
+    return !until->is_over && doze(&s->lock, event, until->at);
 }
 
 /* Entering and leaving */
@@ -460,15 +229,20 @@ static void end_call(void)
     pthread_mutex_unlock(&calling);
 }
 
+/* Ends a call that found the engine closed. */
+static uint32_t leave_closed(sgt_shared *s)
+{
+    unlock(s);
+    if (hooks) end_call();
+    return SGT_CLOSED;
+}
+
 static inline uint32_t enter(sgt_shared *s)
 {
     if (!s) return SGT_CLOSED;
     if (is_in_child(s) || (hooks && !begin_call(s))) return SGT_MISUSE;
     lock(s);
-    if (s->is_open) return SGT_OK;
-    unlock(s);
-    if (hooks) end_call();
-    return SGT_CLOSED;
+    return s->is_open ? (uint32_t)SGT_OK : leave_closed(s);
 }
 
 static void quit_abandoned(sgt_shared *s);
@@ -502,7 +276,7 @@ static void begin_hook(struct hook *hook, sgt_shared *s)
     *hook = (struct hook){.shared = s, .outer = hooks};
     pthread_setcancelstate(PTHREAD_CANCEL_DISABLE, &hook->cancels);
     hooks = hook;
-    atomic_store_explicit(&s->is_hooked, true, memory_order_relaxed);
+    atomic_store_explicit(&s->lock.is_hooked, true, memory_order_relaxed);
 }
 
 /* Ends it, and aborts what it has abandoned. */
@@ -510,7 +284,7 @@ static void end_hook(struct hook *hook)
 {
     hooks = hook->outer;
     pthread_setcancelstate(hook->cancels, &hook->cancels);
-    atomic_store_explicit(&hook->shared->is_hooked, false, memory_order_relaxed);
+    atomic_store_explicit(&hook->shared->lock.is_hooked, false, memory_order_relaxed);
     if (hook->shared->abandons) quit_abandoned(hook->shared);
 }
 
@@ -616,7 +390,7 @@ static void deliver(sgt_shared *s, uint32_t tid)
     sgt_calls(&s->engine, s->read, &ended.call, 1, &count, &s->read);
     if (s->config.keeps_ended) {
         s->queue.at[s->queue.first + s->queue.count++] = ended;
-        announce(s, &s->queued);
+        announce(&s->lock, &s->queued);
     }
     if (s->config.ended) s->ended = ended, s->tells = true;
 }
@@ -629,7 +403,7 @@ static void answered(sgt_shared *s, uint32_t tid, const sgt_reply *reply)
     drop(s, tid);
     for (uint32_t i = 0; reply->kind != SGT_COMMITTED && i < reply->fallen; i++) drop(s, reply->fell[i]);
     s->ends++;
-    announce(s, &s->changed);
+    announce(&s->lock, &s->changed);
 }
 
 /* An event of a transaction that was started. */
@@ -732,7 +506,7 @@ static uint32_t go_on(sgt_shared *s, uint32_t tid, struct deadline *until, sgt_r
         status = await_turn(s, tid, reply->tid, until);
         if (status == SGT_OK) status = ask(s, sgt_commit, tid, reply);
     }
-    if (--s->committing == 0 && s->lives == 0) announce(s, &s->changed);
+    if (--s->committing == 0 && s->lives == 0) announce(&s->lock, &s->changed);
     return status;
 }
 
@@ -752,7 +526,7 @@ static void put_off(sgt_shared *s)
 {
     s->cut_at = entries(s) + s->config.cut_after;
     s->pauses = false;
-    announce(s, &s->changed);
+    announce(&s->lock, &s->changed);
 }
 
 /* The same for a cut whose hook threw an exception, or ended its thread. */
@@ -791,7 +565,7 @@ static void cut_if_due(sgt_shared *s)
     if (entries(s) < s->cut_at) return;
     if (!is_busy(s)) {
         if (cut(s) != SGT_OK) put_off(s);
-        announce(s, &s->changed);
+        announce(&s->lock, &s->changed);
     } else if (s->config.cut_wait_ns > 0 && !s->pauses) {
         s->pauses = true;
         s->pause = in_ns(s->config.cut_wait_ns);
@@ -806,12 +580,12 @@ static bool await_cut(sgt_shared *s, struct deadline *until)
             cut_if_due(s);
             continue;
         }
-        const bool is_own = s->cutters > 0 || (!until->never && is_before(&until->at, &s->pause));
+        const bool is_own = s->cutters > 0 || until->at < s->pause;
         struct deadline pause = {.at = s->pause};
         if (rest(s, &s->changed, is_own ? until : &pause)) continue;
         until->is_over |= pause.is_over;
         if (is_own || until->is_over) return s->cutters == 0 && !s->pauses;
-        if (s->pauses && !is_before(&pause.at, &s->pause)) put_off(s);
+        if (s->pauses && pause.at >= s->pause) put_off(s);
     }
     return true;
 }
@@ -836,17 +610,18 @@ static sgt_shared *allocated(void)
     memset(s, 0, sizeof *s);
     pthread_condattr_init(&attributes);
     pthread_condattr_setclock(&attributes, CLOCK_MONOTONIC);
-    pthread_mutex_init(&s->lock, 0);
-    pthread_mutex_init(&s->line.lock, 0);
-    for (unsigned i = 0; i < TURNS; i++) pthread_cond_init(&s->line.turns[i], &attributes);
+    make_lock(&s->lock, &attributes);
     pthread_cond_init(&s->changed.announced, &attributes);
     pthread_cond_init(&s->queued.announced, &attributes);
     pthread_condattr_destroy(&attributes);
     return s;
 }
 
-/* Whether a thread waits for the lock that has not rested. */
-static bool is_awaited(sgt_shared *s) { return atomic_load(&s->waiting) > 0 || atomic_load(&s->closing) > 0; }
+/* Whether a thread waits for the lock that has not rested, or that waits to drain. */
+static bool is_awaited(sgt_shared *s)
+{
+    return atomic_load(&s->lock.waiting) > 0 || atomic_load(&s->lock.closing) > 0 || atomic_load(&s->draining) > 0;
+}
 
 /* The memory of an engine that was closed long ago, and for whose lock nobody waits, or null. */
 static sgt_shared *reused(void)
@@ -877,7 +652,7 @@ static sgt_shared *made(const sgt_shared_config *config, const sgt_engine *engin
     sgt_shared *s = reused();
     if (!s) s = allocated();
     if (!s) return 0;
-    pthread_mutex_lock(&s->lock);
+    pthread_mutex_lock(&s->lock.mutex);
     memset(&s->engine, 0, offsetof(sgt_shared, next) - offsetof(sgt_shared, engine));
     s->engine = *engine;
     sgt_part(&s->engine, &s->part);
@@ -886,7 +661,7 @@ static sgt_shared *made(const sgt_shared_config *config, const sgt_engine *engin
     s->number = atomic_fetch_add(&opened, 1) + 1;
     atomic_store(&s->forks, atomic_load(&forks));
     s->is_open = true;
-    pthread_mutex_unlock(&s->lock);
+    pthread_mutex_unlock(&s->lock.mutex);
     return s;
 }
 
@@ -919,8 +694,11 @@ uint32_t sgt_shared_take(sgt_shared **shared, sgt_engine *engine, const sgt_shar
     return SGT_OK;
 }
 
-/* Whether another thread rests in a call, or is asked there. This one has the lock. Those that wait for it will find the engine closed. */
-static bool is_used(const sgt_shared *s) { return s->changed.resting > 0 || s->queued.resting > 0 || s->asked > 0; }
+/*
+ * Whether another thread rests in a call, or is asked there. This one has the lock. Those that wait for it, or for a call to drain, will find
+ * the engine closed.
+ */
+static bool is_used(const sgt_shared *s) { return s->changed.resting > 0 || s->asked > 0; }
 
 /* Closes it, unless it is closed already, or used. */
 static uint32_t shut(sgt_shared *s)
@@ -928,6 +706,7 @@ static uint32_t shut(sgt_shared *s)
     if (!s->is_open) return SGT_CLOSED;
     if (is_used(s)) return SGT_BUSY;
     s->is_open = false;
+    announce(&s->lock, &s->queued);
     sgt_close(&s->engine);
     free(s->queue.at);
     return SGT_OK;
@@ -938,7 +717,7 @@ uint32_t sgt_shared_close(sgt_shared **shared)
     sgt_shared *s = shared ? *shared : 0;
     if (!s) return SGT_CLOSED;
     if (is_in_hook(s) || is_in_child(s)) return SGT_MISUSE;
-    if (!lock_to_close(s)) return SGT_BUSY;
+    if (!lock_to_close(&s->lock)) return SGT_BUSY;
     const uint32_t status = shut(s);
     unlock(s);
     if (status == SGT_OK) set_aside(s), *shared = 0;
@@ -988,7 +767,7 @@ static uint32_t may_start(sgt_shared *s, bool alone, struct deadline *until)
     if (alone) s->loners++;
     uint32_t status = await_others(s, alone, until);
     if (status == SGT_OK && s->config.keeps_ended && !reserve(&s->queue, s->lives + 1)) status = SGT_NO_MEMORY;
-    if (alone && --s->loners == 0) announce(s, &s->changed);
+    if (alone && --s->loners == 0) announce(&s->lock, &s->changed);
     return status;
 }
 
@@ -1468,7 +1247,7 @@ uint32_t sgt_shared_cut(sgt_shared *shared, int64_t wait_ns)
         if (!is_self) in_time = rest(shared, &shared->changed, &until);
     }
     shared->cutters--;
-    announce(shared, &shared->changed);
+    announce(&shared->lock, &shared->changed);
     if (shared->part == part && is_busy(shared)) status = is_self ? SGT_SELF_WAIT : SGT_TIMED_OUT;
     else if (shared->part == part) status = cut(shared);
     return leave(shared, status);
@@ -1496,15 +1275,25 @@ uint32_t sgt_shared_entries(sgt_shared *shared, uint64_t *count, uint64_t *part)
     return leave(shared, SGT_OK);
 }
 
+/* Waits for a call to drain. SGT_CLOSED. */
+static uint32_t await_queued(sgt_shared *s, struct deadline *until)
+{
+    bool in_time = true;
+    atomic_fetch_add(&s->draining, 1);
+    while (s->is_open && s->queue.count == 0 && in_time) in_time = rest(s, &s->queued, until);
+    const bool is_open = s->is_open;
+    atomic_fetch_sub(&s->draining, 1);
+    return is_open ? SGT_OK : SGT_CLOSED;
+}
+
 uint32_t sgt_shared_drain(sgt_shared *shared, int64_t wait_ns, sgt_ended *ended, size_t room, uint64_t *count)
 {
     struct deadline until = deadline_in(wait_ns);
-    bool in_time = true;
     uint32_t status = count && ended && room > 0 ? enter(shared) : (uint32_t)SGT_BAD_CALL;
     if (status != SGT_OK) return status;
-    struct queue *queue = &shared->queue;
     if (!shared->config.keeps_ended) return leave(shared, SGT_BAD_CALL);
-    while (queue->count == 0 && in_time) in_time = rest(shared, &shared->queued, &until);
+    if (await_queued(shared, &until) != SGT_OK) return leave_closed(shared);
+    struct queue *queue = &shared->queue;
     const size_t taken = queue->count < room ? queue->count : room;
     if (taken > 0) memcpy(ended, queue->at + queue->first, taken * sizeof *ended);
     queue->count -= taken;

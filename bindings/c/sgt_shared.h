@@ -16,7 +16,7 @@
  *
  * STATUSES are those of sgt.h, and these:
  *
- *   SGT_BUSY       another thread waits in a call, or is in a hook, so the engine can't be closed
+ *   SGT_BUSY       another thread waits for a transaction or a cut, or is in a hook, so the engine can't be closed
  *   SGT_SELF_WAIT  the call would wait, without a deadline, for a transaction that its own thread has to end
  *   SGT_TIMED_OUT  the deadline came
  *   SGT_STALE      the ticket is of a part of the history that was cut off: its transaction has ended
@@ -195,12 +195,12 @@ uint32_t sgt_shared_take(sgt_shared **shared, sgt_engine *engine, const sgt_shar
 
 /*
  * Closes the engine, and makes the pointer null. Its live transactions are gone, and so is what sgt_shared_drain has not taken. It waits
- * for the lock, but never for a hook, and takes it before the calls that wait for it: these are SGT_CLOSED, and so is a call that has just
- * begun. No thread may begin a call to it afterwards. The memory of the engine's struct, less than 4 kilobytes, is kept for engines that
+ * for the lock, but never for a hook, and takes it before the calls that wait for it: these are SGT_CLOSED, and so are a call that has just
+ * begun, and an sgt_shared_drain that waits. No thread may begin a call to it afterwards. The memory of the engine's struct, less than 4 kilobytes, is kept for engines that
  * are opened later.
  *
- * SGT_BUSY if another thread is in a call that waits for more than the lock, or in a hook of this engine; SGT_CLOSED if the pointer is
- * null, or another thread has just closed the engine.
+ * SGT_BUSY if another thread is in a call that waits for a transaction or a cut, is asked whether it is interrupted, or is in a hook of
+ * this engine; SGT_CLOSED if the pointer is null, or another thread has just closed the engine.
  */
 uint32_t sgt_shared_close(sgt_shared **shared);
 
@@ -365,7 +365,8 @@ uint32_t sgt_shared_entries(sgt_shared *shared, uint64_t *count, uint64_t *part)
 
 /*
  * Takes committed and refused calls that were stored because `keeps_ended` is 1: the oldest into `ended`, which has room for so many,
- * and how many these are into `count`. If there is none it waits for one; `count` is 0 if none has come by the deadline.
+ * and how many these are into `count`. If there is none it waits for one; `count` is 0 if none has come by the deadline. SGT_CLOSED if the
+ * engine is closed meanwhile: so a thread that drains without a deadline can be ended.
  *
  * Each call is handed out once. Threads that drain at the same time get different calls, so order them by `sequence`. SGT_BAD_CALL also
  * if `keeps_ended` is not 1.

@@ -643,6 +643,38 @@ static void ended_calls_are_drained(void)
     closes(shared);
 }
 
+static uint32_t drains_until_closed(struct later *it)
+{
+    sgt_ended call;
+    uint64_t count = 77;
+    uint32_t status = sgt_shared_drain(it->shared, SGT_FOREVER, &call, 1, &count);
+    return count == 77 ? status : 99;
+}
+
+/* A close ends a call that waits to drain, and one that waits for a transaction keeps the engine open. */
+static void a_close_ends_drains(void)
+{
+    sgt_shared_config config = SGT_SHARED_CONFIG;
+    config.keeps_ended = 1;
+    sgt_shared *shared = bank(&config);
+    struct later one = {.shared = shared, .call = drains_until_closed}, other = one;
+    struct later cutter = {.shared = shared, .call = cuts};
+    sgt_ticket writer = begins(shared, 3);
+    sgt_reply reply = {0};
+    in_a_thread(&one);
+    in_a_thread(&other);
+    in_a_thread(&cutter);
+    pause_for(20 * MS);
+    CHECK(sgt_shared_close(&shared) == SGT_BUSY && one.status == 77 && other.status == 77);
+    CHECK(sgt_shared_quit(shared, &writer, &reply) == SGT_OK);
+    pthread_join(cutter.id, 0);
+    CHECK(cutter.status == SGT_OK);
+    closes(shared);
+    pthread_join(one.id, 0);
+    pthread_join(other.id, 0);
+    CHECK(one.status == SGT_CLOSED && other.status == SGT_CLOSED);
+}
+
 /* Many that are live at once can all end, without a start in between. */
 static void many_ends_are_stored(void)
 {
@@ -735,6 +767,7 @@ int main(void)
     hooks_are_told_of_all_threads();
     all_get_their_turn();
     ended_calls_are_drained();
+    a_close_ends_drains();
     many_ends_are_stored();
     cuts_come_by_themselves();
     a_forked_child_is_refused();

@@ -263,8 +263,8 @@ class SharedEngine(Uncopied):
     def drain(self, most: int = 1024, timeout: Optional[float] = None) -> list[Ended]:
         """Takes at most so many of the stored calls, oldest first. Returns an empty list if none comes in time.
 
-        Raises BadCall if the engine stores none. What an interrupt keeps it from returning is returned by the next call;
-        before Python 3.11, unless the interrupt comes between the return and the next instruction.
+        Raises BadCall if the engine stores none, and Closed if it is closed meanwhile. What an interrupt keeps it from returning is
+        returned by the next call; before Python 3.11, unless the interrupt comes between the return and the next instruction.
         """
         if not self._keeps:
             raise BadCall("the engine stores no calls: open it with keeps_ended")
@@ -285,7 +285,9 @@ class SharedEngine(Uncopied):
             raise
 
     def close(self) -> None:
-        """Closes the engine. Later calls raise Closed, and calls that wait for its lock do. Raises Busy if one waits for something else."""
+        """Closes the engine. Later calls raise Closed, and so do calls that wait for its lock, or for a call to drain. Raises Busy if one
+        waits for something else.
+        """
         if self._teller and not self._teller.is_here():
             self._teller.tell()
         status = self._ask(FREE.sgt_shared_close)
