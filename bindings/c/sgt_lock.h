@@ -88,7 +88,7 @@ static bool try_lock(struct lock *l)
     return true;
 }
 
-/* What a thread does that has slept for the lock, and has got it. */
+/* Counts out a thread that slept for the lock and now holds it. */
 static void wake(struct lock *l)
 {
     atomic_fetch_sub_explicit(&l->asleep, 1, memory_order_relaxed);

@@ -196,8 +196,8 @@ uint32_t sgt_shared_take(sgt_shared **shared, sgt_engine *engine, const sgt_shar
 /*
  * Closes the engine, and makes the pointer null. Its live transactions are gone, and so is what sgt_shared_drain has not taken. It waits
  * for the lock, but never for a hook, and takes it before the calls that wait for it: these are SGT_CLOSED, and so are a call that has just
- * begun, and an sgt_shared_drain that waits. No thread may begin a call to it afterwards. The memory of the engine's struct, less than 4 kilobytes, is kept for engines that
- * are opened later.
+ * begun, and an sgt_shared_drain that waits. No thread may begin a call to it afterwards. The memory of the engine's struct, less than
+ * 4 kilobytes, is kept for engines that are opened later.
  *
  * SGT_BUSY if another thread is in a call that waits for a transaction or a cut, is asked whether it is interrupted, or is in a hook of
  * this engine; SGT_CLOSED if the pointer is null, or another thread has just closed the engine.
