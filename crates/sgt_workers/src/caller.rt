@@ -134,6 +134,9 @@ impl<'a, N: Named, R: Records, A: Accesses, G: Graph, T: Gate, W: Wait> Caller<
         let step = Event::Step(t);
         for _ in self.rt.forever() {
             self.call(&step)?;
+            if self.session.is_last_access() {
+                continue;
+            }
             let entry = self.session.last_entry();
             if entry.is_at_end() {
                 break;
