@@ -582,9 +582,9 @@ def have_a_grammar_that_refuses_bad_lines(_sgt):
 
 
 def accepted(sgt, lines):
-    """The error line of a script, if there is one."""
+    """The first line of a script's error, if there is one."""
     ran = subprocess.run([sgt, "script"], input="\n".join(lines).encode(), capture_output=True, timeout=60, check=False)
-    return ran.stderr.decode().strip()
+    return ran.stderr.decode().split("\n")[0]
 
 
 OPENING = '{"limits":[8,100],"accounts":[],"procedures":[]}'

@@ -204,7 +204,7 @@ def draws_drawn_histories(sgt):
 def draws_no_empty_history(sgt):
     for given in ("", "# nothing\n"):
         told = sgt.run("check", "--timeline", given=given)
-        same("status, output and error", (2, "", "no operations\n"), told)
+        same("status, output and error", (2, "", "no operations\na history has operations: r1[x], w1[x], c1 or a1\n"), told)
 
 
 def draws_the_widest(sgt):
