@@ -791,6 +791,8 @@ def says_what_an_operation_looks_like(sgt):
         ("c1 r2", "a read and a write name an item in square brackets, as in r1[x]"),
         ("b1 r1[x]", f"{form}; a transaction begins with its first one, without a word"),
         ("# none\nc1 x9", form),
+        ("r1[x], w2[x]", "operations are separated by spaces or newlines, without commas"),
+        ("r1[x];", "operations are separated by spaces or newlines, without commas"),
     ):
         status, out, told = sgt.run("check", given=given)
         same(given, (2, "", words), (status, out, told.splitlines()[1]))

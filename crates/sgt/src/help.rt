@@ -220,9 +220,9 @@ first two operations that do. The edges of the cycle are red:
 
 With --timeline the output is a picture of the history in SVG: a row for each transaction, its
 operations from left to right, arrows from writes to the reads that read from them, and the report
-below. The conflicts of the cycle are red. Without a cycle, the first violation in the order of the
-report is orange. If there are more than 400 operations, it draws those of the transactions
-involved.
+below. The conflicts of the cycle are red, and the first violation of each other class is orange. If
+there are more than 60 operations, it draws those of the transactions involved; with --all only if
+there are more than 400.
 
 With --model list-append the history is what the clients of a database saw. Their transactions
 append unique values to lists and read lists. The input has objects of JSON, as Jepsen writes them,

@@ -231,6 +231,11 @@ fn check_options<'a>(alloc: Global) -> Result<Vec<Arg<'a>>, AllocError> {
         "Writes a picture of the history in SVG, instead of the report",
     )
     .conflicts_with("graph")?)?;
+    options.push(flag(
+        alloc,
+        "all",
+        "Draws up to 400 operations of a history, not only those of the violations",
+    ))?;
     options.push(
         flag(
             alloc,
@@ -525,6 +530,8 @@ fn is_brace(fault: &CheckFault) -> bool {
 fn check_output(options: &ArgMatches<'_>) -> sgt_check::Output {
     if options.get_flag("graph") {
         sgt_check::Output::Graph
+    } else if options.get_flag("timeline") && options.get_flag("all") {
+        sgt_check::Output::WholeTimeline
     } else if options.get_flag("timeline") {
         sgt_check::Output::Timeline
     } else {

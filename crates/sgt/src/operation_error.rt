@@ -5,6 +5,9 @@ use sgt_notation::Shown;
 /// What an operation looks like, and how this word differs, as far as that is plain.
 pub(crate) fn operation_error(word: &Shown) -> &'static str {
     let text = word.text.as_slice();
+    if text.ends_with(b",") || text.ends_with(b";") {
+        return "operations are separated by spaces or newlines, without commas";
+    }
     match text.first() {
         Some(b'R' | b'W' | b'C' | b'A') => {
             "an operation starts with a small letter: r1[x], w1[x], c1 or a1"

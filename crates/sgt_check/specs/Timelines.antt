@@ -5,8 +5,8 @@ use Rattle.sgt_timeline.specs.declared.picture.Picture.{Picture}
 use Rattle.sgt_timeline.specs.Drawn.{IsDrawnFrom}
 use Rattle.sgt_timeline.specs.PictureText.{picture_text}
 
--- The text of a picture of the history. It has exactly one mark for each operation that is drawn.
-pub record IsPictured (h : History) (text : List ℕ) : Type 0 where
+-- The text of a picture of the history. It has exactly one mark for each operation that is drawn: of at most so many, each.
+pub record IsPictured (most : ℕ) (h : History) (text : List ℕ) : Type 0 where
   pub picture : Picture
-  pub drawn : IsDrawnFrom h.operations.items picture
+  pub drawn : IsDrawnFrom most h.operations.items picture
   pub written : text ≡ picture_text h picture

@@ -42,6 +42,7 @@ pub fn append_timeline(
         &history,
         highlight,
         caption_of(alloc, report)?.as_slice(),
+        MOST_DRAWN,
     )?;
     append_picture(text, &history, &picture)
 }

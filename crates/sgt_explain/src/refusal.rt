@@ -102,11 +102,8 @@ fn append_words(text: &mut Vec<u8>, refusal: &Refusal) -> Result<(), AllocError>
         Refusal::Count(procedure, takes, given) => append_count(text, *procedure, *takes, *given),
         Refusal::Arguments(procedure, given) => {
             append_name(text, *procedure)?;
-            append_number(
-                text,
-                b" does not take these arguments: found ",
-                *given as u64,
-            )
+            append_number(text, b" does not take ", *given as u64)?;
+            text.extend_from_slice(argument_words(*given))
         }
         Refusal::Argument(index, value) => {
             append_number(text, b"argument ", *index as u64)?;
@@ -132,12 +129,17 @@ fn append_count(
 ) -> Result<(), AllocError> {
     append_name(text, procedure)?;
     append_number(text, b" takes ", takes)?;
-    text.extend_from_slice(if takes == 1 {
+    text.extend_from_slice(argument_words(usize::from(takes)))?;
+    append_number(text, b", found ", given as u64)
+}
+
+// The word after a number of arguments.
+fn argument_words(count: usize) -> &'static [u8] {
+    if count == 1 {
         b" argument"
     } else {
         b" arguments"
-    })?;
-    append_number(text, b", found ", given as u64)
+    }
 }
 
 // Appends these words and the number, and the range of values.

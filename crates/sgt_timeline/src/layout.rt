@@ -1,5 +1,5 @@
 //! The layout of a picture: where each row, mark and line stands.
-ghost use Rattle.std.specs.Prelude.{◌≡◌, ◌<◌, ◌∷◌, [], ◌++◌, length, IfOk, OnOk, IfSome};
+ghost use Rattle.std.specs.Prelude.{◌≡◌, ◌<◌, ◌≤◌, ◌∷◌, [], ◌++◌, length, IfOk, OnOk, IfSome};
 ghost use Rattle.sgt_timeline.specs.Drawn.{IsDrawnFrom, AreDrawn, marked};
 
 use crate::drawn::{Drawn, Pairs};
@@ -23,8 +23,8 @@ const LEAST_WIDTH: usize = 760;
 /// The width of a letter.
 const LETTER: usize = 8;
 
-/// Lays out the picture of a history: of one of up to 400 operations whole, of a longer one the transactions of what stands out, or
-/// its first operations where nothing does. The caption stands below it, with what was left out.
+/// Lays out the picture of a history: whole, if it has at most so many operations, up to 400. Of a longer one it has the transactions of
+/// what stands out, or the first operations where nothing does. The caption stands below it, with what was left out.
 ///
 /// It costs a pass over the history for each read that is drawn.
 ///
@@ -36,12 +36,14 @@ pub fn draw(
     history: &History,
     highlight: Highlight<'_>,
     caption: &[u8],
+    whole: usize,
 ) -> Result<Picture, NoMemory>
-    ensures { IfOk result (IsDrawnFrom history.now.operations.items) }
+    requires { whole ≤ 400 }
+    ensures { IfOk result (IsDrawnFrom whole history.now.operations.items) }
 {
     let operations = history.operations.as_slice();
     let pairs = Pairs::of(alloc, highlight)?;
-    let drawn = Drawn::of(alloc, operations, &pairs)?;
+    let drawn = Drawn::of(alloc, operations, &pairs, whole)?;
     let layout = Layout::of(alloc, history, drawn.places.as_slice(), &pairs)?;
     let lines = lines_between(alloc, operations, layout.marks.as_slice(), &pairs)?;
     let legend = layout.rows.len().saturating_mul(ROW).saturating_add(8);

@@ -10,6 +10,8 @@ pub enum Highlight<'a> {
     Cycle(&'a [Edge]),
     /// The two operations of a violation.
     Violation(Violation),
+    /// The edges of a cycle, if there is one, and the violations of other classes.
+    All(&'a [Edge], &'a [Violation]),
 }
 
 /// A picture of a history.
