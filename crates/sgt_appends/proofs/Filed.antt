@@ -82,7 +82,7 @@ twice_appended h u q t p k v one other (inr same) once =
 nothing_is : (x : Option (ℕ × ℕ)) (y : ℕ × ℕ) → x ≡ None → ¬ (x ≡ Some y)
 nothing_is x y none is = grind (arith, common_steps, is, none)
 
-earlier_still : (t p i j : ℕ) → IsEarlier t p i j → IsEarlier t p i (j + 1)
+pub earlier_still : (t p i j : ℕ) → IsEarlier t p i j → IsEarlier t p i (j + 1)
 earlier_still t p i j (inl less) = inl less
 earlier_still t p i j (inr same) = inr (same.0, omega (arith, same.1))
 

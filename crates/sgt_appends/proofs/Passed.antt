@@ -352,7 +352,7 @@ may_by h t x Unknown there is not = inr (x, there, is)
 pub may_run : (h : List Transaction) (t : ℕ) (x : Transaction) → slice_get h t ≡ Some x → ¬ (x.status ≡ Aborted) → MayRun h t
 may_run h t x there not = may_by h t x x.status there refl not
 
-ended_one : (h : List Transaction) (t : ℕ) (x : Transaction) (status : Status) → slice_get h t ≡ Some x → Ended h t status → x.status ≡ status
+pub ended_one : (h : List Transaction) (t : ℕ) (x : Transaction) (status : Status) → slice_get h t ≡ Some x → Ended h t status → x.status ≡ status
 ended_one h t x status there it = ap (λ (y : Transaction). y.status) (by (sym there ∙ it.1)) ∙ it.2
   where
     by : Some x ≡ Some it.0 → x ≡ it.0

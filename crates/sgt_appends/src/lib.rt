@@ -38,6 +38,7 @@ mod lines;
 mod merge;
 mod order;
 mod premises;
+mod read_anomaly;
 mod reads;
 mod search;
 mod short;
@@ -45,6 +46,7 @@ mod shown;
 mod solver;
 mod sorting;
 mod transaction;
+mod updates;
 mod witness;
 
 pub use anomaly::{Anomaly, name_of};
@@ -59,8 +61,10 @@ pub use laws::{
 };
 pub use order::{is_serial_run, names_each};
 pub use premises::unknown_read;
+pub use read_anomaly::{ReadAnomaly, reads_with};
 pub use reads::{Read, first_fault, read_of};
 pub use shown::{is_shown, is_shown_cycle};
 pub use sorting::{Link, Sorted, sort};
 pub use transaction::{Operation, Status, Transaction};
+pub use updates::{Updates, version_seen};
 pub use witness::{Edge, Reason, all_hold, append_at, has, is_cycle, read_at, stands_before};

@@ -210,7 +210,7 @@ fn twice_or(alloc: Global, seen: &[u32], fault: Fault) -> Result<Fault, NoMemory
 }
 
 /// The first value that stands in the list a second time.
-fn twice_in(alloc: Global, seen: &[u32]) -> Result<Option<u32>, NoMemory>
+pub(crate) fn twice_in(alloc: Global, seen: &[u32]) -> Result<Option<u32>, NoMemory>
     ensures some { IfOk result (λ found. IfSome found (λ v. StandsBefore seen.now v v)) }
     ensures none { IfOk result (λ found. IsNone found → IsOnce seen.now) }
 {
@@ -224,7 +224,7 @@ fn twice_in(alloc: Global, seen: &[u32]) -> Result<Option<u32>, NoMemory>
 }
 
 /// Where a transaction that is not aborted appends the value to the key.
-fn written_by(
+pub(crate) fn written_by(
     history: &[Transaction],
     appends: &AppendIndex,
     key: u32,
