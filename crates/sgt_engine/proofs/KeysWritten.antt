@@ -1,6 +1,6 @@
 -- What the writes of a history say of the committed values: a key of which it has none has its old value.
-use Rattle.std.proofs.Common.{◌≡◌, ◌≢◌, ℕ, zero, suc, ◌+◌, ℤ, Bool, true, false, ◌||◌, ◌&&◌, cond, List, [], ◌∷◌, ◌++◌, take, reverse, slice_get, Option, Some, None, IfSome, refl, sym, ap, ◌∙◌, subst, add-one}
-use Rattle.std.proofs.lemmas.Bool.{true≢false}
+use Rattle.std.proofs.Common.{◌≡◌, ◌≢◌, ◌<◌, ◌≤◌, arith, length, nat_eq, ℕ, zero, suc, ◌+◌, ℤ, Bool, true, false, ◌||◌, ◌&&◌, cond, List, [], ◌∷◌, ◌++◌, take, reverse, slice_get, Option, Some, None, IfSome, refl, sym, ap, ◌∙◌, subst, add-one}
+use Rattle.std.proofs.lemmas.Bool.{true≢false, eqb-true, eqb-false}
 use Rattle.std.proofs.lemmas.Grind.{reverse_onto}
 use Rattle.std.proofs.lemmas.Option.{same_Some}
 use Rattle.std.specs.BTreeMap.{BTreeMap, get}
@@ -18,7 +18,8 @@ use Rattle.sgt_model.specs.Numbers.{IsValue}
 use Rattle.sgt_model.specs.Fates.{committed}
 use Rattle.sgt_model.specs.Values.{stores, newest_store, value_or, settled}
 use Rattle.sgt_model.proofs.Stores.{key_eq-true}
-use Rattle.sgt_model.specs.Databases.{Row, key_cmp, contents_of, IsByKey}
+use Rattle.sgt_model.specs.Databases.{Row, key_cmp, key_lt, contents_of, IsByKey, IsRowIndex}
+use Rattle.sgt_model.proofs.Rows.{by_key_at, key_lt-trans}
 use Rattle.sgt_model.proofs.Merges.{row_more}
 use Rattle.sgt_engine.specs.Writes.{tells_write, is_written}
 
@@ -169,29 +170,87 @@ newer_first values opening k written o is some =
     go true (Some v) w n = refl
     go false v w n = refl
 
--- a row more, whose key was not written
-module _ (m : BTreeMap Key (Option ℤ)) (rows : List Row) (i : ℕ) (r : Row) (ordered : IsByKey rows) (at : slice_get rows i ≡ Some r) where
-  pub row_kept : (k : Key) → is_some (get key_cmp m r.0) ≡ false
-      → put_in (λ j. cond (is_some (get key_cmp m j)) None (contents_of (take i rows) j)) r.0 r.1 k
-      ≡ cond (is_some (get key_cmp m k)) None (contents_of (take (i + 1) rows) k)
-  row_kept k not_there = go (key_eq r.0 k) refl ∙ ap (λ o. cond (is_some (get key_cmp m k)) None o) (sym (row_more rows i r ordered at k))
+-- a row more, whose key is not left out
+module _ (out : Key → Bool) (rows : List Row) (i : ℕ) (r : Row) (ordered : IsByKey rows) (at : slice_get rows i ≡ Some r) where
+  pub row_kept : (k : Key) → out r.0 ≡ false
+      → put_in (λ j. cond (out j) None (contents_of (take i rows) j)) r.0 r.1 k
+      ≡ cond (out k) None (contents_of (take (i + 1) rows) k)
+  row_kept k not_there = go (key_eq r.0 k) refl ∙ ap (λ o. cond (out k) None o) (sym (row_more rows i r ordered at k))
     where
       go : (b : Bool) → key_eq r.0 k ≡ b
-          → cond b (Some r.1) (cond (is_some (get key_cmp m k)) None (contents_of (take i rows) k))
-          ≡ cond (is_some (get key_cmp m k)) None (cond b (Some r.1) (contents_of (take i rows) k))
-      go true e = ap (λ c. cond c None (Some r.1)) (sym (ap (λ j. is_some (get key_cmp m j)) (sym (key_eq-true r.0 k e)) ∙ not_there))
+          → cond b (Some r.1) (cond (out k) None (contents_of (take i rows) k))
+          ≡ cond (out k) None (cond b (Some r.1) (contents_of (take i rows) k))
+      go true e = ap (λ c. cond c None (Some r.1)) (sym (ap out (sym (key_eq-true r.0 k e)) ∙ not_there))
       go false e = refl
 
-  -- one whose key was
-  pub row_left : (k : Key) → is_some (get key_cmp m r.0) ≡ true
-      → cond (is_some (get key_cmp m k)) None (contents_of (take i rows) k)
-      ≡ cond (is_some (get key_cmp m k)) None (contents_of (take (i + 1) rows) k)
-  row_left k there = go (key_eq r.0 k) refl ∙ ap (λ o. cond (is_some (get key_cmp m k)) None o) (sym (row_more rows i r ordered at k))
+  -- one whose key is
+  pub row_left : (k : Key) → out r.0 ≡ true
+      → cond (out k) None (contents_of (take i rows) k)
+      ≡ cond (out k) None (contents_of (take (i + 1) rows) k)
+  row_left k there = go (key_eq r.0 k) refl ∙ ap (λ o. cond (out k) None o) (sym (row_more rows i r ordered at k))
     where
       go : (b : Bool) → key_eq r.0 k ≡ b
-          → cond (is_some (get key_cmp m k)) None (contents_of (take i rows) k)
-          ≡ cond (is_some (get key_cmp m k)) None (cond b (Some r.1) (contents_of (take i rows) k))
+          → cond (out k) None (contents_of (take i rows) k)
+          ≡ cond (out k) None (cond b (Some r.1) (contents_of (take i rows) k))
       go true e =
-          let here : is_some (get key_cmp m k) ≡ true = ap (λ j. is_some (get key_cmp m j)) (sym (key_eq-true r.0 k e)) ∙ there in
+          let here : out k ≡ true = ap out (sym (key_eq-true r.0 k e)) ∙ there in
           ap (λ c. cond c None (contents_of (take i rows) k)) here ∙ sym (ap (λ c. cond c None (Some r.1)) here)
       go false e = refl
+
+-- ---- rows that come before a key
+
+-- where all before it come before the key, and it does not, it is the key's index
+pub index_here : (k : Key) (rows : List Row) (n : ℕ) → n ≤ length rows
+    → ((i : ℕ) (r : Row) → i < n → slice_get rows i ≡ Some r → key_lt r.0 k ≡ true)
+    → ((r : Row) → slice_get rows n ≡ Some r → key_lt r.0 k ≡ false) → IsRowIndex k rows n
+index_here k [] zero within before next = tt
+index_here k [] (suc n) within before next = absurd (omega arith)
+index_here k (x ∷ rows) zero within before next = next x refl
+index_here k (x ∷ rows) (suc n) within before next = (
+  before 0 x (omega arith) refl,
+  index_here k rows n (omega arith) (λ i r g. before (suc i) r (omega arith)) next,
+)
+
+-- all before the key's index come before the key
+pub before_index : (k : Key) (rows : List Row) (n : ℕ) → IsRowIndex k rows n → (i : ℕ) (r : Row) → i < n → slice_get rows i ≡ Some r
+    → key_lt r.0 k ≡ true
+before_index k [] n at i r lt is = absurd (cc)
+before_index k (x ∷ rows) zero at i r lt is = absurd (omega (arith, lt))
+before_index k (x ∷ rows) (suc n) at zero r lt is = subst (λ (y : Row). key_lt y.0 k ≡ true) (same_Some x r is) at.0
+before_index k (x ∷ rows) (suc n) at (suc i) r lt is = before_index k rows n at.1 i r (omega (arith, lt)) is
+
+-- and so they come before the next row's
+pub before_next : (k : Key) (rows others : List Row) (n p : ℕ) (q : Row) → IsRowIndex k others n → IsByKey rows → slice_get rows p ≡ Some q
+    → q.0 ≡ k → (r : Row) → slice_get rows (p + 1) ≡ Some r → (i : ℕ) (s : Row) → i < n → slice_get others i ≡ Some s → key_lt s.0 r.0 ≡ true
+before_next k rows others n p q at ordered here same r next i s lt is =
+    key_lt-trans s.0 k r.0 (before_index k others n at i s lt is)
+    (subst (λ j. key_lt j r.0 ≡ true) same (by_key_at rows p (p + 1) q r ordered (omega arith) here next))
+
+-- one more row comes before the key
+pub before_more : (k : Key) (rows : List Row) (n : ℕ) → ((i : ℕ) (r : Row) → i < n → slice_get rows i ≡ Some r → key_lt r.0 k ≡ true)
+    → ((r : Row) → slice_get rows n ≡ Some r → key_lt r.0 k ≡ true)
+    → (i : ℕ) (r : Row) → i < n + 1 → slice_get rows i ≡ Some r → key_lt r.0 k ≡ true
+before_more k rows n before here i r lt is = go (nat_eq i n) refl
+  where
+    go : (e : Bool) → nat_eq i n ≡ e → key_lt r.0 k ≡ true
+    go true e = here r (ap (slice_get rows) (sym (eqb-true i n e)) ∙ is)
+    go false e = before i r (omega (arith, lt, eqb-false i n e)) is
+
+-- ---- a row for each key
+
+-- one key more
+pub key_more : (k key : Key) (v : ℤ) (o : Option ℤ) (among : Bool) → is_some o ≡ among
+    → is_some (cond (key_eq key k) (Some v) o) ≡ (among || key_eq key k)
+key_more k key v o among same = go (key_eq key k)
+  where
+    or_true : (b : Bool) → true ≡ (b || true)
+    or_true true = refl
+    or_true false = refl
+
+    or_false : (b : Bool) → b ≡ (b || false)
+    or_false true = refl
+    or_false false = refl
+
+    go : (b : Bool) → is_some (cond b (Some v) o) ≡ (among || b)
+    go true = or_true among
+    go false = same ∙ or_false among

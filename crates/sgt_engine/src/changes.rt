@@ -1,9 +1,9 @@
 //! What a history has changed in the database that it began with.
-ghost use Rattle.std.specs.Prelude.{◌≡◌, ◌≢◌, ◌||◌, false, Some, None, cond, IfOk, IfSome};
+ghost use Rattle.std.specs.Prelude.{◌≡◌, ◌≢◌, ◌<◌, ◌≤◌, ◌||◌, ℕ, true, false, Some, None, cond, length, slice_get, IfOk, IfSome};
 ghost use Rattle.std.specs.BTreeMap.{get};
 ghost use Rattle.std.specs.Option.{is_some, option_flatten};
 ghost use Rattle.sgt_model.specs.Contents.{Key};
-ghost use Rattle.sgt_model.specs.Databases.{contents_of, key_cmp, IsByKey};
+ghost use Rattle.sgt_model.specs.Databases.{Row, contents_of, key_cmp, key_lt, IsByKey, IsRowIndex};
 ghost use Rattle.sgt_model.specs.Numbers.{IsValue};
 ghost use Rattle.sgt_engine.specs.Writes.{is_removal, is_written};
 
@@ -42,6 +42,25 @@ pub fn note_removal(found: &mut bool, reply: &ShortReply)
     if let ShortReply::Wrote { value: None, .. } = reply {
         *found = true;
     }
+}
+
+/// The keys that the history has writes of and that have no committed value.
+///
+/// Nothing is promised of the list: with a key too many or too few, memory is kept or made anew, and no answer changes.
+pub fn keys_without_value<R: Records>(
+    alloc: Global,
+    history: &History,
+    records: &R,
+) -> Result<Vec<Key>, NoMemory> {
+    let mut keys = Vec::new(alloc);
+    for place in 0..history.len() {
+        if let Reply::Wrote { key, .. } = history.reply_at(place) {
+            if records.committed(key).is_none() {
+                keys.push(key)?;
+            }
+        }
+    }
+    Ok(keys)
 }
 
 // What a history has written.
@@ -99,11 +118,69 @@ fn unwritten_rows(
     ensures { IfOk result (λ d. (k : Key) → contents_of d k
         ≡ cond (is_some (get key_cmp written.now k)) None (contents_of database.now k)) }
 {
-    let mut others = Database::empty(alloc);
+    let keys = rows_of_keys(alloc, written)?;
+    rows_but(alloc, database, &keys)
+}
+
+// A row for each of these keys.
+fn rows_of_keys(alloc: Global, values: &BTreeMap<Key, Option<i64>>) -> Result<Database, NoMemory>
+    ensures { IfOk result (λ d. (k : Key) → is_some (contents_of d k) ≡ is_some (get key_cmp values.now k)) }
+{
+    let mut rows = Database::empty(alloc);
+    for (key, _) in values {
+        rows.put(*key, 0)?;
+    }
+    Ok(rows)
+}
+
+// The rows of a database whose keys have no row in the other one. It goes through both once.
+fn rows_but(alloc: Global, database: &Database, other: &Database) -> Result<Database, NoMemory>
+    ensures { IfOk result (λ d. (k : Key) → contents_of d k
+        ≡ cond (is_some (contents_of other.now k)) None (contents_of database.now k)) }
+{
+    let others = other.rows();
+    let mut rows = Database::empty(alloc);
+    let mut before = 0;
     for (key, value) in database.rows() {
-        if written.get(key).is_none() {
-            others.put(*key, *value)?;
+        before = rows_before(others, before, *key);
+        if !has_row(others, before, *key) {
+            rows.put(*key, *value)?;
         }
     }
-    Ok(others)
+    Ok(rows)
+}
+
+// How many of the rows come before the key, of which so many do.
+fn rows_before(rows: &[(Key, i64)], first: usize, key: Key) -> usize
+    requires within { first ≤ length rows.now }
+    requires before { (i : ℕ) (r : Row) → i < first → slice_get rows.now i ≡ Some r → key_lt r.0 key ≡ true }
+    ensures within { result ≤ length rows.now }
+    ensures index { IsRowIndex key rows.now result }
+{
+    let mut count = first;
+    while is_before(rows, count, key) {
+        count += 1;
+    }
+    count
+}
+
+// Whether there is a row with this index, and it comes before the key.
+fn is_before(rows: &[(Key, i64)], index: usize, key: Key) -> bool
+    ensures is_there { result ≡ true → index < length rows.now }
+    ensures before { result ≡ true → (r : Row) → slice_get rows.now index ≡ Some r → key_lt r.0 key ≡ true }
+    ensures other { result ≡ false → (r : Row) → slice_get rows.now index ≡ Some r → key_lt r.0 key ≡ false }
+{
+    index < rows.len() && rows[index].0 < key
+}
+
+// Whether the key has a row, whose index this is then.
+fn has_row(rows: &[(Key, i64)], index: usize, key: Key) -> bool
+    requires by_key { IsByKey rows.now }
+    requires index { IsRowIndex key rows.now index }
+    ensures { result ≡ is_some (contents_of rows.now key) }
+{
+    if index < rows.len() {
+        return rows[index].0 == key;
+    }
+    false
 }

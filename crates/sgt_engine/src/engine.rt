@@ -26,6 +26,7 @@ ghost use Rattle.sgt_engine.specs.EngineView.{setting_of, made_of, with_entry, n
 mod cut;
 mod procedures;
 mod put;
+mod snapshot;
 
 use crate::changes::{changed, note_removal};
 use crate::past::Past;
@@ -74,6 +75,8 @@ pub struct Engine<R: Records, A: Accesses, G: Graph> {
     lists: ReplyLists,
     // Whether the history has a removal, committed or not. The records may keep memory for what was removed.
     has_removal: bool,
+    // The committed database, if it was kept since the newest event.
+    snapshot: Option<Database>,
 }
 
 impl<R: Records, A: Accesses, G: Graph> Model for Engine<R, A, G> {
@@ -87,6 +90,7 @@ impl<R: Records, A: Accesses, G: Graph> Model for Engine<R, A, G> {
     ghost use Rattle.sgt_sched.specs.LiveList.{numbers};
     ghost use Rattle.sgt_sched.specs.Scheduler.{parts, state};
     ghost use Rattle.sgt_engine.specs.EngineView.{EngineView, HasLists};
+    ghost use Rattle.sgt_engine.specs.Snapshots.{IsSnapshot};
 
     ghost Value = { EngineView };
 
@@ -106,7 +110,8 @@ impl<R: Records, A: Accesses, G: Graph> Model for Engine<R, A, G> {
         (reverse e.history.entries)
         (state e.sched)
         × (length (numbers e.sched.live) ≤ e.history.room)
-        × HasLists (reverse e.history.entries) e.lists };
+        × HasLists (reverse e.history.entries) e.lists
+        × IsSnapshot e.opening (reverse e.history.entries) e.snapshot };
 }
 
 impl<R: Records, A: Accesses, G: Graph> Engine<R, A, G> {
@@ -129,6 +134,7 @@ impl<R: Records, A: Accesses, G: Graph> Engine<R, A, G> {
             history: History::new(alloc),
             lists: ReplyLists::new(),
             has_removal: false,
+            snapshot: None,
         })
     }
 
@@ -226,6 +232,7 @@ impl<R: Records, A: Accesses, G: Graph> Engine<R, A, G> {
         endings_agree();
         headline_holds();
 
+        self.snapshot = None;
         make_room(&mut self.history, &self.sched, event)?;
         self.sched.answer(event, &mut self.lists, reply)?;
         self.history.push(event, reply, &self.lists);
@@ -256,6 +263,14 @@ impl<R: Records, A: Accesses, G: Graph> Engine<R, A, G> {
         ensures limits { (parts result.now).limits ≡ self.now.limits }
     {
         &self.sched
+    }
+
+    /// The rows of the initial database, sorted by table and then by number.
+    pub fn opening(&self) -> &[(Key, i64)]
+        ensures rows { result.now ≡ self.now.opening }
+        ensures by_key { IsByKey result.now }
+    {
+        self.opening.rows()
     }
 
     /// Whether the history is empty: no event was answered since the engine was made or cut.
@@ -351,6 +366,7 @@ impl<R: Records, A: Accesses, G: Graph> Engine<R, A, G> {
             history,
             lists: _,
             has_removal: _,
+            snapshot: _,
         } = self;
         Past { opening, history }
     }

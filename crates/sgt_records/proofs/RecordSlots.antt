@@ -278,3 +278,43 @@ module _ (m n : Key → Option Record) (a b : Slab Chain) (key : Key) (r : Recor
       → OnErr result ((k : Key) → n k ≡ m k) → IsIndex n b
   index_added (Ok x) told alike = index_blank m n a b key r absent here none same index told
   index_added (Err e) told alike = index_alike m n a b alike same index
+
+-- a record that had no value, committed or pending, is dropped
+module _ (m n : Key → Option Record) (a : Slab Chain) (key : Key) (r : Record) (is : m key ≡ Some r) (here : r.written ≡ Nothing)
+    (none : r.committed ≡ None) (told : (k : Key) → n k ≡ cond (key_eq key k) None (m k)) where
+  it_was : (k : Key) → key_eq key k ≡ true → m k ≡ Some r
+  it_was k e = ap m (sym (key_eq-true key k e)) ∙ is
+
+  written_dropped : (k : Key) → written_by (n k) ≡ written_by (m k)
+  written_dropped k = ap written_by (told k) ∙ go (key_eq key k) refl
+    where
+      go : (b : Bool) → key_eq key k ≡ b → written_by (cond b None (m k)) ≡ written_by (m k)
+      go true e = sym (ap written_by (it_was k e) ∙ here)
+      go false e = refl
+
+  slot_dropped : (k : Key) → slot_of n k ≡ slot_of m k
+  slot_dropped k = ap slot_in (written_dropped k)
+
+  -- the chains are as before
+  pub chains_dropped : (k : Key) → key_chain n a k ≡ key_chain m a k
+  chains_dropped k = ap (chain_at a) (written_dropped k)
+
+  -- and so are the committed values
+  pub committed_dropped : (k : Key) → committed_of n k ≡ committed_of m k
+  committed_dropped k = ap (option_and_then (λ (r : Record). r.committed)) (told k) ∙ go (key_eq key k) refl
+    where
+      go : (b : Bool) → key_eq key k ≡ b
+          → option_and_then (λ (r : Record). r.committed) (cond b None (m k)) ≡ option_and_then (λ (r : Record). r.committed) (m k)
+      go true e = sym (ap (option_and_then (λ (r : Record). r.committed)) (it_was k e) ∙ none)
+      go false e = refl
+
+  -- and the index
+  pub index_dropped : IsIndex m a → IsIndex n a
+  index_dropped index = record {
+    held = λ k p at. index.held k p (sym (slot_dropped k) ∙ at);
+    filled = λ k p at. index.filled k p (sym (slot_dropped k) ∙ at);
+    owned = λ p none. index.owned p (λ k at. none k (slot_dropped k ∙ at));
+    apart = λ j k p at at'. index.apart j k p (sym (slot_dropped j) ∙ at) (sym (slot_dropped k) ∙ at');
+    are_chains = λ k. subst IsChain (sym (chains_dropped k)) (index.are_chains k);
+    in_range = λ k. subst (λ (o : Option ℤ). IfSome o IsValue) (sym (committed_dropped k)) (index.in_range k);
+  }

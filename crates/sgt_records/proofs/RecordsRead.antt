@@ -18,7 +18,7 @@ abbrev pub is_among : Key → List (Key × Option ℤ) → Bool
 is_among k entries = list_any (is_at (key_cmp k)) (keys_of entries)
 
 -- one entry more
-among_more : (k : Key) (entries : List (Key × Option ℤ)) (e : Key × Option ℤ)
+pub among_more : (k : Key) (entries : List (Key × Option ℤ)) (e : Key × Option ℤ)
     → is_among k (entries ++ e ∷ []) ≡ (is_among k entries || key_eq e.0 k)
 among_more k entries e = ap (list_any (is_at (key_cmp k))) (map-append (λ (x : Key × Option ℤ). x.0) entries (e ∷ []))
     ∙ (list_any-append (is_at (key_cmp k)) (keys_of entries) (e.0 ∷ [])

@@ -1,7 +1,7 @@
 -- What a record that is replaced or added changes for the keys of a table.
-use Rattle.std.proofs.Common.{◌≡◌, ◌≢◌, ℕ, zero, suc, ◌<◌, ◌+◌, arith, Bool, true, false, cond, List, [], ◌∷◌, ◌++◌, length, ◌⊎◌, inl, inr, Option, Some, None, slice_get, slice_set, refl, sym, ap, ◌∙◌, subst, unwrap_or}
-use Rattle.std.proofs.lemmas.Bool.{true≢false}
-use Rattle.std.proofs.lemmas.Option.{same_Some}
+use Rattle.std.proofs.Common.{◌≡◌, ◌≢◌, ℕ, zero, suc, ◌<◌, ◌+◌, ◌-◌, arith, Bool, true, false, cond, nat_eq, List, [], ◌∷◌, ◌++◌, length, get_or, ◌⊎◌, inl, inr, Option, Some, None, Result, Ok, Err, OnOk, OnErr, is_err, slice_get, slice_set, refl, sym, ap, ◌∙◌, subst, unwrap_or}
+use Rattle.std.proofs.lemmas.Bool.{true≢false, eqb-true, eqb-false}
+use Rattle.std.proofs.lemmas.Option.{same_Some, slice_get-get_or, slice_get_within}
 use Rattle.std.specs.Option.{is_some, option_and_then}
 use Rattle.std.specs.BTreeMap.{BTreeMap, get, Updates}
 use Rattle.sgt_model.specs.Contents.{Key, key_eq}
@@ -143,3 +143,154 @@ module _ (old new : BTreeMap Key ℕ) (records : List Record) (are : AreIndices 
       go true o is = added records r
       go false None is = refl
       go false (Some p) is = before_added records r p (are.within k p is)
+
+-- what a clause says of a result
+pub on_ok : {T F P : Type 0} (r : Result T F) → is_err r ≡ false → OnOk r P → P
+on_ok (Ok x) is p = p
+on_ok (Err y) is p = absurd (true≢false is)
+
+pub on_err : {T F P : Type 0} (r : Result T F) → is_err r ≡ true → OnErr r P → P
+on_err (Ok x) is p = absurd (true≢false (sym is))
+on_err (Err y) is p = p
+
+-- ---- a record that is dropped: the last one takes its index
+
+-- the last element has taken the place of one that left
+pub record TakesLast {A : Type 0} (old new : List A) (index last : ℕ) : Type 0 where
+  pub count : length new ≡ last
+  pub was : last + 1 ≡ length old
+  pub here : index < last → slice_get new index ≡ slice_get old last
+  pub others : (p : ℕ) → p ≢ index → p < last → slice_get new p ≡ slice_get old p
+
+-- the same, as the vector's call says it
+pub takes_last : {A : Type 0} (old new : List A) (index last : ℕ) (d : A) → length new + 1 ≡ length old → last + 1 ≡ length old
+    → ((x : A) → index + 1 < length old → get_or new index x ≡ get_or old (length old - 1) x)
+    → ((p : ℕ) (x : A) → p ≢ index → p + 1 < length old → get_or new p x ≡ get_or old p x)
+    → TakesLast old new index last
+takes_last old new index last d one was here others = record {
+  count = omega (arith, one, was);
+  was = was;
+  here = λ lt. slice_get-get_or new index d (omega (arith, one, was, lt))
+      ∙ (ap (λ x. Some x) (here d (omega (arith, was, lt))
+      ∙ ap (λ n. get_or old n d) (omega (arith, was)))
+      ∙ sym (slice_get-get_or old last d (omega (arith, was))));
+  others = λ p other lt. slice_get-get_or new p d (omega (arith, one, was, lt))
+      ∙ (ap (λ x. Some x) (others p d other (omega (arith, was, lt)))
+      ∙ sym (slice_get-get_or old p d (omega (arith, was, lt))));
+}
+
+module _ (old mid new : BTreeMap Key ℕ) (records left : List Record) (keys keys_left : List Key) (are : AreIndices old records)
+    (have : AreKeys old keys (length records)) (key moved : Key) (index last : ℕ) (at : get key_cmp old key ≡ Some index)
+    (records_moved : TakesLast records left index last) (keys_moved : TakesLast keys keys_left index last)
+    (is_moved : slice_get keys last ≡ Some moved) (put : Updates key_cmp old mid moved (Some index))
+    (gone : Updates key_cmp mid new key None) where
+  moved_at : get key_cmp old moved ≡ Some last
+  moved_at = have.are_indexed moved last is_moved
+
+  -- the index of each key
+  index_left : (k : Key) → get key_cmp new k ≡ cond (key_eq key k) None (cond (key_eq moved k) (Some index) (get key_cmp old k))
+  index_left k = gone.0 k
+      ∙ (ap (λ b. cond b None (get key_cmp mid k)) (same_key key k)
+      ∙ ap (λ o. cond (key_eq key k) None o) (put.0 k ∙ ap (λ b. cond b (Some index) (get key_cmp old k)) (same_key moved k)))
+
+  -- that of another key than the last record's comes before it
+  below_last : (k : Key) (p : ℕ) → get key_cmp old k ≡ Some p → (moved ≡ k → ⊥) → p < last
+  below_last k p is differs = go (nat_eq p last) refl
+    where
+      go : (e : Bool) → nat_eq p last ≡ e → p < last
+      go true e = absurd (differs (are.apart moved k last moved_at (is ∙ ap (λ n. Some n) (eqb-true p last e))))
+      go false e = let lt = are.within k p is in let was = records_moved.was in omega (arith, lt, was, eqb-false p last e)
+
+  not_moved : (k : Key) → key_eq moved k ≡ false → moved ≡ k → ⊥
+  not_moved k other same = true≢false (sym (subst (λ j. key_eq moved j ≡ true) same (key_eq-refl moved)) ∙ other)
+
+  -- the index that is free is not that of another key
+  not_index : (k : Key) (p : ℕ) → get key_cmp old k ≡ Some p → key_eq key k ≡ false → p ≢ index
+  not_index k p is other same = true≢false
+      (sym (subst (λ j. key_eq key j ≡ true) (are.apart key k index at (is ∙ ap (λ n. Some n) same)) (key_eq-refl key)) ∙ other)
+
+  -- where the last record is another's, it comes before it
+  index_below : key_eq key moved ≡ false → index < last
+  index_below other = below_last key index at
+      (λ same. true≢false (sym (subst (λ j. key_eq j moved ≡ true) same (key_eq-refl moved)) ∙ other))
+
+  is_other : (k : Key) → key_eq key k ≡ false → key_eq moved k ≡ true → key_eq key moved ≡ false
+  is_other k other same = subst (λ j. key_eq key j ≡ false) (sym (key_eq-true moved k same)) other
+
+  pub removed_told : (k : Key) → option_and_then (slice_get left) (get key_cmp new k)
+      ≡ cond (key_eq key k) None (option_and_then (slice_get records) (get key_cmp old k))
+  removed_told k = ap (option_and_then (slice_get left)) (index_left k)
+      ∙ go (key_eq key k) refl (key_eq moved k) refl (get key_cmp old k) refl
+    where
+      go : (d : Bool) → key_eq key k ≡ d → (e : Bool) → key_eq moved k ≡ e → (o : Option ℕ) → get key_cmp old k ≡ o
+          → option_and_then (slice_get left) (cond d None (cond e (Some index) o))
+          ≡ cond d None (option_and_then (slice_get records) o)
+      go true d e f o is = refl
+      go false d true f o is = records_moved.here (index_below (is_other k d f))
+          ∙ ap (option_and_then (slice_get records)) (sym (sym is ∙ (ap (get key_cmp old) (sym (key_eq-true moved k f)) ∙ moved_at)))
+      go false d false f None is = refl
+      go false d false f (Some p) is = records_moved.others p (not_index k p is d) (below_last k p is (not_moved k f))
+
+  pub removed_indices : AreIndices new left
+  removed_indices = record {
+    within = λ k p is. subst (λ n. p < n) (sym records_moved.count)
+        (low k p (key_eq key k) refl (key_eq moved k) refl (sym (index_left k) ∙ is));
+    apart = λ j k p at at'. one j k p (key_eq key j) refl (key_eq moved j) refl (key_eq key k) refl (key_eq moved k) refl
+        (sym (index_left j) ∙ at) (sym (index_left k) ∙ at');
+  }
+    where
+      low : (k : Key) (p : ℕ) (d : Bool) → key_eq key k ≡ d → (e : Bool) → key_eq moved k ≡ e
+          → cond d None (cond e (Some index) (get key_cmp old k)) ≡ Some p → p < last
+      low k p true d e f is = absurd (cc)
+      low k p false d true f is = subst (λ n. n < last) (same_index index p is) (index_below (is_other k d f))
+      low k p false d false f is = below_last k p is (not_moved k f)
+
+      one : (j k : Key) (p : ℕ) (d : Bool) → key_eq key j ≡ d → (e : Bool) → key_eq moved j ≡ e → (f : Bool) → key_eq key k ≡ f
+          → (g : Bool) → key_eq moved k ≡ g → cond d None (cond e (Some index) (get key_cmp old j)) ≡ Some p
+          → cond f None (cond g (Some index) (get key_cmp old k)) ≡ Some p → j ≡ k
+      one j k p true d e e' f f' g g' is is' = absurd (cc)
+      one j k p false d e e' true f' g g' is is' = absurd (cc)
+      one j k p false d true e' false f' true g' is is' = sym (key_eq-true moved j e') ∙ key_eq-true moved k g'
+      one j k p false d true e' false f' false g' is is' = absurd (not_index k p is' f' (sym (same_index index p is)))
+      one j k p false d false e' false f' true g' is is' = absurd (not_index j p is d (sym (same_index index p is')))
+      one j k p false d false e' false f' false g' is is' = are.apart j k p is is'
+
+  pub removed_keys : AreKeys new keys_left (length left)
+  removed_keys = record {
+    as_many = keys_moved.count ∙ sym records_moved.count;
+    are_indexed = λ k p is. index_left k ∙ one k p is (subst (λ n. p < n) keys_moved.count (slice_get_within keys_left p k is));
+  }
+    where
+      one : (k : Key) (p : ℕ) → slice_get keys_left p ≡ Some k → p < last
+          → cond (key_eq key k) None (cond (key_eq moved k) (Some index) (get key_cmp old k)) ≡ Some p
+      one k p is lt = go (nat_eq p index) refl
+        where
+          -- the one that has moved
+          here : p ≡ index → (d : Bool) → key_eq key k ≡ d → (e : Bool) → key_eq moved k ≡ e
+              → cond d None (cond e (Some index) (get key_cmp old k)) ≡ Some p
+          here same d d' e e' = ends (same_Some k moved (sym is ∙ (ap (slice_get keys_left) same
+              ∙ (keys_moved.here (subst (λ n. n < last) same lt) ∙ is_moved)))) d d' e e'
+            where
+              ends : k ≡ moved → (d : Bool) → key_eq key k ≡ d → (e : Bool) → key_eq moved k ≡ e
+                  → cond d None (cond e (Some index) (get key_cmp old k)) ≡ Some p
+              ends it true d e e' =
+                  let both = same_index index last (sym at ∙ (ap (get key_cmp old) (key_eq-true key k d ∙ it) ∙ moved_at)) in
+                  absurd (omega (arith, both, same, lt))
+              ends it false d true e' = ap (λ n. Some n) (sym same)
+              ends it false d false e' = absurd (not_moved k e' (sym it))
+
+          -- and the others
+          there : get key_cmp old k ≡ Some p → p ≢ index → (d : Bool) → key_eq key k ≡ d → (e : Bool) → key_eq moved k ≡ e
+              → cond d None (cond e (Some index) (get key_cmp old k)) ≡ Some p
+          there found other true d e e' =
+              absurd (other (sym (same_index index p (sym at ∙ (ap (get key_cmp old) (key_eq-true key k d) ∙ found)))))
+          there found other false d true e' =
+              let both = same_index last p (sym moved_at ∙ (ap (get key_cmp old) (key_eq-true moved k e') ∙ found)) in
+              absurd (omega (arith, both, lt))
+          there found other false d false e' = found
+
+          go : (b : Bool) → nat_eq p index ≡ b → cond (key_eq key k) None (cond (key_eq moved k) (Some index) (get key_cmp old k)) ≡ Some p
+          go true b = here (eqb-true p index b) (key_eq key k) refl (key_eq moved k) refl
+          go false b =
+              let other : p ≢ index = eqb-false p index b in
+              there (have.are_indexed k p (sym (keys_moved.others p other lt) ∙ is)) other (key_eq key k) refl (key_eq moved k) refl

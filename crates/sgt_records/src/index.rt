@@ -174,6 +174,19 @@ impl Index {
         }
     }
 
+    /// Drops the record of a key that has no value, committed or pending. It allocates nothing.
+    pub fn forget(&mut self, key: Key)
+        ensures chain { (k : Key) → key_chain (record_in self.new.table) self.new.chains k
+            ≡ key_chain (record_in self.old.table) self.old.chains k }
+        ensures settled { (k : Key) → committed_of (record_in self.new.table) k ≡ committed_of (record_in self.old.table) k }
+    {
+        if let Some(index) = self.table.index(key) {
+            if self.table.at(key, index).is_empty() {
+                self.table.remove(key, index);
+            }
+        }
+    }
+
     /// The committed values, by key.
     pub fn all(&self, alloc: Global) -> Result<Database, NoMemory>
         ensures values { IfOk result (λ d. (k : Key) → contents_of d k ≡ committed_of (record_in self.now.table) k) }

@@ -89,6 +89,9 @@ impl Records for ListRecords {
         self.pending.retain(|write| write.by != t);
     }
 
+    // An empty record stays.
+    fn forget(&mut self, _key: Key) {}
+
     fn committed(&self, key: Key) -> Option<i64> {
         self.committed.get(key)
     }

@@ -1,5 +1,6 @@
 //! The record of one key.
-ghost use Rattle.std.specs.Prelude.{◌≡◌};
+ghost use Rattle.std.specs.Prelude.{◌≡◌, true, None};
+ghost use Rattle.sgt_records.specs.declared.written.Written.TheVariants.{Nothing};
 ghost use Rattle.sgt_records.specs.Slots.{chain_at};
 ghost use Rattle.sgt_records.specs.Tops.{top_of};
 
@@ -31,5 +32,14 @@ impl Record {
                 None => Top::Nothing,
             },
         }
+    }
+
+    /// Whether it has no value, committed or pending.
+    #[inline(always)]
+    pub fn is_empty(&self) -> bool
+        ensures committed { result ≡ true → self.now.committed ≡ None }
+        ensures written { result ≡ true → self.now.written ≡ Nothing }
+    {
+        self.committed.is_none() && matches!(self.written, Written::Nothing)
     }
 }

@@ -67,6 +67,12 @@ pub trait Records: Drop + Send {
         ensures chain { (k : Key) → chain self.new k ≡ chain_without t (chain self.old k) }
         ensures settled { (k : Key) → settled self.new k ≡ settled self.old k };
 
+    /// Nothing is needed of the key's record if it has no value, committed or pending: the memory that it takes may be freed. It
+    /// allocates nothing.
+    fn forget(&mut self, key: Key)
+        ensures chain { (k : Key) → chain self.new k ≡ chain self.old k }
+        ensures settled { (k : Key) → settled self.new k ≡ settled self.old k };
+
     /// The committed value of the key, or none.
     fn committed(&self, key: Key) -> Option<i64>
         ensures value { result ≡ settled self.now key }

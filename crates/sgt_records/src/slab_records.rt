@@ -21,6 +21,8 @@ use std::alloc::Global;
 /// - `top`, `reserve` and `committed` search the map of indices once, and twice if `reserve` finds no record. `write`, which
 ///   comes after `reserve`, does not. All read only that key's chain.
 /// - `settle` and `undo` go once through the list of live writes, which has the indices of the records.
+/// - `forget` searches the map once, and twice more if the record is dropped. It drops none while a write is live, since live
+///   writes have indices.
 /// - `build` and `all` go once through the map.
 ///
 /// A chain holds 32 writes, which takes 520 bytes. So a record has one only after a second live transaction has written it,
@@ -90,6 +92,12 @@ impl Records for SlabRecords {
     fn undo(&mut self, t: Tid) {
         self.index.undo_all(self.live.as_slice(), t);
         self.live.retain(|write| write.by != t);
+    }
+
+    fn forget(&mut self, key: Key) {
+        if self.live.is_empty() {
+            self.index.forget(key);
+        }
     }
 
     fn committed(&self, key: Key) -> Option<i64> {

@@ -13,6 +13,7 @@ ghost use Rattle.sgt_sched.specs.Scheduler.{state, Keeps};
 ghost use Rattle.sgt_engine.specs.Cuts.{GoesOn, NobodyLive};
 ghost use Rattle.sgt_engine.specs.EngineView.{setting_of};
 
+use crate::changes::keys_without_value;
 use crate::engine::Engine;
 use crate::past::Past;
 use sgt_access::Accesses;
@@ -54,7 +55,7 @@ impl<R: Records, A: Accesses, G: Graph> Engine<R, A, G> {
     ///
     /// The headline holds of each part, and the parts chain: what the replay of one leaves is the initial database of the next. That
     /// is a copy of the old one with what the part has written, or of all records if they are fewer than the entries. If the part
-    /// removed records, the others are copied too, and nothing is kept of those; else no record changes.
+    /// removed records, nothing is kept of those.
     ///
     /// `StillLive` if a transaction is live, tested first; `NoMemory` if an allocation failed. Then nothing has changed.
     pub fn cut(&mut self, alloc: Global) -> Result<Past, CutError>
@@ -77,8 +78,9 @@ impl<R: Records, A: Accesses, G: Graph> Engine<R, A, G> {
         if self.sched.live_count() > 0 {
             return Err(CutError::StillLive);
         }
+        self.snapshot = None;
         let database = self.database(alloc)?;
-        restart(alloc, &mut self.sched, self.has_removal, &database)?;
+        restart(alloc, &mut self.sched, &self.history, self.has_removal, &database)?;
         self.has_removal = false;
         let opening = mem::replace(&mut self.opening, database);
         let history = mem::replace(&mut self.history, History::new(alloc));
@@ -94,10 +96,12 @@ impl<R: Records, A: Accesses, G: Graph> Engine<R, A, G> {
     }
 }
 
-// Starts a scheduler anew over the committed database. If records were removed, it keeps no memory for them.
+// Starts a scheduler anew over the committed database. If records were removed, it keeps no memory for them: they are dropped one
+// by one, or if the history is longer than the database, all records are made anew.
 fn restart<R: Records, A: Accesses, G: Graph>(
     alloc: Global,
     sched: &mut Sched<R, A, G>,
+    history: &History,
     removes: bool,
     database: &Database,
 ) -> Result<(), NoMemory>
@@ -107,9 +111,14 @@ fn restart<R: Records, A: Accesses, G: Graph>(
     ensures unchanged { OnErr result (sched.new ≡ sched.old) }
     ensures kept { Keeps sched.old sched.new }
 {
-    if removes {
+    if !removes {
+        sched.renew();
+        return Ok(());
+    }
+    if history.len() > database.rows().len() {
         return sched.reopen(alloc, database);
     }
-    sched.renew();
+    let keys = keys_without_value(alloc, history, sched.records())?;
+    sched.renew_without(keys.as_slice());
     Ok(())
 }

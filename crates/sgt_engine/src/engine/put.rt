@@ -10,6 +10,7 @@ use sgt_access::Accesses;
 use sgt_graph::Graph;
 use sgt_model::{Database, Key, NoMemory, new_is_empty};
 use sgt_records::Records;
+use sgt_rows::Rows;
 use std::alloc::Global;
 use thiserror::Error;
 
@@ -41,8 +42,8 @@ impl<R: Records, A: Accesses, G: Graph> Engine<R, A, G> {
     /// Adds rows to the initial database, if the history is empty: values from `LEAST` to `MOST` at keys that have none.
     /// Procedures and limits stay. So an engine can start from what a caller stores elsewhere.
     ///
-    /// It goes through the initial database once and makes the records anew, so one call should add many rows. Pass them by key:
-    /// a row at any other position moves those after it.
+    /// It goes through the initial database once and makes the records anew, so one call should add many rows. They may come in
+    /// any order.
     ///
     /// `Begun` if there is a history, tested first; `Taken` with the index of the first row whose key has a value then;
     /// `NoMemory` if an allocation failed. Then nothing has changed.
@@ -72,6 +73,7 @@ impl<R: Records, A: Accesses, G: Graph> Engine<R, A, G> {
         let opening = self.opening_with(alloc, rows)?;
         self.sched.reopen(alloc, &opening)?;
         self.opening = opening;
+        self.snapshot = None;
         Ok(())
     }
 
@@ -85,36 +87,40 @@ impl<R: Records, A: Accesses, G: Graph> Engine<R, A, G> {
         ensures refused { IfErr result (DoNotFit (contents_of self.now.opening) rows.now) }
     {
         // Nothing is committed yet, so this is a copy of the initial database.
-        let mut opening = self.database(alloc)?;
-        put_rows(&mut opening, rows)?;
-        Ok(opening)
+        let opening = self.database(alloc)?;
+        with_rows(alloc, opening, rows)
     }
 }
 
-// Adds rows one after another, as long as they are new.
-fn put_rows(database: &mut Database, rows: &[(Key, i64)]) -> Result<(), PutError>
+// The database with rows that are added one after another, as long as they are new.
+fn with_rows(
+    alloc: Global,
+    database: Database,
+    rows: &[(Key, i64)],
+) -> Result<Database, PutError>
     requires in_range { HasValues rows.now }
-    ensures contents { OnOk result ((k : Key) →
-        contents_of database.new k ≡ with_rows (contents_of database.old) rows.now k) }
-    ensures new { OnOk result (AreNew (contents_of database.old) rows.now) }
-    ensures refused { IfErr result (DoNotFit (contents_of database.old) rows.now) }
+    ensures contents { IfOk result (λ d. (k : Key) →
+        contents_of d k ≡ with_rows (contents_of database) rows.now k) }
+    ensures new { OnOk result (AreNew (contents_of database) rows.now) }
+    ensures refused { IfErr result (DoNotFit (contents_of database) rows.now) }
 {
+    let mut all = Rows::of(alloc, database);
     for (index, row) in rows.iter().enumerate() {
-        if !put_row(database, row)? {
+        if !put_row(&mut all, row)? {
             return Err(PutError::Taken(index));
         }
     }
-    Ok(())
+    Ok(all.database(alloc)?)
 }
 
 // Adds a row, and returns whether it is new. If its key has a value, nothing changes.
-fn put_row(database: &mut Database, row: &(Key, i64)) -> Result<bool, NoMemory>
+fn put_row(rows: &mut Rows, row: &(Key, i64)) -> Result<bool, NoMemory>
     requires in_range { IsValue row.now.1 }
     ensures put { IfOk result (λ new. new ≡ true → (k : Key) →
-        contents_of database.new k ≡ put_in (contents_of database.old) row.now.0 row.now.1 k) }
-    ensures new { IfOk result (λ new. new ≡ true → contents_of database.old row.now.0 ≡ None) }
-    ensures taken { IfOk result (λ new. new ≡ false → IsSome (contents_of database.old row.now.0)) }
+        contents_of rows.new k ≡ put_in (contents_of rows.old) row.now.0 row.now.1 k) }
+    ensures new { IfOk result (λ new. new ≡ true → contents_of rows.old row.now.0 ≡ None) }
+    ensures taken { IfOk result (λ new. new ≡ false → IsSome (contents_of rows.old row.now.0)) }
 {
     let (key, value) = *row;
-    database.put_new(key, value)
+    rows.put_new(key, value)
 }

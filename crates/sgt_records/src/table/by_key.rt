@@ -96,4 +96,21 @@ impl Table {
         self.keys.push_reserved(key);
         Ok(index)
     }
+
+    /// Drops the record of a key that has this index. The last record takes the index. It allocates nothing.
+    pub fn remove(&mut self, key: Key, index: usize)
+        requires { index_in self.old key ≡ Some index }
+        ensures { (k : Key) → record_in self.new k ≡ cond (key_eq key k) None (record_in self.old k) }
+    {
+        let last = self.keys.len() - 1;
+        let moved = self.keys[last];
+        self.records.swap_remove(index);
+        self.keys.swap_remove(index);
+        // Its key is there, so this allocates nothing.
+        if self.indices.insert(moved, index).is_err() {
+            unreachable!()
+        }
+        self.indices.remove(&key);
+        self.hints.note(moved, index);
+    }
 }

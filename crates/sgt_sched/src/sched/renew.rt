@@ -1,5 +1,6 @@
 //! Restarting the numbers of transactions, over the same or another database.
 ghost use Rattle.std.specs.Prelude.{◌≡◌, [], OnOk, OnErr};
+ghost use Rattle.sgt_model.specs.Contents.{Key};
 ghost use Rattle.sgt_model.specs.Databases.{contents_of};
 ghost use Rattle.sgt_model.specs.NewState.{IsNew};
 ghost use Rattle.sgt_sched.specs.Scheduler.{state, Keeps};
@@ -7,7 +8,7 @@ ghost use Rattle.sgt_sched.specs.Scheduler.{state, Keeps};
 use crate::sched::Sched;
 use sgt_access::Accesses;
 use sgt_graph::Graph;
-use sgt_model::{Database, NoMemory};
+use sgt_model::{Database, Key, NoMemory};
 use sgt_records::Records;
 use std::alloc::Global;
 
@@ -19,6 +20,16 @@ impl<R: Records, A: Accesses, G: Graph> Sched<R, A, G> {
         ensures new { IsNew (state self.old).settled (state self.new) }
         ensures kept { Keeps self.old self.new }
     {
+        self.fates.clear();
+    }
+
+    /// The same. The memory is freed that the records take for these keys, if they have no value.
+    pub fn renew_without(&mut self, keys: &[Key])
+        requires none_live { (state self.old).live ≡ [] }
+        ensures new { IsNew (state self.old).settled (state self.new) }
+        ensures kept { Keeps self.old self.new }
+    {
+        forget_all(&mut self.records, keys);
         self.fates.clear();
     }
 
@@ -34,5 +45,15 @@ impl<R: Records, A: Accesses, G: Graph> Sched<R, A, G> {
         self.records = R::build(alloc, opening)?;
         self.fates.clear();
         Ok(())
+    }
+}
+
+// Frees the memory that the records take for these keys, if they have no value.
+fn forget_all<R: Records>(records: &mut R, keys: &[Key])
+    ensures chain { (k : Key) → R.chain records.new k ≡ R.chain records.old k }
+    ensures settled { (k : Key) → R.settled records.new k ≡ R.settled records.old k }
+{
+    for key in keys {
+        records.forget(*key);
     }
 }

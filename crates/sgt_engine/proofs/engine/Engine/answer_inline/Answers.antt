@@ -33,7 +33,7 @@ invariant_of-self-2 g c =
     (state c.answer.new.self) (reply_with c.answer.new.reply c.answer.new.lists) c.make_room.new.history.room
     c.in_ok-answer.ensures.done.done c.make_room.ensures.ends
     c.in_ok-make_room.ensures.room in
-    (kept.0, kept.1, omega (arith, left, c.push.ensures.room), newest_added _ _ _ _ _ c.push.ensures.entries)
+    (kept.0, kept.1, omega (arith, left, c.push.ensures.room), newest_added _ _ _ _ _ c.push.ensures.entries, tt)
 
 pub returns-clause-legal : goal.returns-clause-legal
 returns-clause-legal g c = (invariant_of-self-2 g c).0
