@@ -70,6 +70,24 @@ impl Rows {
         Ok(())
     }
 
+    /// The same, and returns the value before, or none. It searches once.
+    pub fn replace(&mut self, key: Key, value: i64) -> Result<Option<i64>, NoMemory>
+        requires { IsValue value }
+        ensures put { OnOk result ((k : Key) → contents_of self.new k ≡ put_in (contents_of self.old) key value k) }
+        ensures before { IfOk result (λ v. v ≡ contents_of self.old key) }
+        ensures err { OnErr result (self.new ≡ self.old) }
+    {
+        let first = self.first.get(key);
+        if self.later.is_empty() && is_last(&self.first, key) {
+            self.first.put(key, value)?;
+            return Ok(first);
+        }
+        match self.later.insert(key, value)? {
+            Some(later) => Ok(Some(later)),
+            None => Ok(first),
+        }
+    }
+
     /// Adds a row if the key has none, and returns whether it did. If the key has a value, nothing changes. The value is from
     /// `LEAST` to `MOST`.
     ///
