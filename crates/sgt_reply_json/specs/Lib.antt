@@ -1,0 +1,3 @@
+pub mod Lists
+pub mod Pieces
+pub mod ReplyObjects
