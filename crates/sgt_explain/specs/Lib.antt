@@ -5,3 +5,4 @@ pub mod Edges
 pub mod WalkEdges
 pub mod Sources
 pub mod Calls
+pub mod Refusals

@@ -1,5 +1,6 @@
 //! Explains aborts from a history. For an abort by a cycle it finds the accesses that make each edge of the cycle.
-//! For a cascading abort it finds the read from a transaction that was aborted.
+//! For a cascading abort it finds the read from a transaction that was aborted. [`refusal_of`] says why an event was
+//! refused, and [`append_refusal`] writes that.
 //!
 //! The reply of an abort names a cycle and the transactions that are aborted in cascade. This crate searches the
 //! history for the accesses that caused it. It names each by its position: the number of entries before it.
@@ -35,6 +36,7 @@ mod explanation;
 mod indexed_history;
 mod made;
 mod progress;
+mod refusal;
 mod requested;
 mod search;
 mod source;
@@ -45,6 +47,7 @@ pub use edge::{Earlier, Edge, cycle_edge};
 pub use explanation::{Pending, append_explanation};
 pub use indexed_history::IndexedHistory;
 pub use progress::{Call, Progress, call_before, progress_before};
+pub use refusal::{Refusal, append_refusal, refusal_of};
 pub use requested::requested_at;
 pub use source::{Source, fall_source};
 pub use text::{append_edge, append_source};

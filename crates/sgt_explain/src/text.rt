@@ -143,7 +143,7 @@ fn append_key(text: &mut Vec<u8>, words: &[u8], key: Key) -> Result<(), AllocErr
 }
 
 // Appends words and a number.
-fn append_number<I: Integer>(
+pub(crate) fn append_number<I: Integer>(
     text: &mut Vec<u8>,
     words: &[u8],
     number: I,
