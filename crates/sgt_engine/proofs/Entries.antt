@@ -1,7 +1,7 @@
 -- One more entry.
-use Rattle.std.proofs.Common.{◌≡◌, ℕ, ◌<◌, ◌+◌, length, map, take, get_or, List, [], ◌∷◌, ◌++◌, reverse, refl, sym, ap, ap₂, ◌∙◌, subst, subst₂}
+use Rattle.std.proofs.Common.{rules, arith, ◌≡◌, ℕ, ◌<◌, ◌+◌, length, map, take, get_or, List, [], ◌∷◌, ◌++◌, reverse, refl, sym, ap, ap₂, ◌∙◌, subst, subst₂}
 use Rattle.std.proofs.lemmas.List.{reverse-append, map-append, take_more}
-use Rattle.std.specs.Prelude.{IfSome}
+use Rattle.std.specs.Prelude.{IfSome, Option, Some, None}
 use Rattle.std.proofs.lemmas.Grind.{reverse_onto}
 use Rattle.sgt_model.specs.declared.entry.Entry.{Entry}
 use Rattle.sgt_model.specs.declared.event.Event.{Event}
@@ -24,6 +24,8 @@ use Rattle.sgt_model.specs.State.{State}
 use Rattle.sgt_model.specs.StateAfter.{IsStateAfter}
 use Rattle.sgt_model.specs.CallEffects.{CallEffect}
 use Rattle.sgt_engine.specs.EngineView.{EngineView, setting_of, made_of, with_entry, newest_reply, Answers, HasLists}
+use Rattle.sgt_engine.specs.Snapshots.{IsSnapshot}
+use Rattle.sgt_engine.specs.declared.engine.snapshot.Snapshot.{Snapshot}
 use Rattle.sgt_model.specs.Histories.{events_of}
 use Rattle.sgt_model.specs.Refinement.{CallsSimulate}
 
@@ -106,6 +108,14 @@ pub newest_added : (items new : List Entry) (event : Event) (r : ShortReply) (li
 newest_added items new event r lists is = subst (λ (past : List Entry). HasLists past lists)
     (sym (longer items new (record { event = event; reply = reply_with r lists }) is))
     (ap (λ s. reply_with s lists) (sym (short_with r lists)))
+
+-- one more entry makes what was kept too old
+pub too_old : (opening : List Row) (items new : List Entry) (e : Entry) (snapshot : Option Snapshot) → new ≡ items ++ e ∷ []
+    → IsSnapshot opening (reverse items) snapshot → IsSnapshot opening (reverse new) snapshot
+too_old opening items new e None is kept = tt
+too_old opening items new e (Some s) is kept =
+    let longer_by_one = ap length (longer items new e is) in
+    (omega (arith, kept.0, longer_by_one), λ same. absurd (omega (arith, kept.0, longer_by_one, same)))
 
 -- the reply that was answered in short, with the lists that are lent
 pub answered_with : (event : Event) (before : EngineView) (r : ShortReply) (after : EngineView) (lists : ReplyLists)

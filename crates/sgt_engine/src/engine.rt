@@ -46,6 +46,7 @@ use sgt_proc::Checked;
 use sgt_progress::{histories_make_progress, replay_keeps_real_time};
 use sgt_records::Records;
 use sgt_sched::{Sched, endings_agree};
+use snapshot::Snapshot;
 use std::alloc::Global;
 use std::marker::Model;
 
@@ -75,8 +76,8 @@ pub struct Engine<R: Records, A: Accesses, G: Graph> {
     lists: ReplyLists,
     // Whether the history has a removal, committed or not. The records may keep memory for what was removed.
     has_removal: bool,
-    // The committed database, if it was kept since the newest event.
-    snapshot: Option<Database>,
+    // The committed database that was kept last, if any was. A newer entry makes it too old.
+    snapshot: Option<Snapshot>,
 }
 
 impl<R: Records, A: Accesses, G: Graph> Model for Engine<R, A, G> {
@@ -232,7 +233,6 @@ impl<R: Records, A: Accesses, G: Graph> Engine<R, A, G> {
         endings_agree();
         headline_holds();
 
-        self.snapshot = None;
         make_room(&mut self.history, &self.sched, event)?;
         self.sched.answer(event, &mut self.lists, reply)?;
         self.history.push(event, reply, &self.lists);

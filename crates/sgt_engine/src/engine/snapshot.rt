@@ -12,6 +12,13 @@ use sgt_graph::Graph;
 use sgt_model::{Database, Key, replay_is_serial};
 use sgt_records::Records;
 
+/// A committed database, with the number of entries that the history had then.
+#[derive(Drop)]
+pub struct Snapshot {
+    pub database: Database,
+    pub entries: usize,
+}
+
 impl<R: Records, A: Accesses, G: Graph> Engine<R, A, G> {
     /// The rows of the committed database, if it need not be made: the initial one while the history is empty, and else the
     /// one that was kept since the newest event.
@@ -28,16 +35,18 @@ impl<R: Records, A: Accesses, G: Graph> Engine<R, A, G> {
             return Some(self.opening());
         }
         match &self.snapshot {
-            Some(database) => Some(database.rows()),
-            None => None,
+            Some(kept) if kept.entries == self.history.len() => Some(kept.database.rows()),
+            _ => None,
         }
     }
 
-    /// Keeps the committed database for `rows_at_hand`, until the next event. Nothing else changes.
+    /// Keeps the committed database for `rows_at_hand`, which lends it until the next event. Its memory is freed by the next
+    /// `keep`, `cut` or `put`. Nothing else changes.
     pub fn keep(&mut self, database: Database)
         requires { (k : Key) → contents_of database k ≡ settled (contents_of self.old.opening) self.old.past k }
         ensures { self.new ≡ self.old }
     {
-        self.snapshot = Some(database);
+        let entries = self.history.len();
+        self.snapshot = Some(Snapshot { database, entries });
     }
 }

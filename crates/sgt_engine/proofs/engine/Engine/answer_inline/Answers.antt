@@ -10,7 +10,7 @@ use Rattle.sgt_progress.proofs.RealTime.{replay_keeps_real_time}
 use Rattle.sgt_progress.proofs.Progress.{histories_make_progress}
 use Rattle.sgt_engine.proofs.Alone.{undisturbed, legal_before}
 use Rattle.sgt_engine.proofs.Ends.{room_left, ends_seen}
-use Rattle.sgt_engine.proofs.Entries.{added, same_setting, short_with, kept_entry, entry_added, newest_added, legal_reply}
+use Rattle.sgt_engine.proofs.Entries.{added, same_setting, short_with, kept_entry, entry_added, newest_added, too_old, legal_reply}
 use Rattle.sgt_engine.proofs.engine.Engine.answer_inline.Goals as goal
 
 pub invariant_of-self-2 : goal.invariant_of-self-2
@@ -32,8 +32,14 @@ invariant_of-self-2 g c =
     (reverse c.self.inside.history.entries) c.self.invariant.0 (state c.self.inside.sched) c.self.invariant.1 c.args.event.now
     (state c.answer.new.self) (reply_with c.answer.new.reply c.answer.new.lists) c.make_room.new.history.room
     c.in_ok-answer.ensures.done.done c.make_room.ensures.ends
-    c.in_ok-make_room.ensures.room in
-    (kept.0, kept.1, omega (arith, left, c.push.ensures.room), newest_added _ _ _ _ _ c.push.ensures.entries, tt)
+    c.in_ok-make_room.ensures.room in (
+      kept.0,
+      kept.1,
+      omega (arith, left, c.push.ensures.room),
+      newest_added _ _ _ _ _ c.push.ensures.entries,
+      too_old c.self.inside.opening _ _ _ c.self.inside.snapshot
+          (added _ _ _ _ _ c.push.ensures.entries c.make_room.ensures.entries) c.self.invariant.4,
+    )
 
 pub returns-clause-legal : goal.returns-clause-legal
 returns-clause-legal g c = (invariant_of-self-2 g c).0
