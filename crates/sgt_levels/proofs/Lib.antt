@@ -15,3 +15,4 @@ pub mod Replayed
 pub mod Tied
 pub mod Nodes
 pub mod Answered
+pub mod Scanned

@@ -9,4 +9,5 @@ pub mod Ruled
 pub mod Replays
 pub mod Ties
 pub mod Answers
+pub mod Unseen
 pub mod Examples

@@ -11,6 +11,7 @@
 //! - `levels_of` answers `Run` only with a run, and *no* only if there is none: an order that the tests of `replay.rt`
 //!   accept is a run, and a cycle that those of `tie.rt` accept leaves none
 //! - `ruled_out` names the weakest level that a cycle rules out
+//! - `unseen_appends` names two appends to one key that no read saw
 //!
 //! Tested, not proved: when `levels_of` leaves a level open (`survey.rt` and `search.rt`), and the time: n log n.
 //!
@@ -25,6 +26,7 @@ mod ruling;
 mod search;
 mod survey;
 mod tie;
+mod unseen;
 
 pub use laws::{
     commit_orders_are_enough, commit_raised_are_enough, commits_are_obeyed,
@@ -40,3 +42,4 @@ pub use ruling::{Level, ruled_out};
 pub use search::Snapshots;
 pub use survey::Partial;
 pub use tie::{Ground, Tie, rules_out_committed, rules_out_partial, rules_out_snapshot};
+pub use unseen::{Unseen, unseen_appends};

@@ -84,7 +84,7 @@ pub fn search_commits(
     }
     match sorted_nodes(alloc, links.as_slice(), history.len())? {
         Some(Ok(sorted)) => Ok(Some(Ok(taking_part(alloc, survey, sorted.order.as_slice())?))),
-        Some(Err(cycle)) => Ok(Some(Err(ties_of(alloc, survey, cycle.as_slice(), 0)?))),
+        Some(Err(cycle)) => Ok(Some(Err(ties_of(alloc, survey, cycle.as_slice())?))),
         None => Ok(None),
     }
 }
@@ -108,13 +108,8 @@ fn taking_part(alloc: Global, survey: &Survey, nodes: &[usize]) -> Result<Vec<us
     Ok(order)
 }
 
-/// The ties of the links. A link to the end of a line and one from it make one tie. Commits are that much higher.
-fn ties_of(
-    alloc: Global,
-    survey: &Survey,
-    cycle: &[Link],
-    commits: usize,
-) -> Result<Vec<Tie>, NoMemory> {
+/// The ties of the links. A link from a begin to the end of a line and one from there to a commit make one tie.
+fn ties_of(alloc: Global, survey: &Survey, cycle: &[Link]) -> Result<Vec<Tie>, NoMemory> {
     let mut ties = Vec::new(alloc);
     let mut enters = None;
     for link in cycle {
@@ -126,14 +121,14 @@ fn ties_of(
             }
             Reason::Missed { read, append } => match enters {
                 Some((from, read)) => {
-                    let to = link.to.saturating_sub(commits);
+                    let to = link.to / 2;
                     if from != to {
                         let ground = Ground::Missed { read, append };
                         ties.push(Tie { from, to, ground })?;
                     }
                     enters = None;
                 }
-                None => enters = Some((link.from, read)),
+                None => enters = Some((link.from / 2, read)),
             },
             Reason::InOrder { .. } => (),
         }
@@ -141,11 +136,12 @@ fn ties_of(
     Ok(ties)
 }
 
-/// The nodes of the graph of begins and commits.
+/// The nodes of the graph of begins and commits: 2t is the begin of transaction t, and 2t + 1 its commit. The sort keeps
+/// the order of the nodes where no link leads back, so transactions stay in the order in which they began.
 #[derive(Clone, Copy)]
 struct Nodes {
-    /// A transaction's begin is its number; its commit is that much higher.
-    commits: usize,
+    /// How many transactions there are.
+    transactions: usize,
     /// The ends of the lines begin here.
     ends: usize,
     /// How many nodes there are.
@@ -154,14 +150,29 @@ struct Nodes {
 
 /// The nodes, unless there are too many.
 fn nodes_of(history: &[Transaction], survey: &Survey) -> Option<Nodes> {
-    let commits = history.len();
-    let ends = commits.checked_add(commits)?;
+    let transactions = history.len();
+    let ends = transactions.checked_mul(2)?;
     let count = ends.checked_add(survey.count)?;
     Some(Nodes {
-        commits,
+        transactions,
         ends,
         count,
     })
+}
+
+/// The begin of the transaction.
+fn begin_of(number: usize) -> Option<usize> {
+    number.checked_mul(2)
+}
+
+/// The commit of the transaction.
+fn commit_of(number: usize) -> Option<usize> {
+    begin_of(number)?.checked_add(1)
+}
+
+/// Whether the node is a commit.
+fn is_commit(nodes: Nodes, node: usize) -> bool {
+    node < nodes.ends && node % 2 == 1
 }
 
 /// A snapshot run, or ties that leave none.
@@ -178,7 +189,7 @@ pub fn search_snapshots(
         Some(Ok(sorted)) => sorted,
         Some(Err(cycle)) => {
             let turned = turned(alloc, cycle.as_slice(), nodes)?;
-            let ties = ties_of(alloc, survey, turned.as_slice(), nodes.commits)?;
+            let ties = ties_of(alloc, survey, turned.as_slice())?;
             return Ok(Found::Ties(ties));
         }
         None => return Ok(Found::Nothing),
@@ -230,16 +241,11 @@ fn untied() -> Reason {
 /// The links between begins, commits and the ends of lines.
 fn links_of(alloc: Global, survey: &Survey, nodes: Nodes) -> Result<Vec<Link>, NoMemory> {
     let mut links = Vec::new(alloc);
-    for number in 0..nodes.commits {
-        add(
-            &mut links,
-            Some(number),
-            number.checked_add(nodes.commits),
-            untied(),
-        )?;
+    for number in 0..nodes.transactions {
+        add(&mut links, begin_of(number), commit_of(number), untied())?;
     }
     for (number, tie) in survey.ties.iter().enumerate() {
-        add_tie(&mut links, nodes, number, tie)?;
+        add_tie(&mut links, number, tie)?;
     }
     for visit in survey.enters.as_slice() {
         let reason = Reason::Missed {
@@ -248,7 +254,7 @@ fn links_of(alloc: Global, survey: &Survey, nodes: Nodes) -> Result<Vec<Link>, N
         };
         add(
             &mut links,
-            Some(visit.transaction),
+            begin_of(visit.transaction),
             end_of(nodes, visit),
             reason,
         )?;
@@ -261,7 +267,7 @@ fn links_of(alloc: Global, survey: &Survey, nodes: Nodes) -> Result<Vec<Link>, N
         add(
             &mut links,
             end_of(nodes, visit),
-            visit.transaction.checked_add(nodes.commits),
+            commit_of(visit.transaction),
             reason,
         )?;
     }
@@ -274,20 +280,10 @@ fn end_of(nodes: Nodes, visit: &Visit) -> Option<usize> {
 }
 
 /// Adds the link of the tie: a miss leads from the begin to the commit, all else from the commit to the begin.
-fn add_tie(links: &mut Vec<Link>, nodes: Nodes, number: usize, tie: &Tie) -> Result<(), NoMemory> {
+fn add_tie(links: &mut Vec<Link>, number: usize, tie: &Tie) -> Result<(), NoMemory> {
     match tie.ground {
-        Ground::Missed { .. } => add(
-            links,
-            Some(tie.from),
-            tie.to.checked_add(nodes.commits),
-            tied(number),
-        ),
-        _ => add(
-            links,
-            tie.from.checked_add(nodes.commits),
-            Some(tie.to),
-            tied(number),
-        ),
+        Ground::Missed { .. } => add(links, begin_of(tie.from), commit_of(tie.to), tied(number)),
+        _ => add(links, commit_of(tie.from), begin_of(tie.to), tied(number)),
     }
 }
 
@@ -297,7 +293,7 @@ fn turned(alloc: Global, cycle: &[Link], nodes: Nodes) -> Result<Vec<Link>, NoMe
     let mut back = Vec::new(alloc);
     let mut met = false;
     for link in cycle {
-        met = met || (nodes.commits <= link.from && link.from < nodes.ends);
+        met = met || is_commit(nodes, link.from);
         if met {
             back.push(*link)?;
         } else {
@@ -320,10 +316,11 @@ fn part_unseen(
 ) -> Result<(), NoMemory> {
     let mut last = BTreeMap::new(alloc);
     for node in order {
-        if let Some(number) = node.checked_sub(nodes.commits) {
+        if is_commit(nodes, *node) {
+            let number = *node / 2;
             for position in 0..length_of(history, number) {
                 if let Some(key) = survey.unseen_at(history, number, position) {
-                    part_one(links, &mut last, nodes, key, number)?;
+                    part_one(links, &mut last, key, number)?;
                 }
             }
         }
@@ -335,18 +332,12 @@ fn part_unseen(
 fn part_one(
     links: &mut Vec<Link>,
     last: &mut BTreeMap<u32, usize>,
-    nodes: Nodes,
     key: u32,
     number: usize,
 ) -> Result<(), NoMemory> {
     if let Some(before) = last.insert(key, number)? {
         if before != number {
-            add(
-                links,
-                before.checked_add(nodes.commits),
-                Some(number),
-                untied(),
-            )?;
+            add(links, commit_of(before), begin_of(number), untied())?;
         }
     }
     Ok(())
@@ -363,15 +354,16 @@ fn snapshots_of(
     let mut order = Vec::new(alloc);
     let mut starts = Vec::new(alloc);
     for node in sorted {
-        if *node < nodes.commits {
-            begun.insert(*node, order.len())?;
-        } else if let Some(number) = node.checked_sub(nodes.commits) {
+        let number = *node / 2;
+        if is_commit(nodes, *node) {
             if survey.takes_part(number) {
                 if let Some(start) = begun.get(&number).copied() {
                     order.push(number)?;
                     starts.push(start)?;
                 }
             }
+        } else if *node < nodes.ends {
+            begun.insert(number, order.len())?;
         }
     }
     Ok(Snapshots { order, starts })

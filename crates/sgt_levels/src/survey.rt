@@ -1,6 +1,9 @@
 //! What ties the transactions of a history together: the search's input. Nothing here is promised; what the search finds
 //! is tested by `replay.rt` and `tie.rt`.
 
+ghost use Rattle.std.specs.Prelude.{◌≡◌, length};
+ghost use Rattle.sgt_appends.specs.Runs.{operations_of};
+
 use crate::tie::{Ground, Tie};
 use sgt_appends::{AppendIndex, Operation, Read, Status, Transaction, read_of};
 use sgt_model::NoMemory;
@@ -417,7 +420,9 @@ impl Survey {
 }
 
 /// How many operations the transaction has.
-pub fn length_of(history: &[Transaction], number: usize) -> usize {
+pub fn length_of(history: &[Transaction], number: usize) -> usize
+    ensures { result ≡ length (operations_of history.now number) }
+{
     match history.get(number) {
         Some(transaction) => transaction.operations.len(),
         None => 0,
