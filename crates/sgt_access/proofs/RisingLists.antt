@@ -1,6 +1,7 @@
 -- Rising lists of numbers: one more at its index, and how many there can be.
-use Rattle.std.proofs.Common.{◌≡◌, ◌≢◌, ℕ, zero, suc, ◌<◌, ◌≤◌, ◌⊎◌, ◌↔◌, List, [], ◌∷◌, ◌++◌, Result, Bool, true, Ok, Err, length, take, drop, get_or, refl, sym, subst, inl, inr, arith, ◌∙◌, ap}
+use Rattle.std.proofs.Common.{◌≡◌, ◌≢◌, ℕ, zero, suc, ◌+◌, ◌<◌, ◌≤◌, ◌⊎◌, ◌↔◌, List, [], ◌∷◌, ◌++◌, Result, Bool, true, Ok, Err, length, take, drop, get_or, slice_get, ◌-◌, Some, refl, sym, subst, inl, inr, arith, ◌∙◌, ap}
 use Rattle.std.proofs.lemmas.List.{take-append-drop}
+use Rattle.std.proofs.lemmas.Option.{same_Some}
 use Rattle.std.proofs.lemmas.List.Sorted.{searched}
 use Rattle.std.specs.List.{insert}
 use Rattle.std.specs.List.Sorted.{IsBinarySearchResult}
@@ -104,6 +105,40 @@ search_finds xs ys t r same h is = go r (searched xs t r (subst (λ l. IsBinaryS
         → MatchResult r (λ i. Member t xs) (λ i. IsIndex xs t i)
     go (Ok i) at = member_at xs i t at.0 at.1
     go (Err i) at = record { within = at.0; before = at.1; after = at.2 }
+
+-- a number above all of a rising list goes to its end
+pub rises_last : (xs : List ℕ) (t : ℕ) → Rising xs → ((u : ℕ) → Member u xs → u < t) → Rising (xs ++ t ∷ [])
+rises_last [] t h above = tt
+rises_last (x ∷ []) t h above = (above x (inl refl), tt)
+rises_last (x ∷ y ∷ xs) t h above = (h.0, rises_last (y ∷ xs) t h.1 (λ u m. above u (inr m)))
+
+pub member_last : (xs : List ℕ) (t u : ℕ) → Member u (xs ++ t ∷ []) ↔ ((u ≡ t) ⊎ Member u xs)
+member_last xs t u =
+    let whole = member_joined xs (t ∷ []) u in (
+      λ m. elim (whole.0 m) [ inl front ↦ inr front | inr back ↦ elim back [ inl here ↦ inl here | inr none ↦ absurd none ] ],
+      λ m. elim m [ inl here ↦ whole.1 (inr (inl here)) | inr old ↦ whole.1 (inl old) ],
+    )
+
+-- a number above the last of a rising list is above all of it
+above_at : (xs : List ℕ) (i l t : ℕ) → Rising xs → i + 1 ≡ length xs → slice_get xs i ≡ Some l → l < t
+    → (u : ℕ) → Member u xs → u < t
+above_at [] i l t h long e lt u m = absurd m
+above_at (x ∷ []) zero l t h long e lt u (inl same) = omega (arith, lt, same_Some x l e, same)
+above_at (x ∷ []) zero l t h long e lt u (inr none) = absurd none
+above_at (x ∷ []) (suc i) l t h long e lt u m = absurd (omega (arith, long))
+above_at (x ∷ y ∷ xs) zero l t h long e lt u m = absurd (omega (arith, long))
+above_at (x ∷ y ∷ xs) (suc i) l t h long e lt u (inl same) =
+    omega (arith, h.0, same, above_at (y ∷ xs) i l t h.1 (omega (arith, long)) e lt y (inl refl))
+above_at (x ∷ y ∷ xs) (suc i) l t h long e lt u (inr m) = above_at (y ∷ xs) i l t h.1 (omega (arith, long)) e lt u m
+
+pub above_last : (xs : List ℕ) (l t : ℕ) → Rising xs → slice_get xs (length xs - 1) ≡ Some l → l < t
+    → (u : ℕ) → Member u xs → u < t
+above_last [] l t h e lt u m = absurd m
+above_last (x ∷ xs) l t h e lt u m = above_at (x ∷ xs) (length xs) l t h (omega arith)
+    (subst (λ n. slice_get (x ∷ xs) n ≡ Some l) (one_less (length xs)) e) lt u m
+  where
+    one_less : (n : ℕ) → suc n - 1 ≡ n
+    one_less n = omega arith
 
 -- a list without one of its members
 removed : (x : ℕ) (ys : List ℕ) → Member x ys → (zs : List ℕ) × (length ys ≡ suc (length zs))

@@ -1,7 +1,23 @@
-use Rattle.std.proofs.Common.{subst, sym, inl, inr, Ok, Err, arith}
+use Rattle.std.proofs.Common.{ℕ, ◌<◌, subst, sym, inl, inr, Ok, Err, arith}
 use Rattle.sgt_model.specs.Walks.{Member}
-use Rattle.sgt_access.proofs.RisingLists.{IsIndex, search_finds, index_absent, index_rises, member_inserted}
+use Rattle.sgt_access.proofs.RisingLists.{IsIndex, search_finds, index_absent, index_rises, member_inserted, member_last, rises_last}
 use Rattle.sgt_access.proofs.rising.add_rising.Goals as goal
+
+pub push-requires : goal.push-requires
+push-requires c = (
+  omega arith,
+  c.requires.room (λ m.
+      let less : c.args.t < c.args.t = c.is_above.ensures c.if-is_above.true c.args.t
+      (subst (Member c.args.t) (sym c.as_slice.ensures.value) m) in
+      absurd (omega (arith, less))),
+)
+
+pub returns-then-is_above-clause-members : goal.returns-then-is_above-clause-members
+returns-then-is_above-clause-members c = rw c.push.ensures.items (member_last c.args.tids.now.items c.args.t)
+
+pub returns-then-is_above-clause-rising : goal.returns-then-is_above-clause-rising
+returns-then-is_above-clause-rising c = rw c.push.ensures.items (rises_last c.args.tids.now.items c.args.t c.requires.rising
+    (λ u m. c.is_above.ensures c.if-is_above.true u (subst (Member u) (sym c.as_slice.ensures.value) m)))
 
 pub insert-requires : goal.insert-requires
 insert-requires c =
