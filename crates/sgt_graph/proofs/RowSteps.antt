@@ -49,21 +49,6 @@ no_row rows i j high = ap (λ x. is_set x j) (beyond rows i high) ∙ none_in j
 pub row_low : (rows : List ℕ) (i j : ℕ) → length rows ≡ 32 → is_bit rows i j ≡ true → i < 32
 row_low rows i j size h = elim (cases_lt i 32) [ inl low ↦ low | inr high ↦ absurd (both_ways _ (no_row rows i j (omega arith)) h) ]
 
--- the first rows are changed, and the others are as before
-pub record Changed (now : ℕ → ℕ → Bool) (old : List ℕ) (n : ℕ) (rows : List ℕ) : Type 0 where
-  pub size : length rows ≡ 32
-  pub done : (i j : ℕ) → i < n → is_bit rows i j ≡ now i j
-  pub left : (i : ℕ) → n ≤ i → slice_index rows i ≡ slice_index old i
-
-module _ (now : ℕ → ℕ → Bool) (old : List ℕ) where
-  -- all are changed
-  pub changed_all : (n : ℕ) (rows : List ℕ) → 32 ≤ n → Changed now old n rows → ((i j : ℕ) → 32 ≤ i → now i j ≡ false) → (i j : ℕ)
-      → is_bit rows i j ≡ now i j
-  changed_all n rows high c none i j = elim (cases_lt i 32) [
-    | inl low ↦ c.done i j (omega arith)
-    | inr above ↦ let size : length rows ≡ 32 = c.size in no_row rows i j (omega arith) ∙ sym (none i j above)
-  ]
-
 and_all : (b : Bool) → (b && true) ≡ b
 and_all true = refl
 and_all false = refl
@@ -71,6 +56,18 @@ and_all false = refl
 and_none : (b : Bool) → (b && false) ≡ false
 and_none true = refl
 and_none false = refl
+
+-- a row is emptied, after its index was taken out of all rows
+pub emptied : (old rows : List ℕ) (p : ℕ) → p < length rows → ((i j : ℕ) → is_bit rows i j ≡ (is_bit old i j && not (nat_eq j p)))
+    → (i j : ℕ) → is_bit (slice_set rows p 0) i j ≡ (is_bit old i j && (not (nat_eq i p) && not (nat_eq j p)))
+emptied old rows p low out i j = elim (cases_eq i p) [
+  | inl e ↦
+      subst (λ k. is_bit (slice_set rows p 0) k j ≡ (is_bit old k j && (not (nat_eq k p) && not (nat_eq j p)))) (sym e)
+      (ap (λ x. is_set x j) (get_or-set_same rows p 0 0 low) ∙ none_in j
+      ∙ sym (ap (λ x. is_bit old p j && (not x && not (nat_eq j p))) (eq-eqb p p refl) ∙ and_none (is_bit old p j)))
+  | inr other ↦ ap (λ x. is_set x j) (get_or-set_other rows p i 0 0 other) ∙ out i j
+      ∙ ap (λ x. is_bit old i j && (not x && not (nat_eq j p))) (sym (false_from_ne_true (nat_eq i p) (λ t. other (eqb-true i p t))))
+]
 
 -- an index of those that are left is passed: it is no longer left, and the others are as before
 module _ (left left' k : ℕ) (less : (i : ℕ) → is_set left' i ≡ (is_set left i && not (nat_eq i k))) where
@@ -133,6 +130,67 @@ module _ (to more : ℕ) (old : List ℕ) where
   spread_all left rows s none i j = s.bits i j
       ∙ ap (λ x. is_bit old i j || ((is_set to i && not x) && is_set more j)) (none i)
       ∙ ap (λ x. is_bit old i j || (x && is_set more j)) (and_all (is_set to i))
+
+-- the rows of the indices of a set lack one index, but for those that are left
+pub record Lacking (of p : ℕ) (old : List ℕ) (left : ℕ) (rows : List ℕ) : Type 0 where
+  pub size : length rows ≡ 32
+  pub within : (i : ℕ) → is_set left i ≡ true → is_set of i ≡ true
+  pub bits : (i j : ℕ) → is_bit rows i j ≡ (is_bit old i j && not ((is_set of i && not (is_set left i)) && nat_eq j p))
+
+module _ (of p : ℕ) (old : List ℕ) where
+  pub lacking_none : length old ≡ 32 → Lacking of p old of old
+  lacking_none size = record
+      { size = size; within = λ i h. h; bits = λ i j. none (is_bit old i j) (is_set of i) (nat_eq j p) }
+    where
+      none : (a b c : Bool) → a ≡ (a && not ((b && not b) && c))
+      none true true c = refl
+      none true false c = refl
+      none false b c = refl
+
+  pub lacking_next : (left left' k : ℕ) (rows : List ℕ) (row : ℕ) → Lacking of p old left rows → k < 32 → is_set left k ≡ true
+      → ((i : ℕ) → is_set left' i ≡ (is_set left i && not (nat_eq i k)))
+      → ((j : ℕ) → is_set row j ≡ (is_bit rows k j && not (nat_eq j p)))
+      → Lacking of p old left' (slice_set rows k row)
+  lacking_next left left' k rows row s low here less row_is = record {
+    size = length-set rows k row ∙ s.size;
+    within = λ i h. s.within i (was_left left left' k less i h);
+    bits = λ i j. elim (cases_eq i k) [
+      | inl e ↦
+          subst (λ x. is_bit (slice_set rows k row) x
+          j ≡ (is_bit old x j && not ((is_set of x && not (is_set left' x)) && nat_eq j p))) (sym e)
+          (ap (λ x. is_set x j) (get_or-set_same rows k row 0 (omega (arith, s.size))) ∙ row_is j
+          ∙ ap (λ x. x && not (nat_eq j p)) (s.bits k j)
+          ∙ now (is_bit old k j) (is_set of k) (is_set left k) (is_set left' k) (nat_eq j p) (s.within k here) here
+          (is_passed left left' k less))
+      | inr other ↦ ap (λ x. is_set x j) (get_or-set_other rows k i row 0 other) ∙ s.bits i j
+          ∙ ap (λ x. is_bit old i j && not ((is_set of i && not x) && nat_eq j p)) (sym (is_left left left' k less i other))
+    ];
+  }
+    where
+      now : (a b c d e : Bool) → b ≡ true → c ≡ true → d ≡ false
+          → ((a && not ((b && not c) && e)) && not e) ≡ (a && not ((b && not d) && e))
+      now a b c d e p q r = rw (p, q, r) (both a)
+        where
+          both : (a : Bool) → ((a && not ((true && not true) && e)) && not e) ≡ (a && not ((true && not false) && e))
+          both true = refl
+          both false = refl
+
+  -- the set has all rows that had the index, and the index's own is emptied
+  pub lacking_all : (left : ℕ) (rows : List ℕ) → Lacking of p old left rows → ((i : ℕ) → is_set left i ≡ false) → p < 32
+      → ((i : ℕ) → is_bit old i p ≡ true → is_set of i ≡ true) → (i j : ℕ)
+      → is_bit (slice_set rows p 0) i j ≡ (is_bit old i j && (not (nat_eq i p) && not (nat_eq j p)))
+  lacking_all left rows s none low all = emptied old rows p (omega (arith, low, s.size)) (λ i j. s.bits i j
+      ∙ ap (λ x. is_bit old i j && not ((is_set of i && not x) && nat_eq j p)) (none i)
+      ∙ whole (is_bit old i j) (is_set of i) (nat_eq j p)
+      (λ bit e. all i (subst (λ x. is_bit old i x ≡ true) (eqb-true j p e) bit)))
+    where
+      whole : (a b e : Bool) → (a ≡ true → e ≡ true → b ≡ true)
+          → (a && not ((b && not false) && e)) ≡ (a && not e)
+      whole false b e h = refl
+      whole true true true h = refl
+      whole true true false h = refl
+      whole true false true h = absurd (both_ways _ refl (h refl refl))
+      whole true false false h = refl
 
 -- the union of the rows of the indices of a set, but for those that are left
 pub record United (rows : List ℕ) (of left found : ℕ) : Type 0 where
@@ -281,15 +339,3 @@ module _ (rows : List ℕ) where
         c.joins i k j (omega arith) first second;
     leads = c.leads;
   }
-
--- a row is emptied, after its index was taken out of all rows
-pub emptied : (old rows : List ℕ) (p : ℕ) → p < length rows → ((i j : ℕ) → is_bit rows i j ≡ (is_bit old i j && not (nat_eq j p)))
-    → (i j : ℕ) → is_bit (slice_set rows p 0) i j ≡ (is_bit old i j && (not (nat_eq i p) && not (nat_eq j p)))
-emptied old rows p low out i j = elim (cases_eq i p) [
-  | inl e ↦
-      subst (λ k. is_bit (slice_set rows p 0) k j ≡ (is_bit old k j && (not (nat_eq k p) && not (nat_eq j p)))) (sym e)
-      (ap (λ x. is_set x j) (get_or-set_same rows p 0 0 low) ∙ none_in j
-      ∙ sym (ap (λ x. is_bit old p j && (not x && not (nat_eq j p))) (eq-eqb p p refl) ∙ and_none (is_bit old p j)))
-  | inr other ↦ ap (λ x. is_set x j) (get_or-set_other rows p i 0 0 other) ∙ out i j
-      ∙ ap (λ x. is_bit old i j && (not x && not (nat_eq j p))) (sym (false_from_ne_true (nat_eq i p) (λ t. other (eqb-true i p t))))
-]

@@ -3,7 +3,7 @@ ghost use Rattle.std.specs.Prelude.{◌≡◌, ℕ, ◌<◌, true, false, not, �
 ghost use Rattle.sgt_cycle.specs.Indices.{is_set, is_bit};
 ghost use Rattle.sgt_graph.specs.Closures.{IsClosure};
 
-use crate::rows::{Rows, add, take_out, union};
+use crate::rows::{Rows, add, take_out_of, union};
 use std::marker::Model;
 
 /// A relation between 32 indices. Row `i` is the set of the indices that `i` is related to. It is stored with its transpose,
@@ -82,8 +82,9 @@ impl Relation {
         requires { index < 32 }
         ensures { (i j : ℕ) → is_bit self.new i j ≡ (is_bit self.old i j && (not (nat_eq i index) && not (nat_eq j index))) }
     {
-        take_out(&mut self.rows, index);
-        take_out(&mut self.columns, index);
+        let (from, to) = (self.column(index), self.row(index));
+        take_out_of(&mut self.rows, from, index);
+        take_out_of(&mut self.columns, to, index);
     }
 
     /// What is reached along this relation, in one step or more.

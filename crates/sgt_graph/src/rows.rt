@@ -33,14 +33,18 @@ pub fn add(rows: &mut Rows, to: u32, more: u32)
     }
 }
 
-/// Removes an index from all rows, and empties its own.
-pub fn take_out(rows: &mut Rows, index: u8)
-    requires { index < 32 }
+/// Removes an index from the rows of these, which are all that have it, and empties its own.
+pub fn take_out_of(rows: &mut Rows, of: u32, index: u8)
+    requires low { index < 32 }
+    requires all { (i : ℕ) → is_bit rows.old i index ≡ true → is_set of i ≡ true }
     ensures { (i j : ℕ) → is_bit rows.new i j ≡ (is_bit rows.old i j && (not (nat_eq i index) && not (nat_eq j index))) }
 {
     let out = only(index);
-    for i in 0..32 {
+    let mut left = of;
+    while let Some(row) = least(left) {
+        let i = usize::from(row);
         rows[i] = minus(rows[i], out);
+        left = minus(left, only(row));
     }
     rows[usize::from(index)] = 0;
 }
