@@ -11,6 +11,7 @@ use Rattle.sgt_model.specs.declared.reply.Fate.TheVariants as fate
 use Rattle.sgt_model.specs.declared.reply.Reply.{Reply}
 use Rattle.sgt_model.specs.declared.reply.Reply.TheVariants as reply
 use Rattle.sgt_model.specs.declared.entry.Entry.{Entry}
+use Rattle.sgt_model.specs.Questions.{started_in, over_in, is_ending, is_wait}
 use Rattle.sgt_model.specs.ShortReplies.{full_reply}
 use Rattle.sgt_model.specs.declared.short_reply.ShortReply.{ShortReply}
 use Rattle.sgt_log.specs.declared.access_kind.AccessKind.{AccessKind}
@@ -117,6 +118,10 @@ abbrev pub is_access : Reply → Bool
 is_access (reply.Looked k v) = true
 is_access (reply.Wrote k v) = true
 is_access _ = false
+
+-- its entry starts and ends no transaction, reports no end, and has no commit wait
+abbrev pub IsQuiet : Entry → Type 0
+IsQuiet e = (started_in e.event e.reply ≡ None) × (over_in e.event e.reply ≡ None) × (is_ending e.reply ≡ false) × (is_wait e.reply ≡ false)
 
 -- it reports that the procedure is at its end
 abbrev pub is_at_end : Reply → Bool

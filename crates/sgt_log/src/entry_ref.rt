@@ -21,7 +21,7 @@ use std::marker::Model;
 /// are small, and answered here from its 40 bytes.
 #[derive(Drop)]
 pub struct EntryRef<'a> {
-    pub(crate) stored: &'a StoredEntry,
+    pub(crate) stored: StoredEntry,
     // The lists of its history.
     pub(crate) tids: &'a [Tid],
     pub(crate) values: &'a [i64],
@@ -34,9 +34,9 @@ impl<'a> Model for EntryRef<'a> {
 
     ghost Value = { Entry };
 
-    ghost view = { λ e. entry_of e.tids.now e.values.now e.stored.now };
+    ghost view = { λ e. entry_of e.tids.now e.values.now e.stored };
 
-    ghost invariant = { λ e. IsEntry (length e.tids.now) e.values.now e.stored.now };
+    ghost invariant = { λ e. IsEntry (length e.tids.now) e.values.now e.stored };
 }
 
 impl<'a> EntryRef<'a> {

@@ -7,18 +7,21 @@ ghost use Rattle.sgt_model.specs.declared.entry.Entry.{Entry};
 ghost use Rattle.sgt_model.specs.declared.event.Event.TheVariants.{Start, Access, Commit};
 ghost use Rattle.sgt_model.specs.declared.reply.Reply.TheVariants.{Started, Committed};
 ghost use Rattle.sgt_model.specs.ShortReplies.{full_reply, reply_with};
-ghost use Rattle.sgt_log.specs.StoredEntries.{bare_of, short_of, HasNoArgs, HasNoLists, HasKey};
-ghost use Rattle.sgt_log.specs.EntryParts.{full_event, full_entry, AreFew, HasArgs};
+ghost use Rattle.sgt_log.specs.StoredEntries.{short_of, HasNoLists, HasKey};
+ghost use Rattle.sgt_log.specs.PackedEntries.{unpacked, step_entry, IsStep};
+ghost use Rattle.sgt_log.specs.EntryParts.{full_entry, is_access, AreFew, HasArgs, IsQuiet};
 
 use crate::access_kind::request_args;
 use crate::bare::{BareEvent, args_of};
+use crate::entry_list::EntryList;
 use crate::entry_lists::EntryLists;
 use crate::entry_ref::EntryRef;
+use crate::growth::{FIRST, reserve_items};
+use crate::packed_entry::PackedEntry;
 use crate::span::Span;
 use crate::stored_entry::StoredEntry;
 use crate::stored_event::StoredEvent;
 use crate::stored_reply::StoredReply;
-use crate::touch::touch_ahead;
 use sgt_model::{Entry, Event, NoMemory, Reply, ReplyLists, Request, ShortReply, Tid};
 use std::alloc::Global;
 use std::marker::Model;
@@ -32,20 +35,16 @@ const MOST_VALUES: usize = 12;
 /// How many entries of capacity an allocation adds beyond those that were requested, so that allocations are rare.
 const AHEAD: usize = 64;
 
-/// The fewest items that a list gets its first memory for. Lists of 128 KB and more grow without being copied, where the
-/// allocator moves whole pages; memory that is not used takes no pages.
-const FIRST: usize = 16_384;
-
 /// The most entries of capacity that can be counted, in the list that takes the most for each.
 const MOST_ROOM: usize = usize::MAX / MOST_TIDS - AHEAD;
 
-/// The entries of a history, oldest first. An entry takes 40 bytes, and the items of its lists: 4 bytes for each
-/// transaction, 8 for each value.
+/// The entries of a history, oldest first. A step, a start or a commit takes 24 bytes, another entry 64. The items of its
+/// lists take 4 bytes for each transaction, 8 for each value.
 ///
 /// It has capacity for some more entries, of any kind. `reserve` adds capacity, and a `push` uses it without allocating.
 #[derive(Drop)]
 pub struct History {
-    entries: Vec<StoredEntry>,
+    entries: EntryList,
     tids: Vec<Tid>,
     values: Vec<i64>,
     // How many more entries there is capacity for, in each list.
@@ -63,12 +62,12 @@ impl Model for History {
     ghost view = { λ h. record {
       entries = map (entry_of h.tids.items h.values.items) h.entries.items;
       room = h.room;
-      capacities = record { entries = vec_capacity h.entries; tids = vec_capacity h.tids; values = vec_capacity h.values };
+      capacities = record { entries = h.entries.memory; tids = vec_capacity h.tids; values = vec_capacity h.values };
     } };
 
     ghost invariant = { λ h.
         AreEntries (length h.tids.items) h.values.items h.entries.items
-        × (vec_len h.entries + h.room ≤ vec_capacity h.entries)
+        × (length h.entries.items + h.room ≤ h.entries.capacity)
         × (vec_len h.tids + h.room * 64 ≤ vec_capacity h.tids)
         × (vec_len h.values + h.room * 12 ≤ vec_capacity h.values) };
 }
@@ -80,7 +79,7 @@ impl History {
         ensures room { result.room ≡ 0 }
     {
         History {
-            entries: Vec::new(alloc),
+            entries: EntryList::new(alloc),
             tids: Vec::new(alloc),
             values: Vec::new(alloc),
             room: 0,
@@ -98,7 +97,7 @@ impl History {
     pub fn is_empty(&self) -> bool
         ensures { IsTrue result ↔ (self.now.entries ≡ []) }
     {
-        self.entries.is_empty()
+        self.len() == 0
     }
 
     /// `room`: the capacity for more entries, of any kind.
@@ -153,7 +152,7 @@ impl History {
         ensures entries { self.new.entries ≡ self.old.entries }
         ensures room { self.new.room ≡ self.old.room }
     {
-        self.entries.reserve(count)?;
+        self.entries.reserve_memory(count)?;
         self.values.reserve(count)?;
         Ok(())
     }
@@ -164,7 +163,7 @@ impl History {
         ensures entries { self.new.entries ≡ self.old.entries }
         ensures room { self.old.room ≤ self.new.room }
     {
-        let capacity = other.entries.capacity();
+        let capacity = other.entries.memory();
         let is_used = capacity <= FIRST || other.len() >= capacity / 4;
         if self.is_empty() && self.room <= other.room && is_used {
             *self = other.emptied();
@@ -188,11 +187,7 @@ impl History {
         ensures same { self.new ≡ self.old }
         ensures touched { result ≡ min self.old.capacities.entries (length self.old.entries + most) }
     {
-        let filler = StoredEntry {
-            event: StoredEvent::Quit(Tid(0)),
-            reply: StoredReply::Ended,
-        };
-        touch_ahead(&mut self.entries, most, filler)
+        self.entries.touch(most)
     }
 
     /// Adds an entry, for which there is capacity: the event, and the reply with these lists. It allocates nothing.
@@ -212,31 +207,25 @@ impl History {
                     key,
                     value: Some(value),
                 },
-            ) => self.push_plain(
-                StoredEvent::Step(*t),
-                StoredReply::Looked {
-                    table: key.table(),
-                    id: key.id(),
-                    value: *value,
-                },
-            ),
+            ) => self.push_step(PackedEntry::Looked {
+                table: key.table(),
+                t: *t,
+                id: key.id(),
+                value: *value,
+            }),
             (
                 Event::Step(t),
                 ShortReply::Wrote {
                     key,
                     value: Some(value),
                 },
-            ) => self.push_plain(
-                StoredEvent::Step(*t),
-                StoredReply::Wrote {
-                    table: key.table(),
-                    id: key.id(),
-                    value: *value,
-                },
-            ),
-            (Event::Step(t), ShortReply::Ended) => {
-                self.push_plain(StoredEvent::Step(*t), StoredReply::Ended)
-            }
+            ) => self.push_step(PackedEntry::Wrote {
+                table: key.table(),
+                t: *t,
+                id: key.id(),
+                value: *value,
+            }),
+            (Event::Step(t), ShortReply::Ended) => self.push_step(PackedEntry::Ended(*t)),
             (Event::Start { procedure, args }, ShortReply::Started(t)) => {
                 let _count = args.len();
                 self.push_start(*procedure, args.as_slice(), *t)
@@ -293,7 +282,7 @@ impl History {
             &mut self.tids,
             &mut self.values,
         );
-        self.entries.push_reserved(StoredEntry { event, reply });
+        self.entries.push(event, reply);
         self.room -= 1;
     }
 
@@ -308,13 +297,11 @@ impl History {
         ensures capacities { self.new.capacities ≡ self.old.capacities }
     {
         let part = Span::append(&mut self.values, args);
-        self.entries.push_reserved(StoredEntry {
-            event: StoredEvent::Start {
-                procedure,
-                count: part.count,
-                from: part.from,
-            },
-            reply: StoredReply::Started(t),
+        self.entries.push_whole(PackedEntry::Started {
+            procedure,
+            count: part.count,
+            t,
+            from: part.from,
         });
         self.room -= 1;
     }
@@ -330,12 +317,10 @@ impl History {
         ensures capacities { self.new.capacities ≡ self.old.capacities }
     {
         let part = Span::append(&mut self.values, answers);
-        self.entries.push_reserved(StoredEntry {
-            event: StoredEvent::Commit(t),
-            reply: StoredReply::Committed {
-                count: part.count,
-                from: part.from,
-            },
+        self.entries.push_whole(PackedEntry::Committed {
+            count: part.count,
+            t,
+            from: part.from,
         });
         self.room -= 1;
     }
@@ -355,28 +340,43 @@ impl History {
         let _count = args.len();
         let event = BareEvent::of_request(t, request);
         let event = StoredEvent::of(event, args.as_slice(), &mut self.values);
-        self.entries.push_reserved(StoredEntry { event, reply });
+        self.entries.push(event, reply);
         self.room -= 1;
     }
 
-    // Adds an entry of a kind that has no lists.
+    /// Adds the entry at this index of another history, for which there is capacity here. It allocates nothing.
     #[inline(always)]
-    fn push_plain(&mut self, event: StoredEvent, reply: StoredReply)
+    pub fn push_copy(&mut self, other: &History, place: usize)
         requires room { 0 < self.old.room }
-        requires event { HasNoArgs event }
-        requires reply { HasNoLists reply }
-        requires key { HasKey reply }
-        ensures entries { self.new.entries ≡ self.old.entries
-            ++ record { event = full_event (bare_of event) []; reply = full_reply (short_of reply) [] [] [] } ∷ [] }
+        requires there { place < length other.now.entries }
+        ensures entries { (e : Entry) → slice_get other.now.entries place ≡ Some e
+            → self.new.entries ≡ self.old.entries ++ e ∷ [] }
         ensures room { self.new.room + 1 ≡ self.old.room }
         ensures capacities { self.new.capacities ≡ self.old.capacities }
     {
-        self.entries.push_reserved(StoredEntry { event, reply });
+        // Most entries are steps, and are copied as they are.
+        match other.entries.step_at(place) {
+            Some(step) => self.push_step(step),
+            None => self.push_entry(&other.entry(place)),
+        }
+    }
+
+    // Adds a step that read, wrote or came to the procedure's end.
+    #[inline(always)]
+    fn push_step(&mut self, step: PackedEntry)
+        requires room { 0 < self.old.room }
+        requires step { IsStep step }
+        requires key { HasKey (unpacked [] step).reply }
+        ensures entries { self.new.entries ≡ self.old.entries ++ step_entry step ∷ [] }
+        ensures room { self.new.room + 1 ≡ self.old.room }
+        ensures capacities { self.new.capacities ≡ self.old.capacities }
+    {
+        self.entries.push_whole(step);
         self.room -= 1;
     }
 
     /// Adds an entry of another history, for which there is capacity here. It allocates nothing.
-    #[inline]
+    #[inline(never)]
     pub fn push_entry(&mut self, entry: &EntryRef<'_>)
         requires { 0 < self.old.room }
         ensures entries { self.new.entries ≡ self.old.entries ++ entry.now ∷ [] }
@@ -385,25 +385,23 @@ impl History {
     {
         // The frequent kinds are written straight to their position.
         match (&entry.stored.event, &entry.stored.reply) {
-            (StoredEvent::Step(t), StoredReply::Looked { table, id, value }) => self.push_plain(
-                StoredEvent::Step(*t),
-                StoredReply::Looked {
+            (StoredEvent::Step(t), StoredReply::Looked { table, id, value }) => {
+                self.push_step(PackedEntry::Looked {
                     table: *table,
+                    t: *t,
                     id: *id,
                     value: *value,
-                },
-            ),
-            (StoredEvent::Step(t), StoredReply::Wrote { table, id, value }) => self.push_plain(
-                StoredEvent::Step(*t),
-                StoredReply::Wrote {
-                    table: *table,
-                    id: *id,
-                    value: *value,
-                },
-            ),
-            (StoredEvent::Step(t), StoredReply::Ended) => {
-                self.push_plain(StoredEvent::Step(*t), StoredReply::Ended)
+                })
             }
+            (StoredEvent::Step(t), StoredReply::Wrote { table, id, value }) => {
+                self.push_step(PackedEntry::Wrote {
+                    table: *table,
+                    t: *t,
+                    id: *id,
+                    value: *value,
+                })
+            }
+            (StoredEvent::Step(t), StoredReply::Ended) => self.push_step(PackedEntry::Ended(*t)),
             (StoredEvent::Start { procedure, .. }, StoredReply::Started(t)) => {
                 self.push_start(*procedure, entry.args(), *t)
             }
@@ -432,17 +430,37 @@ impl History {
         ensures next { take (place + 1) self.now.entries ≡ take place self.now.entries ++ result ∷ [] }
     {
         EntryRef {
-            stored: &self.entries[place],
+            stored: self.entries.at(place),
             tids: self.tids.as_slice(),
             values: self.values.as_slice(),
         }
+    }
+
+    /// Whether the entry at this index is a step that read, wrote or came to the procedure's end. No entry but that of a
+    /// step is; a step that found no value is not.
+    #[inline(always)]
+    pub fn is_step(&self, place: usize) -> bool
+        requires { place < length self.now.entries }
+        ensures { IsTrue result → (e : Entry) × IsQuiet e × (slice_get self.now.entries place ≡ Some e)
+            × (take (place + 1) self.now.entries ≡ take place self.now.entries ++ e ∷ []) }
+    {
+        self.entries.is_step_at(place)
+    }
+
+    /// Whether the entry at this index is a step that read or wrote a value.
+    #[inline(always)]
+    pub fn is_access_step(&self, place: usize) -> bool
+        requires { place < length self.now.entries }
+        ensures { IsTrue result → (e : Entry) → slice_get self.now.entries place ≡ Some e → is_access e.reply ≡ true }
+    {
+        self.entries.is_access_at(place)
     }
 
     /// The entry at this index, if any, read in place.
     pub fn get_entry(&self, place: usize) -> Option<EntryRef<'_>>
         ensures { result ≡ slice_get self.now.entries place }
     {
-        if place < self.entries.len() {
+        if place < self.len() {
             Some(self.entry(place))
         } else {
             None
@@ -478,7 +496,7 @@ impl History {
         requires there { index < length other.now.entries }
         ensures { IsTrue result → slice_get self.now.entries place ≡ slice_get other.now.entries index }
     {
-        self.entries[place].is_same_step(&other.entries[index])
+        self.entries.is_same_step(place, &other.entries, index)
     }
 
     // Whether both entries are the same, a start or a commit at first.
@@ -488,8 +506,33 @@ impl History {
         requires there { index < length other.now.entries }
         ensures { IsTrue result ↔ (slice_get self.now.entries place ≡ slice_get other.now.entries index) }
     {
-        self.entry(place).is_surely_same(&other.entry(index))
+        self.is_same_start(place, other, index)
+            || self.is_same_commit(place, other, index)
             || self.is_same_of_any_kind(place, other, index)
+    }
+
+    // Whether both entries start a transaction, and are the same. If both kinds are known, nothing is unpacked.
+    #[inline(always)]
+    fn is_same_start(&self, place: usize, other: &History, index: usize) -> bool
+        requires here { place < length self.now.entries }
+        requires there { index < length other.now.entries }
+        ensures { IsTrue result → slice_get self.now.entries place ≡ slice_get other.now.entries index }
+    {
+        self.entries.is_start_at(place)
+            && other.entries.is_start_at(index)
+            && self.entry(place).is_surely_same(&other.entry(index))
+    }
+
+    // Whether both entries commit a transaction, and are the same.
+    #[inline(always)]
+    fn is_same_commit(&self, place: usize, other: &History, index: usize) -> bool
+        requires here { place < length self.now.entries }
+        requires there { index < length other.now.entries }
+        ensures { IsTrue result → slice_get self.now.entries place ≡ slice_get other.now.entries index }
+    {
+        self.entries.is_commit_at(place)
+            && other.entries.is_commit_at(index)
+            && self.entry(place).is_surely_same(&other.entry(index))
     }
 
     // Whether both entries are the same, of any kind.
@@ -552,35 +595,24 @@ impl History {
 
 // Provides capacity in the three lists for so many more entries. Their items stay, and no list loses capacity.
 fn reserve_lists(
-    entries: &mut Vec<StoredEntry>,
+    entries: &mut EntryList,
     tids: &mut Vec<Tid>,
     values: &mut Vec<i64>,
     room: usize,
 ) -> Result<(), NoMemory>
     requires { room * 64 < 2 ^ 64 }
-    ensures entries { (entries.new.items ≡ entries.old.items) × (vec_len entries.new ≡ vec_len entries.old) }
+    ensures entries { entries.new.items ≡ entries.old.items }
     ensures tids { (tids.new.items ≡ tids.old.items) × (vec_len tids.new ≡ vec_len tids.old) }
     ensures values { (values.new.items ≡ values.old.items) × (vec_len values.new ≡ vec_len values.old) }
-    ensures entries_room { vec_capacity entries.old ≤ vec_capacity entries.new }
+    ensures entries_room { entries.old.capacity ≤ entries.new.capacity }
     ensures tids_room { vec_capacity tids.old ≤ vec_capacity tids.new }
     ensures values_room { vec_capacity values.old ≤ vec_capacity values.new }
-    ensures enough { OnOk result ((vec_len entries.new + room ≤ vec_capacity entries.new)
+    ensures enough { OnOk result ((length entries.new.items + room ≤ entries.new.capacity)
         × (vec_len tids.new + room * 64 ≤ vec_capacity tids.new)
         × (vec_len values.new + room * 12 ≤ vec_capacity values.new)) }
 {
-    reserve_items(entries, room)?;
+    entries.reserve(room)?;
     reserve_items(tids, room * MOST_TIDS)?;
     reserve_items(values, room * MOST_VALUES)?;
-    Ok(())
-}
-
-// Provides capacity in a list for so many more items. Its items stay, and it loses no capacity.
-fn reserve_items<T: Copy>(list: &mut Vec<T>, count: usize) -> Result<(), NoMemory>
-    ensures items { (list.new.items ≡ list.old.items) × (vec_len list.new ≡ vec_len list.old) }
-    ensures no_less { vec_capacity list.old ≤ vec_capacity list.new }
-    ensures enough { OnOk result (vec_len list.new + count ≤ vec_capacity list.new) }
-{
-    let least = if list.is_empty() { FIRST } else { 0 };
-    list.reserve(count.max(least))?;
     Ok(())
 }

@@ -23,10 +23,13 @@
 
 mod access_kind;
 mod bare;
+mod entry_list;
 mod entry_lists;
 mod entry_ref;
+mod growth;
 mod history;
 mod key_of;
+mod packed_entry;
 mod span;
 mod stored_entry;
 mod stored_event;

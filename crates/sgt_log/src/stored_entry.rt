@@ -1,7 +1,7 @@
 //! An event with its reply in few bytes, as the history stores them.
-ghost use Rattle.std.specs.Prelude.{◌≡◌, ◌+◌, ◌≤◌, IsTrue, length, vec_len, vec_capacity};
+ghost use Rattle.std.specs.Prelude.{◌≡◌, ◌+◌, ◌≤◌, length, vec_len, vec_capacity};
 ghost use Rattle.sgt_log.specs.Spans.{HasMore};
-ghost use Rattle.sgt_log.specs.StoredEntries.{entry_of, IsEntry, HasNoArgs, HasNoLists};
+ghost use Rattle.sgt_log.specs.StoredEntries.{entry_of, IsEntry};
 ghost use Rattle.sgt_log.specs.EntryParts.{full_entry, AreFew, HasArgs};
 
 use crate::bare::BareEvent;
@@ -46,19 +46,5 @@ impl StoredEntry {
         let event = StoredEvent::of(event, lists.args, values);
         let reply = StoredReply::of(reply, lists, tids, values);
         StoredEntry { event, reply }
-    }
-
-    /// Whether both are the same step, which read, wrote or ended. It has no lists, so they are the same entry even if
-    /// they are of different histories.
-    #[inline(always)]
-    pub fn is_same_step(&self, other: &Self) -> bool
-        ensures { IsTrue result → HasNoArgs self.now.event × HasNoLists self.now.reply × (self.now ≡ other.now) }
-    {
-        match (&self.event, &other.event) {
-            (StoredEvent::Step(t), StoredEvent::Step(u)) => {
-                t == u && self.reply.is_same_access(&other.reply)
-            }
-            _ => false,
-        }
     }
 }

@@ -227,33 +227,6 @@ impl StoredReply {
         self.is_plain() && self.is_same(other)
     }
 
-    /// Whether both are the same read or write, or both say that the procedure is at its end.
-    #[inline(always)]
-    pub fn is_same_access(&self, other: &Self) -> bool
-        ensures { IsTrue result → HasNoLists self.now × (self.now ≡ other.now) }
-    {
-        match (self, other) {
-            (
-                StoredReply::Looked { table, id, value },
-                StoredReply::Looked {
-                    table: other_table,
-                    id: other_id,
-                    value: other_value,
-                },
-            )
-            | (
-                StoredReply::Wrote { table, id, value },
-                StoredReply::Wrote {
-                    table: other_table,
-                    id: other_id,
-                    value: other_value,
-                },
-            ) => table == other_table && id == other_id && value == other_value,
-            (StoredReply::Ended, StoredReply::Ended) => true,
-            _ => false,
-        }
-    }
-
     /// Whether both are the same in all that is stored. If they are of one history, they are the same reply.
     fn is_same(&self, other: &Self) -> bool
         ensures { IsTrue result ↔ (self.now ≡ other.now) }

@@ -9,10 +9,10 @@ invariant_of-self c =
     let used = ap (λ h. h.room) c.self.view_is in
     let filed : StoredEntry = record { event = c.of-event.result; reply = c.args.reply } in (
       entries-pushed c.self.inside.tids.items c.self.inside.tids.items c.self.inside.values.items c.of-event.new.values.items
-          c.self.inside.entries.items c.push_reserved.new.self.items filed ([], sym (append-nil _)) c.of-event.ensures.more
+          c.self.inside.entries.items c.push.new.self.items filed ([], sym (append-nil _)) c.of-event.ensures.more
           c.self.invariant.0 (c.of-event.ensures.within, plain-reply-within _ _ c.args.reply c.requires.reply c.requires.key)
-          c.push_reserved.ensures.items,
-      omega (arith, used, c.requires.room, c.self.invariant.1, c.push_reserved.ensures.len, c.push_reserved.ensures.capacity),
+          c.push.ensures.items,
+      omega (arith, used, c.requires.room, c.self.invariant.1, c.push.ensures.len, c.push.ensures.capacity),
       omega (arith, used, c.requires.room, c.self.invariant.2),
       omega (arith, used, c.requires.room, c.self.invariant.3, c.of-event.ensures.len, c.of-event.ensures.capacity),
     )
@@ -24,8 +24,8 @@ returns-clause-entries c =
     ∙ ap₂ full_event c.of_request-event.ensures (c.as_slice.ensures ∙ c.request_args-args.ensures.args)
     ∙ request-whole c.args.t c.args.request.now in
     entries-after c.self.inside.tids.items c.self.inside.tids.items c.self.inside.values.items c.of-event.new.values.items
-    c.self.inside.entries.items c.push_reserved.new.self.items filed ([], sym (append-nil _)) c.of-event.ensures.more
-    c.self.invariant.0 c.push_reserved.ensures.items
+    c.self.inside.entries.items c.push.new.self.items filed ([], sym (append-nil _)) c.of-event.ensures.more
+    c.self.invariant.0 c.push.ensures.items
     ∙ ap₂ (λ es e. es ++ e ∷ []) (ap (λ h. h.entries) c.self.view_is)
     (joined_is _ _ _ c.of-event.result c.args.reply _ _ ([], sym (append-nil _)) c.of-event.ensures.within event
     (plain-reply _ _ c.args.reply c.requires.reply))

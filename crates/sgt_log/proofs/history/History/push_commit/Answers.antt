@@ -16,7 +16,7 @@ invariant_of-self c =
       reply = stored_reply.Committed c.append-part.result.count c.append-part.result.from;
     } in (
       entries-pushed c.self.inside.tids.items c.self.inside.tids.items c.self.inside.values.items c.append-part.new.list.items
-          c.self.inside.entries.items c.push_reserved.new.self.items filed ([], sym (append-nil _))
+          c.self.inside.entries.items c.push_whole.new.self.items filed ([], sym (append-nil _))
           (c.args.answers.now, c.append-part.ensures.items) c.self.invariant.0 (
             record { args = (omega arith, omega arith); few = omega arith; own = tt },
             record {
@@ -27,8 +27,8 @@ invariant_of-self c =
               key = tt;
             },
           )
-          c.push_reserved.ensures.items,
-      omega (arith, used, c.requires.room, c.self.invariant.1, c.push_reserved.ensures.len, c.push_reserved.ensures.capacity),
+          c.push_whole.ensures.items,
+      omega (arith, used, c.requires.room, c.self.invariant.1, c.push_whole.ensures.len, c.push_whole.ensures.capacity),
       omega (arith, used, c.requires.room, c.self.invariant.2),
       omega (
         arith,
@@ -48,8 +48,8 @@ returns-clause-entries c =
       reply = stored_reply.Committed c.append-part.result.count c.append-part.result.from;
     } in
     entries-after c.self.inside.tids.items c.self.inside.tids.items c.self.inside.values.items c.append-part.new.list.items
-    c.self.inside.entries.items c.push_reserved.new.self.items filed ([], sym (append-nil _))
-    (c.args.answers.now, c.append-part.ensures.items) c.self.invariant.0 c.push_reserved.ensures.items
+    c.self.inside.entries.items c.push_whole.new.self.items filed ([], sym (append-nil _))
+    (c.args.answers.now, c.append-part.ensures.items) c.self.invariant.0 c.push_whole.ensures.items
     ∙ ap (λ l. map (entry_of c.self.inside.tids.items c.self.inside.values.items) c.self.inside.entries.items ++
     record { event = event.Commit c.args.t; reply = reply.Committed l } ∷ [])
     c.append-part.ensures.part

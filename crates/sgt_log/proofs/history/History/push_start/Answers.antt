@@ -17,7 +17,7 @@ invariant_of-self c =
           c.args.t;
     } in (
       entries-pushed c.self.inside.tids.items c.self.inside.tids.items c.self.inside.values.items c.append-part.new.list.items
-          c.self.inside.entries.items c.push_reserved.new.self.items filed ([], sym (append-nil _))
+          c.self.inside.entries.items c.push_whole.new.self.items filed ([], sym (append-nil _))
           (c.args.args.now, c.append-part.ensures.items) c.self.invariant.0 (
             record { args = c.append-part.ensures.within; few = omega (arith, c.append-part.ensures.count, c.requires.few); own = tt },
             record {
@@ -28,8 +28,8 @@ invariant_of-self c =
               key = tt;
             },
           )
-          c.push_reserved.ensures.items,
-      omega (arith, used, c.requires.room, c.self.invariant.1, c.push_reserved.ensures.len, c.push_reserved.ensures.capacity),
+          c.push_whole.ensures.items,
+      omega (arith, used, c.requires.room, c.self.invariant.1, c.push_whole.ensures.len, c.push_whole.ensures.capacity),
       omega (arith, used, c.requires.room, c.self.invariant.2),
       omega (arith, used, c.requires.room, c.requires.few, c.self.invariant.3, c.append-part.ensures.len, c.append-part.ensures.capacity),
     )
@@ -42,8 +42,8 @@ returns-clause-entries c =
           c.args.t;
     } in
     entries-after c.self.inside.tids.items c.self.inside.tids.items c.self.inside.values.items c.append-part.new.list.items
-    c.self.inside.entries.items c.push_reserved.new.self.items filed ([], sym (append-nil _))
-    (c.args.args.now, c.append-part.ensures.items) c.self.invariant.0 c.push_reserved.ensures.items
+    c.self.inside.entries.items c.push_whole.new.self.items filed ([], sym (append-nil _))
+    (c.args.args.now, c.append-part.ensures.items) c.self.invariant.0 c.push_whole.ensures.items
     ∙ ap (λ l. map (entry_of c.self.inside.tids.items c.self.inside.values.items) c.self.inside.entries.items ++
     record { event = event.Start c.args.procedure l; reply = reply.Started c.args.t } ∷ [])
     c.append-part.ensures.part
