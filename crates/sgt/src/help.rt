@@ -234,7 +234,7 @@ the line of its end, or of its beginning if its end is unknown:
               reads what its client saw. Unknown transactions may take part, aborted ones do not
   no          there is none: a cycle, or a read that fits no order. The name is that of Adya (1999)
               and Elle (2020): G0, G1a, G1b, G1c, G-single, G-nonadjacent, G2-item,
-              incompatible-order, internal, unwritten (nobody appended the value), duplicate-elements
+              incompatible-order, internal, unwritten (nobody appended it), duplicate-elements
 
 With --strict the order also keeps real time: if one transaction ended before another began, it
 comes first. Time is the order of the objects. With --json the report is one object of JSON. --graph
