@@ -267,8 +267,8 @@ uint32_t sgt_open_bare(sgt_engine *engine, uint64_t live, uint64_t begins, uint6
 /*
  * Adds `count` rows of the caller to the initial database, while the history is empty: before the first event, and after a
  * cut. Each is a new record: its key may have no value, in the opening or by an earlier row. Each call scans all records, and
- * allocates memory for them and for the rows meanwhile, so add many rows by one call. Rows in the order of sgt_rows are
- * fastest: a row out of order moves those after it.
+ * allocates memory for them and for the rows meanwhile, so add many rows by one call. They may come in any order; that of
+ * sgt_rows is fastest.
  *
  * If the result is not SGT_OK, the engine is unchanged:
  *
@@ -430,7 +430,11 @@ uint32_t sgt_get(const sgt_engine *engine, uint64_t table, int64_t number, int64
 /*
  * The committed database from a record on, by table and then by number; from table 0, number SGT_LEAST on it is all of it.
  * The first rows are written to `rows`, whose capacity is `room`. The number of all rows from there, which may be more, is
- * written to `count`. The call scans all records, and allocates memory for them meanwhile.
+ * written to `count`.
+ *
+ * Read a large database by pages. The first call after an event scans all records, and allocates memory for the rows. The
+ * engine keeps them, so until the next event each further call costs a search and the rows that it writes. While the history is
+ * empty, so does the first one, and nothing is allocated. The memory is freed by the next scan, a cut, and sgt_close.
  *
  * If the result is not SGT_OK, rows and count are unchanged:
  *
@@ -441,8 +445,8 @@ uint32_t sgt_get(const sgt_engine *engine, uint64_t table, int64_t number, int64
 uint32_t sgt_rows(const sgt_engine *engine, uint64_t table, int64_t number, sgt_row *rows, size_t room, uint64_t *count);
 
 /*
- * How many records the committed database has: as many as sgt_rows returns from the first on. The call scans all records, and
- * allocates memory for them meanwhile.
+ * How many records the committed database has: as many as sgt_rows returns from the first on. The call costs as much as one of
+ * sgt_rows that writes no row.
  *
  * SGT_CLOSED; SGT_NO_MEMORY. If the result is not SGT_OK, the count is unchanged.
  */
@@ -508,8 +512,8 @@ uint32_t sgt_reserve(sgt_engine *engine, uint64_t entries);
 /*
  * Forgets the history up to now, if no transaction is live. The engine continues from the committed database, as one that was
  * just opened on it: it has no entries, and numbers transactions from 0. Procedures and limits stay, and the limits count anew.
- * If you need the entries, read them before. The call scans all records, and allocates memory for them. The memory of the
- * entries is kept for those to come; what was used to less than a quarter is freed.
+ * If you need the entries, read them before. The call scans all records, and allocates memory for them, unless the history is
+ * empty. The memory of the entries is kept for those to come; what was used to less than a quarter is freed.
  *
  * If the result is not SGT_OK, the engine is unchanged:
  *

@@ -1,12 +1,12 @@
 -- Rows: one more.
-use Rattle.std.proofs.Common.{◌≡◌, ℕ, pos, ◌+◌, ◌<◌, ◌≤◌, cond, List, [], ◌∷◌, ◌++◌, length, map, take, drop, set, get_or, Some, refl, sym, ap, ap₂, ◌∙◌, subst, arith}
+use Rattle.std.proofs.Common.{◌≡◌, ℕ, zero, suc, pos, ◌+◌, ◌-◌, ◌<◌, ◌≤◌, cond, List, [], ◌∷◌, ◌++◌, length, map, take, drop, set, get_or, Some, refl, sym, ap, ap₂, ◌∙◌, subst, arith}
 use Rattle.std.specs.List.{All}
 use Rattle.std.proofs.lemmas.List.Elements.{All-head, All-push, All-tail}
 use Rattle.std.proofs.lemmas.List.{take_all, take_more, take_more_set, drop-set-lt, map-set, length-map, drop-drop}
 use Rattle.sgt_model.specs.Contents.{Key, Contents, key_eq, put_in}
-use Rattle.sgt_model.specs.Databases.{HasValues, Row}
+use Rattle.sgt_model.specs.Databases.{HasValues, IsRowIndex, Row}
 use Rattle.sgt_c.specs.declared.row_struct.SgtRow.{SgtRow}
-use Rattle.sgt_c.specs.Rows.{IsRow, row_of, with_rows}
+use Rattle.sgt_c.specs.Rows.{IsRow, row_of, rows_from, with_rows}
 
 -- ---- rows put in
 
@@ -45,6 +45,19 @@ tell_row to rows i d x room within is told =
 pub rest_row : (to before : List SgtRow) (i : ℕ) (x : SgtRow) → drop i to ≡ drop i before → drop (i + 1) (set to i x) ≡ drop (i + 1) before
 rest_row to before i x same =
     drop-set-lt (i + 1) to i x (omega arith) ∙ sym (drop-drop 1 i to) ∙ ap (drop 1) same ∙ drop-drop 1 i before
+
+-- ---- rows from a key on
+
+-- as many rows are skipped as come before the key
+pub from_index : (k : Key) (rows : List Row) (n : ℕ) → IsRowIndex k rows n → take (length rows - n) (drop n rows) ≡ rows_from k rows
+from_index k [] zero at = refl
+from_index k [] (suc n) at = absurd at
+from_index k (r ∷ rows) zero at = take_all (length (r ∷ rows) - 0) (r ∷ rows) (omega arith)
+    ∙ ap (λ b. cond b (rows_from k rows) (r ∷ rows)) (sym at)
+from_index k (r ∷ rows) (suc n) at =
+    let fewer : length (r ∷ rows) - suc n ≡ length rows - n = omega arith in
+    ap (λ m. take m (drop n rows)) fewer
+    ∙ (from_index k rows n at.1 ∙ ap (λ b. cond b (rows_from k rows) (r ∷ rows)) (sym at.0))
 
 -- ---- rows in their ranges
 

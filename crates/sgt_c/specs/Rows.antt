@@ -37,13 +37,21 @@ IsCommitted e rows = IsByKey rows
     × ((k : Key) → contents_of rows k ≡ settled (contents_of e.opening) e.past k)
     × ((k : Key) → contents_of rows k ≡ (folded (setting_of e) e.past).last k)
 
+-- the committed database is written from a key on, and has this number of rows from there
+abbrev pub AreWritten : EngineView → Key → List SgtRow → ℕ → Type 0
+AreWritten e key to count = (rows : List Row) × IsCommitted e rows
+    × HoldRows to (rows_from key rows) × (count ≡ length (rows_from key rows))
+
+-- the committed database has this number of rows
+abbrev pub AreCounted : EngineView → ℕ → Type 0
+AreCounted e count = (rows : List Row) × IsCommitted e rows × (count ≡ length rows)
+
 -- the committed database is returned from a key on, with its number of rows from there
 abbrev pub ReturnsRows : Option Held → Key → List SgtRow → ℕ → Type 0
 ReturnsRows None key to count = ⊥
-ReturnsRows (Some h) key to count = (rows : List Row) × IsCommitted h.engine rows
-    × HoldRows to (rows_from key rows) × (count ≡ length (rows_from key rows))
+ReturnsRows (Some h) key to count = AreWritten h.engine key to count
 
 -- the committed database has this many rows
 abbrev pub CountsRows : Option Held → ℕ → Type 0
 CountsRows None count = ⊥
-CountsRows (Some h) count = (rows : List Row) × IsCommitted h.engine rows × (count ≡ length rows)
+CountsRows (Some h) count = AreCounted h.engine count

@@ -9,11 +9,12 @@ use crate::handle::Handle;
 use crate::held::Held;
 use crate::status;
 use sgt_assembly::SgtEngine;
+use sgt_model::NoMemory;
 use std::alloc::Global;
 
 /// Forgets the history up to now, if no transaction is live. The engine continues from the committed database, as one
 /// that was just opened on it: it has no entries, and numbers transactions from 0. Procedures and limits stay, and the
-/// limits count anew. The call scans all records, and allocates memory for them meanwhile.
+/// limits count anew. The call scans all records, and allocates memory for them, unless the history is empty.
 ///
 /// - `BUSY`; `CLOSED`.
 /// - `STILL_LIVE`, tested next: transactions are live; their number is written to `live`.
@@ -90,7 +91,7 @@ pub enum Uncut {
 }
 
 /// Cuts the history if no transaction is live.
-#[tactic(auto, using(crate::proofs::CutValues::commits_kept, crate::proofs::CutValues::none_of_none, crate::proofs::CutValues::some_of_some))]
+#[tactic(auto, using(crate::proofs::CutValues::none_of_none, crate::proofs::CutValues::some_of_some))]
 fn cut(alloc: Global, held: &mut Held) -> Result<(), Uncut>
     ensures cut { OnOk result (IsCut held.old.engine held.new.engine) }
     ensures part { OnOk result (held.new.part ≡ held.old.part + 1) }
@@ -106,15 +107,34 @@ fn cut(alloc: Global, held: &mut Held) -> Result<(), Uncut>
     let Some(next) = held.part.checked_add(1) else {
         return Err(Uncut::LastPart);
     };
-    // The headline holds of the history that this call borrows.
-    let _ = held.engine.history();
-    match held.engine.cut(alloc) {
-        Ok(past) => {
-            held.engine.recycle(past);
+    match cut_engine(alloc, &mut held.engine) {
+        Ok(()) => {
             held.part = next;
             Ok(())
         }
-        Err(_) => Err(Uncut::NoMemory),
+        Err(NoMemory) => Err(Uncut::NoMemory),
+    }
+}
+
+/// Cuts the history off where no transaction is live. An empty history is left as it is, and so are the records.
+#[tactic(auto, using(crate::proofs::CutValues::commits_kept, crate::proofs::CutValues::nothing_cut))]
+fn cut_engine(alloc: Global, engine: &mut SgtEngine) -> Result<(), NoMemory>
+    requires { NobodyLive engine.old.past }
+    ensures cut { OnOk result (IsCut engine.old engine.new) }
+    ensures unchanged { OnErr result (engine.new ≡ engine.old) }
+{
+    // The headline holds of the history that this call borrows, and the rows that the next one borrows are by key.
+    let _ = engine.history();
+    let _ = engine.opening();
+    if engine.is_new() {
+        return Ok(());
+    }
+    match engine.cut(alloc) {
+        Ok(past) => {
+            engine.recycle(past);
+            Ok(())
+        }
+        Err(_) => Err(NoMemory),
     }
 }
 

@@ -1,19 +1,24 @@
 //! The committed database, row by row.
-ghost use Rattle.std.specs.Prelude.{◌≡◌, ◌≢◌, ◌≤◌, ◌↔◌, length, drop};
+ghost use Rattle.std.specs.Prelude.{◌≡◌, ◌≢◌, ◌≤◌, ◌↔◌, IfOk, OnErr, length, drop};
+ghost use Rattle.sgt_model.specs.Databases.{IsByKey};
 ghost use Rattle.sgt_model.specs.Numbers.{IsValue};
-ghost use Rattle.sgt_c.specs.Rows.{CountsRows, HoldRows, ReturnsRows, row_of, rows_from};
+ghost use Rattle.sgt_c.specs.Rows.{AreCounted, AreWritten, CountsRows, HoldRows, ReturnsRows, row_of, rows_from};
 ghost use Rattle.sgt_c.specs.Handles.{IsBusy, IsClosed};
 
 use crate::asked::keyed;
 use crate::handle::Handle;
 use crate::row_struct::SgtRow;
 use crate::status;
+use sgt_assembly::SgtEngine;
 use sgt_model::{Key, NoMemory};
 use std::alloc::Global;
 
 /// The committed database from a key on, by table and then by number. The first rows are written to `rows`, as many as
-/// fit. `count` is the number of all rows from there. The call scans all records, and allocates memory for them
-/// meanwhile.
+/// fit. `count` is the number of all rows from there.
+///
+/// The first call after an event scans all records, and allocates memory for the rows. The engine keeps them, so until the
+/// next event each further page costs a search and the rows that it writes. While the history is empty, so does the first
+/// one.
 ///
 /// - `BAD_CALL`, tested first: the table is over 7, or the number is no value.
 /// - `BUSY`; `CLOSED`; `NO_MEMORY`.
@@ -44,23 +49,21 @@ pub extern "C" fn sgt_rows(
     if engine.is_busy() {
         return status::BUSY;
     }
-    let Some(held) = engine.take(alloc) else {
+    let Some(mut held) = engine.take(alloc) else {
         return status::CLOSED;
     };
-    let database = held.engine.database(alloc);
+    let written = write_committed(alloc, &mut held.engine, key, rows);
     engine.put(held);
-    match database {
-        Ok(database) => {
-            let from_key = rows_from(database.rows(), key);
-            write_rows(rows, from_key);
-            *count = from_key.len() as u64;
+    match written {
+        Ok(all) => {
+            *count = all as u64;
             status::OK
         }
         Err(NoMemory) => status::NO_MEMORY,
     }
 }
 
-/// How many records the committed database has. The call scans all records, and allocates memory for them meanwhile.
+/// How many records the committed database has. The call costs as much as one of `sgt_rows` that writes no row.
 ///
 /// `BUSY`; `CLOSED`; `NO_MEMORY`.
 #[unsafe(no_mangle)]
@@ -77,29 +80,86 @@ pub extern "C" fn sgt_records(alloc: Global, engine: &mut Handle, count: &mut u6
     if engine.is_busy() {
         return status::BUSY;
     }
-    let Some(held) = engine.take(alloc) else {
+    let Some(mut held) = engine.take(alloc) else {
         return status::CLOSED;
     };
-    let database = held.engine.database(alloc);
+    let counted = count_committed(alloc, &mut held.engine);
     engine.put(held);
-    match database {
-        Ok(database) => {
-            *count = database.rows().len() as u64;
+    match counted {
+        Ok(all) => {
+            *count = all as u64;
             status::OK
         }
         Err(NoMemory) => status::NO_MEMORY,
     }
 }
 
-/// The rows from the first key that is not less than this one.
+/// Writes the committed rows from a key on, as many as fit, and returns the number of all from there. The engine keeps the
+/// database for the next call.
+fn write_committed(
+    alloc: Global,
+    engine: &mut SgtEngine,
+    key: Key,
+    to: &mut [SgtRow],
+) -> Result<usize, NoMemory>
+    ensures returned { IfOk result (λ count. AreWritten engine.old key to.new count) }
+    ensures rest { IfOk result (λ count. drop count to.new ≡ drop count to.old) }
+    ensures room { length to.new ≡ length to.old }
+    ensures unwritten { OnErr result (to.new ≡ to.old) }
+    ensures same { engine.new ≡ engine.old }
+{
+    if let Some(rows) = engine.rows_at_hand() {
+        return Ok(write_from(rows, key, to));
+    }
+    let database = engine.database(alloc)?;
+    let count = write_from(database.rows(), key, to);
+    engine.keep(database);
+    Ok(count)
+}
+
+/// How many rows are committed. The engine keeps the database for the next call.
+fn count_committed(alloc: Global, engine: &mut SgtEngine) -> Result<usize, NoMemory>
+    ensures count { IfOk result (AreCounted engine.old) }
+    ensures same { engine.new ≡ engine.old }
+{
+    if let Some(rows) = engine.rows_at_hand() {
+        return Ok(rows.len());
+    }
+    let database = engine.database(alloc)?;
+    let count = database.rows().len();
+    engine.keep(database);
+    Ok(count)
+}
+
+/// Writes the rows from a key on, as many as fit, and returns the number of all from there.
+fn write_from(rows: &[(Key, i64)], key: Key, to: &mut [SgtRow]) -> usize
+    requires { IsByKey rows.now }
+    ensures written { HoldRows to.new (rows_from key rows.now) }
+    ensures count { result ≡ length (rows_from key rows.now) }
+    ensures rest { drop result to.new ≡ drop result to.old }
+    ensures room { length to.new ≡ length to.old }
+{
+    let from_key = rows_from(rows, key);
+    write_rows(to, from_key);
+    from_key.len()
+}
+
+/// The rows from the first key that is not less than this one, by binary search.
 fn rows_from(rows: &[(Key, i64)], key: Key) -> &[(Key, i64)]
+    requires { IsByKey rows.now }
     ensures { result.now ≡ rows_from key rows.now }
 {
-    let mut before = 0;
-    while before < rows.len() && rows[before].0 < key {
-        before += 1;
+    let mut low = 0;
+    let mut high = rows.len();
+    while low < high {
+        let middle = low + (high - low) / 2;
+        if rows[middle].0 < key {
+            low = middle + 1;
+        } else {
+            high = middle;
+        }
     }
-    &rows[before..]
+    &rows[low..]
 }
 
 /// Writes rows for C, as many as fit, and leaves the rest.
