@@ -27,7 +27,7 @@ use help::{BANK_HELP, CHECK_HELP, HELP, SCRIPT_HELP};
 use input::{FILE, open_input};
 use sgt_bank::{Explanations, MOST_TRIES, MOST_WORKERS, run_bank};
 use sgt_check::{CheckFault, run_check};
-use sgt_clients::{ClientsFault, ClientsOutput, Flaw, run_clients};
+use sgt_clients::{Answer, ClientsFault, ClientsOutput, Flaw, Level, Question, run_clients};
 use sgt_input::{Fault, Reader, Source, Writer};
 use sgt_line_errors::{Remembering, explain};
 use sgt_notation::NotationFault;
@@ -58,7 +58,8 @@ Usage: sgt <COMMAND>
 For more information, try '--help'.";
 
 /// The message for options that only one model has, as `clap` would write it.
-const NEEDS_MODEL: &str = "error: the options '--strict' and '--json' need '--model list-append'
+const NEEDS_MODEL: &str =
+    "error: the options '--strict', '--level' and '--json' need '--model list-append'
 
 Usage: sgt check [OPTIONS] [FILE]
 
@@ -181,6 +182,25 @@ fn model_option<'a>(alloc: Global) -> Arg<'a> {
         .default_value("operations")
 }
 
+/// The levels of isolation.
+const LEVELS: [&str; 4] = [
+    "read-committed",
+    "snapshot-isolation",
+    "serializable",
+    "strict-serializable",
+];
+
+/// The option that names the level whose answer is the exit status.
+fn level_option<'a>(alloc: Global) -> Arg<'a> {
+    Arg::new(alloc, "level")
+        .long("level")
+        .help(
+            "The level that the exit status is of: read-committed, snapshot-isolation,\nserializable or strict-serializable (list-append only)",
+        )
+        .value_parser(ValueParser::Names(&LEVELS))
+        .hide_possible_values(true)
+}
+
 /// The options of `sgt check`.
 fn check_options<'a>(alloc: Global) -> Result<Vec<Arg<'a>>, AllocError> {
     let mut options = Vec::new(alloc);
@@ -209,6 +229,7 @@ fn check_options<'a>(alloc: Global) -> Result<Vec<Arg<'a>>, AllocError> {
         "strict",
         "The serial order has to keep real time (list-append only)",
     ))?;
+    options.push(level_option(alloc))?;
     options.push(model_option(alloc))?;
     Ok(options)
 }
@@ -453,20 +474,34 @@ fn check<R: Print + Eprint, I: Read + Drop>(
     let mut reader = Reader::new(input);
     let mut writer = Writer::new(io::writer(rt));
     let strict = options.get_flag("strict");
+    let level = options.get_str("level");
     if options.get_str("model") == Some("list-append") {
         let output = clients_output(options);
-        return match run_clients(alloc, &mut reader, &mut writer, output, strict) {
+        let question = question_of(level, strict);
+        return match run_clients(alloc, &mut reader, &mut writer, output, question) {
             Err(fault) if is_no_json(&fault) => tell_hint(rt, fault, IS_TEXT),
-            ran => checked(rt, ran),
+            ran => answered(rt, ran),
         };
     }
-    if strict || options.get_flag("json") {
+    if strict || level.is_some() || options.get_flag("json") {
         return tell(rt, NEEDS_MODEL);
     }
     match run_check(alloc, &mut reader, &mut writer, check_output(options)) {
         Err(fault) if is_brace(&fault) => tell_hint(rt, fault, IS_JSON),
         ran => checked(rt, ran),
     }
+}
+
+/// What the options ask of what clients saw: by default whether it is serializable, or strictly so.
+fn question_of(level: Option<&str>, strict: bool) -> Question {
+    let level = match level {
+        Some("read-committed") => Level::ReadCommitted,
+        Some("snapshot-isolation") => Level::SnapshotIsolation,
+        Some("strict-serializable") => Level::StrictSerializable,
+        None if strict => Level::StrictSerializable,
+        _ => Level::Serializable,
+    };
+    Question { level, strict }
 }
 
 /// Whether the first entry is no JSON from its first byte on.
@@ -545,6 +580,16 @@ fn checked<R: Eprint, E: Display + Drop>(rt: &R, ran: Result<bool, E>) -> ExitCo
     match ran {
         Ok(true) => ExitCode::SUCCESS,
         Ok(false) => ExitCode::from(1),
+        Err(fault) => tell(rt, fault),
+    }
+}
+
+/// The exit status of an answer.
+fn answered<R: Eprint, E: Display + Drop>(rt: &R, ran: Result<Answer, E>) -> ExitCode {
+    match ran {
+        Ok(Answer::Yes) => ExitCode::SUCCESS,
+        Ok(Answer::No) => ExitCode::from(1),
+        Ok(Answer::Undecided) => ExitCode::from(3),
         Err(fault) => tell(rt, fault),
     }
 }
