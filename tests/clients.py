@@ -5,7 +5,8 @@
     tests/clients.py crates/sgt/out/sgt 100000      # draws so many histories
 
 Every order of the transactions is tried: the report has to say yes, and one of these orders, exactly where there is one. Of each no
-the witness is tested by what was observed. The last line counts the cases.
+the witness is tested by what was observed. So are the levels of isolation, by the definitions in `helpers/levels.py`. The last line
+counts the cases.
 """
 
 import glob
@@ -23,6 +24,7 @@ sys.dont_write_bytecode = True
 from helpers.appends import (  # noqa: E402
     COMMITTED, Transaction, all_small, drawn, entries_of, keeps_time, lines_of, precedences, serial_orders, shortest_cycle)
 from helpers.cases import SECONDS, TESTS, Differs, same, tell  # noqa: E402
+from helpers.levels import drawn_split, is_committed_run, is_read_committed, is_snapshot_isolated, is_snapshot_run, may_stay_open  # noqa: E402
 from pictures import Drawing  # noqa: E402
 
 CLIENTS = TESTS.parent / "examples" / "clients"
@@ -42,6 +44,7 @@ def check(program, given, *options):
 PLACED = r"t(\d+)(?: \((?:line|entry) \d+\))?"
 STEP = re.compile(f"  {PLACED} before {PLACED}: (.*)")
 READ = rf"{PLACED} read key (\S+) as \[([0-9 ]*)\]"
+UNSEEN = rf"read key (\S+) at the end: it would show the order of (\d+) of {PLACED} and (\d+) of {PLACED}"
 
 
 class Told:
@@ -52,6 +55,7 @@ class Told:
 
     def compare(self, status, text, orders):
         lines = text.splitlines()
+        lines = lines[:next(it for it, line in enumerate(lines) if line.startswith("strongest level: "))]
         counts = [sum(it.status == status for it in self.history) for status in ("ok", "fail", "info")]
         same("counts", "transactions {}: {} committed, {} aborted, {} unknown".format(len(self.history), *counts), lines[0])
         head = "strictly serializable" if self.strict else "serializable"
@@ -109,6 +113,10 @@ class Told:
     def shows(self, one, other, why):
         if why == f"t{one + 1} ended before t{other + 1} began":
             return self.strict and self.spans[one][1] < self.spans[other][0]
+        why, waits = re.fullmatch(r"(.*?)(?:, and both append to key (\S+))?", why).groups()
+        if waits and not all(it.status != "fail" and any(op[:2] == ("append", int(waits)) for op in it.operations)
+                             for it in (self.history[one], self.history[other])):
+            return False
         reader, key, seen, rest = re.fullmatch(READ + ", (.*)", why).groups()
         reader, values = int(reader) - 1, list(map(int, seen.split()))
         if not self.reads(reader, key, seen):
@@ -119,6 +127,10 @@ class Told:
         if told := re.fullmatch(r"without (\d+), which t(\d+) appended", rest):
             value, by = int(told[1]), int(told[2]) - 1
             return reader == one and by == other and value not in values and self.appends(other, key, value)
+        if told := re.fullmatch(r"with (\d+) of t(\d+) and without (\d+) of t(\d+)", rest):
+            first, by, second, then = map(int, told.groups())
+            return (by - 1, then - 1) == (one, other) and self.appends(one, key, first) and self.appends(other, key, second) \
+                and first in values and second not in values
         first, by, second, then = map(int, re.fullmatch(r"with (\d+) of t(\d+) before (\d+) of t(\d+)", rest).groups())
         return (by - 1, then - 1) == (one, other) and self.appends(one, key, first) and self.appends(other, key, second) \
             and first in values and second in values[values.index(first) + 1:]
@@ -165,8 +177,9 @@ def name_of_cycle(reasons):
     missed = [it.split(", without ")[0] for it in reasons if ", without " in it]
     seen = [it.split(", with ")[0] for it in reasons if it.endswith(" appended") and ", with " in it]
     timed = any(" ended before " in it for it in reasons)
+    kinds = [", without " in it for it in reasons]
     if len(missed) > 1:
-        name = "G2-item"
+        name = "G2-item" if any(one and other for one, other in zip(kinds, kinds[1:] + kinds[:1])) else "G-nonadjacent"
     elif missed and len(reasons) == 2 and seen == missed:
         name = "G1b"
     elif missed:
@@ -198,7 +211,112 @@ def compare_each(program, histories, strict):
     return f"{len(tried):,} histories, {tried.count(False):,} of them not"
 
 
+# Levels of isolation
+
+LEVELS = ["read-committed", "snapshot-isolation", "serializable", "strict-serializable"]
+STATUS = {"yes": 0, "no": 1, "undecided": 3}
+
+
+def compare_levels(program, draw, history):
+    """Each level's answer and evidence by the definitions, with real time or without; and the exit status of one level."""
+    entries, spans = entries_of(draw, history)
+    given, options = lines_of(entries), ["--strict"] * (draw.random() < 0.3)
+    level = draw.choice(LEVELS[:3] + LEVELS[3:] * len(options))
+    try:
+        status, text, errors = check(program, given, "--json", "--level", level, *options)
+        same("standard error", "", errors)
+        told = json.loads(text)
+        found = {it: told["levels"][it]["holds"] for it in told["levels"]}
+        same("levels", LEVELS[:3 + len(options)], list(found))
+        same("status", STATUS[found[level]], status)
+        compare_answers(found, history, spans)
+        Evidence(history, spans, bool(options)).compare(told["levels"])
+        strongest = [it for it in found if found[it] == "yes"][-1:]
+        same("strongest", (strongest or [None])[0], told["strongest"])
+        line = f"strongest level: {(strongest or ['none'])[0].replace('-', ' ')}"
+        same("report", True, line in check(program, given, *options)[1].splitlines())
+    except (Differs, ValueError, AttributeError, KeyError) as why:
+        raise Differs(f"{why}\n{given}") from None
+    return (strongest or ["none"])[0] if "undecided" not in found.values() else "undecided"
+
+
+def compare_answers(found, history, spans):
+    orders = list(serial_orders(history))
+    holds = {"serializable": bool(orders), "read-committed": is_read_committed(history), "snapshot-isolation": is_snapshot_isolated(history),
+             "strict-serializable": any(keeps_time(spans, it) for it in orders)}
+    for level, answer in found.items():
+        if answer == "undecided":
+            same(f"{level} may be undecided", (True, False, "snapshot-isolation"), (may_stay_open(history), holds["serializable"], level))
+        else:
+            same(level, "yes" if holds[level] else "no", answer)
+
+
+class Evidence(Told):
+    """The evidence of each level in the object of JSON, tested by what was observed."""
+
+    def compare(self, levels):
+        committed, snapshot = levels["read-committed"], levels["snapshot-isolation"]
+        if "order" in committed:
+            same("a run of committed reads", True, is_committed_run(self.history, [it - 1 for it in committed["order"]]))
+        if "order" in snapshot:
+            same("a snapshot run", True, is_snapshot_run(self.history, [it - 1 for it in snapshot["order"]], snapshot["starts"]))
+        for level, found in (("committed", committed), ("snapshot", snapshot)):
+            if "cycle" in found:
+                self.compare_ties(level, found["cycle"])
+            elif found["holds"] == "undecided":
+                self.compare_unseen(found)
+            elif "why" in found:
+                self.compare_read(found)
+            elif found["holds"] == "no":
+                same("ruled out by read committed", ("snapshot", "no"), (level, committed["holds"]))
+
+    def compare_ties(self, level, ties):
+        kinds = [it["because"] for it in ties]
+        same("ends of the ties", [it["from"] for it in ties[1:] + ties[:1]], [it["to"] for it in ties])
+        if level == "committed":
+            same("kinds", set(), set(kinds) - {"seen", "in order", "late"})
+        if any(one == other == "missed" for one, other in zip(kinds, kinds[1:] + kinds[:1])):
+            raise Differs(f"two misses are next to one another: {kinds}")
+        for it in ties:
+            if not self.shows(it["from"] - 1, it["to"] - 1, it["why"]):
+                raise Differs(f"t{it['from']} before t{it['to']} does not follow from {it['why']!r}")
+
+    def compare_unseen(self, found):
+        """The read that would show the order of two appends that nobody saw."""
+        key, *appends = re.fullmatch(UNSEEN, found["why"]).groups()
+        values, transactions = list(map(int, appends[::2])), [int(it) - 1 for it in appends[1::2]]
+        seen = {value for one in self.history for it in one.effective() if it[0] == "r" and it[1] == int(key) for value in it[2]}
+        same("two appends that nobody saw", (True, True, False, set()), (
+            *(self.appends(one, key, value) for one, value in zip(transactions, values)), transactions[0] == transactions[1], seen & set(values)))
+
+    def compare_read(self, found):
+        reader, key, seen, rest = re.fullmatch(READ + ", (.*)", found["why"]).groups()
+        values = list(map(int, seen.split()))
+        same("reader", found["reader"], int(reader))
+        if part := re.fullmatch(rf"with (\d+) and without (\d+), both of {PLACED}", rest):
+            there, missed, by = int(part[1]), int(part[2]), int(part[3]) - 1
+            same("a partial read", ("G1b", True), (found["anomaly"], self.reads(int(reader) - 1, key, seen) and there in values
+                 and missed not in values and self.appends(by, key, there) and self.appends(by, key, missed) and by != int(reader) - 1))
+        else:
+            same("name", self.compare_fault(found["why"]), found["anomaly"])
+
+
+def compare_all_levels(program, histories):
+    with ThreadPoolExecutor(os.cpu_count()) as pool:
+        told = list(pool.map(lambda it: compare_levels(program, random.Random(it[0]), it[1]), enumerate(histories)))
+    return f"{len(told):,} histories: " + ", ".join(f"{told.count(it):,} {it}" for it in [*LEVELS[::-1], "none", "undecided"])
+
+
 # Cases
+
+
+def levels_of_all_small_histories(program):
+    return compare_all_levels(program, itertools.chain(all_small(2, 2), all_small(3, 1)))
+
+
+def levels_of_drawn_histories(program):
+    draw = random.Random(73)
+    return compare_all_levels(program, (draw.choice([drawn, drawn_split, drawn_split])(draw) for _ in range(DRAWN)))
 
 
 def on_all_small_histories(program):
@@ -229,6 +347,7 @@ NAMED = {
     "G1c": [one("ok", (A, 1, 1), (R, 2, (2,))), one("ok", (A, 2, 2), (R, 1, (1,)))],
     "G-single": [one("ok", (A, 1, 1), (A, 2, 2)), one("ok", (R, 1, (1,)), (R, 2, ()))],
     "G2-item": [one("ok", (R, 1, ()), (A, 2, 1)), one("ok", (R, 2, ()), (A, 1, 1))],
+    "G-nonadjacent": [one("ok", (A, 1, 1)), one("ok", (A, 2, 1)), one("ok", (R, 1, (1,)), (R, 2, ())), one("ok", (R, 1, ()), (R, 2, (1,)))],
     "incompatible-order": [one("ok", (A, 1, 1), (A, 1, 2)), one("ok", (R, 1, (2, 1)))],
     "internal": [one("ok", (A, 1, 1), (R, 1, ()))],
     "unwritten": [one("ok", (R, 1, (5,)))],
@@ -243,6 +362,65 @@ WITNESSES = [
     ([one("ok", (A, 1, 1)), one("ok", (A, 1, 2)), one("ok", (R, 1, (1, 2))), one("ok", (R, 1, (2,)))], "incompatible-order",
      "t4 (line 8) read key 1 as [2], but t3 (line 6) read key 1 as [1 2]"),
 ]
+
+
+# Histories by their strongest level, with the line on the next level, unless the verdict says it.
+STRONGEST = [
+    ("serializable", None, [one("ok", (A, 1, 1)), one("ok", (R, 1, (1,)))]),
+    ("snapshot isolation", None, NAMED["G2-item"]),
+    ("read committed", "not snapshot isolation: lost-update",
+     [one("ok", (R, 1, ()), (A, 1, 1)), one("ok", (R, 1, ()), (A, 1, 2)), one("ok", (R, 1, (1, 2)))]),
+    ("read committed", "not snapshot isolation: lost-update", [one("ok", (R, 1, ()), (A, 1, 1)), one("ok", (R, 1, ()), (A, 1, 2))]),
+    ("read committed", "not snapshot isolation: G-single", NAMED["G-single"]),
+    ("read committed", "not snapshot isolation: G-nonadjacent", NAMED["G-nonadjacent"]),
+    ("none", "not read committed: G0", NAMED["G0"]),
+    ("none", "not read committed: G1a", NAMED["G1a"]),
+    ("none", "not read committed: G1b", NAMED["G1b"]),
+    ("none", "not read committed: G1c", NAMED["G1c"]),
+    ("none", "not read committed: internal", NAMED["internal"]),
+    ("none", "not read committed: incompatible-order", NAMED["incompatible-order"]),
+]
+
+
+def names_the_strongest_level(program):
+    for strongest, broken, history in STRONGEST:
+        lines = check(program, in_turn(history))[1].splitlines()
+        place = lines.index(f"strongest level: {strongest}")
+        same(f"after {strongest}", broken, (lines[place + 1:] or [None])[0])
+    stale = in_turn([one("ok", (A, 1, 1)), one("ok", (R, 1, (1,))), one("ok", (R, 1, ()))])
+    same("stale read", "strongest level: serializable", check(program, stale, "--strict")[1].splitlines()[-1])
+    fresh = in_turn([one("ok", (A, 1, 1)), one("ok", (R, 1, (1,)))])
+    same("strict", (0, "strongest level: strict serializable"),
+         (lambda ran: (ran[0], ran[1].splitlines()[-1]))(check(program, fresh, "--level", "strict-serializable")))
+    ran = subprocess.run([program, "check", "--level", "serializable"], input=b"", capture_output=True, timeout=SECONDS, check=False)
+    same("without the model", (2, b"", True), (ran.returncode, ran.stdout, b"--model list-append" in ran.stderr))
+
+
+SKEW = [one("ok", (R, 8, ()), (A, 9, 1)), one("ok", (R, 9, ()), (A, 8, 1))]
+
+
+def names_the_read_that_decides(program):
+    """Two appends that nobody saw: the report names the read that would decide, and with that read it has an answer."""
+    unseen = [one("ok", (A, 1, 1), (A, 2, 2)), one("ok", (R, 2, ()), (A, 1, 3)), *SKEW]
+    status, text, _ = check(program, in_turn(unseen), "--level", "snapshot-isolation")
+    same("undecided", (3, ["strongest level: read committed",
+                           "snapshot isolation undecided: no read saw which of two appends to a key came first",
+                           "  read key 1 at the end: it would show the order of 1 of t1 (line 2) and 3 of t2 (line 4)"]),
+         (status, text.splitlines()[-3:]))
+    for seen, answer in (((3, 1), 0), ((1, 3), 1)):
+        same(f"with {seen}", answer, check(program, in_turn([*unseen, one("ok", (R, 1, seen))]), "--level", "snapshot-isolation")[0])
+
+
+def keeps_the_order_of_begins(program):
+    """One write skew, and transactions one after another, of which few appends were ever seen."""
+    draw, lists, history = random.Random(3), {}, list(SKEW)
+    for value in range(1, 400):
+        key = draw.randrange(40)
+        read = draw.randrange(40, 60) if draw.random() < 0.2 else 60 + draw.randrange(40)
+        history.append(one("ok", (R, read, tuple(lists.get(read, ()))), (A, key, value), (A, 20 + key, value)))
+        for it in (key, 20 + key):
+            lists[it] = [*lists.get(it, ()), value]
+    same("status", 0, check(program, in_turn(history), "--level", "snapshot-isolation")[0])
 
 
 def names_anomalies(program):
@@ -267,7 +445,7 @@ def in_turn(history):
 def names_the_operations(program):
     for history, name, line in WITNESSES:
         _, text, _ = check(program, in_turn(history))
-        same("witness", [f"serializable no: {name}", f"  {line}"], text.splitlines()[1:])
+        same("witness", [f"serializable no: {name}", f"  {line}"], text.splitlines()[1:3])
     stale = [one("ok", (A, 1, 1)), one("ok", (R, 1, (1,))), one("ok", (R, 1, ()))]
     same("stale read", "strictly serializable no: G-single-realtime", check(program, in_turn(stale), "--strict")[1].splitlines()[1])
 
@@ -558,7 +736,7 @@ def ends_on_long_ones(program):
     entries = [{"type": "ok", "process": 0, "f": "txn", "value": [["append", 1, it], ["append", 1, it + 1]]} for it in range(0, 200_000, 2)]
     seen = [*range(199_998), 199_999, 199_998]
     status, text, _ = check(program, lines_of([*entries, {"type": "ok", "process": 0, "f": "txn", "value": [["r", 1, seen]]}]))
-    same("a read", (1, "serializable no: incompatible-order"), (status, text.splitlines()[1]))
+    same("a read", (1, "serializable no: incompatible-order", "strongest level: none"), (status, text.splitlines()[1], text.splitlines()[3]))
 
 
 def draws_its_witness(program):
@@ -619,7 +797,8 @@ def records_databases(program):
     return ", ".join(told)
 
 
-CASES = [on_all_small_histories, on_drawn_histories, on_drawn_histories_strictly, names_anomalies, names_the_operations,
+CASES = [on_all_small_histories, on_drawn_histories, on_drawn_histories_strictly, levels_of_all_small_histories, levels_of_drawn_histories,
+         names_the_strongest_level, names_the_read_that_decides, keeps_the_order_of_begins, names_anomalies, names_the_operations,
          shows_values_of_a_long_read, ends_on_long_ones, reads_each_form, reads_edn,
          takes_null_for_the_empty_list, takes_processes_of_any_name, takes_keys_of_any_name, skips_what_is_no_transaction, refuses_nothing,
          refuses_an_end_of_other_operations, keeps_time_only_with_invocations, tells_faults, survives_hostile_bytes, needs_its_model, hints_at_its_model, draws_its_witness, recorded_ones,

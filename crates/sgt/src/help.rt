@@ -249,21 +249,24 @@ the line of its end, or of its beginning if its end is unknown:
   serializable no: G2-item
     t1 (line 3) before t2 (line 4): t1 read key 8 as [], without 2, which t2 appended
     t2 (line 4) before t1 (line 3): t2 read key 9 as [], without 1, which t1 appended
+  strongest level: snapshot isolation
 
   yes         with a serial order: run in this order from empty lists, each committed transaction
               reads what its client saw. Unknown transactions may take part, aborted ones do not
   no          there is none: a cycle, or a read that fits no order. The name is that of Adya (1999)
-              and Elle (2020): G0, G1a, G1b, G1c, G-single, G2-item, incompatible-order, internal,
-              unwritten (nobody appended the value), duplicate-elements
+              and Elle (2020): G0, G1a, G1b, G1c, G-single, G-nonadjacent, G2-item,
+              incompatible-order, internal, unwritten (nobody appended the value), duplicate-elements
 
 With --strict the order also keeps real time: if one transaction ended before another began, it
 comes first. Time is the order of the objects. With --json the report is one object of JSON. --graph
 and --timeline show the cycle. If the objects are not one a line, 'entry 3' in place of 'line 3'
-names the third object.
+names the third object. After the strongest level comes what breaks the next one, unless the lines
+before say it.
 
-The status is 0 if the history is serializable and recoverable (list-append: serializable), 1 if
-not, and 2 after an error. The error is on standard error, with a second line if there is more to
-say, and nothing is written to standard output. An input has at most 268435456 bytes.
+The status is 0 if the history is serializable and recoverable (list-append: serializable, or of the
+level that --level names), 1 if not, 2 after an error, and 3 if --level's answer is undecided. The
+error is on standard error, with a second line if there is more to say, and nothing is written to
+standard output. An input has at most 268435456 bytes.
 The classes are those of Bernstein, Hadzilacos and Goodman (1987), chapter 2.
 In the repository: docs/FORMATS.md has each line, examples/histories more histories, and
 examples/clients what clients saw of PostgreSQL."#;

@@ -35,7 +35,7 @@ use output::OutputBytes;
 use progress::Showing;
 use sgt_bank::{Explanations, MOST_TRIES, MOST_WORKERS, run_bank};
 use sgt_check::{CheckFault, run_check};
-use sgt_clients::{ClientsFault, ClientsOutput, Flaw, run_clients};
+use sgt_clients::{Answer, ClientsFault, ClientsOutput, Flaw, Level, Question, run_clients};
 use sgt_input::{Fault, Reader, Writer};
 use sgt_line_errors::Remembering;
 use sgt_notation::NotationFault;
@@ -66,7 +66,8 @@ Usage: sgt <COMMAND>
 For more information, try '--help'.";
 
 /// The message for options that only one model has, as `clap` would write it.
-const NEEDS_MODEL: &str = "error: the options '--strict' and '--json' need '--model list-append'
+const NEEDS_MODEL: &str =
+    "error: the options '--strict', '--level' and '--json' need '--model list-append'
 
 Usage: sgt check [OPTIONS] [FILE]
 
@@ -224,6 +225,25 @@ fn model_option<'a>(alloc: Global) -> Arg<'a> {
         .default_value("operations")
 }
 
+/// The levels of isolation.
+const LEVELS: [&str; 4] = [
+    "read-committed",
+    "snapshot-isolation",
+    "serializable",
+    "strict-serializable",
+];
+
+/// The option that names the level whose answer is the exit status.
+fn level_option<'a>(alloc: Global) -> Arg<'a> {
+    Arg::new(alloc, "level")
+        .long("level")
+        .help(
+            "The level that the exit status is of: read-committed, snapshot-isolation,\nserializable or strict-serializable (list-append only)",
+        )
+        .value_parser(ValueParser::Names(&LEVELS))
+        .hide_possible_values(true)
+}
+
 /// The options of `sgt check`.
 fn check_options<'a>(alloc: Global) -> Result<Vec<Arg<'a>>, AllocError> {
     let mut options = Vec::new(alloc);
@@ -257,6 +277,7 @@ fn check_options<'a>(alloc: Global) -> Result<Vec<Arg<'a>>, AllocError> {
         "strict",
         "The serial order has to keep real time (list-append only)",
     ))?;
+    options.push(level_option(alloc))?;
     options.push(model_option(alloc))?;
     Ok(options)
 }
@@ -477,10 +498,11 @@ fn check<R: Print + Eprint + Files, I: Read + Drop>(
         return tell(rt, NEEDS_TIMELINE);
     }
     let strict = options.get_flag("strict");
+    let level = options.get_str("level");
     if options.get_str("model") == Some("list-append") {
-        return check_clients(rt, alloc, options, strict, input);
+        return check_clients(rt, alloc, options, question_of(level, strict), input);
     }
-    if strict || options.get_flag("json") {
+    if strict || level.is_some() || options.get_flag("json") {
         return tell(rt, NEEDS_MODEL);
     }
     let mut source = Remembering::new(alloc, Reader::new(input));
@@ -501,14 +523,14 @@ fn check_clients<R: Print + Eprint + Files, I: Read + Drop>(
     rt: &R,
     alloc: Global,
     options: &ArgMatches<'_>,
-    strict: bool,
+    question: Question,
     input: I,
 ) -> ExitCode {
     let mut reader = Reader::new(input);
     let mut writer = Writer::new(OutputBytes::new(io::writer(rt)));
     let output = clients_output(options);
-    match run_clients(alloc, &mut reader, &mut writer, output, strict) {
-        Ok(is_serializable) => verdict(is_serializable),
+    match run_clients(alloc, &mut reader, &mut writer, output, question) {
+        Ok(answer) => answered(answer),
         Err(ClientsFault::Check(CheckFault::Writing)) if writer.inner.is_unread() => {
             failed(rt, Failure::<Fault>::Unread)
         }
@@ -519,6 +541,18 @@ fn check_clients<R: Print + Eprint + Files, I: Read + Drop>(
         Err(fault) if is_no_json(&fault) => tell_hint(rt, fault, IS_TEXT),
         Err(fault) => tell(rt, fault),
     }
+}
+
+/// What the options ask of what clients saw: by default whether it is serializable, or strictly so.
+fn question_of(level: Option<&str>, strict: bool) -> Question {
+    let level = match level {
+        Some("read-committed") => Level::ReadCommitted,
+        Some("snapshot-isolation") => Level::SnapshotIsolation,
+        Some("strict-serializable") => Level::StrictSerializable,
+        None if strict => Level::StrictSerializable,
+        _ => Level::Serializable,
+    };
+    Question { level, strict }
 }
 
 /// Whether the first entry is no JSON from its first byte on.
@@ -619,6 +653,15 @@ fn verdict(is_sound: bool) -> ExitCode {
         ExitCode::SUCCESS
     } else {
         ExitCode::from(1)
+    }
+}
+
+/// The exit status of an answer.
+fn answered(answer: Answer) -> ExitCode {
+    match answer {
+        Answer::Yes => ExitCode::SUCCESS,
+        Answer::No => ExitCode::from(1),
+        Answer::Undecided => ExitCode::from(3),
     }
 }
 

@@ -2,10 +2,10 @@ pub mod Accesses
 pub mod Cuts
 pub mod Faulty
 pub mod Inputs
+pub mod Leveled
 pub mod ReadTo
 pub mod RealTime
 pub mod Scans
 pub mod Spelled
 pub mod Stored
 pub mod Texts
-pub mod Verdicts

@@ -13,7 +13,8 @@ use Rattle.sgt_clients.specs.declared.evidence.Put.{Put}
 use Rattle.sgt_clients.specs.declared.evidence.Spoken.{Spoken}
 use Rattle.sgt_clients.specs.Evidence.{put_of, seen_of}
 use Rattle.sgt_clients.specs.JsonText.{skipped_member}
-use Rattle.sgt_clients.specs.ReportText.{key_text, values_text, read_text, with_value, has_status}
+use Rattle.sgt_clients.specs.ReportText.{key_text, values_text, read_text, with_value, with_values, has_status}
+use Rattle.sgt_clients.specs.UnseenText.{with_puts}
 
 -- a piece after the text so far
 pub grow : (start before after : List ℕ) (came piece : List ℕ) → before ≡ start ++ came → after ≡ before ++ piece
@@ -100,3 +101,17 @@ pub value_some : (words : ℕ → List ℕ) (o : Option Operation) (put : Put) �
 value_some words None put some = absurd (cc)
 value_some words (Some (Append k value)) put some = ap (value_words words) some
 value_some words (Some (Read k values)) put some = absurd (cc)
+
+-- two appends that there are
+puts_both : (words : Put → Put → List ℕ) (put other : Put) (o p : Option Put) → Some put ≡ o → Some other ≡ p → with_puts words o p ≡ words put other
+puts_both words put other o p first second = ap (λ x. with_puts words x p) (sym first) ∙ ap (λ x. with_puts words (Some put) x) (sym second)
+
+pub puts_some : (words : Put → Put → List ℕ) (o p : Option Put) (put other : Put) → o ≡ Some put → p ≡ Some other
+    → with_puts words o p ≡ words put other
+puts_some words o p put other first second = puts_both words put other o p (sym first) (sym second)
+
+-- two appends
+pub values_some : (words : ℕ → ℕ → List ℕ) (o p : Option Operation) (put other : Put) → put_of o ≡ Some put → put_of p ≡ Some other
+    → with_values words o p ≡ words put.value other.value
+values_some words o p put other first second =
+    value_some (λ v. with_value (words v) p) o put first ∙ value_some (words put.value) p other second

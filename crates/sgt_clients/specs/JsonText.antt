@@ -48,11 +48,15 @@ because_text (Observed (Missed read append)) = codes "missed"
 because_text (Observed (InOrder first second reader read)) = codes "in order"
 because_text RealTime = codes "real time"
 
+-- the beginning of a step: its transactions, their entries, and the kind of its reason
+abbrev pub ends_text : Clients → ℕ → ℕ → List ℕ → List ℕ
+ends_text c from to because = codes "{\"from\":" ++ decimal (from_one from) ++ codes ",\"to\":" ++ decimal (from_one to)
+    ++ codes ",\"from_entry\":" ++ decimal (entry_of c from) ++ codes ",\"to_entry\":" ++ decimal (entry_of c to)
+    ++ codes ",\"because\":\"" ++ because ++ codes "\",\"why\":\""
+
 -- a step: its transactions, their entries, and its reason
 abbrev pub step_object : Clients → Step → List ℕ
-step_object c s = codes "{\"from\":" ++ decimal (from_one s.from) ++ codes ",\"to\":" ++ decimal (from_one s.to)
-    ++ codes ",\"from_entry\":" ++ decimal (entry_of c s.from) ++ codes ",\"to_entry\":" ++ decimal (entry_of c s.to)
-    ++ codes ",\"because\":\"" ++ because_text s.why ++ codes "\",\"why\":\"" ++ why_text c s.from s.to s.why ++ codes "\"}"
+step_object c s = ends_text c s.from s.to (because_text s.why) ++ why_text c s.from s.to s.why ++ codes "\"}"
 
 -- the member that names the anomaly
 abbrev pub anomaly_member : List ℕ → List ℕ
@@ -77,7 +81,7 @@ finding_members c (finding.Serial order) = order_member order.items
 finding_members c (finding.Cycle steps name) = anomaly_member name.now ++ cycle_member c steps.items
 finding_members c (finding.Fault reader read fault name) = anomaly_member name.now ++ reader_members c reader read fault
 
--- the object, and the end of its line
-abbrev pub json_text : Bool → Clients → Finding → List ℕ
-json_text strict c f = codes "{\"model\":\"list-append\",\"strict\":" ++ truth_text strict ++ counts_members c.transactions.items
-    ++ skipped_member c.skipped ++ codes ",\"serializable\":" ++ truth_text (is_order f) ++ finding_members c f ++ codes "}\n"
+-- the beginning of the object, up to the members of the finding
+abbrev pub head_text : Bool → Clients → Finding → List ℕ
+head_text strict c f = codes "{\"model\":\"list-append\",\"strict\":" ++ truth_text strict ++ counts_members c.transactions.items
+    ++ skipped_member c.skipped ++ codes ",\"serializable\":" ++ truth_text (is_order f) ++ finding_members c f

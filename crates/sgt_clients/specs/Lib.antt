@@ -7,8 +7,14 @@ pub mod GraphText
 pub mod Histories
 pub mod Inputs
 pub mod JsonText
+pub mod LevelJson
+pub mod LevelText
+pub mod Levels
 pub mod Objects
 pub mod Pieces
 pub mod Reading
 pub mod ReportText
+pub mod Reports
+pub mod TieText
 pub mod Times
+pub mod UnseenText

@@ -215,6 +215,6 @@ finding_text c (finding.Serial order) = codes "serializable yes:" ++ order_text 
 finding_text c (finding.Cycle steps name) = no_text name.now ++ flat_map (step_text c) steps.items
 finding_text c (finding.Fault reader read fault name) = no_text name.now ++ codes "  " ++ fault_text c reader read fault ++ codes "\n"
 
--- the lines of a report
-abbrev pub report_text : Bool → Clients → Finding → List ℕ
-report_text strict c f = counts_text c.transactions.items ++ skipped_text c.skipped ++ (if strict then codes "strictly " else []) ++ finding_text c f
+-- the lines of the verdict
+abbrev pub verdict_text : Bool → Clients → Finding → List ℕ
+verdict_text strict c f = counts_text c.transactions.items ++ skipped_text c.skipped ++ (if strict then codes "strictly " else []) ++ finding_text c f

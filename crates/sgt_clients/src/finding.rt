@@ -7,9 +7,9 @@ ghost use Rattle.sgt_clients.specs.Findings.{IsFound, is_order};
 
 use crate::clients::Clients;
 use crate::fault::ClientsFault;
-use crate::names::name_text;
+use crate::names::{cycle_name, name_text};
 use crate::twice::twice_fault;
-use sgt_appends::{Edge, Fault, Reason, Verdict, Witness, check_appends, name_of};
+use sgt_appends::{Anomaly, Edge, Fault, Reason, Verdict, Witness, check_appends, name_of};
 use sgt_model::NoMemory;
 use std::alloc::Global;
 
@@ -65,20 +65,24 @@ pub fn check_clients(alloc: Global, clients: &Clients) -> Result<Finding, Client
     match check_appends(alloc, history)? {
         Verdict::Serial(order) => Ok(Finding::Serial(order)),
         Verdict::Violated(witness) => {
-            let name = name_text(name_of(&witness));
-            Ok(finding_of(alloc, witness, name)?)
+            let anomaly = name_of(&witness);
+            Ok(finding_of(alloc, witness, anomaly)?)
         }
         Verdict::AppendedTwice => Err(twice_fault(alloc, clients)?),
         Verdict::UnknownReads { .. } => Err(ClientsFault::Undecided),
     }
 }
 
-/// The finding of the witness.
-fn finding_of(alloc: Global, witness: Witness, name: &'static str) -> Result<Finding, NoMemory>
+/// The finding of the witness, which shows the anomaly.
+fn finding_of(alloc: Global, witness: Witness, anomaly: Anomaly) -> Result<Finding, NoMemory>
     ensures { IfOk result (λ found. (h : List Transaction) (spans : List Span) → ¬ IsSerializable h → IsFound false h spans found) }
 {
     match witness {
-        Witness::Cycle(edges) => Ok(Finding::Cycle(steps_of(alloc, edges.as_slice())?, name)),
+        Witness::Cycle(edges) => {
+            let steps = steps_of(alloc, edges.as_slice())?;
+            let name = cycle_name(anomaly, steps.as_slice());
+            Ok(Finding::Cycle(steps, name))
+        }
         Witness::Fault {
             reader,
             read,
@@ -87,7 +91,7 @@ fn finding_of(alloc: Global, witness: Witness, name: &'static str) -> Result<Fin
             reader,
             read,
             fault,
-            name,
+            name: name_text(anomaly),
         }),
     }
 }

@@ -1,11 +1,14 @@
 //! The report as one object of JSON.
 
 ghost use Rattle.std.specs.Prelude.{◌≡◌, ◌++◌, flat_map, OnOk};
-ghost use Rattle.sgt_clients.specs.JsonText.{truth_text, next_item, items_text, counts_members, skipped_member, number_text, because_text, step_object, anomaly_member, order_member, cycle_member, reader_members, finding_members, json_text};
+ghost use Rattle.sgt_clients.specs.JsonText.{truth_text, next_item, items_text, counts_members, skipped_member, number_text, because_text, ends_text, step_object, anomaly_member, order_member, cycle_member, reader_members, finding_members, head_text};
+ghost use Rattle.sgt_clients.specs.LevelJson.{json_text};
 
 use crate::clients::Clients;
 use crate::counts::count;
 use crate::finding::{Finding, Step, Why, is_serial};
+use crate::level_findings::LevelFindings;
+use crate::level_json::append_levels;
 use crate::piece::{Piece, append_pieces, entry_of};
 use crate::report_text::append_why;
 use crate::witness_text::append_fault;
@@ -21,10 +24,25 @@ use sgt_model::NoMemory;
 pub fn append_json(
     text: &mut Vec<u8>,
     clients: &Clients,
+    found: &LevelFindings,
+    strict: bool,
+) -> Result<(), NoMemory>
+    ensures { OnOk result (text.new.items ≡ text.old.items ++ json_text strict clients.now found.now) }
+{
+    append_head(text, clients, &found.finding, strict)?;
+    append_levels(text, clients, found, strict)?;
+    text.extend_from_slice(b"}\n")?;
+    Ok(())
+}
+
+/// Appends the beginning of the object, up to the members of the finding.
+fn append_head(
+    text: &mut Vec<u8>,
+    clients: &Clients,
     finding: &Finding,
     strict: bool,
 ) -> Result<(), NoMemory>
-    ensures { OnOk result (text.new.items ≡ text.old.items ++ json_text strict clients.now finding.now) }
+    ensures { OnOk result (text.new.items ≡ text.old.items ++ head_text strict clients.now finding.now) }
 {
     text.extend_from_slice(b"{\"model\":\"list-append\",\"strict\":")?;
     append_truth(text, strict)?;
@@ -32,9 +50,7 @@ pub fn append_json(
     append_skipped(text, clients.skipped)?;
     text.extend_from_slice(b",\"serializable\":")?;
     append_truth(text, is_serial(finding))?;
-    append_finding(text, clients, finding)?;
-    text.extend_from_slice(b"}\n")?;
-    Ok(())
+    append_finding(text, clients, finding)
 }
 
 /// Appends `true` or `false`.
@@ -73,7 +89,11 @@ fn append_skipped(text: &mut Vec<u8>, skipped: usize) -> Result<(), NoMemory>
 }
 
 /// Appends the members of the finding.
-fn append_finding(text: &mut Vec<u8>, clients: &Clients, finding: &Finding) -> Result<(), NoMemory>
+pub(crate) fn append_finding(
+    text: &mut Vec<u8>,
+    clients: &Clients,
+    finding: &Finding,
+) -> Result<(), NoMemory>
     ensures { OnOk result (text.new.items ≡ text.old.items ++ finding_members clients.now finding.now) }
 {
     match finding {
@@ -95,7 +115,7 @@ fn append_finding(text: &mut Vec<u8>, clients: &Clients, finding: &Finding) -> R
 }
 
 /// Appends the name of the anomaly.
-fn append_name(text: &mut Vec<u8>, name: &str) -> Result<(), NoMemory>
+pub(crate) fn append_name(text: &mut Vec<u8>, name: &str) -> Result<(), NoMemory>
     ensures { OnOk result (text.new.items ≡ text.old.items ++ anomaly_member name.now) }
 {
     text.extend_from_slice(b",\"anomaly\":\"")?;
@@ -105,7 +125,7 @@ fn append_name(text: &mut Vec<u8>, name: &str) -> Result<(), NoMemory>
 }
 
 /// Appends the serial order.
-fn append_order(text: &mut Vec<u8>, order: &[usize]) -> Result<(), NoMemory>
+pub(crate) fn append_order(text: &mut Vec<u8>, order: &[usize]) -> Result<(), NoMemory>
     ensures { OnOk result (text.new.items ≡ text.old.items ++ order_member order.now) }
 {
     text.extend_from_slice(b",\"order\":[")?;
@@ -171,25 +191,39 @@ fn append_each_step(text: &mut Vec<u8>, clients: &Clients, steps: &[Step]) -> Re
 fn append_step(text: &mut Vec<u8>, clients: &Clients, step: &Step) -> Result<(), NoMemory>
     ensures { OnOk result (text.new.items ≡ text.old.items ++ step_object clients.now step.now) }
 {
+    append_ends(text, clients, step.from, step.to, because(&step.why))?;
+    append_why(text, clients, step)?;
+    text.extend_from_slice(b"\"}")?;
+    Ok(())
+}
+
+/// Appends the beginning of a step: its transactions, their entries, and the kind of its reason.
+pub(crate) fn append_ends(
+    text: &mut Vec<u8>,
+    clients: &Clients,
+    from: usize,
+    to: usize,
+    because: &[u8],
+) -> Result<(), NoMemory>
+    ensures { OnOk result (text.new.items ≡ text.old.items ++ ends_text clients.now from to because.now) }
+{
     append_pieces(
         text,
         clients,
         &[
             Piece::Words(b"{\"from\":"),
-            Piece::Number(step.from.saturating_add(1)),
+            Piece::Number(from.saturating_add(1)),
             Piece::Words(b",\"to\":"),
-            Piece::Number(step.to.saturating_add(1)),
+            Piece::Number(to.saturating_add(1)),
             Piece::Words(b",\"from_entry\":"),
-            Piece::Number(entry_of(clients, step.from)),
+            Piece::Number(entry_of(clients, from)),
             Piece::Words(b",\"to_entry\":"),
-            Piece::Number(entry_of(clients, step.to)),
+            Piece::Number(entry_of(clients, to)),
             Piece::Words(b",\"because\":\""),
-            Piece::Words(because(&step.why)),
+            Piece::Words(because),
             Piece::Words(b"\",\"why\":\""),
         ],
     )?;
-    append_why(text, clients, step)?;
-    text.extend_from_slice(b"\"}")?;
     Ok(())
 }
 
@@ -206,7 +240,7 @@ fn because(why: &Why) -> &'static [u8]
 }
 
 /// Appends the reader, and what is wrong with its read.
-fn append_reader(
+pub(crate) fn append_reader(
     text: &mut Vec<u8>,
     clients: &Clients,
     reader: usize,

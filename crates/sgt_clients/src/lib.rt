@@ -3,15 +3,15 @@
 //! - [`read_clients`] reads a history as Jepsen writes it in JSON: an object for each invocation and each completion of
 //!   a transaction. The transactions become those of `sgt_appends`.
 //! - [`check_clients`] checks it by `check_appends` of `sgt_appends`, which defines serializability. [`check_strictly`]
-//!   also keeps real time.
+//!   also keeps real time. [`check_levels`] says which levels of isolation hold, by `levels_of` of `sgt_levels`.
 //! - [`append_report`], [`append_json`], [`append_graph`] and [`append_timeline`] write what was found.
 //! - [`run_clients`] does all this, from the bytes of a source to those of a sink.
 //!
 //! Proved, from the bytes of the input to those of the output (`specs/Checks.antt`):
 //! - the objects of the input (`specs/Objects.antt`), the entry that each spells (`specs/Entries.antt`), and the
 //!   transactions that these make (`specs/Histories.antt`, `specs/Inputs.antt`)
-//! - the answer, strict or not (`specs/Findings.antt`)
-//! - the texts of the report, the object of JSON and the graph (`specs/ReportText.antt`, `JsonText.antt`, `GraphText.antt`)
+//! - the answer, strict or not (`specs/Findings.antt`), and that for each level (`specs/Levels.antt`)
+//! - the texts of the report, the object of JSON and the graph (`specs/Reports.antt`, `LevelJson.antt`, `GraphText.antt`)
 //!
 //! Tested: the picture; that only a wrong input is refused, and why; that each line of a *no*
 //! holds; the names of anomalies.
@@ -32,6 +32,10 @@ mod fault;
 mod finding;
 mod graph_text;
 mod json_text;
+mod level;
+mod level_findings;
+mod level_json;
+mod level_text;
 mod names;
 mod operations;
 mod picture;
@@ -43,7 +47,9 @@ mod run;
 mod scene;
 mod strict;
 mod stroke_text;
+mod tie_text;
 mod twice;
+mod unseen_text;
 mod witness_text;
 
 pub use clients::{Clients, Event, Span, read_clients};
@@ -51,6 +57,8 @@ pub use fault::{ClientsFault, Flaw, Position};
 pub use finding::{Finding, Step, Why, check_clients};
 pub use graph_text::append_graph;
 pub use json_text::append_json;
+pub use level::{Answer, Level, Question};
+pub use level_findings::{LevelFindings, Weaker, check_levels};
 pub use picture::append_timeline;
 pub use report_text::append_report;
 pub use run::{ClientsOutput, run_clients};

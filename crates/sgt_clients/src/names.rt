@@ -1,6 +1,8 @@
 //! The names of anomalies, as Adya (1999) and Elle (2020) spell them.
 
-use sgt_appends::Anomaly;
+use crate::finding::{Step, Why};
+use sgt_appends::{Anomaly, Reason, Transaction, Witness, append_at, name_of};
+use sgt_levels::{Committed, Ground, Snapshot, Tie};
 
 /// The name of the anomaly.
 pub(crate) fn name_text(anomaly: Anomaly) -> &'static str {
@@ -19,12 +21,125 @@ pub(crate) fn name_text(anomaly: Anomaly) -> &'static str {
 }
 
 /// The name of the anomaly whose cycle has steps of real time.
-pub(crate) fn strict_name_text(anomaly: Anomaly) -> &'static str {
+fn strict_name_text(anomaly: Anomaly) -> &'static str {
     match anomaly {
         Anomaly::G0 => "G0-realtime",
         Anomaly::G1c => "G1c-realtime",
         Anomaly::GSingle => "G-single-realtime",
         Anomaly::G2Item => "G2-item-realtime",
         _ => name_text(anomaly),
+    }
+}
+
+/// The name of a cycle of these steps, of which two or more may be by a missed append.
+pub(crate) fn cycle_name(anomaly: Anomaly, steps: &[Step]) -> &'static str {
+    match anomaly {
+        Anomaly::G2Item if !misses_in_a_row(steps) => "G-nonadjacent",
+        _ => name_text(anomaly),
+    }
+}
+
+/// The name of a cycle of these steps, some of which are of real time.
+pub(crate) fn strict_cycle_name(anomaly: Anomaly, steps: &[Step]) -> &'static str {
+    match anomaly {
+        Anomaly::G2Item if !misses_in_a_row(steps) => "G-nonadjacent-realtime",
+        _ => strict_name_text(anomaly),
+    }
+}
+
+/// Whether two steps in a row are by a missed append. The first step comes after the last.
+fn misses_in_a_row(steps: &[Step]) -> bool {
+    let mut before = match steps.last() {
+        Some(step) => is_miss(step),
+        None => false,
+    };
+    for step in steps {
+        let miss = is_miss(step);
+        if before && miss {
+            return true;
+        }
+        before = miss;
+    }
+    false
+}
+
+/// Whether the step is by a missed append.
+fn is_miss(step: &Step) -> bool {
+    matches!(step.why, Why::Observed(Reason::Missed { .. }))
+}
+
+/// The name of what leaves no run of committed reads.
+pub(crate) fn committed_name(committed: &Committed) -> &'static str {
+    match committed {
+        Committed::Fault {
+            reader,
+            read,
+            fault,
+        } => name_text(name_of(&Witness::Fault {
+            reader: *reader,
+            read: *read,
+            fault: *fault,
+        })),
+        Committed::Partial(_) => "G1b",
+        Committed::Cycle(ties) if any_seen(ties.as_slice()) => "G1c",
+        Committed::Cycle(_) => "G0",
+        Committed::Run(_) | Committed::Open => "",
+    }
+}
+
+/// Whether a tie is by a value that was read.
+fn any_seen(ties: &[Tie]) -> bool {
+    for tie in ties {
+        if matches!(tie.ground, Ground::Seen { .. }) {
+            return true;
+        }
+    }
+    false
+}
+
+/// The name of what leaves no snapshot run, but a run of committed reads.
+pub(crate) fn snapshot_name(history: &[Transaction], snapshot: &Snapshot) -> &'static str {
+    match snapshot {
+        Snapshot::Cycle(ties) if is_lost_update(history, ties.as_slice()) => "lost-update",
+        Snapshot::Cycle(ties) if misses(ties.as_slice()) < 2 => "G-single",
+        Snapshot::Cycle(_) => "G-nonadjacent",
+        Snapshot::Run(_) | Snapshot::NotCommitted | Snapshot::Open => "",
+    }
+}
+
+/// How many of the ties are by a value that was missed.
+fn misses(ties: &[Tie]) -> usize {
+    let mut count = 0_usize;
+    for tie in ties {
+        if matches!(tie.ground, Ground::Missed { .. }) {
+            count = count.saturating_add(1);
+        }
+    }
+    count
+}
+
+/// Whether two transactions append to one key, and one of them missed what the other appended there.
+fn is_lost_update(history: &[Transaction], ties: &[Tie]) -> bool {
+    match ties {
+        [one, other] => loses(history, one, other) || loses(history, other, one),
+        _ => false,
+    }
+}
+
+/// Whether the reader of the second tie missed a value at a key to which it appends, by the ties.
+fn loses(history: &[Transaction], one: &Tie, other: &Tie) -> bool {
+    match (one.ground, other.ground) {
+        (Ground::Wait { .. }, _) => true,
+        (Ground::InOrder { first, .. }, Ground::Missed { append, .. })
+        | (Ground::Late { first, .. }, Ground::Missed { append, .. }) => {
+            match (
+                append_at(history, one.from, first),
+                append_at(history, other.to, append),
+            ) {
+                (Some((key, _)), Some((missed, _))) => key == missed,
+                _ => false,
+            }
+        }
+        _ => false,
     }
 }

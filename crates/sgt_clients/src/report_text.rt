@@ -1,12 +1,15 @@
 //! The lines of a report.
 
 ghost use Rattle.std.specs.Prelude.{◌≡◌, ◌++◌, Bool, List, [], codes, flat_map, if◌then◌else◌, OnOk};
-ghost use Rattle.sgt_clients.specs.ReportText.{report_text, finding_text, counts_text, skipped_text, order_text, next_text, no_text, step_text, why_text};
+ghost use Rattle.sgt_clients.specs.ReportText.{verdict_text, finding_text, counts_text, skipped_text, order_text, next_text, no_text, step_text, why_text};
+ghost use Rattle.sgt_clients.specs.Reports.{report_text};
 ghost use Rattle.sgt_clients.specs.declared.finding.Why.TheVariants.{RealTime};
 
 use crate::clients::Clients;
 use crate::counts::count;
 use crate::finding::{Finding, Step, Why};
+use crate::level_findings::LevelFindings;
+use crate::level_text::append_levels;
 use crate::piece::{Piece, append_pieces};
 use crate::witness_text::{append_fault, append_reason};
 use sgt_appends::Transaction;
@@ -21,10 +24,23 @@ use sgt_model::NoMemory;
 pub fn append_report(
     text: &mut Vec<u8>,
     clients: &Clients,
+    found: &LevelFindings,
+    strict: bool,
+) -> Result<(), NoMemory>
+    ensures { OnOk result (text.new.items ≡ text.old.items ++ report_text strict clients.now found.now) }
+{
+    append_verdict(text, clients, &found.finding, strict)?;
+    append_levels(text, clients, found, strict)
+}
+
+/// Appends the lines of the verdict.
+fn append_verdict(
+    text: &mut Vec<u8>,
+    clients: &Clients,
     finding: &Finding,
     strict: bool,
 ) -> Result<(), NoMemory>
-    ensures { OnOk result (text.new.items ≡ text.old.items ++ report_text strict clients.now finding.now) }
+    ensures { OnOk result (text.new.items ≡ text.old.items ++ verdict_text strict clients.now finding.now) }
 {
     append_counts(text, clients.transactions.as_slice())?;
     append_skipped(text, clients.skipped)?;
@@ -137,7 +153,11 @@ fn append_no(text: &mut Vec<u8>, name: &str) -> Result<(), NoMemory>
 }
 
 /// Appends a line for each step.
-fn append_steps(text: &mut Vec<u8>, clients: &Clients, steps: &[Step]) -> Result<(), NoMemory>
+pub(crate) fn append_steps(
+    text: &mut Vec<u8>,
+    clients: &Clients,
+    steps: &[Step],
+) -> Result<(), NoMemory>
     ensures { OnOk result (text.new.items ≡ text.old.items ++ flat_map (step_text clients.now) steps.now) }
 {
     for step in steps {

@@ -1,24 +1,26 @@
 //! The command `check --model list-append`, from the bytes of a source to those of a sink.
-ghost use Rattle.std.specs.Prelude.{◌≡◌, ◌≢◌, ◌^◌, ◌+◌, ◌<◌, ◌≤◌, ℕ, Bool, List, IfOk, IfErr, IfSome, Err, take};
+ghost use Rattle.std.specs.Prelude.{◌≡◌, ◌≢◌, ◌^◌, ◌+◌, ◌<◌, ◌≤◌, ℕ, List, IfOk, IfErr, IfSome, Err, take};
 ghost use Rattle.std.specs.Io.KnownBytes.{Appends};
 ghost use Rattle.sgt_check.specs.declared.fault.CheckFault.TheVariants as check_fault;
 ghost use Rattle.sgt_clients.specs.declared.fault.ClientsFault.{ClientsFault};
 ghost use Rattle.sgt_clients.specs.declared.fault.ClientsFault.TheVariants as fault;
 ghost use Rattle.sgt_clients.specs.Checks.{IsChecked, IsJudged, IsOutput, IsFaultOf};
-ghost use Rattle.sgt_clients.specs.Findings.{IsFound};
+ghost use Rattle.sgt_clients.specs.Levels.{AreFound};
+ghost use Rattle.sgt_clients.specs.declared.level.Answer.{Answer};
 ghost use Rattle.sgt_clients.specs.Faults.{IsOwn};
-ghost use Rattle.sgt_clients.specs.ReportText.{report_text};
+ghost use Rattle.sgt_clients.specs.Reports.{report_text};
 ghost use Rattle.sgt_clients.specs.GraphText.{graph_text};
-ghost use Rattle.sgt_clients.specs.JsonText.{json_text};
+ghost use Rattle.sgt_clients.specs.LevelJson.{json_text};
 
 use crate::clients::{Clients, read_clients};
 use crate::fault::ClientsFault;
-use crate::finding::{Finding, check_clients, is_serial};
+use crate::finding::Finding;
 use crate::graph_text::append_graph;
 use crate::json_text::append_json;
+use crate::level::{Answer, Question};
+use crate::level_findings::{LevelFindings, check_levels};
 use crate::picture::append_timeline;
 use crate::report_text::append_report;
-use crate::strict::check_strictly;
 use sgt_check::{CheckFault, read_input};
 use sgt_edn::{is_edn, json_of_edn};
 use sgt_input::{Sink, Source, write_all};
@@ -38,8 +40,8 @@ pub enum ClientsOutput {
     Timeline,
 }
 
-/// Checks the client history in the source's bytes, writes the output, and returns whether the history is serializable.
-/// All input is read before the first line is written.
+/// Checks the client history in the source's bytes, writes the output, and returns the answer for the level of the
+/// question. All input is read before the first line is written.
 ///
 /// # Errors
 ///
@@ -52,16 +54,16 @@ pub fn run_clients<S: Source, T: Sink>(
     source: &mut S,
     sink: &mut T,
     output: ClientsOutput,
-    strict: bool,
-) -> Result<bool, ClientsFault>
+    question: Question,
+) -> Result<Answer, ClientsFault>
     requires reading { S.failures source.old + 1 < 2 ^ 64 }
     requires writing { T.failures sink.old + 1 < 2 ^ 64 }
-    ensures checked { IfOk result (λ sound. IfSome (S.rest source.old) (λ input. (written : List ℕ)
-        × Appends (T.held sink.old) (T.held sink.new) written × IsChecked strict output input written sound)) }
+    ensures checked { IfOk result (λ answer. IfSome (S.rest source.old) (λ input. (written : List ℕ)
+        × Appends (T.held sink.old) (T.held sink.new) written × IsChecked question output input written answer)) }
     ensures fault { IfErr result (λ f. IfSome (S.rest source.old) (λ input. IsFaultOf input f)) }
     ensures nothing { (f : ClientsFault) → result ≡ Err f → f ≢ fault.Check check_fault.Writing → sink.new ≡ sink.old }
-    ensures part { result ≡ Err (fault.Check check_fault.Writing) → IfSome (S.rest source.old) (λ input. (written : List ℕ) × (sound : Bool) × (k : ℕ)
-        × IsChecked strict output input written sound × Appends (T.held sink.old) (T.held sink.new) (take k written)) }
+    ensures part { result ≡ Err (fault.Check check_fault.Writing) → IfSome (S.rest source.old) (λ input. (written : List ℕ) × (answer : Answer) × (k : ℕ)
+        × IsChecked question output input written answer × Appends (T.held sink.old) (T.held sink.new) (take k written)) }
     ensures bounded { S.given source.new ≤ S.given source.old + 268500992 }
     ensures read_well { result ≢ Err (fault.Check check_fault.Reading) → S.failures source.new ≡ S.failures source.old }
     ensures read_failed { result ≡ Err (fault.Check check_fault.Reading) → S.failures source.new ≡ S.failures source.old + 1 }
@@ -69,19 +71,18 @@ pub fn run_clients<S: Source, T: Sink>(
     ensures write_failed { result ≡ Err (fault.Check check_fault.Writing) → T.failures sink.new ≡ T.failures sink.old + 1 }
 {
     let input = read_input(alloc, source)?;
-    let checked = check_text(alloc, input.as_slice(), output, strict)?;
+    let checked = check_text(alloc, input.as_slice(), output, question)?;
     let Ok(()) = write_all(sink, checked.text.as_slice()) else {
         return Err(ClientsFault::Check(CheckFault::Writing));
     };
-    Ok(checked.sound)
+    Ok(checked.answer)
 }
 
-/// The text of an output, and the verdict.
+/// The text of an output, and the answer for the level of the question.
 #[derive(Drop)]
 struct Checked {
     text: Vec<u8>,
-    /// Whether the history is serializable.
-    sound: bool,
+    answer: Answer,
 }
 
 /// Checks the client history in the text, in JSON or in EDN, for this output.
@@ -89,16 +90,16 @@ fn check_text(
     alloc: Global,
     text: &[u8],
     output: ClientsOutput,
-    strict: bool,
+    question: Question,
 ) -> Result<Checked, ClientsFault>
-    ensures checked { IfOk result (λ c. IsChecked strict output text.now c.text.items c.sound) }
+    ensures checked { IfOk result (λ c. IsChecked question output text.now c.text.items c.answer) }
     ensures own { IfErr result IsOwn }
 {
     if !is_edn(text) {
-        return check_json(alloc, text, output, strict);
+        return check_json(alloc, text, output, question);
     }
     let json = json_of_edn(alloc, text)?;
-    check_json(alloc, json.as_slice(), output, strict)
+    check_json(alloc, json.as_slice(), output, question)
 }
 
 /// Checks the client history in the text, in JSON, for this output.
@@ -106,40 +107,34 @@ fn check_json(
     alloc: Global,
     text: &[u8],
     output: ClientsOutput,
-    strict: bool,
+    question: Question,
 ) -> Result<Checked, ClientsFault>
-    ensures checked { IfOk result (λ c. IsJudged strict output text.now c.text.items c.sound) }
+    ensures checked { IfOk result (λ c. IsJudged question output text.now c.text.items c.answer) }
     ensures own { IfErr result IsOwn }
 {
     let clients = read_clients(alloc, text)?;
+    let strict = question.keeps_time();
     if clients.transactions.is_empty() {
         return Err(ClientsFault::NoOperations);
     }
     if strict && !clients.invoked {
         return Err(ClientsFault::NoInvocations);
     }
-    let finding = find(alloc, &clients, strict)?;
+    let found = find(alloc, &clients, strict)?;
     Ok(Checked {
-        text: text_of(alloc, &clients, &finding, output, strict)?,
-        sound: is_serial(&finding),
+        text: text_of(alloc, &clients, &found, output, strict)?,
+        answer: found.answer(question.level),
     })
 }
 
-/// Checks what clients saw, strictly or not.
-fn find(alloc: Global, clients: &Clients, strict: bool) -> Result<Finding, ClientsFault>
-    ensures found { IfOk result (IsFound strict clients.now.transactions.items clients.now.spans.items) }
+/// Checks which levels what clients saw is of.
+fn find(alloc: Global, clients: &Clients, strict: bool) -> Result<LevelFindings, ClientsFault>
+    ensures found { IfOk result (AreFound strict clients.now) }
     ensures own { IfErr result IsOwn }
 {
-    if strict {
-        match check_strictly(alloc, clients) {
-            Ok(finding) => Ok(finding),
-            Err(error) => Err(own(error)),
-        }
-    } else {
-        match check_clients(alloc, clients) {
-            Ok(finding) => Ok(finding),
-            Err(error) => Err(own(error)),
-        }
+    match check_levels(alloc, clients, strict) {
+        Ok(found) => Ok(found),
+        Err(error) => Err(own(error)),
     }
 }
 
@@ -163,17 +158,17 @@ fn own(error: ClientsFault) -> ClientsFault
 fn text_of(
     alloc: Global,
     clients: &Clients,
-    finding: &Finding,
+    found: &LevelFindings,
     output: ClientsOutput,
     strict: bool,
 ) -> Result<Vec<u8>, NoMemory>
-    ensures { IfOk result (λ text. IsOutput output strict clients.now finding.now text.items) }
+    ensures { IfOk result (λ text. IsOutput output strict clients.now found.now text.items) }
 {
     match output {
-        ClientsOutput::Report => report_of(alloc, clients, finding, strict),
-        ClientsOutput::Json => json_of(alloc, clients, finding, strict),
-        ClientsOutput::Graph => graph_of(alloc, clients, finding),
-        ClientsOutput::Timeline => timeline_of(alloc, clients, finding, strict),
+        ClientsOutput::Report => report_of(alloc, clients, found, strict),
+        ClientsOutput::Json => json_of(alloc, clients, found, strict),
+        ClientsOutput::Graph => graph_of(alloc, clients, &found.finding),
+        ClientsOutput::Timeline => timeline_of(alloc, clients, found, strict),
     }
 }
 
@@ -181,13 +176,13 @@ fn text_of(
 fn report_of(
     alloc: Global,
     clients: &Clients,
-    finding: &Finding,
+    found: &LevelFindings,
     strict: bool,
 ) -> Result<Vec<u8>, NoMemory>
-    ensures { IfOk result (λ text. text.items ≡ report_text strict clients.now finding.now) }
+    ensures { IfOk result (λ text. text.items ≡ report_text strict clients.now found.now) }
 {
     let mut text = Vec::new(alloc);
-    append_report(&mut text, clients, finding, strict)?;
+    append_report(&mut text, clients, found, strict)?;
     Ok(text)
 }
 
@@ -195,13 +190,13 @@ fn report_of(
 fn json_of(
     alloc: Global,
     clients: &Clients,
-    finding: &Finding,
+    found: &LevelFindings,
     strict: bool,
 ) -> Result<Vec<u8>, NoMemory>
-    ensures { IfOk result (λ text. text.items ≡ json_text strict clients.now finding.now) }
+    ensures { IfOk result (λ text. text.items ≡ json_text strict clients.now found.now) }
 {
     let mut text = Vec::new(alloc);
-    append_json(&mut text, clients, finding, strict)?;
+    append_json(&mut text, clients, found, strict)?;
     Ok(text)
 }
 
@@ -218,11 +213,11 @@ fn graph_of(alloc: Global, clients: &Clients, finding: &Finding) -> Result<Vec<u
 fn timeline_of(
     alloc: Global,
     clients: &Clients,
-    finding: &Finding,
+    found: &LevelFindings,
     strict: bool,
 ) -> Result<Vec<u8>, NoMemory> {
-    let report = report_of(alloc, clients, finding, strict)?;
+    let report = report_of(alloc, clients, found, strict)?;
     let mut text = Vec::new(alloc);
-    append_timeline(alloc, &mut text, clients, finding, report.as_slice())?;
+    append_timeline(alloc, &mut text, clients, &found.finding, report.as_slice())?;
     Ok(text)
 }

@@ -14,7 +14,7 @@ use crate::barriers::with_barriers;
 use crate::clients::{Clients, Span};
 use crate::fault::ClientsFault;
 use crate::finding::{Finding, Step, Why, check_clients};
-use crate::names::strict_name_text;
+use crate::names::strict_cycle_name;
 use sgt_appends::{
     Edge, Status, Transaction, Verdict, Witness, all_hold, appends_once, check_appends,
     is_serial_run, name_of,
@@ -138,7 +138,7 @@ fn cycle_finding(
         return Err(ClientsFault::Undecided);
     }
     let witness = Witness::Cycle(observed_of(alloc, edges, history.len())?);
-    let name = strict_name_text(name_of(&witness));
+    let name = strict_cycle_name(name_of(&witness), steps.as_slice());
     Ok(Finding::Cycle(steps, name))
 }
 

@@ -41,7 +41,7 @@ pub(crate) fn append_reason(
 }
 
 /// Appends the transaction with its entry, and the read at its position.
-fn append_placed_read(
+pub(crate) fn append_placed_read(
     text: &mut Vec<u8>,
     clients: &Clients,
     reader: usize,

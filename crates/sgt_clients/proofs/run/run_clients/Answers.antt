@@ -17,18 +17,18 @@ returns-in_err-input-clause-fault g c =
 
 pub returns-clause-checked : goal.returns-clause-checked
 returns-clause-checked g c =
-    is_told (IsChecked c.args.strict c.args.output) (g.S.Source.rest c.args.source.now) (g.T.Sink.held c.args.sink.now)
+    is_told (IsChecked c.args.question c.args.output) (g.S.Source.rest c.args.source.now) (g.T.Sink.held c.args.sink.now)
     (g.T.Sink.held c.write_all.new.sink)
-    c.in_ok-input.input.items c.in_ok-checked.checked.text.items c.in_ok-checked.checked.sound
+    c.in_ok-input.input.items c.in_ok-checked.checked.text.items c.in_ok-checked.checked.answer
     c.in_ok-input.ensures.bytes
     (search rules)
     (search rules)
 
 pub returns-in_default-clause-part : goal.returns-in_default-clause-part
 returns-in_default-clause-part g c = λ _.
-    is_begun (IsChecked c.args.strict c.args.output) (g.S.Source.rest c.args.source.now) (g.T.Sink.held c.args.sink.now)
+    is_begun (IsChecked c.args.question c.args.output) (g.S.Source.rest c.args.source.now) (g.T.Sink.held c.args.sink.now)
     (g.T.Sink.held c.write_all.new.sink)
-    c.in_ok-input.input.items c.in_ok-checked.checked.text.items c.in_ok-checked.checked.sound
+    c.in_ok-input.input.items c.in_ok-checked.checked.text.items c.in_ok-checked.checked.answer
     c.in_ok-input.ensures.bytes
     (search rules)
     (search rules)

@@ -2,15 +2,16 @@ use Rattle.std.proofs.Common.{◌++◌, ◌∙◌, ap}
 use Rattle.std.specs.Prelude.{codes}
 use Rattle.sgt_clients.specs.Findings.{is_order}
 use Rattle.sgt_clients.specs.JsonText.{truth_text, counts_members, skipped_member, finding_members}
+use Rattle.sgt_clients.proofs.Stored.{on_ok}
 use Rattle.sgt_clients.proofs.Texts.{grow}
-use Rattle.sgt_clients.proofs.json_text.append_json.Goals as goal
+use Rattle.sgt_clients.proofs.json_text.append_head.Goals as goal
 
 pub returns : goal.returns
 returns c =
     let start = c.args.text.now.items in
     let f = c.args.finding.now in
-    grow start c.append_finding.new.text.items c.extend_from_slice-3.new.self.items _ (codes "}\n")
-    (grow start c.append_truth-2.new.text.items c.append_finding.new.text.items _ (finding_members c.args.clients.now f)
+    on_ok c.append_finding.result _ _ (λ members.
+    grow start c.append_truth-2.new.text.items c.append_finding.new.text.items _ (finding_members c.args.clients.now f)
     (grow start c.extend_from_slice-2.new.self.items c.append_truth-2.new.text.items _ (truth_text (is_order f))
     (grow start c.append_skipped.new.text.items c.extend_from_slice-2.new.self.items _ (codes ",\"serializable\":")
     (grow start c.append_counts.new.text.items c.append_skipped.new.text.items _ (skipped_member c.args.clients.now.skipped)
@@ -23,5 +24,5 @@ returns c =
     c.in_ok-append_skipped.ensures)
     c.in_ok-extend_from_slice-2.ensures.items)
     (c.in_ok-append_truth-2.ensures ∙ ap (λ b. c.extend_from_slice-2.new.self.items ++ truth_text b) c.is_serial.ensures))
-    c.in_ok-append_finding.ensures)
-    c.in_ok-extend_from_slice-3.ensures.items
+    members)
+    c.append_finding.ensures

@@ -1,0 +1,12 @@
+use Rattle.std.proofs.Common.{◌∙◌, sym}
+use Rattle.sgt_clients.proofs.level_findings.check_levels.Goals as goal
+
+pub returns : goal.returns
+returns c = record {
+  finding = c.in_ok-finding.ensures;
+  untimed = c.in_ok-untimed.ensures.found;
+  timed = c.in_ok-untimed.ensures.none;
+  weaker = c.in_ok-weaker.ensures.right;
+  unseen = c.in_ok-weaker.ensures.unseen;
+  implied = λ none. sym c.has_order.ensures ∙ c.in_ok-weaker.ensures.none none;
+}

@@ -1,0 +1,18 @@
+use Rattle.std.proofs.Common.{◌++◌, ◌∙◌, ap}
+use Rattle.std.specs.Prelude.{codes}
+use Rattle.sgt_clients.specs.Levels.{strongest_of}
+use Rattle.sgt_clients.specs.LevelJson.{strongest_member, level_objects}
+use Rattle.sgt_clients.proofs.Texts.{grow}
+use Rattle.sgt_clients.proofs.level_json.append_levels.Goals as goal
+
+pub returns : goal.returns
+returns c =
+    let start = c.args.text.now.items in
+    let f = c.args.found.now in
+    let head = strongest_member (strongest_of c.args.strict f) in
+    let objects = level_objects c.args.strict c.args.clients.now f in
+    grow start c.append_objects.new.text.items c.extend_from_slice.new.self.items (head ++ objects) (codes "}")
+    (grow start c.append_strongest.new.text.items c.append_objects.new.text.items head objects
+    (c.in_ok-append_strongest.ensures ∙ ap (λ l. start ++ strongest_member l) c.strongest.ensures)
+    c.in_ok-append_objects.ensures)
+    c.in_ok-extend_from_slice.ensures.items

@@ -1,0 +1,16 @@
+use Rattle.sgt_clients.proofs.Stored.{on_ok}
+use Rattle.sgt_clients.proofs.Texts.{grow}
+use Rattle.sgt_clients.proofs.level_json.append_objects.Goals as goal
+
+pub returns : goal.returns
+returns c =
+    let start = c.args.text.now.items in
+    on_ok c.append_strict_object.result _ _ (λ strict.
+    grow start c.append_serial_object.new.text.items c.append_strict_object.new.text.items _ _
+    (grow start c.append_snapshot_object.new.text.items c.append_serial_object.new.text.items _ _
+    (grow start c.append_committed_object.new.text.items c.append_snapshot_object.new.text.items _ _
+    c.in_ok-append_committed_object.ensures
+    c.in_ok-append_snapshot_object.ensures)
+    c.in_ok-append_serial_object.ensures)
+    strict)
+    c.append_strict_object.ensures

@@ -1,0 +1,18 @@
+use Rattle.std.proofs.Common.{◌++◌, ◌∙◌, ap}
+use Rattle.sgt_clients.specs.Levels.{strongest_of}
+use Rattle.sgt_clients.specs.LevelText.{strongest_text, next_text}
+use Rattle.sgt_clients.proofs.Stored.{on_ok}
+use Rattle.sgt_clients.proofs.Texts.{grow}
+use Rattle.sgt_clients.proofs.level_text.append_levels.Goals as goal
+
+pub returns : goal.returns
+returns c =
+    let start = c.args.text.now.items in
+    let saw = c.args.clients.now in
+    let f = c.args.found.now in
+    let level = strongest_of c.args.strict f in
+    on_ok c.append_next.result _ _ (λ next.
+    grow start c.append_strongest.new.text.items c.append_next.new.text.items (strongest_text level) (next_text saw f level)
+    (c.in_ok-append_strongest.ensures ∙ ap (λ l. start ++ strongest_text l) c.strongest-strongest.ensures)
+    (next ∙ ap (λ l. c.append_strongest.new.text.items ++ next_text saw f l) c.strongest-strongest.ensures))
+    c.append_next.ensures

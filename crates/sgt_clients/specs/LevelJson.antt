@@ -1,0 +1,130 @@
+-- The members on the levels of isolation, and the whole object of JSON.
+use Rattle.std.specs.Prelude.{◌++◌, ℕ, Bool, List, [], Option, Some, None, codes, if◌then◌else◌}
+use Rattle.std.specs.Fmt.{decimal}
+use Rattle.sgt_levels.specs.declared.levels.Committed.{Committed}
+use Rattle.sgt_levels.specs.declared.levels.Committed.TheVariants as committed
+use Rattle.sgt_levels.specs.declared.levels.Snapshot.{Snapshot}
+use Rattle.sgt_levels.specs.declared.levels.Snapshot.TheVariants as snapshot
+use Rattle.sgt_levels.specs.declared.survey.Partial.{Partial}
+use Rattle.sgt_levels.specs.declared.tie.Ground.{Ground}
+use Rattle.sgt_levels.specs.declared.tie.Ground.TheVariants.{Seen, InOrder, Late, Wait, Missed}
+use Rattle.sgt_levels.specs.declared.tie.Tie.{Tie}
+use Rattle.sgt_levels.specs.declared.unseen.Unseen.{Unseen}
+use Rattle.sgt_clients.specs.declared.clients.Clients.{Clients}
+use Rattle.sgt_clients.specs.declared.finding.Finding.{Finding}
+use Rattle.sgt_clients.specs.declared.level.Answer.{Answer}
+use Rattle.sgt_clients.specs.declared.level.Answer.TheVariants.{Yes, No, Undecided}
+use Rattle.sgt_clients.specs.declared.level.Level.{Level}
+use Rattle.sgt_clients.specs.declared.level.Level.TheVariants.{ReadCommitted, SnapshotIsolation, Serializable, StrictSerializable}
+use Rattle.sgt_clients.specs.declared.level_findings.LevelFindings.{LevelFindings}
+use Rattle.sgt_clients.specs.declared.level_findings.Weaker.{Weaker}
+use Rattle.sgt_clients.specs.JsonText.{items_text, ends_text, anomaly_member, order_member, reader_members, finding_members, head_text}
+use Rattle.sgt_clients.specs.Levels.{answer_of, strongest_of}
+use Rattle.sgt_clients.specs.ReportText.{from_one, entry_of}
+use Rattle.sgt_clients.specs.TieText.{ground_text, partial_text}
+use Rattle.sgt_clients.specs.UnseenText.{unseen_member}
+
+-- the name of a level, as the option spells it, in quotes
+abbrev pub level_code : Level → List ℕ
+level_code ReadCommitted = codes "\"read-committed\""
+level_code SnapshotIsolation = codes "\"snapshot-isolation\""
+level_code Serializable = codes "\"serializable\""
+level_code StrictSerializable = codes "\"strict-serializable\""
+
+-- the name of the strongest level, or `null`
+abbrev pub strongest_code : Option Level → List ℕ
+strongest_code None = codes "null"
+strongest_code (Some level) = level_code level
+
+-- an answer
+abbrev pub answer_text : Answer → List ℕ
+answer_text Yes = codes "yes"
+answer_text No = codes "no"
+answer_text Undecided = codes "undecided"
+
+-- the beginning of the object of a level: whether it holds
+abbrev pub holds_text : List ℕ → Answer → List ℕ
+holds_text words answer = words ++ answer_text answer ++ codes "\""
+
+-- the kind of the reason of a tie
+abbrev pub ground_word : Ground → List ℕ
+ground_word (Seen append read) = codes "seen"
+ground_word (InOrder first second reader read) = codes "in order"
+ground_word (Late first second reader read) = codes "late"
+ground_word (Wait first second read append) = codes "wait"
+ground_word (Missed read append) = codes "missed"
+
+-- a tie
+abbrev pub tie_object : Clients → Tie → List ℕ
+tie_object c tie = ends_text c tie.from tie.to (ground_word tie.ground) ++ ground_text c tie.from tie.to tie.ground ++ codes "\"}"
+
+-- the member with ties that go round
+abbrev pub ties_member : Clients → List Tie → List ℕ
+ties_member c ties = codes ",\"cycle\":[" ++ items_text (tie_object c) ties ++ codes "]"
+
+-- the members on a partial read: the reader, its entry, and what it saw
+abbrev pub partial_members : Clients → Partial → List ℕ
+partial_members c p = codes ",\"reader\":" ++ decimal (from_one p.reader) ++ (codes ",\"entry\":" ++ decimal (entry_of c p.reader))
+    ++ (codes ",\"why\":\"" ++ partial_text c p ++ codes "\"")
+
+-- the evidence of an answer for read committed
+abbrev pub evidence_members : Clients → List ℕ → Committed → List ℕ
+evidence_members c name (committed.Run order) = order_member order.items
+evidence_members c name (committed.Fault reader read fault) = anomaly_member name ++ reader_members c reader read fault
+evidence_members c name (committed.Partial partial) = anomaly_member name ++ partial_members c partial
+evidence_members c name (committed.Cycle ties) = anomaly_member name ++ ties_member c ties.items
+evidence_members c name committed.Open = []
+
+-- the evidence for read committed, unless it follows from a serial order
+abbrev pub committed_members : Clients → Option Weaker → List ℕ
+committed_members c (Some w) = evidence_members c w.committed_name.now w.levels.committed
+committed_members c None = []
+
+-- how many of the order had committed when each began
+abbrev pub starts_member : List ℕ → List ℕ
+starts_member starts = codes ",\"starts\":[" ++ items_text decimal starts ++ codes "]"
+
+-- the evidence of an answer for snapshot isolation
+abbrev pub split_members : Clients → List ℕ → Option Unseen → Snapshot → List ℕ
+split_members c name unseen (snapshot.Run run) = order_member run.order.items ++ starts_member run.starts.items
+split_members c name unseen snapshot.NotCommitted = []
+split_members c name unseen (snapshot.Cycle ties) = anomaly_member name ++ ties_member c ties.items
+split_members c name unseen snapshot.Open = unseen_member c unseen
+
+-- the evidence for snapshot isolation, unless it follows from a serial order
+abbrev pub snapshot_members : Clients → Option Weaker → List ℕ
+snapshot_members c (Some w) = split_members c w.snapshot_name.now w.unseen w.levels.snapshot
+snapshot_members c None = []
+
+-- the evidence on serializability, unless it stands before
+abbrev pub untimed_members : Clients → Option Finding → List ℕ
+untimed_members c (Some f) = finding_members c f
+untimed_members c None = []
+
+-- the objects of the levels
+abbrev pub committed_object : Clients → LevelFindings → List ℕ
+committed_object c f = holds_text (codes "\"read-committed\":{\"holds\":\"") (answer_of f ReadCommitted) ++ committed_members c f.weaker ++ codes "}"
+
+abbrev pub snapshot_object : Clients → LevelFindings → List ℕ
+snapshot_object c f = holds_text (codes ",\"snapshot-isolation\":{\"holds\":\"") (answer_of f SnapshotIsolation) ++ snapshot_members c f.weaker ++ codes "}"
+
+abbrev pub serial_object : Clients → LevelFindings → List ℕ
+serial_object c f = holds_text (codes ",\"serializable\":{\"holds\":\"") (answer_of f Serializable) ++ untimed_members c f.untimed ++ codes "}"
+
+abbrev pub strict_object : Bool → LevelFindings → List ℕ
+strict_object strict f =
+    if strict then holds_text (codes ",\"strict-serializable\":{\"holds\":\"") (answer_of f StrictSerializable) ++ codes "}" else []
+
+abbrev pub level_objects : Bool → Clients → LevelFindings → List ℕ
+level_objects strict c f = committed_object c f ++ snapshot_object c f ++ serial_object c f ++ strict_object strict f
+
+-- the members on the strongest level, and on each level
+abbrev pub strongest_member : Option Level → List ℕ
+strongest_member level = codes ",\"strongest\":" ++ strongest_code level ++ codes ",\"levels\":{"
+
+abbrev pub levels_members : Bool → Clients → LevelFindings → List ℕ
+levels_members strict c f = strongest_member (strongest_of strict f) ++ level_objects strict c f ++ codes "}"
+
+-- the object, and the end of its line
+abbrev pub json_text : Bool → Clients → LevelFindings → List ℕ
+json_text strict c f = head_text strict c f.finding ++ levels_members strict c f ++ codes "}\n"

@@ -1,0 +1,253 @@
+//! What a check finds of each level of isolation.
+
+ghost use Rattle.std.specs.Prelude.{◌≡◌, None, true, false, IfOk, IfSome};
+ghost use Rattle.std.specs.Option.{option_map_or};
+ghost use Rattle.sgt_levels.specs.Answers.{AreRight};
+ghost use Rattle.sgt_levels.specs.Unseen.{AreUnseen};
+ghost use Rattle.sgt_clients.specs.Findings.{IsFound, is_order};
+ghost use Rattle.sgt_clients.specs.Levels.{serial_finding, serial_answer, committed_answer, snapshot_answer, answer_of, is_yes, first_level, strongest_of, AreFound};
+ghost use Rattle.sgt_clients.specs.declared.level.Answer.TheVariants.{Yes};
+
+use crate::clients::Clients;
+use crate::fault::ClientsFault;
+use crate::finding::{Finding, check_clients, is_serial};
+use crate::level::{Answer, Level, is_yes};
+use crate::names::{committed_name, snapshot_name};
+use crate::strict::check_strictly;
+use sgt_appends::Transaction;
+use sgt_levels::{Committed, Levels, Snapshot, Unseen, levels_of, unseen_appends};
+use sgt_model::NoMemory;
+use std::alloc::Global;
+
+/// What a check finds of the levels below serializable, with the names of the anomalies that break them.
+#[derive(Drop)]
+pub struct Weaker {
+    pub levels: Levels,
+    pub committed_name: &'static str,
+    pub snapshot_name: &'static str,
+    /// If snapshot isolation is undecided: two appends to one key that no read saw.
+    pub unseen: Option<Unseen>,
+}
+
+/// What a check finds of each level.
+#[derive(Drop)]
+pub struct LevelFindings {
+    /// Of serializable, or of strict serializable if real time is kept.
+    pub finding: Finding,
+    /// Of serializable, if real time is kept and `finding` is no order.
+    pub untimed: Option<Finding>,
+    /// Of the weaker levels. They hold if there is none.
+    pub weaker: Option<Weaker>,
+}
+
+impl LevelFindings {
+    /// Whether what the clients saw is of the level.
+    pub fn answer(&self, level: Level) -> Answer
+        ensures { result ≡ answer_of self.now level }
+    {
+        match level {
+            Level::ReadCommitted => committed_of(&self.weaker),
+            Level::SnapshotIsolation => snapshot_of(&self.weaker),
+            Level::Serializable => serial_of(&self.finding, &self.untimed),
+            Level::StrictSerializable => serial_answer(&self.finding),
+        }
+    }
+
+    /// Whether what the clients saw is certainly of the level.
+    fn holds(&self, level: Level) -> bool
+        ensures { result ≡ is_yes (answer_of self.now level) }
+    {
+        is_yes(self.answer(level))
+    }
+
+    /// The strongest level that holds, if any does. The strict one counts only if real time is kept.
+    pub fn strongest(&self, strict: bool) -> Option<Level>
+        ensures { result ≡ strongest_of strict self.now }
+    {
+        first_level(
+            strict && self.holds(Level::StrictSerializable),
+            self.holds(Level::Serializable),
+            self.holds(Level::SnapshotIsolation),
+            self.holds(Level::ReadCommitted),
+        )
+    }
+}
+
+/// The first of the levels, from the strongest on, that holds.
+fn first_level(strict: bool, serial: bool, snapshot: bool, committed: bool) -> Option<Level>
+    ensures { result ≡ first_level strict serial snapshot committed }
+{
+    if strict {
+        return Some(Level::StrictSerializable);
+    }
+    if serial {
+        return Some(Level::Serializable);
+    }
+    if snapshot {
+        return Some(Level::SnapshotIsolation);
+    }
+    if committed {
+        return Some(Level::ReadCommitted);
+    }
+    None
+}
+
+/// The answer for serializability: of the finding without real time, if there is one.
+fn serial_of(finding: &Finding, untimed: &Option<Finding>) -> Answer
+    ensures { result ≡ serial_answer (serial_finding finding.now untimed.now) }
+{
+    match untimed {
+        Some(other) => serial_answer(other),
+        None => serial_answer(finding),
+    }
+}
+
+/// The answer for read committed, which holds if nothing was found on it.
+fn committed_of(weaker: &Option<Weaker>) -> Answer
+    ensures { result ≡ option_map_or (λ w. committed_answer w.levels.committed) weaker.now Yes }
+{
+    match weaker {
+        Some(found) => committed_answer(&found.levels.committed),
+        None => Answer::Yes,
+    }
+}
+
+/// The answer for snapshot isolation, which holds if nothing was found on it.
+fn snapshot_of(weaker: &Option<Weaker>) -> Answer
+    ensures { result ≡ option_map_or (λ w. snapshot_answer w.levels.snapshot) weaker.now Yes }
+{
+    match weaker {
+        Some(found) => snapshot_answer(&found.levels.snapshot),
+        None => Answer::Yes,
+    }
+}
+
+/// The answer of a finding.
+fn serial_answer(finding: &Finding) -> Answer
+    ensures { result ≡ serial_answer finding.now }
+{
+    if is_serial(finding) {
+        Answer::Yes
+    } else {
+        Answer::No
+    }
+}
+
+/// The answer for read committed.
+fn committed_answer(committed: &Committed) -> Answer
+    ensures { result ≡ committed_answer committed.now }
+{
+    match committed {
+        Committed::Run(_) => Answer::Yes,
+        Committed::Fault { .. } => Answer::No,
+        Committed::Partial(_) => Answer::No,
+        Committed::Cycle(_) => Answer::No,
+        Committed::Open => Answer::Undecided,
+    }
+}
+
+/// The answer for snapshot isolation.
+fn snapshot_answer(snapshot: &Snapshot) -> Answer
+    ensures { result ≡ snapshot_answer snapshot.now }
+{
+    match snapshot {
+        Snapshot::Run(_) => Answer::Yes,
+        Snapshot::NotCommitted => Answer::No,
+        Snapshot::Cycle(_) => Answer::No,
+        Snapshot::Open => Answer::Undecided,
+    }
+}
+
+/// Checks which levels of isolation what the clients saw is of, with real time or without.
+///
+/// # Errors
+///
+/// `Twice` if a value is appended twice to a key, and `Check` if an allocation failed.
+pub fn check_levels(
+    alloc: Global,
+    clients: &Clients,
+    strict: bool,
+) -> Result<LevelFindings, ClientsFault>
+    ensures { IfOk result (AreFound strict clients.now) }
+{
+    let finding = finding_of(alloc, clients, strict)?;
+    let untimed = untimed_of(alloc, clients, &finding, strict)?;
+    let weaker = weaker_of(alloc, clients, has_order(&finding, &untimed))?;
+    Ok(LevelFindings {
+        finding,
+        untimed,
+        weaker,
+    })
+}
+
+/// Checks what clients saw, strictly or not.
+fn finding_of(alloc: Global, clients: &Clients, strict: bool) -> Result<Finding, ClientsFault>
+    ensures { IfOk result (IsFound strict clients.now.transactions.items clients.now.spans.items) }
+{
+    if strict {
+        check_strictly(alloc, clients)
+    } else {
+        check_clients(alloc, clients)
+    }
+}
+
+/// The finding without real time, unless the finding is one, or an order.
+fn untimed_of(
+    alloc: Global,
+    clients: &Clients,
+    finding: &Finding,
+    strict: bool,
+) -> Result<Option<Finding>, ClientsFault>
+    ensures found { IfOk result (λ other. IfSome other (IsFound false clients.now.transactions.items clients.now.spans.items)) }
+    ensures none { IfOk result (λ other. other ≡ None → strict ≡ true → is_order finding.now ≡ true) }
+{
+    if !strict || is_serial(finding) {
+        return Ok(None);
+    }
+    Ok(Some(check_clients(alloc, clients)?))
+}
+
+/// Whether there is a serial order.
+fn has_order(finding: &Finding, untimed: &Option<Finding>) -> bool
+    ensures { result ≡ is_order (serial_finding finding.now untimed.now) }
+{
+    match untimed {
+        Some(other) => is_serial(other),
+        None => is_serial(finding),
+    }
+}
+
+/// What is found of the levels below serializable, unless there is a serial order.
+fn weaker_of(alloc: Global, clients: &Clients, ordered: bool) -> Result<Option<Weaker>, NoMemory>
+    ensures right { IfOk result (λ weaker. IfSome weaker (λ w. AreRight clients.now.transactions.items w.levels)) }
+    ensures unseen { IfOk result (λ weaker. IfSome weaker (λ w. IfSome w.unseen (AreUnseen clients.now.transactions.items))) }
+    ensures none { IfOk result (λ weaker. weaker ≡ None → ordered ≡ true) }
+{
+    if ordered {
+        return Ok(None);
+    }
+    let history = clients.transactions.as_slice();
+    let levels = levels_of(alloc, history, &[])?;
+    Ok(Some(Weaker {
+        committed_name: committed_name(&levels.committed),
+        snapshot_name: snapshot_name(history, &levels.snapshot),
+        unseen: unseen_of(alloc, history, &levels.snapshot)?,
+        levels,
+    }))
+}
+
+/// Two appends to one key that no read saw, if snapshot isolation is undecided.
+fn unseen_of(
+    alloc: Global,
+    history: &[Transaction],
+    snapshot: &Snapshot,
+) -> Result<Option<Unseen>, NoMemory>
+    ensures { IfOk result (λ found. IfSome found (AreUnseen history.now)) }
+{
+    match snapshot {
+        Snapshot::Open => unseen_appends(alloc, history),
+        Snapshot::Run(_) => Ok(None),
+        Snapshot::NotCommitted => Ok(None),
+        Snapshot::Cycle(_) => Ok(None),
+    }
+}

@@ -1,0 +1,114 @@
+"""The definitions of snapshot isolation and read committed for list appends, tried with every order of commits."""
+
+import itertools
+
+from .appends import ABORTED, COMMITTED, UNKNOWN, Transaction
+
+
+def commit_orders(history):
+    """Every order of commits: each committed transaction, no aborted one, and any of the unknown ones."""
+    must = [it for it, one in enumerate(history) if one.status == COMMITTED]
+    may = [it for it, one in enumerate(history) if one.status == UNKNOWN]
+    for count in range(len(may) + 1):
+        for some in itertools.combinations(may, count):
+            yield from itertools.permutations(must + list(some))
+
+
+def is_order(history, order):
+    committed = [it for it, one in enumerate(history) if one.status == COMMITTED]
+    return len(set(order)) == len(order) and set(committed) <= set(order) and all(history[it].status != ABORTED for it in order)
+
+
+def left_by(history, order, key):
+    """What the transactions of the order leave at the key."""
+    return tuple(it[2] for one in order for it in history[one].operations if it[0] == "append" and it[1] == key)
+
+
+def keys_of(history, one):
+    return {it[1] for it in history[one].operations if it[0] == "append"}
+
+
+def reads_with_own(one):
+    """Each read of the transaction: its key, its own appends before it, and what it saw."""
+    own = {}
+    for word, key, what in one.effective():
+        if word == "append":
+            own[key] = own.get(key, ()) + (what,)
+        else:
+            yield key, own.get(key, ()), tuple(what)
+
+
+def sees_start(history, order, one, start):
+    return all(left_by(history, order[:start], key) + own == seen for key, own, seen in reads_with_own(history[one]))
+
+
+def is_snapshot_run(history, order, starts):
+    """Whether each transaction sees what the first ones of the order have left, as many as its start says, and whoever else appends to
+    a key of its appends has committed before it begins or begins after it has committed."""
+    return is_order(history, order) and all(
+        0 <= start <= place and sees_start(history, order, one, start)
+        and not any(keys_of(history, one) & keys_of(history, other) for other in order[start:place])
+        for place, (one, start) in enumerate(zip(order, starts, strict=True)))
+
+
+def snapshot_starts(history, order):
+    """The starts of a snapshot run of the order, or None. Each can be chosen by itself."""
+    starts = []
+    for place, one in enumerate(order):
+        fitting = [start for start in range(place + 1) if sees_start(history, order, one, start)
+                   and not any(keys_of(history, one) & keys_of(history, other) for other in order[start:place])]
+        if not fitting:
+            return None
+        starts.append(fitting[0])
+    return starts
+
+
+def is_snapshot_isolated(history):
+    return any(snapshot_starts(history, order) is not None for order in commit_orders(history))
+
+
+def is_committed_run(history, order):
+    """Whether each read sees what some front of the order has left, without its transaction; after an append of its own to the key, all
+    that stand before its transaction."""
+    return is_order(history, order) and all(
+        any(left_by(history, order[:start], key) + own == seen
+            and (not own or left_by(history, order[:start], key) == left_by(history, order[:place], key)) for start in range(place + 1))
+        for place, one in enumerate(order) for key, own, seen in reads_with_own(history[one]))
+
+
+def is_read_committed(history):
+    return any(is_committed_run(history, order) for order in commit_orders(history))
+
+
+def may_stay_open(history):
+    """Whether two transactions that may have committed append to one key values that nobody saw."""
+    seen = {(it[1], value) for one in history for it in one.effective() if it[0] == "r" for value in it[2]}
+    unseen = [(number, it[1]) for number, one in enumerate(history) if one.status != ABORTED
+              for it in one.operations if it[0] == "append" and (it[1], it[2]) not in seen]
+    return any(one[1] == other[1] and one[0] != other[0] for one, other in itertools.combinations(unseen, 2))
+
+
+# Histories
+
+
+def drawn_split(draw):
+    """Three to five transactions on one or two keys, whose reads see the committed lists at the start of each, or at any time before its
+    commit. Nothing keeps two that append to one key apart."""
+    keys, value, snapshots = draw.choice([1, 2, 2]), itertools.count(1), draw.random() < 0.7
+    statuses = [draw.choices((COMMITTED, ABORTED, UNKNOWN), [8, 1, 1])[0] for _ in range(draw.randint(3, 5))]
+    words = [[draw.choice(("append", "r")) for _ in range(draw.randint(1, 3))] for _ in statuses]
+    history = [Transaction(status, [(it, draw.randrange(keys), next(value) if it == "append" else ()) for it in some])
+               for status, some in zip(statuses, words)]
+    order = [it for it, status in enumerate(statuses) if status == COMMITTED or status == UNKNOWN and draw.random() < 0.6]
+    draw.shuffle(order)
+    for place, one in enumerate(order):
+        start, own, seen = draw.randint(0, place), {}, []
+        for word, key, what in history[one].operations:
+            if word == "append":
+                own[key] = own.get(key, ()) + (what,)
+            else:
+                front = start if snapshots else place if own.get(key) else draw.randint(start, place)
+                what = left_by(history, order[:front], key) + own.get(key, ())
+            seen.append((word, key, what))
+        history[one].operations = seen
+    return history
