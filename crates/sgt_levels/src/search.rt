@@ -3,7 +3,7 @@ ghost use Rattle.std.specs.Prelude.{IsTrue};
 ghost use Rattle.sgt_appends.specs.Graphs.{AreWithin};
 
 use crate::survey::{Survey, Visit, length_of};
-use crate::tie::{Ground, Tie};
+use crate::tie::{Ground, Tie, follows};
 use sgt_appends::{Link, Reason, Sorted, Transaction, sort};
 use sgt_model::NoMemory;
 use std::alloc::Global;
@@ -84,7 +84,10 @@ pub fn search_commits(
     }
     match sorted_nodes(alloc, links.as_slice(), history.len())? {
         Some(Ok(sorted)) => Ok(Some(Ok(taking_part(alloc, survey, sorted.order.as_slice())?))),
-        Some(Err(cycle)) => Ok(Some(Err(ties_of(alloc, survey, cycle.as_slice())?))),
+        Some(Err(cycle)) => {
+            let ties = ties_of(alloc, survey, cycle.as_slice())?;
+            Ok(Some(Err(joined(alloc, history, ties.as_slice())?)))
+        }
         None => Ok(None),
     }
 }
@@ -134,6 +137,63 @@ fn ties_of(alloc: Global, survey: &Survey, cycle: &[Link]) -> Result<Vec<Tie>, N
         }
     }
     Ok(ties)
+}
+
+/// The ties, with those joined that follow one another along the values of one read.
+fn joined(alloc: Global, history: &[Transaction], ties: &[Tie]) -> Result<Vec<Tie>, NoMemory> {
+    let mut short = Vec::new(alloc);
+    let mut last: Option<Tie> = None;
+    for tie in ties {
+        last = match last {
+            Some(before) => match join(history, &before, tie) {
+                Some(one) => Some(one),
+                None => {
+                    short.push(before)?;
+                    Some(*tie)
+                }
+            },
+            None => Some(*tie),
+        };
+    }
+    if let Some(tie) = last {
+        short.push(tie)?;
+    }
+    Ok(short)
+}
+
+/// One tie in place of two that follow one another, if a read shows it.
+fn join(history: &[Transaction], before: &Tie, tie: &Tie) -> Option<Tie> {
+    let Ground::InOrder { first, .. } = before.ground else {
+        return None;
+    };
+    let ground = match tie.ground {
+        Ground::InOrder {
+            second,
+            reader,
+            read,
+            ..
+        } => Ground::InOrder {
+            first,
+            second,
+            reader,
+            read,
+        },
+        Ground::Seen { read, .. } => Ground::Seen {
+            append: first,
+            read,
+        },
+        _ => return None,
+    };
+    let one = Tie {
+        from: before.from,
+        to: tie.to,
+        ground,
+    };
+    if follows(history, &one) {
+        Some(one)
+    } else {
+        None
+    }
 }
 
 /// The nodes of the graph of begins and commits: 2t is the begin of transaction t, and 2t + 1 its commit. The sort keeps
@@ -190,7 +250,7 @@ pub fn search_snapshots(
         Some(Err(cycle)) => {
             let turned = turned(alloc, cycle.as_slice(), nodes)?;
             let ties = ties_of(alloc, survey, turned.as_slice())?;
-            return Ok(Found::Ties(ties));
+            return Ok(Found::Ties(joined(alloc, history, ties.as_slice())?));
         }
         None => return Ok(Found::Nothing),
     };

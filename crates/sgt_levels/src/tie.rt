@@ -137,7 +137,7 @@ pub fn rules_out_partial(history: &[Transaction], partial: &Partial) -> bool
 }
 
 /// Whether the later one of the tie follows the earlier one.
-fn follows(history: &[Transaction], tie: &Tie) -> bool
+pub(crate) fn follows(history: &[Transaction], tie: &Tie) -> bool
     ensures { IsTrue result → Follows history.now tie.now.from tie.now.to }
 {
     if tie.from == tie.to {
