@@ -18,6 +18,7 @@ can_be_named h s acyclic exact shown r report = record {
   shown = shown;
   recoverable = report.recoverable;
   dirty_write = report.dirty_write;
+  dirty_abort = report.dirty_abort;
   avoiding = report.avoiding;
   strict = report.strict;
   rigorous = report.rigorous;

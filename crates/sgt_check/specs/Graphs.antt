@@ -17,6 +17,7 @@ with_shown shown r = record {
   serializability = shown;
   recoverable = r.recoverable;
   dirty_write = r.dirty_write;
+  dirty_abort = r.dirty_abort;
   avoiding = r.avoiding;
   strict = r.strict;
   rigorous = r.rigorous;

@@ -66,10 +66,12 @@ abbrev pub class_text : List ℕ → (Violation → List ℕ) → Option Violati
 class_text name why None = name ++ codes " yes\n"
 class_text name why (Some v) = name ++ codes " no: " ++ why v
 
--- a commit too early
-abbrev pub recoverable_why : History → Option ℕ → Violation → List ℕ
-recoverable_why h write v = placed h v.later ++ codes ", which reads from " ++ transaction_of h write ++ codes " by " ++ placed h v.earlier
+-- a commit too early: the writer aborts, or has not committed
+abbrev pub recoverable_why : History → Option ℕ → Option ℕ → Violation → List ℕ
+recoverable_why h write None v = placed h v.later ++ codes ", which reads from " ++ transaction_of h write ++ codes " by " ++ placed h v.earlier
     ++ codes ", and " ++ transaction_of h write ++ codes " has not committed\n"
+recoverable_why h write (Some abort) v = placed h v.later ++ codes ", which reads from " ++ transaction_of h write ++ codes " by "
+    ++ placed h v.earlier ++ codes ", and " ++ transaction_of h write ++ codes " aborted: " ++ placed h abort ++ codes "\n"
 
 -- a read of an uncommitted value
 abbrev pub avoiding_why : History → Violation → List ℕ
@@ -87,7 +89,7 @@ order_why h v = transaction_at h v.earlier ++ codes " before " ++ transaction_at
 -- the seven lines
 abbrev pub report_text : History → Report → List ℕ
 report_text h r = counts_text r.counts ++ serial_text h r.serializability
-    ++ class_text (codes "recoverable") (recoverable_why h r.dirty_write) r.recoverable
+    ++ class_text (codes "recoverable") (recoverable_why h r.dirty_write r.dirty_abort) r.recoverable
     ++ class_text (codes "avoids cascading aborts") (avoiding_why h) r.avoiding
     ++ class_text (codes "strict") (follows_why h) r.strict
     ++ class_text (codes "rigorous") (follows_why h) r.rigorous

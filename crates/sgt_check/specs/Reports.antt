@@ -49,6 +49,12 @@ IsWriteOf h (Some v) None = ⊥
 IsWriteOf h (Some v) (Some write) =
     (item : ℕ) × (writer : ℕ) × (reader : ℕ) × ReadsFrom h write v.earlier item writer reader × Does h v.later reader Commit
 
+-- the position of the abort of the transaction that acts at a position; none if that does not abort
+abbrev pub IsAbortOf : List Operation → Option ℕ → Option ℕ → Type 0
+IsAbortOf h None abort = abort ≡ None
+IsAbortOf h (Some place) None = (t i : ℕ) (action : Action) → Does h place t action → ¬ Does h i t Abort
+IsAbortOf h (Some place) (Some i) = (t : ℕ) × (action : Action) × Does h place t action × Does h i t Abort
+
 -- what is reported of a history: the first violation of each class, or none if the history belongs to the class
 pub record IsReport (h : List Operation) (r : Report) : Type 0 where
   pub counts : AreCounts h r.counts
@@ -57,6 +63,7 @@ pub record IsReport (h : List Operation) (r : Report) : Type 0 where
   pub shown : IsShown h r.serializability
   pub recoverable : IsFirstViolation (BreaksRecoverability h) r.recoverable
   pub dirty_write : IsWriteOf h r.recoverable r.dirty_write
+  pub dirty_abort : IsAbortOf h r.dirty_write r.dirty_abort
   pub avoiding : IsFirstViolation (BreaksAvoidance h) r.avoiding
   pub strict : IsFirstViolation (BreaksStrictness h) r.strict
   pub rigorous : IsFirstViolation (BreaksRigorousness h) r.rigorous

@@ -1,12 +1,12 @@
 //! The report of a check.
-ghost use Rattle.std.specs.Prelude.{◌↔◌, ◌≡◌, ◌<◌, ◌+◌, ◌-◌, ◌^◌, ◌==◌, ◌||◌, not, if◌then◌else◌, ℕ, is_some, IfOk, OnOk};
+ghost use Rattle.std.specs.Prelude.{◌↔◌, ◌≡◌, ◌<◌, ◌+◌, ◌-◌, ◌^◌, ◌==◌, ◌||◌, not, if◌then◌else◌, ℕ, Some, is_some, IfOk, OnOk, IfSome, IsNone, IsTrue};
 ghost use Rattle.sgt_classes.specs.Tables.{entry_of};
-ghost use Rattle.sgt_classes.specs.Histories.{IsWellFormed};
+ghost use Rattle.sgt_classes.specs.Histories.{Does, IsWellFormed};
 ghost use Rattle.sgt_classes.specs.Classes.{BreaksRecoverability, BreaksAvoidance, BreaksStrictness, BreaksRigorousness, IsFirstViolation};
 ghost use Rattle.sgt_classes.specs.Serializability.{BreaksCommitOrder, IsAcyclic};
 ghost use Rattle.sgt_classes.specs.Equivalence.{IsSerializable};
 ghost use Rattle.sgt_classes.specs.SerialOrders.{IsShown, IsSerial};
-ghost use Rattle.sgt_check.specs.Reports.{IsReport, AreCounts, IsWriteOf, commits, aborts};
+ghost use Rattle.sgt_check.specs.Reports.{IsReport, AreCounts, IsWriteOf, IsAbortOf, commits, aborts};
 
 use sgt_classes::{
     Action, Operation, Serializability, Table, Violation, avoidance_violation,
@@ -50,6 +50,8 @@ pub struct Report {
     pub recoverable: Option<Violation>,
     /// The position of the write that this read reads from.
     pub dirty_write: Option<usize>,
+    /// The position of the abort of the transaction that wrote it, if that aborts.
+    pub dirty_abort: Option<usize>,
     pub avoiding: Option<Violation>,
     pub strict: Option<Violation>,
     pub rigorous: Option<Violation>,
@@ -75,12 +77,14 @@ pub fn check_history(alloc: Global, history: &[Operation]) -> Result<Report, NoM
     let avoiding = avoiding_unless_strict(alloc, history, &strict)?;
     let recoverable = recoverable_unless_avoiding(alloc, history, &avoiding)?;
     let dirty_write = dirty_write(alloc, history, &recoverable)?;
+    let dirty_abort = abort_of(history, dirty_write);
     let serializability = serial_unless_commit_ordered(alloc, history, &commit_ordered)?;
     Ok(Report {
         counts,
         serializability,
         recoverable,
         dirty_write,
+        dirty_abort,
         avoiding,
         strict,
         rigorous,
@@ -167,6 +171,45 @@ fn dirty_write(
         Some(violation) => read_source(alloc, history, violation.earlier),
         None => Ok(None),
     }
+}
+
+/// The position of the abort of the transaction that acts at a position, if it aborts.
+fn abort_of(history: &[Operation], place: Option<usize>) -> Option<usize>
+    ensures { IsAbortOf history.now place result }
+{
+    match place {
+        Some(place) => abort_after(history, place),
+        None => None,
+    }
+}
+
+/// The position of the abort of the transaction that acts at this position, if it aborts.
+fn abort_after(history: &[Operation], place: usize) -> Option<usize>
+    ensures { IsAbortOf history.now (Some place) result }
+{
+    let transaction = history.get(place)?.transaction;
+    first_abort(history, transaction)
+}
+
+/// The position of the transaction's abort, if it aborts.
+fn first_abort(history: &[Operation], transaction: u32) -> Option<usize>
+    ensures some { IfSome result (λ i. Does history.now i transaction Action.Abort) }
+    ensures none { IsNone result → (i : ℕ) → ¬ Does history.now i transaction Action.Abort }
+{
+    for place in 0..history.len() {
+        let operation = history[place];
+        if operation.transaction == transaction && is_abort(&operation.action) {
+            return Some(place);
+        }
+    }
+    None
+}
+
+/// Whether it is an abort.
+fn is_abort(action: &Action) -> bool
+    ensures { IsTrue result ↔ (action.now ≡ Action.Abort) }
+{
+    matches!(action, Action::Abort)
 }
 
 /// Counts the transactions.

@@ -1,5 +1,5 @@
 //! The lines of a report.
-ghost use Rattle.std.specs.Prelude.{◌≡◌, ◌++◌, OnOk, codes, flat_map};
+ghost use Rattle.std.specs.Prelude.{◌≡◌, ◌++◌, OnOk, Some, None, codes, flat_map};
 ghost use Rattle.sgt_check.specs.ReportText.{counts_text, order_text, next_text, edge_text, later_edge_text, cycle_text, shown_text, serial_text, class_text, recoverable_why, avoiding_why, follows_why, order_why, report_text};
 ghost use Rattle.sgt_check.specs.Pieces.{pieces_text};
 
@@ -149,11 +149,28 @@ fn append_recoverable(
     history: &History,
     report: &Report,
 ) -> Result<(), NoMemory>
-    ensures { OnOk result (text.new.items ≡ text.old.items ++ class_text (codes "recoverable") (recoverable_why history.now report.now.dirty_write) report.now.recoverable) }
+    ensures { OnOk result (text.new.items ≡ text.old.items ++ class_text (codes "recoverable") (recoverable_why history.now report.now.dirty_write report.now.dirty_abort) report.now.recoverable) }
 {
-    let Some(violation) = &report.recoverable else {
-        return append_kept(text, b"recoverable");
-    };
+    match (&report.recoverable, report.dirty_abort) {
+        (Some(violation), Some(abort)) => {
+            append_aborted(text, history, report.dirty_write, abort, violation)
+        }
+        (Some(violation), None) => append_early(text, history, report.dirty_write, violation),
+        (None, _) => append_kept(text, b"recoverable"),
+    }
+}
+
+/// Appends the line of a commit after a read from a transaction that aborts.
+fn append_aborted(
+    text: &mut Vec<u8>,
+    history: &History,
+    write: Option<usize>,
+    abort: usize,
+    violation: &Violation,
+) -> Result<(), NoMemory>
+    ensures { OnOk result (text.new.items ≡ text.old.items
+        ++ (codes "recoverable" ++ codes " no: " ++ recoverable_why history.now write (Some abort) violation.now)) }
+{
     append_broken(
         text,
         history,
@@ -161,11 +178,40 @@ fn append_recoverable(
         &[
             Piece::Placed(violation.later),
             Piece::Words(b", which reads from "),
-            Piece::TransactionOf(report.dirty_write),
+            Piece::TransactionOf(write),
             Piece::Words(b" by "),
             Piece::Placed(violation.earlier),
             Piece::Words(b", and "),
-            Piece::TransactionOf(report.dirty_write),
+            Piece::TransactionOf(write),
+            Piece::Words(b" aborted: "),
+            Piece::Placed(abort),
+            Piece::Words(b"\n"),
+        ],
+    )
+}
+
+/// Appends the line of a commit after a read from a transaction that has not committed and does not abort.
+fn append_early(
+    text: &mut Vec<u8>,
+    history: &History,
+    write: Option<usize>,
+    violation: &Violation,
+) -> Result<(), NoMemory>
+    ensures { OnOk result (text.new.items ≡ text.old.items
+        ++ (codes "recoverable" ++ codes " no: " ++ recoverable_why history.now write None violation.now)) }
+{
+    append_broken(
+        text,
+        history,
+        b"recoverable",
+        &[
+            Piece::Placed(violation.later),
+            Piece::Words(b", which reads from "),
+            Piece::TransactionOf(write),
+            Piece::Words(b" by "),
+            Piece::Placed(violation.earlier),
+            Piece::Words(b", and "),
+            Piece::TransactionOf(write),
             Piece::Words(b" has not committed\n"),
         ],
     )
