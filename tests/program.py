@@ -7,6 +7,7 @@ A case that differs is reported with what was wanted and what came. The last lin
 stands in `expected`.
 """
 
+import json
 import os
 import random
 import re
@@ -130,9 +131,16 @@ def refuses_numbers(sgt):
         sgt.expect("bank", f"--{option}", number, given=OPENING, status=2, err=text)
 
 
+# The options of a run that exclude each other.
+EXCLUSIVE = [{first, second} for first in ("history", "records") for second in ("explain", "json")]
+EXCLUSIVE += [{"history", "records"}, {"progress", "no-progress"}]
+
+
 def refuses_two_forms_of_one_run(sgt):
-    for command, forms in (("script", ("history", "records", "explain")), ("bank", ("history", "records", "explain"))):
-        for first, second in permutations(forms, 2):
+    for command in ("script", "bank"):
+        for first, second in permutations(("history", "records", "explain", "json", "progress", "no-progress"), 2):
+            if {first, second} not in EXCLUSIVE:
+                continue
             text = usage("conflicting_options").format(command=command, first=first, second=second)
             sgt.expect(command, f"--{first}", f"--{second}", given=OPENING, status=2, err=text)
 
@@ -525,6 +533,24 @@ def explains_each_input(sgt):
             same(f"{folder}/{script.name}", (status, wrote, before + told), sgt.run("script", "--explain", given=script.read_text()))
 
 
+# The line of a job that did not commit at its first try; why a try failed; and the summary.
+TOLD_JOB = re.compile(r"job (\d+): (committed|aborted with code (\d+)|given up|refused: (.*)|no memory)(?: at try (\d+))?((?:; try \d+: [^;]*)*)")
+FAILED_TRY = re.compile(r"try (\d+): (?:cycle with job ([\d, ]+)|aborted in cascade with job (\d+))")
+SUMMARY = "{} jobs: {} committed, {} aborted with a code, {} given up, {} refused, {} without memory; {} tries"
+
+
+def says_how_jobs_ended(sgt):
+    given = OPENING + '["job",1,[1,50]]\n["job",0,[9]]\n["job",99,[]]\n["job",0,[1]]\n["job",1,[1]]\n["job",4,[1,1000000000000000]]\n'
+    out = "0 committed 1050\n1 asked 1\n2 refused 1\n3 committed 1550\n4 refused 2\n5 refused 2\n0/1 101\n1/101 500\n2/101 1050\n"
+    err = "job 1: aborted with code 1 at try 1\njob 2: refused: there is no procedure 99\n"
+    err += "job 4: refused: DepositChecking takes 2 arguments, found 1\n"
+    err += f"job 5: refused: argument 1 is 1000000000000000, {explained.RANGE}\n" + SUMMARY.format(6, 2, 1, 0, 3, 0, 3) + "\n"
+    sgt.expect("bank", "--explain", "--workers", "1", given=given, out=out, err=err)
+    sgt.expect("bank", "--explain", given=OPENING, out=RECORDS, err=SUMMARY.format(0, 0, 0, 0, 0, 0, 0) + "\n")
+    one = "1 job: 1 committed, 0 aborted with a code, 0 given up, 0 refused, 0 without memory; 1 try\n"
+    sgt.expect("bank", "--explain", given=OPENING + JOB, out=DEPOSITED, err=one)
+
+
 def says_why_events_are_refused(sgt):
     """Each with the line of the event, also after a cut."""
     opening = '{"limits":[2,3],"accounts":[],"procedures":[[1,[["answer",["arg",0]]]]]}\n'
@@ -540,20 +566,7 @@ def says_why_events_are_refused(sgt):
                err="".join(f"line {line}: {words}\n" for line, words in told.items()))
 
 
-# A line of a job's tries, and an attempt that failed in it.
-TRIED = re.compile(r"job (\d+): (\d+) (try|tries)(?:: (.*))?")
-ATTEMPT = re.compile(r"(\d+)(?: \((?:cycle with ([\d, ]+)|fell with (\d+))\))?")
-
-
-def tells_how_often_each_job_was_tried(sgt):
-    given = OPENING + '["job",1,[1,50]]\n["job",0,[9]]\n["job",99,[]]\n["job",0,[1]]\n'
-    out = "0 committed 1050\n1 asked 1\n2 refused 1\n3 committed 1550\n0/1 101\n1/101 500\n2/101 1050\n"
-    err = "job 0: 1 try: 0\njob 1: 1 try: 1\njob 2: 0 tries\njob 3: 1 try: 2\n"
-    sgt.expect("bank", "--explain", "--workers", "1", given=given, out=out, err=err)
-    sgt.expect("bank", "--explain", given=OPENING, out=RECORDS)
-
-
-def tells_how_often_each_job_of_the_examples_was_tried(sgt):
+def says_how_each_job_of_the_examples_ended(sgt):
     for jobs, words in banks():
         status, wrote, told = sgt.run("bank", "--explain", *words, given=jobs.read_text())
         try:
@@ -585,28 +598,38 @@ def tells_by_whom_tries_were_aborted(sgt):
 
 
 def tried(report, lines, tally):
-    """Compares lines of tries with the report: each transaction that was started is reported once, and those that failed with others of
-    the run. Counts those in a cycle, and those aborted in cascade."""
+    """Compares the lines of jobs with the report: those that did not commit at their first try, in order, with the jobs that aborted their
+    failed tries; and the summary. Counts tries in a cycle, and those aborted in cascade."""
     outcomes = [line.split() for line in report if "/" not in line.split()[0]]
-    same("the lines", len(outcomes), len(lines))
-    started, others = [], set()
-    for job, line in enumerate(lines):
-        if not (told := TRIED.fullmatch(line)):
+    counts, tries, last = Counter(), 0, -1
+    silent = set(range(len(outcomes)))
+    for line in lines[:-1]:
+        if not (told := TOLD_JOB.fullmatch(line)):
             raise Differs(f"came {line!r}")
-        number, count, word, rest = told.groups()
-        attempts = [ATTEMPT.fullmatch(attempt).groups() for attempt in re.split(r", (?![^(]*\))", rest or "") if attempt]
-        same(line, (str(job), str(len(attempts)), "try" if len(attempts) == 1 else "tries"), (number, count, word))
-        failed = [attempt for attempt in attempts if attempt[1] or attempt[2]]
-        ends = len(attempts) - (outcomes[job][1] in ("committed", "asked"))
-        same(f"{outcomes[job]}: {line}", attempts[:ends], failed)
-        if outcomes[job][1] == "gave":
-            same(line, outcomes[job][2], count)
-        started += [int(attempt[0]) for attempt in attempts]
-        others |= {int(t) for attempt in failed for t in re.findall(r"\d+", attempt[1] or attempt[2])}
-        tally[0] += sum(attempt[1] is not None for attempt in failed)
-        tally[1] += sum(attempt[2] is not None for attempt in failed)
-    same("the transactions", list(range(len(started))), sorted(started))
-    same("those that abort others", set(), others - set(started))
+        job, how, code, _, at, rest = told.groups()
+        same(f"order: {line}", True, last < int(job) < len(outcomes))
+        last = int(job)
+        silent.remove(last)
+        failed = [FAILED_TRY.fullmatch(one).groups() for one in rest.split("; ")[1:]]
+        same(line, [str(number) for number in range(1, len(failed) + 1)], [number for number, _, _ in failed])
+        outcome = outcomes[last]
+        wanted = {"committed": "committed", "asked": f"aborted with code {outcome[-1]}", "gave": "given up", "refused": f"refused: {told[4]}", "no": "no memory"}
+        same(line, wanted[outcome[1]], how)
+        ends = outcome[1] in ("committed", "asked")
+        if outcome[1] != "refused":
+            same(line, str(len(failed) + ends), at)
+        if outcome[1] == "gave":
+            same(line, outcome[2], str(len(failed)))
+        for _, cycle, cascade in failed:
+            if any(int(other) >= len(outcomes) for other in (cycle or cascade).split(", ")):
+                raise Differs(f"no such job: {line}")
+        tries += len(failed) + ends
+        tally[0] += sum(cycle is not None for _, cycle, _ in failed)
+        tally[1] += sum(cascade is not None for _, _, cascade in failed)
+    same("who is silent", {"committed"}, {outcomes[job][1] for job in silent} | {"committed"})
+    counts = Counter(outcome[1] for outcome in outcomes)
+    summary = [counts[kind] for kind in ("committed", "asked", "gave", "refused", "no")]
+    same("the summary", SUMMARY.format(len(outcomes), *summary, tries + len(silent)), lines[-1])
 
 
 def tells_on_a_terminal_how_many_jobs_have_ended(sgt):
@@ -835,6 +858,128 @@ def asks_for_input_on_a_terminal(sgt):
     os.close(theirs)
 
 
+def writes_objects_of_json(sgt):
+    """An object for each reply or outcome, with the same values as its line, and then the records."""
+    for words, folder in ((["script"], EXAMPLES), (["bank", "--workers", "1"], EXAMPLES / "bank_one_worker")):
+        for given in sorted(folder.glob("*.jsonl")):
+            plain = sgt.run(*words, given=given.read_text())[1].splitlines()
+            status, wrote, told = sgt.run(*words, "--json", given=given.read_text())
+            same(f"{given.name}: standard error and status", ("", 0), (told, status))
+            same(given.name, plain, [line_of(json.loads(line)) for line in wrote.splitlines()])
+            records = "".join(line for line in wrote.splitlines(True) if line.startswith("["))
+            same(f"{given.name}: records", sgt.run(*words, "--records", given=given.read_text())[1], records)
+    given = OPENING + '["job",1,[1,50]]\n["job",0,[9]]\n["job",99,[]]\n'
+    out = '{"job":0,"outcome":"committed","answers":[1050],"tries":1}\n{"job":1,"outcome":"asked","code":1,"tries":1}\n'
+    out += '{"job":2,"outcome":"refused","reason":"no procedure","tries":0}\n["record",0,1,101]\n["record",1,1,500]\n["record",2,1,1050]\n'
+    out = out.replace('["record",1,1,500]\n["record",2,1,1050]', '["record",1,101,500]\n["record",2,101,1050]')
+    sgt.expect("bank", "--json", "--workers", "1", given=given, out=out)
+    sgt.expect("script", "--json", given=OPENING + EVENTS + "[]\n", status=2, err="line 4: bad line\n",
+               out='{"reply":"started","transaction":0}\n{"reply":"read","table":0,"number":1,"value":101}\n')
+
+
+def writes_each_reply_as_an_object(sgt):
+    """Those that no example has."""
+    given = """["begin"]
+["begin"]
+["cut"]
+["write",0,3,1,7]
+["read",1,3,1]
+["read",1,3,2]
+["commit",1]
+["quit",0]
+["commit",1]
+["step",0]
+["step",9]
+["cut"]
+"""
+    out = """{"reply":"started","transaction":0}
+{"reply":"started","transaction":1}
+{"reply":"still live"}
+{"reply":"wrote","table":3,"number":1,"value":7}
+{"reply":"read","table":3,"number":1,"value":7}
+{"reply":"read","table":3,"number":2,"value":null}
+{"reply":"waits","transaction":0}
+{"reply":"aborted","cause":"quit","cascade":[1]}
+{"reply":"over","fate":"cascade","with":0}
+{"reply":"over","fate":"aborted","cause":"quit"}
+{"reply":"unknown"}
+{"reply":"cut","events":10}
+"""
+    records = '["record",0,1,101]\n["record",1,101,500]\n["record",2,101,1000]\n'
+    sgt.expect("script", "--json", given=OPENING + given, out=out + records)
+
+
+def counts_the_tries_in_json(sgt):
+    """As --explain does, on jobs that abort one another."""
+    opening = '{"limits":[16,100000],"accounts":[[1,1,500,1000],[2,2,500,1000]],"procedures":[]}\n'
+    given = opening + '["job",3,[1,2]]\n["job",3,[2,1]]\n["job",1,[1,1]]\n' * 400
+    status, wrote, told = sgt.run("bank", "--json", "--explain", "--workers", "16", "--tries", "1000", given=given)
+    same("status", 0, status)
+    jobs = [json.loads(line) for line in wrote.splitlines() if line.startswith("{")]
+    same("the jobs", list(range(1200)), [job["job"] for job in jobs])
+    same("the tries in all", int(told.splitlines()[-1].split()[-2]), sum(job["tries"] for job in jobs))
+    tries = dict.fromkeys(range(1200), 1)
+    for line in told.splitlines()[:-1]:
+        match = re.fullmatch(r"job (\d+): .* at try (\d+)(?:;.*)?", line)
+        tries[int(match[1])] = int(match[2])
+    same("each", [tries[number] for number in range(1200)], [job["tries"] for job in jobs])
+
+
+REASONS = {"no procedure": 1, "bad args": 2, "spent": 3, "full": 4}
+
+
+def line_of(one):
+    """The line of the output that this object, or record, stands for."""
+    def joined(numbers):
+        return " ".join(map(str, numbers)) or "none"
+
+    if isinstance(one, list):
+        return "{}/{} {}".format(*one[1:])
+    if "job" in one:
+        words = [str(one["job"]), one["outcome"]]
+        words += [str(one["code"])] if "code" in one else [str(REASONS[one["reason"]])] if "reason" in one else []
+        words += [joined(one["answers"])] if "answers" in one else [str(one["tries"])] if one["outcome"] == "gave" else []
+        return " ".join(words)
+    words = [one["reply"]]
+    if "table" in one:
+        words.append(f"{one['table']}/{one['number']}")
+    if "value" in one:
+        words.append("none" if one["value"] is None else str(one["value"]))
+    if "fate" in one:
+        words.append({"cascade": "fell"}.get(one["fate"], one["fate"]))
+    if "cause" in one:
+        words.append({"code": "asked"}.get(one["cause"], one["cause"]))
+    words += [str(one[name]) for name in ("transaction", "events", "code", "with") if name in one]
+    words += [joined(one[name]) for name in ("answers", "cycle") if name in one]
+    return " ".join(words + (["fell", joined(one["cascade"])] if "cascade" in one else []))
+
+
+def gives_signs_of_life(sgt):
+    """How many bytes are read, at most once a second: on a terminal, or with an option."""
+    def told(*words, terminal=False):
+        ours, theirs = os.openpty() if terminal else os.pipe()
+        process = sgt.start("script", *words, stdin=subprocess.PIPE, stdout=subprocess.DEVNULL, stderr=theirs)
+        os.close(theirs)
+        for piece in (OPENING, EVENTS):
+            process.stdin.write(piece.encode())
+            process.stdin.flush()
+            time.sleep(1.3)
+        process.stdin.close()
+        text = read_terminal(ours)
+        same("status", 0, process.wait(SECONDS))
+        return text.splitlines()
+
+    sizes = [len(OPENING), len(OPENING + EVENTS)]
+    for words, terminal, wanted in ((["--progress"], False, True), ([], True, True), ([], False, False), (["--no-progress"], True, False)):
+        lines = told(*words, terminal=terminal)
+        same(f"{words}, a terminal: {terminal}", wanted, bool(lines))
+        same(f"{words}, a terminal: {terminal}", [], [line for line in lines if line not in [f"{size} bytes are read" for size in sizes]])
+    with tempfile.NamedTemporaryFile("w") as file:
+        file.write(OPENING + EVENTS)
+        file.flush()
+        sgt.expect("script", "--progress", file.name, out=REPLIES + RECORDS)
+
+
 def wants_an_opening(sgt):
     for command in ("script", "bank"):
         sgt.expect(command, status=2, err="line 1: no opening\n")
@@ -1001,11 +1146,11 @@ CASES = [
     goes_on_from_the_records_of_an_account,
     explains_each_example,
     explains_each_input,
-    says_why_events_are_refused,
     explains_drawn_scripts,
     judges_drawn_scripts,
-    tells_how_often_each_job_was_tried,
-    tells_how_often_each_job_of_the_examples_was_tried,
+    says_how_jobs_ended,
+    says_why_events_are_refused,
+    says_how_each_job_of_the_examples_ended,
     tells_by_whom_tries_were_aborted,
     tells_on_a_terminal_how_many_jobs_have_ended,
     tells_who_is_live_at_the_end,
@@ -1022,6 +1167,10 @@ CASES = [
     shows_what_was_typed,
     finds_a_faulty_line_after_many,
     asks_for_input_on_a_terminal,
+    writes_objects_of_json,
+    writes_each_reply_as_an_object,
+    counts_the_tries_in_json,
+    gives_signs_of_life,
     wants_an_opening,
     names_the_faulty_line,
     answers_before_it_reads_on,
