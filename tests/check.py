@@ -127,7 +127,9 @@ class Report:
 
     def reads_uncommitted(self, read, commit):
         writer = self.of(self.history.source(read))
-        return f"{self.placed(commit)}, which reads from {writer} by {self.placed(read)}, and {writer} has not committed"
+        abort = self.history.aborts.get(writer)
+        end = "has not committed" if abort is None else f"aborted: {self.placed(abort)}"
+        return f"{self.placed(commit)}, which reads from {writer} by {self.placed(read)}, and {writer} {end}"
 
     def reads_dirty(self, write, read):
         return f"{self.placed(read)} reads from {self.of(write)}, which has not committed"

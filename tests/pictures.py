@@ -107,7 +107,7 @@ def highlights(report, operations):
         told = places(line)
         if name == "avoids cascading aborts":
             return [], [(write, read) for write, read, _ in reads_from(operations) if read == told[0]]
-        return [], [tuple(sorted(told))]
+        return [], [tuple(sorted(told[:2]))]
     return [], []
 
 
