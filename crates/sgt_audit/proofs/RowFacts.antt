@@ -4,7 +4,7 @@ use Rattle.std.proofs.lemmas.Bool.{true≢false}
 use Rattle.std.proofs.lemmas.Option.{none-some, same_Some, slice_get_cases, slice_get_past, slice_get_read, slice_get_within}
 use Rattle.sgt_model.specs.declared.entry.Entry.{Entry}
 use Rattle.sgt_audit.specs.declared.lives.Life.{Life}
-use Rattle.sgt_dispatch.specs.declared.job.Job.{Job}
+use Rattle.sgt_audit.specs.declared.job.Job.{Job}
 use Rattle.sgt_audit.specs.Lives.{AreLives}
 use Rattle.sgt_audit.specs.Outcomes.{call_for, IsFailed, IsOf}
 use Rattle.sgt_audit.specs.Spans.{EndsBefore}

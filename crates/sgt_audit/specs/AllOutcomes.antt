@@ -5,7 +5,7 @@ use Rattle.std.specs.Option.{option_and_then, option_to_list}
 use Rattle.sgt_model.specs.declared.entry.Entry.{Entry}
 use Rattle.sgt_model.specs.Walks.{Distinct}
 use Rattle.sgt_model.specs.Fates.{live, live_ones}
-use Rattle.sgt_dispatch.specs.declared.job.Job.{Job}
+use Rattle.sgt_audit.specs.declared.job.Job.{Job}
 use Rattle.sgt_audit.specs.declared.outcome.Outcome.{Outcome}
 use Rattle.sgt_audit.specs.declared.outcome.Outcome.TheVariants as outcome
 use Rattle.sgt_model.specs.Questions.{named_by, is_commit, is_quit}

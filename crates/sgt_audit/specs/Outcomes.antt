@@ -10,7 +10,7 @@ use Rattle.sgt_model.specs.declared.entry.Entry.{Entry}
 use Rattle.sgt_model.specs.Fates.{start_count, fate_of}
 use Rattle.sgt_model.specs.Progress.{Call, call_at, call_of}
 use Rattle.sgt_model.specs.Questions.{named_by, refuses_start, is_commit, is_ask}
-use Rattle.sgt_dispatch.specs.declared.job.Job.{Job}
+use Rattle.sgt_audit.specs.declared.job.Job.{Job}
 use Rattle.sgt_audit.specs.declared.outcome.Outcome.{Outcome}
 use Rattle.sgt_audit.specs.declared.outcome.Outcome.TheVariants as outcome
 use Rattle.sgt_audit.specs.Spans.{EndsBefore}

@@ -5,11 +5,11 @@ ghost use Rattle.sgt_model.specs.Legality.{Legal};
 ghost use Rattle.sgt_audit.specs.AllOutcomes.{OutcomesStand};
 
 use crate::counts::counts_agree;
+use crate::job::Job;
 use crate::names::{entries_named, none_twice, transactions_named};
 use crate::outcome::Outcome;
 use crate::stands::all_stand;
 use crate::survey::{Survey, make_survey};
-use sgt_dispatch::Job;
 use sgt_log::History;
 use sgt_model::NoMemory;
 use std::alloc::Global;

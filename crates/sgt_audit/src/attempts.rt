@@ -6,8 +6,8 @@ ghost use Rattle.sgt_audit.specs.Lives.{AreLives};
 ghost use Rattle.sgt_audit.specs.Spans.{EndsBefore};
 ghost use Rattle.sgt_audit.specs.Outcomes.{call_for, IsOf, IsFailed, GaveUp};
 
+use crate::job::Job;
 use crate::lives::Life;
-use sgt_dispatch::Job;
 use sgt_model::{Args, Tid};
 
 /// Whether the job has this procedure and these arguments.

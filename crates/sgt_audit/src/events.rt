@@ -7,8 +7,8 @@ ghost use Rattle.sgt_audit.specs.Lives.{AreLives};
 ghost use Rattle.sgt_audit.specs.Outcomes.{call_for, IsOf};
 
 use crate::attempts::{is_call, is_of};
+use crate::job::Job;
 use crate::lives::Life;
-use sgt_dispatch::Job;
 use sgt_log::EntryRef;
 use sgt_model::Event;
 

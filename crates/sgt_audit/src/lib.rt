@@ -19,6 +19,7 @@ mod all_outcomes;
 mod attempts;
 mod counts;
 mod events;
+mod job;
 mod lives;
 mod names;
 mod outcome;
@@ -26,4 +27,5 @@ mod stands;
 mod survey;
 
 pub use all_outcomes::audit;
+pub use job::Job;
 pub use outcome::Outcome;

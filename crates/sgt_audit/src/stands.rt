@@ -7,9 +7,9 @@ ghost use Rattle.sgt_audit.specs.Outcomes.{Ends, StartIsRefused, OutcomeStands};
 
 use crate::attempts::gave_up;
 use crate::events::{asks_for, names_one_of};
+use crate::job::Job;
 use crate::lives::Life;
 use crate::outcome::Outcome;
-use sgt_dispatch::Job;
 use sgt_log::History;
 
 /// Whether there is one outcome for each job, and each is true.

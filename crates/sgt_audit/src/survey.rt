@@ -55,11 +55,11 @@ pub fn make_survey(
     };
     let mut live = 0;
     for place in 0..history.len() {
-        let entry = history.entry(place);
         // Most entries are steps that start and end nothing.
-        if entry.is_progress() {
+        if history.is_step(place) {
             continue;
         }
+        let entry = history.entry(place);
         add_entry(&mut lives, place, &entry)?;
         live = live_after(live, &entry);
         if live > workers as usize {

@@ -5,7 +5,7 @@ use Rattle.sgt_format.specs.Openings.{Refuses}
 use Rattle.sgt_format.specs.declared.opening.Opening.{Opening}
 use Rattle.sgt_format.specs.declared.errors.OpeningError.{OpeningError}
 use Rattle.sgt_format.specs.declared.errors.OpeningError.TheVariants as opening_error
-use Rattle.sgt_dispatch.specs.declared.job.Job.{Job}
+use Rattle.sgt_audit.specs.declared.job.Job.{Job}
 use Rattle.sgt_input.specs.declared.fault.Fault.{Fault}
 use Rattle.sgt_input.specs.declared.fault.Fault.TheVariants as fault
 use Rattle.sgt_input.specs.Lines.{Ending, AtLongLine, AtLimit, Cut, cut}

@@ -4,7 +4,7 @@ use Rattle.std.specs.Prelude.{zero, suc, nat_lt, slice_get, if◌then◌else◌,
 use Rattle.std.proofs.lemmas.Bool.{le-ltb, lt-ltb}
 use Rattle.std.proofs.lemmas.Option.{none-some, same_Some}
 use Rattle.sgt_format.specs.declared.call.JobCall.{JobCall}
-use Rattle.sgt_dispatch.specs.declared.job.Job.{Job}
+use Rattle.sgt_audit.specs.declared.job.Job.{Job}
 use Rattle.sgt_input.specs.declared.fault.Fault.TheVariants as fault
 use Rattle.sgt_input.specs.Lines.{Cut}
 use Rattle.sgt_input.specs.Ends.{End}

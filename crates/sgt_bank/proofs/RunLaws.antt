@@ -14,7 +14,7 @@ use Rattle.sgt_format.specs.FilledOpenings.{OpensWith, leading_records}
 use Rattle.sgt_format.specs.RecordText.{record_lines}
 use Rattle.sgt_format.specs.declared.opening.Opening.{Opening}
 use Rattle.sgt_format.specs.declared.record_line.RecordLine.{RecordLine}
-use Rattle.sgt_dispatch.specs.declared.job.Job.{Job}
+use Rattle.sgt_audit.specs.declared.job.Job.{Job}
 use Rattle.sgt_input.specs.Lines.{Ending, cut}
 use Rattle.sgt_bank.specs.Inputs.{InputAsks, LinesAsk}
 use Rattle.sgt_assembly.specs.Openings.{opened_setting, OpenedIsBank}

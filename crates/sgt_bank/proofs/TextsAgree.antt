@@ -14,7 +14,7 @@ use Rattle.sgt_model.specs.Databases.{Row}
 use Rattle.sgt_model.specs.Settings.{Setting}
 use Rattle.sgt_model.specs.Replay.{RunResult, GaveAnswers, AskedCode, told_call_in, told_calls, told_in, told, ReplayAgrees}
 use Rattle.sgt_format.specs.DatabaseText.{database_text}
-use Rattle.sgt_dispatch.specs.declared.job.Job.{Job}
+use Rattle.sgt_audit.specs.declared.job.Job.{Job}
 use Rattle.sgt_audit.specs.declared.outcome.Outcome.{Outcome}
 use Rattle.sgt_audit.specs.declared.outcome.Outcome.TheVariants as outcome
 use Rattle.sgt_model.specs.Questions.{is_commit}

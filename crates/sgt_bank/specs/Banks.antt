@@ -15,7 +15,7 @@ use Rattle.sgt_smallbank.specs.Replays.{CommitsAreBank}
 use Rattle.sgt_format.specs.declared.opening.Opening.{Opening}
 use Rattle.sgt_format.specs.RecordText.{record_lines}
 use Rattle.sgt_assembly.specs.Openings.{opened_setting}
-use Rattle.sgt_dispatch.specs.declared.job.Job.{Job}
+use Rattle.sgt_audit.specs.declared.job.Job.{Job}
 use Rattle.sgt_audit.specs.declared.outcome.Outcome.{Outcome}
 use Rattle.sgt_audit.specs.declared.outcome.Outcome.TheVariants as outcome
 use Rattle.sgt_audit.specs.AllOutcomes.{OutcomesStand}

@@ -2,7 +2,7 @@
 use Rattle.std.specs.Prelude.{ℕ, ◌+◌, nat_lt, if◌then◌else◌, List, [], ◌∷◌, Result, Ok, Err}
 use Rattle.sgt_format.specs.JobLines.{job_of}
 use Rattle.sgt_format.specs.declared.call.JobCall.{JobCall}
-use Rattle.sgt_dispatch.specs.declared.job.Job.{Job}
+use Rattle.sgt_audit.specs.declared.job.Job.{Job}
 use Rattle.sgt_input.specs.declared.fault.Fault.{Fault}
 use Rattle.sgt_input.specs.declared.fault.Fault.TheVariants as fault
 use Rattle.sgt_input.specs.Spelled.{at_line}

@@ -5,9 +5,9 @@ ghost use Rattle.sgt_bank.specs.Inputs.{InputAsks, InputFails};
 ghost use Rattle.sgt_input.specs.Ends.{IsOfInput};
 
 use crate::jobs::read_jobs;
-use sgt_dispatch::Job;
 use sgt_format::Opening;
 use sgt_input::{Fault, Lines, Source, opening_of, read_records};
+use sgt_workers::Job;
 use std::alloc::Global;
 
 /// Reads an input: its opening, the records after it, and its jobs. The opening must allow as many live transactions

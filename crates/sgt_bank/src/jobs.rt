@@ -9,10 +9,9 @@ ghost use Rattle.sgt_bank.specs.Jobs.{job_at, numbered};
 ghost use Rattle.sgt_bank.specs.Taking.{TakesCall, EndsWith};
 
 use json::Scratch;
-use sgt_dispatch::Job;
 use sgt_format::{JobCall, read_job};
 use sgt_input::{Fault, Lines, Source, at_line};
-use sgt_workers::MOST_JOBS;
+use sgt_workers::{Job, MOST_JOBS};
 use std::alloc::Global;
 
 /// For how many jobs there is capacity at first. A list of so many is long enough to grow without being copied.

@@ -3,14 +3,13 @@
 use crate::gates::Gates;
 use sgt_access::{Accesses, PerKey};
 use sgt_bank::{bank_of, read_input, report_text};
-use sgt_dispatch::Job;
 use sgt_format::{Opening, append_numbered, append_reply};
 use sgt_graph::{BitGraph, Graph};
 use sgt_input::Reader;
 use sgt_log::History;
 use sgt_model::{Event, Key, Request, Tid};
 use sgt_records::{Records, SlabRecords};
-use sgt_workers::{PoolError, Report, run};
+use sgt_workers::{Job, PoolError, Report, run};
 use std::alloc::{AllocError, Global};
 use std::io;
 use std::io::{ErrorKind, Input, Print, Write};

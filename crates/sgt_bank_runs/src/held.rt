@@ -4,8 +4,8 @@ use crate::accounts::{BALANCE, DEPOSIT_CHECKING, LIMITS, TRANSACT_SAVING, WRITE_
 use crate::banks::Crew;
 use crate::gates::{Gates, Plan};
 use crate::printed::Printed;
-use sgt_dispatch::Job;
 use sgt_model::{Asks, Limits};
+use sgt_workers::Job;
 use std::alloc::Global;
 use std::io;
 use std::io::Print;

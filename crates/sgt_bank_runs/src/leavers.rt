@@ -3,7 +3,7 @@ use crate::accounts::{DEPOSIT_CHECKING, LIMITS, job, run};
 use crate::banks::Crew;
 use crate::gates::{Gates, Plan};
 use crate::printed::Printed;
-use sgt_dispatch::Job;
+use sgt_workers::Job;
 use std::alloc::{AllocError, Global};
 use std::io;
 use std::io::Print;

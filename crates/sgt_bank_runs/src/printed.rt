@@ -1,11 +1,10 @@
 //! The results of runs of jobs, as text.
 use crate::accounts::{ACCOUNTS, checking};
 use crate::crowd::run_compared;
-use sgt_dispatch::Job;
 use sgt_format::reply_line;
 use sgt_log::History;
 use sgt_model::{Limits, Reply};
-use sgt_workers::{Outcome, Report};
+use sgt_workers::{Job, Outcome, Report};
 use std::alloc::Global;
 use std::io::{ErrorKind, Print, Write};
 use std::sync::Wait;

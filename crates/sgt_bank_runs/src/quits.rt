@@ -38,14 +38,18 @@ const ACCOUNT: Account = Account {
 };
 
 /// An engine with one account and no events yet.
-fn new_engine(alloc: Global) -> Result<SgtEngine, MakeError>
-    ensures { IfOk result (λ engine. engine.past ≡ []) }
+fn new_engine(alloc: Global) -> Result<Box<SgtEngine>, MakeError>
+    ensures { IfOk result (λ engine. engine.value.past ≡ []) }
 {
     let Ok(database) = opening(alloc, &[ACCOUNT]) else {
         return Err(MakeError::NoMemory);
     };
     let procedures = procedures(alloc)?;
-    Engine::new(alloc, database, procedures, LIMITS)
+    let engine = Engine::new(alloc, database, procedures, LIMITS)?;
+    match Box::new(alloc, engine) {
+        Ok(engine) => Ok(engine),
+        Err(_) => Err(MakeError::NoMemory),
+    }
 }
 
 /// The start of a Balance of the account.
@@ -113,11 +117,11 @@ fn quit_many<N: Named, R: Records, A: Accesses, G: Graph, W: Wait>(
 fn play<N: Named, R: Records, A: Accesses, G: Graph, W: Wait + Print>(
     rt: &W,
     alloc: Global,
-    engine: Engine<R, A, G>,
+    engine: Box<Engine<R, A, G>>,
     blank: Blank,
 ) -> io::Result<()>
-    requires setting { setting_of engine ≡ N.setting }
-    requires empty { engine.past ≡ [] }
+    requires setting { setting_of engine.value ≡ N.setting }
+    requires empty { engine.value.past ≡ [] }
     requires blank { (blank.name ≡ N.name) × (blank.parts ≡ N.parts) × (blank.parts ≡ 1) }
     requires sessions { N.sessions ≡ 1 }
 {

@@ -1,5 +1,5 @@
-//! A feed of jobs: a queue with one producer, the putter, and up to 16 consumers, the takers. Each end may run in a
-//! thread of its own.
+//! A feed of jobs: a queue of their numbers with one producer, the putter, and up to 16 consumers, the takers. Each end
+//! may run in a thread of its own.
 //!
 //! The queue is first in, first out, and each item is received once. The [`Putter`] sends jobs, and one stop for each
 //! taker. A [`Taker`] receives until it gets a stop, and leaves. Its record of its items remains as a [`Stub`]. Once
@@ -10,13 +10,12 @@
 //! share.
 //!
 //! ```
-//! fn one_job<W: Wait>(rt: &W, alloc: Global, args: Args) -> Option<Putter> {
+//! fn one_job<W: Wait>(rt: &W, alloc: Global) -> Option<Putter> {
 //!     let (mut putter, mut takers) = Feed::make(alloc, 8, 1).ok()?;
-//!     let job = Job { number: 0, procedure: 1, args };
-//!     putter.put(rt, job).ok()?;         // waits while there are 8 in it
+//!     putter.put(rt, 0);                 // waits while there are 8 in it
 //!     putter.stop(rt);
 //!     let mut taker = takers.pop()?;     // often in a thread of its own
-//!     taker.take(rt);                    // the job
+//!     taker.take(rt);                    // Job(0)
 //!     taker.take(rt);                    // Stop
 //!     Some(putter.join(taker.leave()))
 //! }
@@ -27,7 +26,6 @@ mod errors;
 mod feed;
 mod fifo;
 mod item;
-mod job;
 mod log;
 mod putter;
 mod taker;
@@ -35,6 +33,5 @@ mod taker;
 pub use errors::FeedError;
 pub use feed::{Feed, MOST_JOBS, MOST_ROOM, MOST_TAKERS};
 pub use item::Item;
-pub use job::Job;
 pub use putter::Putter;
 pub use taker::{Stub, Take, Taker};

@@ -1,5 +1,5 @@
 //! The producer of a feed.
-ghost use Rattle.std.specs.Prelude.{◌≡◌, ◌<◌, if◌then◌else◌, OnOk, OnErr, IfErr};
+ghost use Rattle.std.specs.Prelude.{◌≡◌, ◌<◌, if◌then◌else◌};
 ghost use Rattle.crossbeam_channel.specs.Claims.{IsSeatAt};
 ghost use Rattle.crossbeam_channel.specs.Ends.{sends_on};
 ghost use Rattle.sgt_dispatch.specs.declared.item.Item.TheVariants as Of;
@@ -7,7 +7,6 @@ ghost use Rattle.sgt_dispatch.specs.Ends.{IsPutter, putter_of, with_put, with_jo
 
 use crate::fifo::{Fifo, JoinStep, PutStep};
 use crate::item::Item;
-use crate::job::Job;
 use crate::log::Log;
 use crate::taker::Stub;
 use crossbeam_channel::{Pass, RuledSender};
@@ -52,22 +51,12 @@ impl Putter {
         }
     }
 
-    /// Puts a job at the back, in one step. Returns the job if all takers have left. Blocks while the feed is full.
-    pub fn put<R: Wait>(&mut self, rt: &R, job: Job) -> Result<(), Job>
-        ensures put { OnOk result (self.new ≡ with_put (Of.Job job) self.old) }
-        ensures back { IfErr result (λ back. back ≡ job) }
-        ensures unchanged { OnErr result (self.new ≡ self.old) }
+    /// Puts the number of a job at the back, in one step. Returns `false` if all takers have left; then nothing was
+    /// put. Blocks while the feed is full.
+    pub fn put<R: Wait>(&mut self, rt: &R, job: u32) -> bool
+        ensures { self.new ≡ (if result then with_put (Of.Job job) self.old else self.old) }
     {
-        let Err(error) = self
-            .sender
-            .send_as::<PutStep, R>(rt, &mut self.pass, Item::Job(job))
-        else {
-            return Ok(());
-        };
-        match error.into_inner() {
-            Item::Job(job) => Err(job),
-            Item::Stop => unreachable!(),
-        }
+        self.send(rt, Item::Job(job))
     }
 
     /// Puts a stop at the back, in one step. Returns `false` if all takers have left; then nothing was put. Blocks
@@ -75,8 +64,15 @@ impl Putter {
     pub fn stop<R: Wait>(&mut self, rt: &R) -> bool
         ensures { self.new ≡ (if result then with_put Of.Stop self.old else self.old) }
     {
+        self.send(rt, Item::Stop)
+    }
+
+    /// Puts an item at the back, in one step. Returns whether it was put.
+    fn send<R: Wait>(&mut self, rt: &R, item: Item) -> bool
+        ensures { self.new ≡ (if result then with_put item self.old else self.old) }
+    {
         self.sender
-            .send_as::<PutStep, R>(rt, &mut self.pass, Item::Stop)
+            .send_as::<PutStep, R>(rt, &mut self.pass, item)
             .is_ok()
     }
 

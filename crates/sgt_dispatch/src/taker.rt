@@ -6,7 +6,6 @@ ghost use Rattle.sgt_dispatch.specs.Ends.{IsTaker, taker_of, after_take};
 
 use crate::fifo::{Fifo, TakeStep};
 use crate::item::Item;
-use crate::job::Job;
 use crate::log::Log;
 use crossbeam_channel::{Pass, RuledReceiver};
 use std::marker::Model;
@@ -15,8 +14,8 @@ use std::sync::Wait;
 /// The result of a take.
 #[derive(Debug, Drop, PartialEq, Eq)]
 pub enum Take {
-    /// The job at the front.
-    Job(Job),
+    /// The number of the job at the front.
+    Job(u32),
     /// The stop at the front.
     Stop,
     /// Nothing: the feed was empty, and its putter gone.

@@ -1,11 +1,11 @@
 -- How many transactions a session must treat as live.
-use Rattle.std.proofs.Common.{◌≡◌, ℕ, ◌+◌, ◌<◌, ◌≤◌, Bool, true, false, cond, List, [], ◌∷◌, ◌++◌, length, Option, Some, None, refl, sym, arith}
+use Rattle.std.proofs.Common.{◌≡◌, ℕ, ◌+◌, ◌<◌, ◌≤◌, Bool, true, false, cond, List, [], ◌∷◌, ◌++◌, length, Option, Some, None, refl, ap₂, sym, ◌&&◌, arith}
 use Rattle.std.proofs.lemmas.List.{length-append}
 use Rattle.sgt_model.specs.declared.event.Event.{Event}
 use Rattle.sgt_model.specs.declared.event.Event.TheVariants.{Start, Step, Access, Commit, Quit}
 use Rattle.sgt_model.specs.declared.reply.Reply.{Reply}
 use Rattle.sgt_session.specs.declared.receipt.Receipt.{Receipt}
-use Rattle.sgt_model.specs.Questions.{started_number, tells_end}
+use Rattle.sgt_model.specs.Questions.{started_in, over_in, started_number, tells_end}
 use Rattle.sgt_session.specs.Own.{with_one, open_without, is_open, open_by, open_from, open_of, room_needed}
 
 -- one is taken out
@@ -59,3 +59,12 @@ fits own own' e r count room room' same told enough counted used =
     let is : length (open_by own' r.event r.reply) ≡ length (open_by own e r.reply) = rw (same, told) refl in
     let h = enough r.reply in
     omega (arith, h, is, counted, used)
+
+-- none is added or taken out
+pub quiet_own : (own : List ℕ) (e : Event) (r : Reply) → started_in e r ≡ None → over_in e r ≡ None → own ≡ open_by own e r
+quiet_own own e r started over = sym (ap₂ (λ (o s : Option ℕ). open_without o (with_one s own)) over started)
+
+-- nothing waits for it
+pub no_wait : (may waits : Bool) → waits ≡ false → false ≡ (may && waits)
+no_wait false waits not = refl
+no_wait true waits not = sym not

@@ -20,7 +20,7 @@ use std::sync::Mutex;
 /// An engine out of its lock, and the sessions whose receipts are its history.
 #[derive(Drop)]
 pub struct Closed<N: Named, R: Records, A: Accesses, G: Graph> {
-    pub engine: Engine<R, A, G>,
+    pub engine: Box<Engine<R, A, G>>,
     pub sessions: Vec<Session<N>>,
 }
 
@@ -47,13 +47,13 @@ impl<N: Named, R: Records, A: Accesses, G: Graph> Shared<N, R, A, G> {
         sessions: Vec<Session<N>>,
     ) -> Result<Closed<N, R, A, G>, CloseError<N, R, A, G>>
         requires { N.sessions ≡ N.parts }
-        ensures setting { IfOk result (λ c. setting_of c.engine ≡ N.setting) }
-        ensures legal { IfOk result (λ c. Legal N.setting c.engine.past) }
-        ensures real_time { IfOk result (λ c. KeepsRealTime N.setting c.engine.past) }
-        ensures progress { IfOk result (λ c. MakesProgress N.setting c.engine.past) }
+        ensures setting { IfOk result (λ c. setting_of c.engine.value ≡ N.setting) }
+        ensures legal { IfOk result (λ c. Legal N.setting c.engine.value.past) }
+        ensures real_time { IfOk result (λ c. KeepsRealTime N.setting c.engine.value.past) }
+        ensures progress { IfOk result (λ c. MakesProgress N.setting c.engine.value.past) }
         ensures sessions { IfOk result (λ c. c.sessions.items ≡ sessions.items) }
         ensures all { IfOk result (λ c. length c.sessions.items ≡ N.sessions) }
-        ensures accounts { IfOk result (λ c. AccountsForHistory (reverse c.engine.past) c.sessions.items) }
+        ensures accounts { IfOk result (λ c. AccountsForHistory (reverse c.engine.value.past) c.sessions.items) }
         ensures held { IfErr result (λ e. Held e sessions.items N.sessions) }
     {
         let mut sessions = sessions;

@@ -22,13 +22,13 @@
 //! fn two_threads<N: Named + Send + Sync, R: Threads + Wait + Sync>(
 //!     rt: &R,
 //!     alloc: Global,
-//!     engine: Engine<ListRecords, OneList, PairGraph>,
+//!     engine: Box<Engine<ListRecords, OneList, PairGraph>>,
 //!     blank: Blank,
-//! ) -> Option<Engine<ListRecords, OneList, PairGraph>>
-//!     requires setting { setting_of engine ≡ N.setting }
-//!     requires empty { engine.past ≡ [] }
+//! ) -> Option<Box<Engine<ListRecords, OneList, PairGraph>>>
+//!     requires setting { setting_of engine.value ≡ N.setting }
+//!     requires empty { engine.value.past ≡ [] }
 //!     requires blank { (blank.name ≡ N.name) × (blank.parts ≡ N.parts) × (blank.parts ≡ 2) × (N.sessions ≡ 2) }
-//!     ensures legal { IfSome result (λ e. Legal N.setting e.past) }
+//!     ensures legal { IfSome result (λ e. Legal N.setting e.value.past) }
 //! {
 //!     let (shared, sessions) = Shared::<N, _, _, _>::new(alloc, engine, blank, 2).ok()?;
 //!     let lock = &shared;
@@ -76,7 +76,7 @@
 //!
 //! ```
 //! ghosts-two_threads-N-Ledger g a = record { name = a.blank.name; parts = a.blank.parts }
-//! ghosts-two_threads-N-Named g a = record { setting = setting_of a.engine; sessions = a.blank.parts }
+//! ghosts-two_threads-N-Named g a = record { setting = setting_of a.engine.value; sessions = a.blank.parts }
 //! ```
 //!
 //! The history grows with each call. Threads that run for days should cut it now and then: start no more transactions
@@ -87,10 +87,10 @@
 //! fn part<R: Threads + Wait + Sync>(
 //!     rt: &R,
 //!     alloc: Global,
-//!     engine: Engine<ListRecords, OneList, PairGraph>,
-//! ) -> Option<(Past, Engine<ListRecords, OneList, PairGraph>)>
-//!     requires empty { engine.past ≡ [] }
-//!     ensures empty { IfSome result (λ r. r.1.past ≡ []) }
+//!     engine: Box<Engine<ListRecords, OneList, PairGraph>>,
+//! ) -> Option<(Past, Box<Engine<ListRecords, OneList, PairGraph>>)>
+//!     requires empty { engine.value.past ≡ [] }
+//!     ensures empty { IfSome result (λ r. r.1.value.past ≡ []) }
 //! {
 //!     let mut engine = two_threads::<Brand, _>(rt, alloc, engine, Blank::new(2))?;
 //!     let past = engine.cut(alloc).ok()?;     // an error would leave the engine as it was, with its history

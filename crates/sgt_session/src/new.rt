@@ -19,7 +19,7 @@ use std::sync::ledger::{Blank, Share};
 /// An allocation failed in `Shared::new`: its input, returned.
 #[derive(Drop)]
 pub struct NewError<R: Records, A: Accesses, G: Graph> {
-    pub engine: Engine<R, A, G>,
+    pub engine: Box<Engine<R, A, G>>,
     pub blank: Blank,
 }
 
@@ -30,12 +30,12 @@ impl<N: Named, R: Records, A: Accesses, G: Graph> Shared<N, R, A, G> {
     /// `NewError` if an allocation failed.
     pub fn new(
         alloc: Global,
-        engine: Engine<R, A, G>,
+        engine: Box<Engine<R, A, G>>,
         blank: Blank,
         sessions: u16,
     ) -> Result<(Self, Vec<Session<N>>), NewError<R, A, G>>
-        requires setting { setting_of engine ≡ N.setting }
-        requires empty { engine.past ≡ [] }
+        requires setting { setting_of engine.value ≡ N.setting }
+        requires empty { engine.value.past ≡ [] }
         requires blank { (blank.name ≡ N.name) × (blank.parts ≡ N.parts) × (blank.parts ≡ sessions) }
         requires sessions { (N.sessions ≡ sessions) × (1 ≤ sessions) × (sessions ≤ 64) }
         ensures { MatchResult result

@@ -1,9 +1,10 @@
 //! The receipts of a session.
-ghost use Rattle.std.specs.Prelude.{◌≡◌, ℕ, ◌+◌, ◌≤◌, ◌<◌, ◌^◌, ◌↔◌, [], ◌∷◌, ◌++◌, List, length, reverse, IsTrue, Some, OnOk, slice_get};
+ghost use Rattle.std.specs.Prelude.{◌≡◌, ℕ, true, ◌+◌, ◌≤◌, ◌<◌, ◌^◌, ◌↔◌, [], ◌∷◌, ◌++◌, List, length, reverse, IsTrue, Some, OnOk, slice_get};
 ghost use Rattle.std.specs.Result.{IsOk};
 ghost use Rattle.std.specs.Option.{option_map};
 ghost use Rattle.sgt_model.specs.declared.entry.Entry.{Entry};
 ghost use Rattle.sgt_session.specs.declared.receipt.Receipt.{Receipt};
+ghost use Rattle.sgt_log.specs.EntryParts.{is_access, IsQuiet};
 ghost use Rattle.sgt_session.specs.Receipts.{receipt_of, entry_of, IsReceiptAt};
 
 use crate::receipt::Receipt;
@@ -19,8 +20,8 @@ const AT_ONCE: usize = 65_536;
 /// the lists long enough to grow without being copied.
 const AHEAD: usize = 2_048;
 
-/// The receipts of one session, in the order of its calls. A receipt takes 48 bytes. Its lists take 4 bytes for each
-/// transaction and 8 for each value.
+/// The receipts of one session, in the order of its calls. The receipt of a step, a start or a commit takes 32 bytes,
+/// another one 72. Its lists take 4 bytes for each transaction and 8 for each value.
 ///
 /// There is capacity for some more receipts, whatever they hold: appending one uses that capacity, and allocates
 /// nothing.
@@ -164,6 +165,25 @@ impl Receipts {
         self.number(self.len() - 1)
     }
 
+    /// Whether the newest receipt, of a list that is not empty, is that of a step that read, wrote or came to the
+    /// procedure's end.
+    #[inline(always)]
+    pub(crate) fn is_last_step(&self) -> bool
+        requires { 0 < length self.now.receipts }
+        ensures { IsTrue result → (rs : List Receipt) (r : Receipt) → self.now.receipts ≡ rs ++ r ∷ [] → IsQuiet (entry_of r) }
+    {
+        self.calls.is_step(self.len() - 1)
+    }
+
+    /// Whether the newest receipt, of a list that is not empty, is that of a step that read or wrote a value.
+    #[inline(always)]
+    pub(crate) fn is_last_access(&self) -> bool
+        requires { 0 < length self.now.receipts }
+        ensures { IsTrue result → (rs : List Receipt) (r : Receipt) → self.now.receipts ≡ rs ++ r ∷ [] → is_access r.reply ≡ true }
+    {
+        self.calls.is_access_step(self.len() - 1)
+    }
+
     /// The entry of the newest receipt, by reference, of a list that is not empty.
     pub fn last_entry(&self) -> EntryRef<'_>
         requires { 0 < length self.now.receipts }
@@ -236,7 +256,7 @@ impl Receipts {
     {
         let place = history.len() - 1;
         self.numbers.push_reserved(place as u64);
-        self.calls.push_entry(&history.entry(place));
+        self.calls.push_copy(history, place);
         self.room -= 1;
     }
 }

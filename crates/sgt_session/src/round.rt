@@ -22,10 +22,11 @@ use sgt_records::Records;
 use std::marker::Model;
 use std::sync::ledger::{Book, Share};
 
-/// The state under the lock: the engine, with a book of the sessions' calls. Contracts see it as its engine.
+/// The state under the lock: the engine, with a book of the sessions' calls. Contracts see it as its engine. An engine
+/// takes 13 KB, so it stands in a box: closing and opening move a pointer.
 #[derive(Drop)]
 pub struct Round<N: Named, R: Records, A: Accesses, G: Graph> {
-    engine: Engine<R, A, G>,
+    engine: Box<Engine<R, A, G>>,
     calls: Book<N>,
 }
 
@@ -39,18 +40,18 @@ impl<N: Named, R: Records, A: Accesses, G: Graph> Model for Round<N, R, A, G> {
 
     ghost coded = { Prim.hlevel (codes, coded_procedure) };
 
-    ghost view = { λ r. r.engine };
+    ghost view = { λ r. r.engine.value };
 
-    ghost invariant = { λ r. (setting_of r.engine ≡ N.setting) × (length r.engine.past ≡ r.calls.total) };
+    ghost invariant = { λ r. (setting_of r.engine.value ≡ N.setting) × (length r.engine.value.past ≡ r.calls.total) };
 }
 
 impl<N: Named, R: Records, A: Accesses, G: Graph> Round<N, R, A, G> {
     /// An engine with an empty history, and a book with no calls.
-    pub fn new(engine: Engine<R, A, G>, calls: Book<N>) -> Self
-        requires setting { setting_of engine ≡ N.setting }
-        requires empty { engine.past ≡ [] }
+    pub fn new(engine: Box<Engine<R, A, G>>, calls: Book<N>) -> Self
+        requires setting { setting_of engine.value ≡ N.setting }
+        requires empty { engine.value.past ≡ [] }
         requires calls { calls.total ≡ 0 }
-        ensures { result ≡ engine }
+        ensures { result ≡ engine.value }
     {
         Round { engine, calls }
     }
@@ -103,12 +104,12 @@ impl<N: Named, R: Records, A: Accesses, G: Graph> Round<N, R, A, G> {
     }
 
     /// The engine, taken out of the lock.
-    pub fn into_engine(self) -> Engine<R, A, G>
-        ensures same { result ≡ self }
-        ensures setting { setting_of result ≡ N.setting }
-        ensures legal { Legal (setting_of result) result.past }
-        ensures real_time { KeepsRealTime (setting_of result) result.past }
-        ensures progress { MakesProgress (setting_of result) result.past }
+    pub fn into_engine(self) -> Box<Engine<R, A, G>>
+        ensures same { result.value ≡ self }
+        ensures setting { setting_of result.value ≡ N.setting }
+        ensures legal { Legal (setting_of result.value) result.value.past }
+        ensures real_time { KeepsRealTime (setting_of result.value) result.value.past }
+        ensures progress { MakesProgress (setting_of result.value) result.value.past }
     {
         let Round { engine, calls: _ } = self;
         let _ = engine.history();

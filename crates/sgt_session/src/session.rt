@@ -1,7 +1,8 @@
 //! A session: one caller's way to the engine.
-ghost use Rattle.std.specs.Prelude.{◌≡◌, ◌+◌, ◌<◌, ◌≤◌, ◌^◌, ◌&&◌, false, cond, List, [], ◌∷◌, ◌++◌, All, length, vec_len, vec_capacity, IfOk, MatchResult};
+ghost use Rattle.std.specs.Prelude.{◌≡◌, ◌+◌, ◌<◌, ◌≤◌, ◌^◌, ◌&&◌, true, false, cond, IsTrue, List, [], ◌∷◌, ◌++◌, All, length, vec_len, vec_capacity, IfOk, MatchResult};
 ghost use Rattle.std.specs.List.{sum_by};
 ghost use Rattle.sgt_model.specs.declared.event.Event.TheVariants.{Commit};
+ghost use Rattle.sgt_log.specs.EntryParts.{is_access};
 ghost use Rattle.sgt_session.specs.declared.receipt.Receipt.{Receipt};
 ghost use Rattle.sgt_model.specs.Questions.{is_wait, started_in};
 ghost use Rattle.sgt_session.specs.Own.{with_one, open_by};
@@ -104,6 +105,15 @@ impl<N: Named> Session<N> {
         ensures { (rs : List Receipt) (r : Receipt) → self.now ≡ rs ++ r ∷ [] → result ≡ entry_of r }
     {
         self.receipts.last_entry()
+    }
+
+    /// Whether the last call was a step that read or wrote a value.
+    #[inline(always)]
+    pub fn is_last_access(&self) -> bool
+        requires { 0 < length self.now }
+        ensures { IsTrue result → (rs : List Receipt) (r : Receipt) → self.now ≡ rs ++ r ∷ [] → is_access r.reply ≡ true }
+    {
+        self.receipts.is_last_access()
     }
 
     /// Makes one event of the engine while holding the lock once. Appends the receipt before it frees the lock, and
@@ -230,6 +240,12 @@ impl<N: Named> Session<N> {
         let room = make_receipt_room(&mut self.receipts, &mut self.own, event)?;
         let (turn, mut round) = shared.lock_policy.lock(rt, &shared.round, event, room);
         round.apply(event, &mut self.share, &mut self.receipts)?;
+        // Most calls start and end nothing, and nobody waits for them.
+        if self.receipts.is_last_step() {
+            drop(round);
+            drop(turn);
+            return Ok(false);
+        }
         let entry = self.receipts.last_entry();
         let waited = shared
             .waiters

@@ -11,7 +11,7 @@ use sgt_session::Shared;
 use sgt_smallbank::{Account, opening, procedures};
 use std::alloc::Global;
 
-pub type ListEngine = Engine<ListRecords, OneList, PairGraph>;
+pub type ListEngine = Box<Engine<ListRecords, OneList, PairGraph>>;
 
 pub type SharedEngine<N> = Shared<N, ListRecords, OneList, PairGraph>;
 
@@ -53,10 +53,14 @@ fn parts(alloc: Global) -> Option<(Database, Vec<Checked>)> {
 
 /// An engine with the five accounts and no events yet.
 pub fn new_engine(alloc: Global) -> Option<ListEngine>
-    ensures { IfSome result (λ engine. engine.past ≡ []) }
+    ensures { IfSome result (λ engine. engine.value.past ≡ []) }
 {
     let (database, procedures) = parts(alloc)?;
-    Engine::new(alloc, database, procedures, LIMITS).ok()
+    Box::new(
+        alloc,
+        Engine::new(alloc, database, procedures, LIMITS).ok()?,
+    )
+    .ok()
 }
 
 /// The procedures `PUT_AND_RAISE` and `READ_IT`.
@@ -90,7 +94,7 @@ fn two_more(alloc: Global) -> Option<(Checked, Checked)> {
 /// An engine with the five accounts and the two additional procedures, which reports codes at commit. It has no events
 /// yet.
 pub fn new_engine_at_commit(alloc: Global) -> Option<ListEngine>
-    ensures { IfSome result (λ engine. engine.past ≡ []) }
+    ensures { IfSome result (λ engine. engine.value.past ≡ []) }
 {
     let (database, mut procedures) = parts(alloc)?;
     let (first, second) = two_more(alloc)?;
@@ -101,17 +105,18 @@ pub fn new_engine_at_commit(alloc: Global) -> Option<ListEngine>
         begins: 4_000_000_000,
         asks: Asks::AtCommit,
     };
-    Engine::new(alloc, database, procedures, limits).ok()
+    Box::new(
+        alloc,
+        Engine::new(alloc, database, procedures, limits).ok()?,
+    )
+    .ok()
 }
 
 /// An engine with the five accounts after these events.
 pub fn engine_after(alloc: Global, events: &[Event]) -> Option<ListEngine> {
     let (database, procedures) = parts(alloc)?;
-    Some(
-        run_list(alloc, database, procedures, LIMITS, events)
-            .ok()?
-            .engine,
-    )
+    let ran = run_list(alloc, database, procedures, LIMITS, events).ok()?;
+    Box::new(alloc, ran.engine).ok()
 }
 
 /// The start of a procedure, with at most four arguments.

@@ -1,8 +1,8 @@
 //! The feed (queue) of jobs: what it refuses to make, and what becomes of jobs whose takers (consumers) are threads.
 ghost use Rattle.std.specs.Prelude.{◌≡◌, All, IfSome};
 
-use sgt_dispatch::{Feed, FeedError, Job, Putter, Stub, Take, Taker};
-use sgt_model::{Args, Bounded};
+use sgt_dispatch::{Feed, FeedError, Putter, Stub, Take, Taker};
+use sgt_model::Bounded;
 use std::alloc::Global;
 use std::sync::Wait;
 use std::thread;
@@ -27,21 +27,13 @@ struct Taken {
     end: End,
 }
 
-fn job(number: u32) -> Job {
-    Job {
-        number,
-        procedure: 2,
-        args: Args::new(),
-    }
-}
-
-/// Puts the jobs below a number, until one is returned unsent. Returns the number of that one.
+/// Puts the jobs below a number, until one is refused. Returns the number of that one.
 fn put_jobs<R: Wait>(rt: &R, putter: &mut Putter, jobs: u32) -> Option<u32>
     ensures { putter.new.feed ≡ putter.old.feed }
 {
     for number in 0..jobs {
-        if let Err(job) = putter.put(rt, job(number)) {
-            return Some(job.number);
+        if !putter.put(rt, number) {
+            return Some(number);
         }
     }
     None
@@ -61,7 +53,7 @@ fn put_stops<R: Wait>(rt: &R, putter: &mut Putter, stops: usize) -> usize
 }
 
 /// Puts jobs, and then a stop for each taker, unless the plan drops the putter. Returns the number of the job that was
-/// returned unsent, if any, and how many stops were put.
+/// refused, if any, and how many stops were put.
 fn put<R: Wait>(rt: &R, putter: &mut Putter, plan: &Plan) -> (Option<u32>, usize)
     ensures { putter.new.feed ≡ putter.old.feed }
 {
@@ -96,7 +88,7 @@ fn take<R: Wait>(rt: &R, taker: &mut Taker, numbers: &mut Bounded<u32, 100>) -> 
             if numbers.is_full() {
                 return Some(End::Enough);
             }
-            numbers.push(job.number);
+            numbers.push(job);
             None
         }
         Take::Stop => Some(End::Stop),
@@ -181,7 +173,7 @@ struct Plan {
 }
 
 /// What is observed of a feed: whether the jobs below the number were taken, each once and in each taker's order, and
-/// the takers left for the reason; the number of the job that was returned unsent, if any; and how many stops were put.
+/// the takers left for the reason; the number of the job that was refused, if any; and how many stops were put.
 type Fed = (bool, Option<u32>, usize);
 
 /// Whether the jobs were taken as planned.
@@ -333,7 +325,7 @@ fn feeds_are_made_or_refused(rt: HostRuntime) {
 }
 
 /// Puts this many jobs, and a stop for each taker, into a feed made for them, before anything is taken. Returns the
-/// number of the job that was returned unsent, if any, and how many stops were put.
+/// number of the job that was refused, if any, and how many stops were put.
 fn put_before_takes<R: Wait>(
     rt: &R,
     alloc: Global,

@@ -3,8 +3,7 @@
 use crate::engine::{
     BALANCE, DEPOSIT_CHECKING, ListEngine, TRANSACT_SAVING, WRITE_CHECK, engine_after, start,
 };
-use sgt_audit::{Outcome, audit};
-use sgt_dispatch::Job;
+use sgt_audit::{Job, Outcome, audit};
 use sgt_model::{Args, Event, NoMemory, Tid};
 use std::alloc::Global;
 

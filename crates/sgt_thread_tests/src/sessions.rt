@@ -89,8 +89,8 @@ fn run<N: Named + Send + Sync, R: Threads + Wait + Sync>(
     threads: u16,
     play: Play,
 ) -> Option<ListEngine>
-    requires setting { setting_of engine ≡ N.setting }
-    requires empty { engine.past ≡ [] }
+    requires setting { setting_of engine.value ≡ N.setting }
+    requires empty { engine.value.past ≡ [] }
     requires blank { (blank.name ≡ N.name) × (blank.parts ≡ N.parts) × (blank.parts ≡ threads) }
     requires threads { (N.sessions ≡ threads) × (1 ≤ threads) × (threads ≤ 64) }
 {
@@ -106,7 +106,7 @@ fn played<R: Threads + Wait + Sync>(
     threads: u16,
     play: Play,
 ) -> Option<ListEngine>
-    requires empty { engine.past ≡ [] }
+    requires empty { engine.value.past ≡ [] }
     requires threads { (1 ≤ threads) × (threads ≤ 64) }
 {
     let blank = Blank::new(u64::from(threads));
@@ -132,7 +132,7 @@ fn left_by<R: Threads + Wait + Sync>(
 
 /// Cuts the history of an engine, and returns whether that was done.
 fn is_cut(alloc: Global, engine: &mut ListEngine) -> bool
-    ensures { IsTrue result → (engine.new.past ≡ []) }
+    ensures { IsTrue result → (engine.new.value.past ≡ []) }
 {
     engine.cut(alloc).is_ok()
 }

@@ -4,7 +4,7 @@ use Rattle.sgt_model.specs.declared.limits.Limits.{Limits}
 use Rattle.sgt_model.specs.Bounds.{AreInRange}
 use Rattle.sgt_model.specs.Databases.{contents_of}
 use Rattle.sgt_model.specs.Settings.{Setting, setting}
-use Rattle.sgt_dispatch.specs.declared.job.Job.{Job}
+use Rattle.sgt_audit.specs.declared.job.Job.{Job}
 use Rattle.sgt_workers.specs.declared.bank.Bank.{Bank}
 
 -- the configuration of a bank's engine

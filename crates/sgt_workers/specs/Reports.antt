@@ -10,7 +10,7 @@ use Rattle.sgt_model.specs.Replay.{folded, ReplayAgrees}
 use Rattle.sgt_model.specs.Settings.{Setting}
 use Rattle.sgt_model.specs.Values.{settled}
 use Rattle.sgt_model.specs.Walks.{Acyclic}
-use Rattle.sgt_dispatch.specs.declared.job.Job.{Job}
+use Rattle.sgt_audit.specs.declared.job.Job.{Job}
 use Rattle.sgt_audit.specs.AllOutcomes.{AllEnded, OutcomesStand}
 use Rattle.sgt_workers.specs.declared.report.Report.{Report}
 

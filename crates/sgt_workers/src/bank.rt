@@ -4,7 +4,8 @@ ghost use Rattle.sgt_workers.specs.declared.errors.PoolError.TheVariants as Pool
 ghost use Rattle.sgt_workers.specs.Banks.{AreWorkers, AreTries, AreLimitsFor, AreNumbered, AreJobs};
 
 use crate::errors::PoolError;
-use sgt_dispatch::{Job, MOST_JOBS};
+use sgt_audit::Job;
+use sgt_dispatch::MOST_JOBS;
 use sgt_model::{Database, Limits};
 use sgt_proc::Checked;
 

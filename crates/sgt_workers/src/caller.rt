@@ -3,8 +3,7 @@ ghost use Rattle.std.specs.Prelude.{◌<◌, length, OnOk};
 
 use crate::gate::{Gate, Pass};
 use sgt_access::Accesses;
-use sgt_audit::Outcome;
-use sgt_dispatch::Job;
+use sgt_audit::{Job, Outcome};
 use sgt_graph::Graph;
 use sgt_log::EntryRef;
 use sgt_model::{Event, NoMemory, Tid};
@@ -35,9 +34,13 @@ enum Halt<X> {
     Leave(X),
     /// An allocation failed in a call.
     NoMemory,
-    /// The entry of this number is an unexpected reply: no legal history has it there.
-    Astray(u64),
+    /// The reply is unexpected: no legal history has it there.
+    Unexpected,
 }
+
+/// A worker got a reply that no legal history has there. The run fails.
+#[derive(Drop)]
+pub struct Unexpected;
 
 impl<X> From<NoMemory> for Halt<X> {
     fn from(_: NoMemory) -> Self {
@@ -46,12 +49,12 @@ impl<X> From<NoMemory> for Halt<X> {
 }
 
 impl<X> Halt<X> {
-    /// The outcome of the job. An unexpected reply is no refusal of a start, so the audit finds it.
-    fn into_outcome(self) -> Outcome<X> {
+    /// The outcome of the job, if it has one.
+    fn into_outcome(self) -> Result<Outcome<X>, Unexpected> {
         match self {
-            Halt::Leave(note) => Outcome::Left(note),
-            Halt::NoMemory => Outcome::NoMemory,
-            Halt::Astray(number) => Outcome::Refused(number),
+            Halt::Leave(note) => Ok(Outcome::Left(note)),
+            Halt::NoMemory => Ok(Outcome::NoMemory),
+            Halt::Unexpected => Err(Unexpected),
         }
     }
 }
@@ -76,23 +79,28 @@ impl<'a, N: Named, R: Records, A: Accesses, G: Graph, T: Gate, W: Wait> Caller<
     W,
 > {
     /// Tries the job until an attempt does not fail, at most this many times.
-    pub fn run_job(&mut self, alloc: Global, job: &Job, tries: u32) -> Outcome<T::Note> {
+    pub fn run_job(
+        &mut self,
+        alloc: Global,
+        job: &Job,
+        tries: u32,
+    ) -> Result<Outcome<T::Note>, Unexpected> {
         let mut attempts = Vec::new(alloc);
         for _ in 0..tries {
             match self.attempt(job) {
                 Attempt::Failed(t) => {
                     self.gate.failed(self.number, job.number, t);
                     if attempts.push(t).is_err() {
-                        return Outcome::NoMemory;
+                        return Ok(Outcome::NoMemory);
                     }
                 }
-                Attempt::Done(number) => return Outcome::Done(number),
-                Attempt::Asked(number) => return Outcome::Asked(number),
-                Attempt::Refused(number) => return Outcome::Refused(number),
+                Attempt::Done(number) => return Ok(Outcome::Done(number)),
+                Attempt::Asked(number) => return Ok(Outcome::Asked(number)),
+                Attempt::Refused(number) => return Ok(Outcome::Refused(number)),
                 Attempt::Halted(halt) => return halt.into_outcome(),
             }
         }
-        Outcome::Gave(attempts)
+        Ok(Outcome::Gave(attempts))
     }
 
     /// One attempt. Whatever its result, its transaction is no longer live.
@@ -126,6 +134,9 @@ impl<'a, N: Named, R: Records, A: Accesses, G: Graph, T: Gate, W: Wait> Caller<
         let step = Event::Step(t);
         for _ in self.rt.forever() {
             self.call(&step)?;
+            if self.session.is_last_access() {
+                continue;
+            }
             let entry = self.session.last_entry();
             if entry.is_at_end() {
                 break;
@@ -177,5 +188,5 @@ fn attempt_of<X>(t: Tid, number: u64, entry: &EntryRef<'_>) -> Result<Attempt<X>
     if entry.is_by_cycle() || entry.tells_fall() {
         return Ok(Attempt::Failed(t));
     }
-    Err(Halt::Astray(number))
+    Err(Halt::Unexpected)
 }

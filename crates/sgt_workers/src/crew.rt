@@ -6,8 +6,8 @@ use crate::errors::PoolError;
 use crate::gate::Gate;
 use crate::worker::{Ended, SameFeed, Worker, work};
 use sgt_access::Accesses;
-use sgt_audit::Outcome;
-use sgt_dispatch::{Feed, Job, Putter, Taker};
+use sgt_audit::{Job, Outcome};
+use sgt_dispatch::{Feed, Putter, Taker};
 use sgt_graph::Graph;
 use sgt_records::Records;
 use sgt_session::{Named, Session, Shared};
@@ -20,7 +20,8 @@ use std::thread::{PromisedHandle, Scope, Threads};
 /// Runs the jobs in a thread for each session. Returns the sessions, with the putter (producer) of the jobs, which has
 /// joined what each worker received. Each worker reserves capacity for this many calls.
 ///
-/// `NoMemory` if an allocation failed; `Spawn` if a thread could not be made: then no job was put.
+/// `NoMemory` if an allocation failed; `Spawn` if a thread could not be made: then no job was put; `Mismatch` if a
+/// worker got an unexpected reply.
 pub fn run_sessions<
     N: Named + Send + Sync,
     R: Records,
@@ -133,9 +134,11 @@ fn run_crew<
             ensures putter { KeepsTakers putter result.0 }
             ensures ended { (vec_len result.1 ≤ vec_len team) × All (λ e. e.stub.feed ≡ putter.feed) result.1.items }
         {
-            let running = start_all(scope, rt, shared, gate, outcomes, &putter, running, team);
-            let jobs = if running.len() == count { jobs } else { &[] };
-            let putter = put_all(rt, putter, jobs, running.len());
+            let running = start_all(
+                scope, rt, shared, gate, outcomes, jobs, &putter, running, team,
+            );
+            let all_run = running.len() == count;
+            let putter = put_all(rt, putter, jobs, all_run, running.len());
             let ended = join_all(rt, &putter, running, ended);
             (putter, ended)
         },
@@ -162,6 +165,7 @@ fn start_all<
     shared: &'s Shared<N, R, A, G>,
     gate: &'s T,
     outcomes: &'s Mutex<Vec<Outcome<T::Note>>>,
+    jobs: &'s [Job],
     putter: &Putter,
     running: Vec<PromisedHandle<Ended<N>, SameFeed>>,
     team: Vec<Worker<N>>,
@@ -174,8 +178,9 @@ fn start_all<
     let mut running = running;
     for worker in team {
         let promise = SameFeed(Snapshot::of(&worker.taker));
-        let Ok(handle) = scope.spawn_with(promise, move || work(rt, shared, gate, outcomes, worker))
-        else {
+        let Ok(handle) = scope.spawn_with(promise, move || {
+            work(rt, shared, gate, outcomes, jobs, worker)
+        }) else {
             break;
         };
         running.push_reserved(handle);
@@ -183,13 +188,14 @@ fn start_all<
     running
 }
 
-/// Puts the jobs in their order, and then a stop for each worker. Returns early if all workers have left.
-fn put_all<W: Wait>(rt: &W, putter: Putter, jobs: &[Job], stops: usize) -> Putter
+/// Puts the jobs in their order, if all workers run, and then a stop for each that does. Returns early if all workers
+/// have left.
+fn put_all<W: Wait>(rt: &W, putter: Putter, jobs: &[Job], all_run: bool, stops: usize) -> Putter
     ensures { KeepsTakers putter result }
 {
     let mut putter = putter;
     for job in jobs {
-        if putter.put(rt, copy_of(job)).is_err() {
+        if !all_run || !putter.put(rt, job.number) {
             break;
         }
     }
@@ -199,17 +205,6 @@ fn put_all<W: Wait>(rt: &W, putter: Putter, jobs: &[Job], stops: usize) -> Putte
         }
     }
     putter
-}
-
-/// A copy of the job. Allocates nothing.
-fn copy_of(job: &Job) -> Job
-    ensures { result ≡ job.now }
-{
-    Job {
-        number: job.number,
-        procedure: job.procedure,
-        args: job.args.copied(),
-    }
 }
 
 /// Waits until each thread ends.
@@ -232,6 +227,8 @@ fn join_all<N: Named, W: Threads>(
 }
 
 /// Joins the passes of the queue one by one. Returns the sessions with the putter, all of whose takers are joined.
+///
+/// `NoMemory` if an allocation failed; `Mismatch` if a worker got an unexpected reply.
 fn join_passes<N: Named>(
     alloc: Global,
     putter: Putter,
@@ -242,14 +239,27 @@ fn join_passes<N: Named>(
     ensures joined { IfOk result (λ r. r.0.unjoined ≡ 0) }
     ensures error { IfErr result IsRunError }
 {
+    if !are_expected(ended.as_slice()) {
+        return Err(PoolError::Mismatch);
+    }
     let Ok(mut sessions) = Vec::with_capacity(alloc, ended.len()) else {
         return Err(PoolError::NoMemory);
     };
     let mut putter = putter;
     for one in ended {
-        let Ended { session, stub } = one;
+        let Ended { session, stub, .. } = one;
         putter = putter.join(stub);
         sessions.push_reserved(session);
     }
     Ok((putter, sessions))
+}
+
+/// Whether each worker got expected replies alone.
+fn are_expected<N: Named>(ended: &[Ended<N>]) -> bool {
+    for one in ended {
+        if !one.is_expected {
+            return false;
+        }
+    }
+    true
 }

@@ -23,7 +23,8 @@ pub enum PoolError {
     /// A thread could not be made.
     #[error("workers not started")]
     Spawn,
-    /// The receipts are not the history's entries, or an outcome is not true of them.
+    /// The receipts are not the history's entries, a worker got a reply that no legal history has there, or an outcome
+    /// is not true of the history.
     #[error("receipts differ")]
     Mismatch,
 }

@@ -51,5 +51,5 @@ pub use errors::PoolError;
 pub use gate::{Gate, Pass};
 pub use report::Report;
 pub use runs::run;
-pub use sgt_audit::Outcome;
+pub use sgt_audit::{Job, Outcome};
 pub use sgt_dispatch::MOST_JOBS;

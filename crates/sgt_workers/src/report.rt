@@ -7,8 +7,7 @@ ghost use Rattle.sgt_workers.specs.Reports.{IsReportOf};
 
 use crate::errors::PoolError;
 use sgt_access::Accesses;
-use sgt_audit::{Outcome, audit};
-use sgt_dispatch::Job;
+use sgt_audit::{Job, Outcome, audit};
 use sgt_engine::{Engine, Past};
 use sgt_graph::Graph;
 use sgt_log::History;

@@ -12,8 +12,7 @@ use crate::errors::PoolError;
 use crate::gate::Gate;
 use crate::report::{Report, report_of};
 use sgt_access::Accesses;
-use sgt_audit::Outcome;
-use sgt_dispatch::Job;
+use sgt_audit::{Job, Outcome};
 use sgt_engine::Engine;
 use sgt_graph::Graph;
 use sgt_records::Records;
@@ -43,7 +42,8 @@ const CALLS_OF_A_JOB: usize = 8;
 /// Then:
 /// - `NoMemory`: an allocation of the run itself failed.
 /// - `Spawn`: a thread could not be made.
-/// - `Mismatch`: the receipts are not the history's entries, or an outcome is not true of it.
+/// - `Mismatch`: the receipts are not the history's entries, a worker got a reply that no legal history has there, or
+///   an outcome is not true of it.
 pub fn run<R: Records, A: Accesses, G: Graph, T: Gate + Sync, W: Threads + Wait + Sync>(
     rt: &W,
     alloc: Global,
@@ -66,7 +66,14 @@ pub fn run<R: Records, A: Accesses, G: Graph, T: Gate + Sync, W: Threads + Wait 
     }
     let ran = run_bank::<R, A, G, T, W>(rt, alloc, bank, jobs, workers, tries, gate)?;
     let (engine, outcomes) = ran;
-    report_of(alloc, engine, outcomes, jobs, workers, tries)
+    report_of(
+        alloc,
+        Box::into_inner(engine),
+        outcomes,
+        jobs,
+        workers,
+        tries,
+    )
 }
 
 /// The engine that the jobs were run on, and the outcomes.
@@ -78,9 +85,9 @@ fn run_bank<R: Records, A: Accesses, G: Graph, T: Gate + Sync, W: Threads + Wait
     workers: u32,
     tries: u32,
     gate: &T,
-) -> Result<(Engine<R, A, G>, Vec<Outcome<T::Note>>), PoolError>
+) -> Result<(Box<Engine<R, A, G>>, Vec<Outcome<T::Note>>), PoolError>
     requires { AreWorkers workers }
-    ensures setting { IfOk result (λ r. made_with r.0 ≡ engine_setting bank) }
+    ensures setting { IfOk result (λ r. made_with r.0.value ≡ engine_setting bank) }
     ensures error { IfErr result IsRunError }
 {
     let outcomes = Mutex::new(all_untaken::<T::Note>(alloc, jobs.len())?);
@@ -96,6 +103,9 @@ fn run_bank<R: Records, A: Accesses, G: Graph, T: Gate + Sync, W: Threads + Wait
     // reservation fails, the lists grow as they need.
     let calls = jobs.len().saturating_mul(CALLS_OF_A_JOB);
     let _ = engine.reserve(calls);
+    let Ok(engine) = Box::new(alloc, engine) else {
+        return Err(PoolError::NoMemory);
+    };
     let blank = Blank::new(u64::from(workers));
     let engine = run_named::<Brand, R, A, G, T, W>(
         rt,
@@ -123,7 +133,7 @@ fn run_named<
 >(
     rt: &W,
     alloc: Global,
-    engine: Engine<R, A, G>,
+    engine: Box<Engine<R, A, G>>,
     blank: Blank,
     outcomes: &Mutex<Vec<Outcome<T::Note>>>,
     jobs: &[Job],
@@ -131,11 +141,11 @@ fn run_named<
     tries: u32,
     calls: usize,
     gate: &T,
-) -> Result<Engine<R, A, G>, PoolError>
-    requires engine { (made_with engine ≡ N.setting) × (engine.past ≡ []) }
+) -> Result<Box<Engine<R, A, G>>, PoolError>
+    requires engine { (made_with engine.value ≡ N.setting) × (engine.value.past ≡ []) }
     requires blank { (blank.name ≡ N.name) × (blank.parts ≡ N.parts) × (blank.parts ≡ workers) × (N.sessions ≡ workers) }
     requires workers { AreWorkers workers }
-    ensures setting { IfOk result (λ e. made_with e ≡ N.setting) }
+    ensures setting { IfOk result (λ e. made_with e.value ≡ N.setting) }
     ensures error { IfErr result IsRunError }
 {
     let Ok((shared, sessions)) = Shared::<N, R, A, G>::new(alloc, engine, blank, workers) else {

@@ -4,7 +4,7 @@ ghost use Rattle.std.specs.Prelude.{◌≡◌};
 use crate::caller::Caller;
 use crate::gate::Gate;
 use sgt_access::Accesses;
-use sgt_audit::Outcome;
+use sgt_audit::{Job, Outcome};
 use sgt_dispatch::{Stub, Take, Taker};
 use sgt_graph::Graph;
 use sgt_records::Records;
@@ -33,6 +33,8 @@ pub struct Worker<N: Named> {
 pub struct Ended<N: Named> {
     pub session: Session<N>,
     pub stub: Stub,
+    /// Whether each reply that it got was one that a legal history may have there.
+    pub is_expected: bool,
 }
 
 /// A worker's promise: what it leaves belongs to its feed (queue).
@@ -43,13 +45,15 @@ impl<N: Named> Promise<Ended<N>> for SameFeed {
     ghost kept_by = { λ p r. r.stub.feed ≡ p.0.value.feed };
 }
 
-/// Takes jobs and runs them until it receives a stop, or the gate makes it leave. Writes each job's outcome at the
-/// job's number among the outcomes. A worker that ends leaves its feed at once.
+/// Takes jobs by their numbers and runs them until it receives a stop, the gate makes it leave, or a reply is
+/// unexpected. Writes each job's outcome at the job's number among the outcomes. A worker that ends leaves its feed at
+/// once.
 pub fn work<N: Named, R: Records, A: Accesses, G: Graph, T: Gate, W: Wait>(
     rt: &W,
     shared: &Shared<N, R, A, G>,
     gate: &T,
     outcomes: &Mutex<Vec<Outcome<T::Note>>>,
+    jobs: &[Job],
     worker: Worker<N>,
 ) -> Ended<N>
     ensures { result.stub.feed ≡ worker.taker.feed }
@@ -70,12 +74,15 @@ pub fn work<N: Named, R: Records, A: Accesses, G: Graph, T: Gate, W: Wait>(
         number,
         session,
     };
+    let mut is_expected = true;
     for _ in rt.forever() {
-        let taken = taker.take(rt);
-        let Take::Job(job) = &taken else {
+        let Some(job) = next_job(rt, &mut taker, jobs) else {
             break;
         };
-        let outcome = caller.run_job(alloc, job, tries);
+        let Ok(outcome) = caller.run_job(alloc, job, tries) else {
+            is_expected = false;
+            break;
+        };
         gate.finished(number, job.number, &outcome);
         let leaves = matches!(outcome, Outcome::Left(_));
         put_outcome(rt, outcomes, job.number, outcome);
@@ -86,6 +93,17 @@ pub fn work<N: Named, R: Records, A: Accesses, G: Graph, T: Gate, W: Wait>(
     Ended {
         session: caller.session,
         stub: taker.leave(),
+        is_expected,
+    }
+}
+
+/// The job whose number is taken next, if it is not a stop.
+fn next_job<'a, W: Wait>(rt: &W, taker: &mut Taker, jobs: &'a [Job]) -> Option<&'a Job>
+    ensures { taker.new.feed ≡ taker.old.feed }
+{
+    match taker.take(rt) {
+        Take::Job(number) => jobs.get(number as usize),
+        Take::Stop | Take::Gone => None,
     }
 }
 

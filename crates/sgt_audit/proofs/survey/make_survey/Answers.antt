@@ -66,15 +66,16 @@ loop-place-preserved c =
     }
 
 -- a step that starts and ends nothing changes nothing that is counted
-pub loop-place-preserved-then-is_progress : goal.loop-place-preserved-then-is_progress
-loop-place-preserved-then-is_progress c =
+pub loop-place-preserved-then-is_step : goal.loop-place-preserved-then-is_step
+loop-place-preserved-then-is_step c =
     let i = c.loop-place.place in
     let h = c.args.history.now.entries in
-    let e = c.entry-entry.result in
+    let step = c.is_step.ensures c.if-is_step.true in
+    let e = step.0 in
     let past = reverse (take i h) in
-    let legal = legal_next c.requires.0 h i e c.entry-entry.ensures.next c.requires.1 in
-    let more = one_more h i e c.entry-entry.ensures.next in
-    let idle = c.is_progress.ensures c.if-is_progress.true in
+    let legal = legal_next c.requires.0 h i e step.3 c.requires.1 in
+    let more = one_more h i e step.3 in
+    let idle = step.1 in
     let none = ends_nothing e.reply idle.2 in
     let before = c.loop-place.invariant in
     let now : c.loop-place.live ≡ length (live_ones (reverse (take (i + 1) h))) =
@@ -93,8 +94,8 @@ loop-place-preserved-then-is_progress c =
             subst (λ m. length (live_ones (reverse (take m h))) ≤ c.args.workers) same
             (subst (λ m. m ≤ c.args.workers) now before.few)
       ];
-      commits = omega (arith, no_commit, one_counted (λ (x : Entry). is_commit x.reply) h i e c.entry-entry.ensures.next before.commits);
-      quits = omega (arith, no_quit, one_counted (λ (x : Entry). is_quit x.reply) h i e c.entry-entry.ensures.next before.quits);
+      commits = omega (arith, no_commit, one_counted (λ (x : Entry). is_commit x.reply) h i e step.3 before.commits);
+      quits = omega (arith, no_quit, one_counted (λ (x : Entry). is_quit x.reply) h i e step.3 before.quits);
     }
 
 pub returns-then-live-gt0-clause-few : goal.returns-then-live-gt0-clause-few

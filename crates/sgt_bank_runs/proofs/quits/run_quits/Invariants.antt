@@ -5,4 +5,4 @@ abbrev pub ghosts-play-N-Ledger : goal.ghosts-play-N-Ledger
 ghosts-play-N-Ledger g a = record { name = a.blank.name; parts = a.blank.parts }
 
 abbrev pub ghosts-play-N-Named : goal.ghosts-play-N-Named
-ghosts-play-N-Named g a = record { setting = setting_of a.engine; sessions = a.blank.parts }
+ghosts-play-N-Named g a = record { setting = setting_of a.engine.value; sessions = a.blank.parts }

@@ -5,4 +5,4 @@ abbrev pub ghosts-run-N-Ledger : goal.ghosts-run-N-Ledger
 ghosts-run-N-Ledger g a = record { name = a.blank.name; parts = a.blank.parts }
 
 abbrev pub ghosts-run-N-Named : goal.ghosts-run-N-Named
-ghosts-run-N-Named g a = record { setting = setting_of a.engine; sessions = a.blank.parts }
+ghosts-run-N-Named g a = record { setting = setting_of a.engine.value; sessions = a.blank.parts }

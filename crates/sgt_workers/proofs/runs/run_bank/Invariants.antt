@@ -5,4 +5,4 @@ abbrev pub ghosts-run_named-N-Ledger : goal.ghosts-run_named-N-Ledger
 ghosts-run_named-N-Ledger g a = record { name = a.blank.name; parts = a.blank.parts }
 
 abbrev pub ghosts-run_named-N-Named : goal.ghosts-run_named-N-Named
-ghosts-run_named-N-Named g a = record { setting = setting_of a.engine; sessions = a.blank.parts }
+ghosts-run_named-N-Named g a = record { setting = setting_of a.engine.value; sessions = a.blank.parts }

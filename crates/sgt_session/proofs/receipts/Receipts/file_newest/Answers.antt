@@ -1,15 +1,26 @@
-use Rattle.std.proofs.Common.{◌≡◌, ◌-◌, [], ◌∷◌, ◌++◌, length, slice_get, Some, sym, ap, ap₂, ◌∙◌, arith}
-use Rattle.std.proofs.lemmas.Option.{same_Some}
+use Rattle.std.proofs.Common.{◌≡◌, ◌-◌, [], ◌∷◌, ◌++◌, length, slice_get, Some, sym, ap, ap₂, subst, ◌∙◌, arith}
+use Rattle.std.proofs.lemmas.List.{length-append}
 use Rattle.sgt_session.specs.Receipts.{receipt_of, receipts_of}
-use Rattle.sgt_session.proofs.Filed.{receipts-more, newest}
+use Rattle.sgt_session.proofs.Filed.{receipts-more, newest, there_is}
 use Rattle.sgt_session.proofs.receipts.Receipts.file_newest.Goals as goal
+
+pub invariant_of-self : goal.invariant_of-self
+invariant_of-self c =
+    let one = there_is c.args.history.now.entries (c.len-place.result - 1) (omega (arith, c.len-place.ensures, c.requires.some)) in
+    let more = ap length (c.push_copy.ensures.entries one.0 one.1) ∙ length-append c.self.inside.calls.entries (one.0 ∷ []) in
+    let longer = ap length c.push_reserved.ensures.items ∙ length-append c.self.inside.numbers.items ((c.len-place.result - 1) ∷ []) in
+    let used = ap (λ r. r.room) c.self.view_is in (
+      omega (arith, c.self.invariant.0, more, longer),
+      omega (arith, used, c.requires.room, c.self.invariant.1, c.push_reserved.ensures.len, c.push_reserved.ensures.capacity),
+      omega (arith, used, c.requires.room, c.self.invariant.2, c.push_copy.ensures.room),
+    )
 
 pub returns-clause-filed : goal.returns-clause-filed
 returns-clause-filed c e past is =
     let last = newest c.args.history.now.entries past e is in
     let place : c.len-place.result - 1 ≡ length past = omega (arith, c.len-place.ensures, last.0) in
-    let there : slice_get c.args.history.now.entries (length past) ≡ Some c.entry.result = rw place at c.entry.ensures.entry in
-    let entry : c.entry.result ≡ e = same_Some c.entry.result e (sym there ∙ last.1) in
-    ap₂ receipts_of c.push_reserved.ensures.items c.push_entry.ensures.entries
-    ∙ receipts-more c.self.inside.numbers.items c.self.inside.calls.entries (c.len-place.result - 1) c.entry.result c.self.invariant.0
-    ∙ ap₂ (λ rs r. rs ++ r ∷ []) (ap (λ r. r.receipts) c.self.view_is) (ap₂ receipt_of place entry)
+    let there : slice_get c.args.history.now.entries (c.len-place.result - 1) ≡ Some e =
+    subst (λ n. slice_get c.args.history.now.entries n ≡ Some e) (sym place) last.1 in
+    ap₂ receipts_of c.push_reserved.ensures.items (c.push_copy.ensures.entries e there)
+    ∙ receipts-more c.self.inside.numbers.items c.self.inside.calls.entries (c.len-place.result - 1) e c.self.invariant.0
+    ∙ ap₂ (λ rs r. rs ++ r ∷ []) (ap (λ r. r.receipts) c.self.view_is) (ap (λ n. receipt_of n e) place)

@@ -4,8 +4,41 @@ use Rattle.sgt_model.specs.declared.entry.Entry.{Entry}
 use Rattle.sgt_model.specs.Questions.{is_wait}
 use Rattle.sgt_session.specs.Receipts.{entry_of}
 use Rattle.sgt_session.proofs.Newest.{filed_is_newest}
-use Rattle.sgt_session.proofs.Owns.{noted, fits}
+use Rattle.sgt_log.specs.EntryParts.{IsQuiet}
+use Rattle.sgt_session.proofs.Owns.{noted, fits, quiet_own, no_wait}
 use Rattle.sgt_session.proofs.session.Session.make_one.Goals as goal
+
+pub invariant_of-self-then-is_last_step : goal.invariant_of-self-then-is_last_step
+invariant_of-self-then-is_last_step g c =
+    let filed = c.in_ok-apply.ensures.filed in
+    let quiet : IsQuiet (entry_of filed.0) = c.is_last_step.ensures c.if-is_last_step.true _ filed.0 filed.5 in
+    let longer = ap length filed.5 in
+    let one = length-append c.make_receipt_room.new.receipts.receipts (filed.0 ∷ []) in
+    let kept = ap length c.in_ok-room.ensures.receipts in
+    let own = quiet_own c.make_receipt_room.new.own.items filed.0.event filed.0.reply quiet.0 quiet.1 in (
+      search rules,
+      omega (arith, c.in_ok-apply.ensures.counted, longer, one, kept, c.self.invariant.1),
+      noted c.self.inside.receipts.receipts c.apply.new.receipts.receipts c.make_receipt_room.new.own.items _ filed.0
+          (c.in_ok-room.ensures.own ∙ c.self.invariant.2)
+          (rw c.in_ok-room.ensures.receipts at filed.5)
+          own,
+      fits c.self.inside.own.items c.make_receipt_room.new.own.items _ filed.0 _ _ _
+          c.in_ok-room.ensures.own
+          filed.1
+          c.in_ok-room.ensures.room
+          (c.make_receipt_room.new.own.ok.0 ∙ ap length own)
+          c.in_ok-apply.ensures.room,
+    )
+
+pub returns-then-is_last_step-clause-receipt : goal.returns-then-is_last_step-clause-receipt
+returns-then-is_last_step-clause-receipt g c =
+    let filed = c.in_ok-apply.ensures.filed in
+    let quiet : IsQuiet (entry_of filed.0) = c.is_last_step.ensures c.if-is_last_step.true _ filed.0 filed.5 in (
+      filed.0,
+      filed.1,
+      filed.5 ∙ ap (λ l. l ++ filed.0 ∷ []) (c.in_ok-room.ensures.receipts ∙ c.self.view_is),
+      no_wait c.args.may_wait _ quiet.3,
+    )
 
 pub invariant_of-self-2 : goal.invariant_of-self-2
 invariant_of-self-2 g c =

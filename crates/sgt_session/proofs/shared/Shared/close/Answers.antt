@@ -23,20 +23,20 @@ pub returns-clause-setting : goal.returns-clause-setting
 returns-clause-setting g c = c.into_engine.ensures.setting
 
 pub returns-clause-legal : goal.returns-clause-legal
-returns-clause-legal g c = subst (λ s. Legal s c.into_engine.result.past) c.into_engine.ensures.setting c.into_engine.ensures.legal
+returns-clause-legal g c = subst (λ s. Legal s c.into_engine.result.value.past) c.into_engine.ensures.setting c.into_engine.ensures.legal
 
 pub returns-clause-real_time : goal.returns-clause-real_time
 returns-clause-real_time g c =
-    subst (λ s. KeepsRealTime s c.into_engine.result.past) c.into_engine.ensures.setting c.into_engine.ensures.real_time
+    subst (λ s. KeepsRealTime s c.into_engine.result.value.past) c.into_engine.ensures.setting c.into_engine.ensures.real_time
 
 pub returns-clause-progress : goal.returns-clause-progress
 returns-clause-progress g c =
-    subst (λ s. MakesProgress s c.into_engine.result.past) c.into_engine.ensures.setting c.into_engine.ensures.progress
+    subst (λ s. MakesProgress s c.into_engine.result.value.past) c.into_engine.ensures.setting c.into_engine.ensures.progress
 
 pub returns-clause-accounts : goal.returns-clause-accounts
 returns-clause-accounts g c =
-    let entries : c.history.result.now.entries ≡ reverse c.into_engine.result.past =
+    let entries : c.history.result.now.entries ≡ reverse c.into_engine.result.value.past =
     sym (reverse-reverse c.history.result.now.entries)
     ∙ ap reverse (c.history.ensures.entries ∙ ap (λ (e : EngineView). e.past) (sym c.into_engine.ensures.same)) in
-    subst (λ rs. AccountsForHistory (reverse c.into_engine.result.past) rs) c.as_slice.ensures.value
+    subst (λ rs. AccountsForHistory (reverse c.into_engine.result.value.past) rs) c.as_slice.ensures.value
     (subst (λ es. AccountsForHistory es c.as_slice.result.now) entries (c.if-not-accounts.ensures refl))
