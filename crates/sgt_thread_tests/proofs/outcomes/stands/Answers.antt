@@ -5,4 +5,4 @@ use Rattle.sgt_thread_tests.proofs.outcomes.stands.Goals as goal
 
 pub audit-requires : goal.audit-requires
 audit-requires c =
-    (setting_of c.args.engine.now, subst (Legal (setting_of c.args.engine.now)) (sym c.history.ensures.entries) c.history.ensures.legal)
+    (setting_of c.deref.result.now, subst (Legal (setting_of c.deref.result.now)) (sym c.history.ensures.entries) c.history.ensures.legal)
