@@ -48,20 +48,21 @@ pub fn run_sessions<
     let Ok((putter, takers)) = Feed::make_for(alloc, jobs.len(), sessions.len()) else {
         return Err(PoolError::NoMemory);
     };
-    let team = team_of(alloc, tries, calls, &putter, sessions, takers)?;
+    let team = team_of(alloc, jobs, tries, calls, &putter, sessions, takers)?;
     let (putter, ended) = run_crew(rt, alloc, shared, gate, outcomes, jobs, putter, team)?;
     join_passes(alloc, putter, ended)
 }
 
 /// A worker for each session and taker, with capacity reserved for this many calls.
-fn team_of<N: Named>(
+fn team_of<'a, N: Named>(
     alloc: Global,
+    jobs: &'a [Job],
     tries: u32,
     calls: usize,
     putter: &Putter,
     sessions: Vec<Session<N>>,
     takers: Vec<Taker>,
-) -> Result<Vec<Worker<N>>, PoolError>
+) -> Result<Vec<Worker<'a, N>>, PoolError>
     requires few { vec_len sessions ≤ 16 }
     requires same { vec_len takers ≡ vec_len sessions }
     requires feed { All (λ t. t.feed ≡ putter.now.feed) takers.items }
@@ -80,6 +81,7 @@ fn team_of<N: Named>(
         };
         team.push_reserved(Worker {
             number,
+            jobs,
             tries,
             calls,
             alloc,
@@ -109,11 +111,11 @@ fn run_crew<
     outcomes: &Mutex<Vec<Outcome<T::Note>>>,
     jobs: &[Job],
     putter: Putter,
-    team: Vec<Worker<N>>,
+    team: Vec<Worker<'_, N>>,
 ) -> Result<(Putter, Vec<Ended<N>>), PoolError>
     requires { All (λ w. w.taker.feed ≡ putter.feed) team.items }
     ensures putter { IfOk result (λ r. KeepsTakers putter r.0) }
-    ensures count { IfOk result (λ r. vec_len r.1 ≡ vec_len team) }
+    ensures count { IfOk result (λ r. vec_len r.1 ≡ vec_len team.entry) }
     ensures feed { IfOk result (λ r. All (λ e. e.stub.feed ≡ putter.feed) r.1.items) }
     ensures error { IfErr result IsRunError }
 {
@@ -132,11 +134,9 @@ fn run_crew<
             requires running { (running.items ≡ []) × (vec_len team ≤ vec_capacity running) }
             requires ended { (ended.items ≡ []) × (vec_len team ≤ vec_capacity ended) }
             ensures putter { KeepsTakers putter result.0 }
-            ensures ended { (vec_len result.1 ≤ vec_len team) × All (λ e. e.stub.feed ≡ putter.feed) result.1.items }
+            ensures ended { (vec_len result.1 ≤ vec_len team.entry) × All (λ e. e.stub.feed ≡ putter.feed) result.1.items }
         {
-            let running = start_all(
-                scope, rt, shared, gate, outcomes, jobs, &putter, running, team,
-            );
+            let running = start_all(scope, rt, shared, gate, outcomes, &putter, running, team);
             let all_run = running.len() == count;
             let putter = put_all(rt, putter, jobs, all_run, running.len());
             let ended = join_all(rt, &putter, running, ended);
@@ -165,22 +165,20 @@ fn start_all<
     shared: &'s Shared<N, R, A, G>,
     gate: &'s T,
     outcomes: &'s Mutex<Vec<Outcome<T::Note>>>,
-    jobs: &'s [Job],
     putter: &Putter,
     running: Vec<PromisedHandle<Ended<N>, SameFeed>>,
-    team: Vec<Worker<N>>,
+    team: Vec<Worker<'s, N>>,
 ) -> Vec<PromisedHandle<Ended<N>, SameFeed>>
     requires room { (running.items ≡ []) × (vec_len team ≤ vec_capacity running) }
     requires feed { All (λ w. w.taker.feed ≡ putter.now.feed) team.items }
-    ensures count { vec_len result ≤ vec_len team }
+    ensures count { vec_len result ≤ vec_len team.entry }
     ensures feed { All (λ h. h.promise.0.value.feed ≡ putter.now.feed) result.items }
 {
     let mut running = running;
     for worker in team {
         let promise = SameFeed(Snapshot::of(&worker.taker));
-        let Ok(handle) = scope.spawn_with(promise, move || {
-            work(rt, shared, gate, outcomes, jobs, worker)
-        }) else {
+        let Ok(handle) = scope.spawn_with(promise, move || work(rt, shared, gate, outcomes, worker))
+        else {
             break;
         };
         running.push_reserved(handle);

@@ -16,8 +16,10 @@ use std::thread::Promise;
 
 /// The input of one worker.
 #[derive(Drop)]
-pub struct Worker<N: Named> {
+pub struct Worker<'a, N: Named> {
     pub number: u8,
+    /// The jobs of the run, by their numbers.
+    pub jobs: &'a [Job],
     /// The most attempts at a job.
     pub tries: u32,
     /// For how many calls it reserves capacity in advance, if it can.
@@ -53,13 +55,13 @@ pub fn work<N: Named, R: Records, A: Accesses, G: Graph, T: Gate, W: Wait>(
     shared: &Shared<N, R, A, G>,
     gate: &T,
     outcomes: &Mutex<Vec<Outcome<T::Note>>>,
-    jobs: &[Job],
-    worker: Worker<N>,
+    worker: Worker<'_, N>,
 ) -> Ended<N>
-    ensures { result.stub.feed ≡ worker.taker.feed }
+    ensures { result.stub.feed ≡ worker.entry.taker.feed }
 {
     let Worker {
         number,
+        jobs,
         tries,
         calls,
         alloc,

@@ -1,12 +1,10 @@
 use denote.Param.Send.{sendable}
 use Rattle.std.proofs.Common.{◌≡◌, ◌∙◌, ap, length, arith}
-use Rattle.std.proofs.Crossing.{crosses}
 use Rattle.sgt_dispatch.specs.Ends.{TakerState}
 use Rattle.sgt_session.proofs.Crossing.{shared_sync}
 use Rattle.sgt_workers.specs.declared.worker.SameFeed.{SameFeed}
 use Rattle.sgt_workers.proofs.worker.Worker.TheSendSync as worker
 use Rattle.sgt_audit.proofs.Crossing.{outcomes_sync}
-use Rattle.sgt_audit.proofs.job.Job.TheSendSync as job
 use Rattle.sgt_workers.proofs.Loops.{one_by_one}
 use Rattle.sgt_workers.proofs.crew.start_all.Goals as goal
 
@@ -27,4 +25,4 @@ spawn_with-requires-send-F g c κs within =
     let b = c.type_bounds in
     let shared = shared_sync _ _ _ g.R.Records g.A.Accesses g.G.Graph _ g.N.Named g.N.Ledger b.send-N b.send-R b.send-A b.send-G in
     let outcomes = outcomes_sync _ b.send-T-Note in
-    search (sendable, crosses, shared, outcomes, worker.the_send, job.the_sync, b.sync-T, b.sync-W) depth 20
+    search (sendable, shared, outcomes, worker.the_send, b.sync-T, b.sync-W) depth 20
