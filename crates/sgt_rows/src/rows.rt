@@ -70,6 +70,25 @@ impl Rows {
         Ok(())
     }
 
+    /// Replaces the key's value, or adds a row, and returns the value before, or none. The value is from `LEAST` to `MOST`.
+    /// It searches the B-tree once.
+    ///
+    /// `NoMemory` if an allocation failed. Then nothing has changed.
+    pub fn replace(&mut self, key: Key, value: i64) -> Result<Option<i64>, NoMemory>
+        requires { IsValue value }
+        ensures put { OnOk result ((k : Key) → contents_of self.new k ≡ put_in (contents_of self.old) key value k) }
+        ensures before { IfOk result (λ v. v ≡ contents_of self.old key) }
+        ensures err { OnErr result (self.new ≡ self.old) }
+    {
+        let first = self.first.get(key);
+        if self.later.is_empty() && is_last(&self.first, key) {
+            self.first.put(key, value)?;
+            return Ok(first);
+        }
+        let later = self.later.insert(key, value)?;
+        Ok(later.or(first))
+    }
+
     /// Adds a row if the key has none, and returns whether it did. If the key has a value, nothing changes. The value is from
     /// `LEAST` to `MOST`.
     ///

@@ -119,10 +119,9 @@ fn database_of(alloc: Global, accounts: &[Account]) -> Result<Database, BadOpeni
 {
     let mut rows = AccountRows::new(alloc);
     for account in accounts {
-        if let Some(fault) = rows.fault(account) {
+        if let Some(fault) = rows.add(account)? {
             return Err(BadOpening::Fault(fault));
         }
-        rows.put(account)?;
     }
     Ok(rows.database(alloc)?)
 }

@@ -1,9 +1,9 @@
 //! Accounts that are added to rows one after another.
-ghost use Rattle.std.specs.Prelude.{◌≡◌, None, IfOk, OnOk};
+ghost use Rattle.std.specs.Prelude.{◌≡◌, None, IfOk};
 ghost use Rattle.sgt_model.specs.Contents.{Key};
 ghost use Rattle.sgt_model.specs.Databases.{contents_of};
 ghost use Rattle.sgt_smallbank.specs.AccountRows.{rows_in};
-ghost use Rattle.sgt_smallbank.specs.Accounts.{fault_among, with_account, IsInRange};
+ghost use Rattle.sgt_smallbank.specs.Accounts.{fault_among, with_account};
 
 use crate::account::{Account, keys};
 use crate::account_rows::AccountRows;
@@ -24,36 +24,25 @@ impl AccountRows {
         }
     }
 
-    /// The fault of an account that comes after these.
-    pub fn fault(&self, account: &Account) -> Option<OpeningFault>
-        ensures { result ≡ fault_among (rows_in self.now) account.now }
-    {
-        let Some((name, saving, _)) = keys(account) else {
-            return Some(OpeningFault::Range);
-        };
-        if self.customers.get(name).is_some() {
-            return Some(OpeningFault::SameName);
-        }
-        if self.savings.get(saving).is_some() {
-            return Some(OpeningFault::SameCustomer);
-        }
-        None
-    }
-
-    /// Writes the rows of an account.
+    /// Writes the rows of an account that comes after these, unless it has a fault.
     ///
-    /// `NoMemory` if an allocation failed. Then some of them may be written.
-    pub fn put(&mut self, account: &Account) -> Result<(), NoMemory>
-        requires { IsInRange account.now }
-        ensures { OnOk result ((k : Key) → rows_in self.new k ≡ with_account (rows_in self.old) account.now k) }
+    /// `NoMemory` if an allocation failed. Then, and if there is a fault, some of its rows may be written.
+    pub fn add(&mut self, account: &Account) -> Result<Option<OpeningFault>, NoMemory>
+        ensures fault { IfOk result (λ fault. fault ≡ fault_among (rows_in self.old) account.now) }
+        ensures rows { IfOk result (λ fault. fault ≡ None →
+            (k : Key) → rows_in self.new k ≡ with_account (rows_in self.old) account.now k) }
     {
         let Some((name, saving, checking)) = keys(account) else {
-            unreachable!();
+            return Ok(Some(OpeningFault::Range));
         };
-        self.customers.put(name, account.customer)?;
-        self.savings.put(saving, account.saving)?;
+        if self.customers.replace(name, account.customer)?.is_some() {
+            return Ok(Some(OpeningFault::SameName));
+        }
+        if self.savings.replace(saving, account.saving)?.is_some() {
+            return Ok(Some(OpeningFault::SameCustomer));
+        }
         self.checkings.put(checking, account.checking)?;
-        Ok(())
+        Ok(None)
     }
 
     /// The database of the rows.
