@@ -1,3 +1,4 @@
+pub mod AnyOrder
 pub mod Values
 pub mod Forks
 pub mod Flawless

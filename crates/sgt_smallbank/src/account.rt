@@ -1,5 +1,5 @@
 //! The accounts of a bank, and the database made from them.
-ghost use Rattle.std.specs.Prelude.{◌≡◌, ◌≢◌, ◌↔◌, [], None, IsSome, IfSome, OnOk, IfOk, IfErr};
+ghost use Rattle.std.specs.Prelude.{◌≡◌, ◌≢◌, ◌↔◌, [], None, IsSome, IfSome, OnSome, OnOk, IfOk, IfErr};
 ghost use Rattle.sgt_model.specs.Contents.{Key};
 ghost use Rattle.sgt_model.specs.Databases.{contents_of};
 ghost use Rattle.sgt_smallbank.specs.Accounts.{name_key, saving_key, checking_key, with_account, opened, IsInRange, has_name, has_customer, fault_among, fault_behind, fault_of, AreRefused};
@@ -113,6 +113,33 @@ fn has_customer(accounts: &[Account], customer: i64) -> bool
 
 /// The database with the rows of these accounts, or the first fault. If an allocation failed, there may be a fault.
 fn database_of(alloc: Global, accounts: &[Account]) -> Result<Database, BadOpening>
+    ensures contents { IfOk result (λ database. (k : Key) → contents_of database k ≡ opened accounts.now k) }
+    ensures no_fault { OnOk result (fault_of accounts.now ≡ None) }
+    ensures fault { IfErr result (λ error. error ≢ BadOpening.NoMemory → AreRefused accounts.now error) }
+{
+    match database_by_name(alloc, accounts) {
+        Some(database) => Ok(database),
+        None => database_in_turn(alloc, accounts),
+    }
+}
+
+/// The database with the rows of accounts that do not come in the order of their names, added in that order. None if they do,
+/// if one has a fault, or if an allocation failed.
+fn database_by_name(alloc: Global, accounts: &[Account]) -> Option<Database>
+    ensures contents { IfSome result (λ database. (k : Key) → contents_of database k ≡ opened accounts.now k) }
+    ensures no_fault { OnSome result (fault_of accounts.now ≡ None) }
+{
+    if accounts.is_sorted_by_key(|account| account.name) {
+        return None;
+    }
+    let mut sorted = Vec::from_slice(alloc, accounts).ok()?;
+    sorted.sort_unstable_by_key(|account| account.name);
+    database_in_turn(alloc, sorted.as_slice()).ok()
+}
+
+/// The database with the rows of these accounts, added one after another, or the first fault. If an allocation failed, there may
+/// be a fault.
+fn database_in_turn(alloc: Global, accounts: &[Account]) -> Result<Database, BadOpening>
     ensures contents { IfOk result (λ database. (k : Key) → contents_of database k ≡ opened accounts.now k) }
     ensures no_fault { OnOk result (fault_of accounts.now ≡ None) }
     ensures fault { IfErr result (λ error. error ≢ BadOpening.NoMemory → AreRefused accounts.now error) }

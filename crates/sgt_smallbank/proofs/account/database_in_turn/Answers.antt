@@ -2,7 +2,7 @@ use Rattle.std.proofs.Common.{pos, refl, sym, ◌∙◌}
 use Rattle.sgt_smallbank.specs.AccountRows.{rows_in}
 use Rattle.sgt_smallbank.specs.declared.account.Account.{Account}
 use Rattle.sgt_smallbank.proofs.Faults.{rows_next, fault_here, fault_later}
-use Rattle.sgt_smallbank.proofs.account.database_of.Goals as goal
+use Rattle.sgt_smallbank.proofs.account.database_in_turn.Goals as goal
 
 abbrev none : Account
 none = record { name = pos 0; customer = pos 0; saving = pos 0; checking = pos 0 }
