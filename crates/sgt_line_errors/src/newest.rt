@@ -12,6 +12,15 @@ const MOST_STORED: usize = 1_048_576;
 /// it tests.
 const LEAST_STORED: usize = 262_144;
 
+/// How many bytes are tested for newlines at once.
+const AT_ONCE: usize = 8;
+
+/// A newline in each byte.
+const NEWLINES: u64 = 0x0a0a_0a0a_0a0a_0a0a;
+
+/// All bits of each byte but the highest.
+const LOW_BITS: u64 = 0x7f7f_7f7f_7f7f_7f7f;
+
 /// The newest lines of an input, as many as fit about a mebibyte.
 #[derive(Drop)]
 pub(crate) struct NewestLines {
@@ -97,6 +106,29 @@ fn until_break(bytes: &[u8]) -> &[u8]
 
 // The number of newlines.
 fn count_breaks(bytes: &[u8]) -> usize
+    ensures { result ≤ length bytes.now }
+{
+    let mut rest = bytes;
+    let mut count = 0;
+    while let Some(word) = rest.first_chunk::<AT_ONCE>() {
+        count += breaks_in(*word);
+        rest = &rest[AT_ONCE..];
+    }
+    count + count_each(rest)
+}
+
+// The number of newlines among eight bytes.
+fn breaks_in(word: [u8; AT_ONCE]) -> usize
+    ensures { result ≤ 8 }
+{
+    // A newline becomes zero. Then the high bit of each byte that is not zero is set.
+    let word = u64::from_le_bytes(word) ^ NEWLINES;
+    let others = ((word & LOW_BITS).wrapping_add(LOW_BITS) | word) & !LOW_BITS;
+    AT_ONCE.saturating_sub(others.count_ones() as usize)
+}
+
+// The number of newlines, byte by byte.
+fn count_each(bytes: &[u8]) -> usize
     ensures { result ≤ length bytes.now }
 {
     let mut at = 0;

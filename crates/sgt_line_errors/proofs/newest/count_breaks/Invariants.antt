@@ -1,11 +1,8 @@
-use Rattle.std.proofs.Common.{◌≤◌, ◌-◌, length}
+use Rattle.std.proofs.Common.{◌≤◌, ◌+◌, length}
 use Rattle.sgt_line_errors.proofs.newest.count_breaks.Given as goal
 
-abbrev pub invariant-loop-at : goal.invariant-loop-at
-invariant-loop-at l = record {
-  within : l.at ≤ length l.bytes;
-  few : l.count ≤ l.at;
-}
+abbrev pub invariant-loop-word : goal.invariant-loop-word
+invariant-loop-word l = l.count + length l.rest ≤ length l.bytes
 
-abbrev pub decreases-loop-at : goal.decreases-loop-at
-decreases-loop-at l = length l.bytes - l.at
+abbrev pub decreases-loop-word : goal.decreases-loop-word
+decreases-loop-word l = length l.rest
