@@ -24,6 +24,9 @@ SVG = "{http://www.w3.org/2000/svg}"
 # The most operations that are drawn.
 MOST = 400
 
+# The kinds of marks and of lines, as the legend lists them.
+KINDS = ["read", "write", "commit", "abort", "reads", "undone", "cycle", "violation"]
+
 
 def spelled(text):
     """The operations of a history: letter, transaction and item."""
@@ -59,6 +62,8 @@ class Drawing:
         self.marks = [Mark(element) for element in root.findall(f"{SVG}g[{SVG}title]")]
         self.names = ["".join(element.itertext()) for element in root.findall(SVG + "text[@class='name']")]
         self.notes = [element.text or "" for element in root.findall(SVG + "text") if not element.get("class")]
+        legend = root.find(f"{SVG}g[@transform]")
+        self.legend = [element.get("class") for element in legend if element.get("class") != "words"]
         self.lines = {}
         for line in root.findall(SVG + "polyline"):
             points = [tuple(map(int, point.split(","))) for point in line.get("points").split()]
@@ -95,20 +100,21 @@ def places(line):
 
 
 def highlights(report, operations):
-    """The two operations of each edge of the cycle of a report, and those of its first violation where there is no cycle."""
+    """The two operations of each edge of the cycle of a report, and those of the first violation of each other class, each pair once."""
     lines = report.splitlines()
+    cycle = []
     if lines[1].startswith("serializable no"):
-        cycle = [places(edge) for edge in lines[1].split(", ")]
-        return [tuple(pair) for pair in cycle], []
+        cycle = [tuple(places(edge)) for edge in lines[1].split(", ")]
+    violations = set()
     for line in lines[2:]:
-        name = line.split(" no: ")[0]
         if " no: " not in line:
             continue
         told = places(line)
-        if name == "avoids cascading aborts":
-            return [], [(write, read) for write, read, _ in reads_from(operations) if read == told[0]]
-        return [], [tuple(sorted(told[:2]))]
-    return [], []
+        if line.startswith("avoids cascading aborts"):
+            violations |= {(write, read) for write, read, _ in reads_from(operations) if read == told[0]}
+        else:
+            violations.add(tuple(sorted(told[:2])))
+    return cycle, sorted(violations)
 
 
 def compare(operations, report, text):
@@ -130,12 +136,15 @@ def compare(operations, report, text):
     reads = reads_from(operations)
     same("reads", sorted(r[:2] for r in reads if not r[2]), sorted(drawing.ends("reads")))
     same("reads of what is undone", sorted(r[:2] for r in reads if r[2]), sorted(drawing.ends("undone")))
-    cycle, violation = highlights(report, operations)
-    for kind, pairs in (("cycle", cycle), ("violation", violation)):
+    cycle, violations = highlights(report, operations)
+    ends = {place for pair in cycle for place in pair}
+    others = {place for pair in violations for place in pair} - ends
+    for kind, pairs, marked in (("cycle", cycle, ends), ("violation", violations, others)):
         same(f"lines of the {kind}", sorted(pairs), sorted(drawing.ends(kind)))
-        ends = sorted({place for pair in pairs for place in pair})
-        same(f"marks of the {kind}", ends, [m.place for m in marks if f"in-{kind}" in m.classes])
+        same(f"marks of the {kind}", sorted(marked), [m.place for m in marks if f"in-{kind}" in m.classes])
     crossings(drawing)
+    kinds = {m.classes[0] for m in marks} | set(drawing.lines)
+    same("the legend", [kind for kind in KINDS if kind in kinds], drawing.legend)
     same("the report", report.split(), drawing.description.split())
     same("the caption", report.split(), " ".join(drawing.notes).split())
     return drawing
@@ -256,7 +265,7 @@ def draws_what_stands_out_of_long_transactions(sgt):
     operations = [("r", "1", "x"), ("w", "2", "x")] + [("r", "1", "z")] * 500 + [("c", "2", None), ("w", "1", "x"), ("c", "1", None)]
     report, text = picture_of(sgt, operations, status=1)
     drawing = Drawing(text)
-    same("marks", sorted({p for pair in highlights(report, operations)[0] for p in pair}), [m.place for m in drawing.marks])
+    same("marks", sorted({p for pairs in highlights(report, operations) for pair in pairs for p in pair}), [m.place for m in drawing.marks])
     same("left out", f"drawn: {len(drawing.marks)} of 505 operations: those that stand out", drawing.notes[-1])
 
 
