@@ -525,6 +525,21 @@ def explains_each_input(sgt):
             same(f"{folder}/{script.name}", (status, wrote, before + told), (*came[:2], "".join(lines)))
 
 
+def says_why_events_are_refused(sgt):
+    """Each with the line of the event, also after a cut."""
+    opening = '{"limits":[2,3],"accounts":[],"procedures":[[1,[["answer",["arg",0]]]]]}\n'
+    events = ['["step",7]', '["start",1,[1]]', '["start",5,[1,2]]', '["start",6,[]]', '["start",4,[1,-1000000000000000]]', '["begin"]',
+              '["write",0,3,1,1000000000000000]', '["begin"]', '["begin"]', '["quit",0]', '["quit",1]', '["begin"]', '["begin"]', '["quit",2]', '["cut"]',
+              '["commit",0]']
+    replies = ["unknown", "bad args", "bad args", "no procedure", "bad args", "started 0", "bad args", "started 1", "full", "aborted quit fell none",
+               "aborted quit fell none", "started 2", "spent", "aborted quit fell none", "cut 14", "unknown"]
+    told = {2: "no transaction has started with the number 7", 3: "DepositChecking takes 2 arguments, found 1", 4: "procedure 5 takes 1 argument, found 2",
+            5: "there is no procedure 6", 6: f"argument 1 is -1000000000000000, {explained.RANGE}", 8: f"the value is 1000000000000000, {explained.RANGE}",
+            10: "as many are live as line 1 allows", 14: "as many have started as line 1 allows", 17: "no transaction has started with the number 0"}
+    sgt.expect("script", "--explain", given=opening + "\n".join(events), out="".join(f"{reply}\n" for reply in replies),
+               err="".join(f"line {line}: {words}\n" for line, words in told.items()))
+
+
 # A line of a job's tries, and an attempt that failed in it.
 TRIED = re.compile(r"job (\d+): (\d+) (try|tries)(?:: (.*))?")
 ATTEMPT = re.compile(r"(\d+)(?: \((?:cycle with ([\d, ]+)|fell with (\d+))\))?")
@@ -908,6 +923,7 @@ CASES = [
     goes_on_from_the_records_of_an_account,
     explains_each_example,
     explains_each_input,
+    says_why_events_are_refused,
     explains_drawn_scripts,
     judges_drawn_scripts,
     tells_how_often_each_job_was_tried,

@@ -1,7 +1,7 @@
 //! The program `sgt`, with three subcommands:
 //!
 //! - `sgt script` runs a script of JSON lines on an engine. It writes a line for each reply, and then the committed
-//!   database. On request it explains on standard error why transactions are aborted.
+//!   database. On request it explains on standard error why transactions are aborted and events refused.
 //! - `sgt bank` runs jobs on worker threads. It writes a line for each job's outcome, and then the committed
 //!   database. On request it reports on standard error how often each job was tried.
 //! - `sgt check` reads a history. It writes the classes that the history belongs to, its serialization graph, or a
