@@ -525,6 +525,24 @@ def explains_each_input(sgt):
             same(f"{folder}/{script.name}", (status, wrote, before + told), (*came[:2], "".join(lines)))
 
 
+# The line of a job that did not commit at its first try; why a try failed; and the summary.
+TOLD_JOB = re.compile(r"job (\d+): (committed|aborted with code (\d+)|given up|refused: (.*)|no memory)(?: at try (\d+))?((?:; try \d+: [^;]*)*)")
+FAILED_TRY = re.compile(r"try (\d+): (?:cycle with job ([\d, ]+)|aborted in cascade with job (\d+))")
+SUMMARY = "{} jobs: {} committed, {} aborted with a code, {} given up, {} refused, {} without memory; {} tries"
+
+
+def says_how_jobs_ended(sgt):
+    given = OPENING + '["job",1,[1,50]]\n["job",0,[9]]\n["job",99,[]]\n["job",0,[1]]\n["job",1,[1]]\n["job",4,[1,1000000000000000]]\n'
+    out = "0 committed 1050\n1 asked 1\n2 refused 1\n3 committed 1550\n4 refused 2\n5 refused 2\n0/1 101\n1/101 500\n2/101 1050\n"
+    err = "job 1: aborted with code 1 at try 1\njob 2: refused: there is no procedure 99\n"
+    err += "job 4: refused: DepositChecking takes 2 arguments, found 1\n"
+    err += f"job 5: refused: argument 1 is 1000000000000000, {explained.RANGE}\n" + SUMMARY.format(6, 2, 1, 0, 3, 0, 3) + "\n"
+    sgt.expect("bank", "--explain", "--workers", "1", given=given, out=out, err=err)
+    sgt.expect("bank", "--explain", given=OPENING, out=RECORDS, err=SUMMARY.format(0, 0, 0, 0, 0, 0, 0) + "\n")
+    one = "1 job: 1 committed, 0 aborted with a code, 0 given up, 0 refused, 0 without memory; 1 try\n"
+    sgt.expect("bank", "--explain", given=OPENING + JOB, out=DEPOSITED, err=one)
+
+
 def says_why_events_are_refused(sgt):
     """Each with the line of the event, also after a cut."""
     opening = '{"limits":[2,3],"accounts":[],"procedures":[[1,[["answer",["arg",0]]]]]}\n'
@@ -540,20 +558,7 @@ def says_why_events_are_refused(sgt):
                err="".join(f"line {line}: {words}\n" for line, words in told.items()))
 
 
-# A line of a job's tries, and an attempt that failed in it.
-TRIED = re.compile(r"job (\d+): (\d+) (try|tries)(?:: (.*))?")
-ATTEMPT = re.compile(r"(\d+)(?: \((?:cycle with ([\d, ]+)|fell with (\d+))\))?")
-
-
-def tells_how_often_each_job_was_tried(sgt):
-    given = OPENING + '["job",1,[1,50]]\n["job",0,[9]]\n["job",99,[]]\n["job",0,[1]]\n'
-    out = "0 committed 1050\n1 asked 1\n2 refused 1\n3 committed 1550\n0/1 101\n1/101 500\n2/101 1050\n"
-    err = "job 0: 1 try: 0\njob 1: 1 try: 1\njob 2: 0 tries\njob 3: 1 try: 2\n"
-    sgt.expect("bank", "--explain", "--workers", "1", given=given, out=out, err=err)
-    sgt.expect("bank", "--explain", given=OPENING, out=RECORDS)
-
-
-def tells_how_often_each_job_of_the_examples_was_tried(sgt):
+def says_how_each_job_of_the_examples_ended(sgt):
     for jobs, words in banks():
         status, wrote, told = sgt.run("bank", "--explain", *words, given=jobs.read_text())
         try:
@@ -585,28 +590,38 @@ def tells_by_whom_tries_were_aborted(sgt):
 
 
 def tried(report, lines, tally):
-    """Compares lines of tries with the report: each transaction that was started is reported once, and those that failed with others of
-    the run. Counts those in a cycle, and those aborted in cascade."""
+    """Compares the lines of jobs with the report: those that did not commit at their first try, in order, with the jobs that aborted their
+    failed tries; and the summary. Counts tries in a cycle, and those aborted in cascade."""
     outcomes = [line.split() for line in report if "/" not in line.split()[0]]
-    same("the lines", len(outcomes), len(lines))
-    started, others = [], set()
-    for job, line in enumerate(lines):
-        if not (told := TRIED.fullmatch(line)):
+    counts, tries, last = Counter(), 0, -1
+    silent = set(range(len(outcomes)))
+    for line in lines[:-1]:
+        if not (told := TOLD_JOB.fullmatch(line)):
             raise Differs(f"came {line!r}")
-        number, count, word, rest = told.groups()
-        attempts = [ATTEMPT.fullmatch(attempt).groups() for attempt in re.split(r", (?![^(]*\))", rest or "") if attempt]
-        same(line, (str(job), str(len(attempts)), "try" if len(attempts) == 1 else "tries"), (number, count, word))
-        failed = [attempt for attempt in attempts if attempt[1] or attempt[2]]
-        ends = len(attempts) - (outcomes[job][1] in ("committed", "asked"))
-        same(f"{outcomes[job]}: {line}", attempts[:ends], failed)
-        if outcomes[job][1] == "gave":
-            same(line, outcomes[job][2], count)
-        started += [int(attempt[0]) for attempt in attempts]
-        others |= {int(t) for attempt in failed for t in re.findall(r"\d+", attempt[1] or attempt[2])}
-        tally[0] += sum(attempt[1] is not None for attempt in failed)
-        tally[1] += sum(attempt[2] is not None for attempt in failed)
-    same("the transactions", list(range(len(started))), sorted(started))
-    same("those that abort others", set(), others - set(started))
+        job, how, code, _, at, rest = told.groups()
+        same(f"order: {line}", True, last < int(job) < len(outcomes))
+        last = int(job)
+        silent.remove(last)
+        failed = [FAILED_TRY.fullmatch(one).groups() for one in rest.split("; ")[1:]]
+        same(line, [str(number) for number in range(1, len(failed) + 1)], [number for number, _, _ in failed])
+        outcome = outcomes[last]
+        wanted = {"committed": "committed", "asked": f"aborted with code {outcome[-1]}", "gave": "given up", "refused": f"refused: {told[4]}", "no": "no memory"}
+        same(line, wanted[outcome[1]], how)
+        ends = outcome[1] in ("committed", "asked")
+        if outcome[1] != "refused":
+            same(line, str(len(failed) + ends), at)
+        if outcome[1] == "gave":
+            same(line, outcome[2], str(len(failed)))
+        for _, cycle, cascade in failed:
+            if any(int(other) >= len(outcomes) for other in (cycle or cascade).split(", ")):
+                raise Differs(f"no such job: {line}")
+        tries += len(failed) + ends
+        tally[0] += sum(cycle is not None for _, cycle, _ in failed)
+        tally[1] += sum(cascade is not None for _, _, cascade in failed)
+    same("who is silent", {"committed"}, {outcomes[job][1] for job in silent} | {"committed"})
+    counts = Counter(outcome[1] for outcome in outcomes)
+    summary = [counts[kind] for kind in ("committed", "asked", "gave", "refused", "no")]
+    same("the summary", SUMMARY.format(len(outcomes), *summary, tries + len(silent)), lines[-1])
 
 
 def tells_on_a_terminal_how_many_jobs_have_ended(sgt):
@@ -923,11 +938,11 @@ CASES = [
     goes_on_from_the_records_of_an_account,
     explains_each_example,
     explains_each_input,
+    says_how_jobs_ended,
     says_why_events_are_refused,
     explains_drawn_scripts,
     judges_drawn_scripts,
-    tells_how_often_each_job_was_tried,
-    tells_how_often_each_job_of_the_examples_was_tried,
+    says_how_each_job_of_the_examples_ended,
     tells_by_whom_tries_were_aborted,
     tells_on_a_terminal_how_many_jobs_have_ended,
     tells_who_is_live_at_the_end,

@@ -140,12 +140,13 @@ number of at most 15 digits. The first limit, from 1 to 32, must be at least the
 The order of two jobs is not fixed. Run serially in commit order, the committed jobs give the same
 answers and the same database.
 
-With --explain, standard error says after the report how often each job was tried, with the
-transaction of each try, and why the failed tries were aborted:
+With --explain, standard error says after the report of each job that did not commit at its first
+try how it ended, and which jobs aborted its tries. A summary comes last. All numbers are of jobs:
 
-  job 0: 1 try: 0
-  job 1: 3 tries: 1 (cycle with 0, 2), 3 (fell with 2), 4
-  job 2: 0 tries
+  job 1: committed at try 3; try 1: cycle with job 0, 2; try 2: aborted in cascade with job 2
+  job 4: aborted with code 1 at try 1
+  job 5: refused: DepositChecking takes 2 arguments, found 1
+  6 jobs: 4 committed, 1 aborted with a code, 0 given up, 1 refused, 0 without memory; 7 tries
 
 While the jobs run, a terminal shows once a second how many have ended. If a line is faulty, a
 second line explains the error. Standard output and the status are as without --explain. It excludes

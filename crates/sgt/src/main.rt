@@ -3,7 +3,7 @@
 //! - `sgt script` runs a script of JSON lines on an engine. It writes a line for each reply, and then the committed
 //!   database. On request it explains on standard error why transactions are aborted and events refused.
 //! - `sgt bank` runs jobs on worker threads. It writes a line for each job's outcome, and then the committed
-//!   database. On request it reports on standard error how often each job was tried.
+//!   database. On request it reports on standard error how the jobs ended, and why.
 //! - `sgt check` reads a history. It writes the classes that the history belongs to, its serialization graph, or a
 //!   picture of it. With `--model list-append` the history is what the clients of a database saw.
 //!
@@ -163,7 +163,7 @@ fn bank_options<'a>(alloc: Global) -> Result<Vec<Arg<'a>>, AllocError> {
         [
             "Writes the run as a history for 'sgt check', instead of the outcomes",
             "Writes the committed database as records, instead of the outcomes",
-            "Reports on standard error how often each job was tried; explains errors",
+            "Reports on standard error how the jobs ended, and why; explains errors",
         ],
     )?;
     Ok(options)
@@ -426,18 +426,18 @@ fn read_bank_options(stderr: &Stderr, options: &ArgMatches<'_>) -> sgt_bank::Opt
     } else {
         sgt_bank::Output::Report
     };
-    let explanations = if !options.get_flag("explain") {
-        Explanations::Off
-    } else if stderr.is_terminal() {
-        Explanations::TriesAndProgress
-    } else {
+    let is_explained = options.get_flag("explain");
+    let explanations = if is_explained {
         Explanations::Tries
+    } else {
+        Explanations::Off
     };
     sgt_bank::Options {
         workers: number(options, "workers", MOST_WORKERS),
         tries: number(options, "tries", MOST_TRIES),
         output,
         explanations,
+        shows_progress: is_explained && stderr.is_terminal(),
     }
 }
 
