@@ -21,7 +21,7 @@ from program import Program  # noqa: E402
 HISTORIES = TESTS.parent / "examples" / "histories"
 SVG = "{http://www.w3.org/2000/svg}"
 
-# The most operations that are drawn.
+# The most operations that are drawn, with --all.
 MOST = 400
 
 # The kinds of marks and of lines, as the legend lists them.
@@ -173,10 +173,10 @@ def drawn_history(dice, transactions, most, items, ends="ca"):
     return operations
 
 
-def picture_of(sgt, operations, status=None):
+def picture_of(sgt, operations, *words, status=None):
     given = " ".join(map(word, operations)) + "\n"
     ended, report, told = sgt.run("check", given=given)
-    drawn, text, told_too = sgt.run("check", "--timeline", given=given)
+    drawn, text, told_too = sgt.run("check", "--timeline", *words, given=given)
     same("status", status if status is not None else ended, drawn)
     same("standard error", "", told + told_too)
     return report, text
@@ -213,7 +213,7 @@ def draws_drawn_histories(sgt):
 def draws_no_empty_history(sgt):
     for given in ("", "# nothing\n"):
         told = sgt.run("check", "--timeline", given=given)
-        same("status, output and error", (2, "", "no operations\n"), told)
+        same("status, output and error", (2, "", "no operations\na history has operations: r1[x], w1[x], c1 or a1\n"), told)
 
 
 def draws_the_widest(sgt):
@@ -233,7 +233,7 @@ def draws_the_longest_whole(sgt):
     operations = drawn_history(dice, 30, MOST - 30, list("xyzuv"), ends="")
     operations += [(dice.choice("cca"), str(t), None) for t in range(1, 31)]
     started = time.monotonic()
-    report, text = picture_of(sgt, operations)
+    report, text = picture_of(sgt, operations, "--all")
     took = time.monotonic() - started
     compare(operations, report, text)
     if took > 2:
@@ -251,6 +251,21 @@ def draws_a_cycle_of_a_long_history(sgt):
     same("marks", list(map(word, cycle)), [m.title for m in drawing.marks])
     same("red lines", sorted(highlights(report, operations)[0]), sorted(drawing.ends("cycle")))
     same("left out", f"drawn: 6 of {len(operations)} operations: those of the transactions that stand out", drawing.notes[-1])
+
+
+def draws_what_a_screen_has_room_for(sgt):
+    """A history of over 60 operations: those of the transactions of the violations, and all with an option."""
+    others = [o for t in range(10, 38) for o in (("r", str(t), "q"), ("c", str(t), None))]
+    for first in ([("w", "1", "x"), ("r", "2", "x"), ("c", "2", None), ("a", "1", None)], [("r", "1", "x"), ("w", "2", "x"), ("c", "2", None), ("c", "1", None)]):
+        for count, drawn in ((56, 60), (57, 4)):
+            operations = first + (others + [("r", "99", "q")])[:count]
+            report, text = picture_of(sgt, operations)
+            drawing = Drawing(text)
+            same(f"{count} others", list(map(word, operations[:drawn])), [m.title for m in drawing.marks])
+            same("orange lines", highlights(report, operations)[1], sorted(drawing.ends("violation")))
+            if drawn == 4:
+                same("left out", "drawn: 4 of 61 operations: those of the transactions that stand out", drawing.notes[-1])
+            compare(operations, *picture_of(sgt, operations, "--all"))
 
 
 def draws_a_long_history_without_a_violation(sgt):
@@ -294,6 +309,12 @@ def stands_beside_no_graph(sgt):
     same("told", True, "cannot be used with" in told)
 
 
+def needs_a_picture(sgt):
+    for words in (["--all"], ["--graph", "--all"]):
+        status, text, told = sgt.run("check", *words, given="c1")
+        same(f"{words}", (2, "", "error: the option '--all' needs '--timeline'"), (status, text, told.splitlines()[0]))
+
+
 def brings_nothing_along(sgt):
     """No script, and no font or image from elsewhere."""
     for picture in sorted(HISTORIES.glob("*.timeline.svg")):
@@ -310,11 +331,13 @@ CASES = [
     draws_the_widest,
     draws_the_longest_whole,
     draws_a_cycle_of_a_long_history,
+    draws_what_a_screen_has_room_for,
     draws_a_long_history_without_a_violation,
     draws_what_stands_out_of_long_transactions,
     draws_a_long_report,
     refuses_what_is_no_history,
     stands_beside_no_graph,
+    needs_a_picture,
     brings_nothing_along,
 ]
 

@@ -22,7 +22,7 @@ from itertools import permutations
 
 sys.dont_write_bytecode = True
 from helpers import explained  # noqa: E402
-from helpers.cases import SECONDS, TESTS, Differs, same, tell  # noqa: E402
+from helpers.cases import SECONDS, TESTS, Differs, first_line, same, tell  # noqa: E402
 from helpers.legal import Illegal, judge  # noqa: E402
 from helpers.worked import PROGRAMS, Bank, drawn  # noqa: E402
 
@@ -90,7 +90,10 @@ class Program:
         return process.returncode, (wrote or b"").decode(), told.decode()
 
     def expect(self, *words, given="", status=0, out="", err=""):
+        """If one line is wanted of an error, a second one may explain it."""
         came = self.run(*words, given=given)
+        if status == 2 and err.count("\n") == 1:
+            came = first_line(came)
         same("standard error", err, came[2])
         same("standard output", out, came[1])
         same("status", status, came[0])
@@ -100,7 +103,8 @@ class Program:
 
 
 def tells_its_version(sgt):
-    sgt.expect("--version", out="sgt 0.1.0\n")
+    for word in ("--version", "version"):
+        sgt.expect(word, out="sgt 0.1.0\n")
 
 
 def helps(sgt):
@@ -513,16 +517,12 @@ def explains_each_example(sgt):
 
 
 def explains_each_input(sgt):
-    """Nothing else of a run changes, and its error is reported as without the option, with one line more at most."""
+    """Nothing else of a run changes, and its error is reported as without the option."""
     for folder in ("scripts", "script_faults"):
         for script in sorted((INPUTS / folder).glob("*.jsonl")):
             status, wrote, told = sgt.run("script", given=script.read_text())
             before = explained_by_hand(script) if folder == "scripts" else ""
-            came = sgt.run("script", "--explain", given=script.read_text())
-            lines = came[2].splitlines(True)
-            if folder == "script_faults" and len(lines) == 2:
-                lines.pop()
-            same(f"{folder}/{script.name}", (status, wrote, before + told), (*came[:2], "".join(lines)))
+            same(f"{folder}/{script.name}", (status, wrote, before + told), sgt.run("script", "--explain", given=script.read_text()))
 
 
 # The line of a job that did not commit at its first try; why a try failed; and the summary.
@@ -773,6 +773,83 @@ def refuses_a_history_that_is_too_long(sgt):
     sgt.expect("check", given=" " * (most - 4) + "c1c1", status=2, err="line 1: no operation: c1c1\n")
 
 
+def says_what_an_operation_looks_like(sgt):
+    """In a second line, with its column, and with a hint if it is plain what was meant."""
+    form = "an operation is r1[x], w1[x], c1 or a1"
+    small = "an operation starts with a small letter: r1[x], w1[x], c1 or a1"
+    long = "y" * 64
+    for given, column, words in (
+        ("A1", 1, small),
+        ("r1[x] w1[x]\n  C1", 3, small),
+        ("r1(x)", 1, "an item stands in square brackets, as in r1[x]"),
+        ("r1[x]\tw2(y)", 7, "an item stands in square brackets, as in r1[x]"),
+        ("c1 r2", 4, "a read and a write name an item in square brackets, as in r1[x]"),
+        ("b1 r1[x]", 1, f"{form}; a transaction begins with its first one, without a word"),
+        ("# none\nc1 x9", 4, form),
+        ("r1[x], w2[x]", 1, "operations are separated by spaces or newlines, without commas"),
+        ("r1[x];", 1, "operations are separated by spaces or newlines, without commas"),
+        ("c1 r22[x] r2#", 11, "a read and a write name an item in square brackets, as in r1[x]"),
+        (f"r1[x] r2[{long}]\r\nw2[x] r2[{long}y]", 7, form),
+        ("c1 \x01\x7f \x01", 4, form),
+    ):
+        status, out, told = sgt.run("check", given=given)
+        same(given, (2, "", f"column {column}: {words}"), (status, out, told.splitlines()[1]))
+    status, out, told = sgt.run("check", given="c1 x9 " + " " * 3_000_000)
+    same("a line that is not stored", (2, "", form), (status, out, told.splitlines()[1]))
+
+
+def says_more_of_each_other_error(sgt):
+    """In a second line, which comes without an option."""
+    too_long = "an input has at most 16777216 bytes: split it, and begin the next part with what --records writes of the one before"
+    history = "a history has operations: r1[x], w1[x], c1 or a1"
+    for words, given, told in (
+        (["script"], OPENING + " " * LONGEST_INPUT, "line 2: long line\na line has at most 65536 bytes"),
+        (["script"], OPENING + ('["step",9]' + " " * 60_000 + "\n") * 300, f"input too long\n{too_long}"),
+        (["script"], "\ufeff" + OPENING, "line 1: not JSON\ncolumn 1: a byte order mark: save the input without it"),
+        (["bank"], OPENING + '["job",1]\n', 'line 2: bad line\nexpected ["job",procedure,[argument,..]], found ["job",1]'),
+        (["check"], "", f"no operations\n{history}"),
+        (["check"], "c1 c1", "line 1: transaction 1 has ended\nthe commit or abort of a transaction is its last operation"),
+    ):
+        same(f"{words} {given[:40]!r}", (2, f"{told}\n"), sgt.run(*words, given=given)[::2])
+
+
+def shows_what_was_typed(sgt):
+    """Numbers digit by digit, members in their order; without the spaces."""
+    for line, shown in (
+        ('["start",1,[100000000000000000000,1]]', "expected a whole number as argument 0, found 100000000000000000000"),
+        ('["start",1,[1, 123456789012345678901 ]]', "expected a whole number as argument 1, found 123456789012345678901"),
+        ('{"step" : 0, "at" : 1, "b" : [ ]}', 'expected an event, as ["step",0], found {"step":0,"at":1,"b":[]}'),
+        ('["write",0,3,1,1E5]', "expected a whole number as the value, found 1E5"),
+        ('["quit", "1e5"]', 'expected a transaction from 0 to 4294967295, found "1e5"'),
+        ('["step",0,"]",{"z":"\\"","a":1}]', 'expected ["step",transaction], found ["step",0,"]",{"z":"\\"","a":1}]'),
+    ):
+        same(line, f"line 2: bad line\n{shown}\n", sgt.run("script", given=OPENING + line + "\n")[2])
+    line = '{"procedures":[],"limits":[1,10],"accounts":{"b":1,"a":2}}\n'
+    same(line, 'line 1: bad line\n"accounts": expected a list, found {"b":1,"a":2}\n', sgt.run("script", given=line)[2])
+
+
+def finds_a_faulty_line_after_many(sgt):
+    """Of an input that is much longer than what is stored of it."""
+    given = OPENING + '["step",0]\n' * 500_000 + '["step"]\n' + '["step",0]\n' * 20_000
+    told = 'line 500002: bad line\nexpected ["step",transaction], found ["step"]\n'
+    same("standard error", told, sgt.run("script", given=given)[2])
+
+
+def asks_for_input_on_a_terminal(sgt):
+    """Where standard input is a terminal, and no file is named."""
+    ours, theirs = os.openpty()
+    with tempfile.NamedTemporaryFile("w") as history:
+        history.write("c1\n")
+        history.flush()
+        for words, told in ((["check"], "reading standard input; ^D ends\n"), (["check", history.name], "")):
+            process = sgt.start(*words, stdin=theirs, stdout=subprocess.PIPE, stderr=subprocess.PIPE)
+            os.write(ours, b"c1\n\x04")
+            _, err = process.communicate(timeout=SECONDS)
+            same(f"{words}", (0, told), (process.returncode, err.decode()))
+    os.close(ours)
+    os.close(theirs)
+
+
 def wants_an_opening(sgt):
     for command in ("script", "bank"):
         sgt.expect(command, status=2, err="line 1: no opening\n")
@@ -863,7 +940,8 @@ def tells_threads_that_could_not_be_made(sgt):
         if came != (0, "0 no memory\n" + unchanged, ""):
             same("standard output", "", came[1])
             if came != (2, "", "no memory\n"):
-                same("status and standard error", (2, "workers not started\n"), (came[0], came[2]))
+                told = "workers not started\neach worker is a thread, and the system did not start so many: take fewer with --workers\n"
+                same("status and standard error", (2, told), (came[0], came[2]))
                 refused += 1
     else:
         raise Differs("no run of three workers ended well")
@@ -875,20 +953,20 @@ def tells_threads_that_could_not_be_made(sgt):
 
 
 def tells_a_full_disk(sgt):
-    for words, given in ((["script"], OPENING + EVENTS), (["bank"], OPENING + JOB), (["script", "--records"], OPENING), (["bank", "--records"], OPENING + JOB), (["check"], HISTORY), (["check", "--graph"], HISTORY), (["check", "--timeline"], HISTORY), (["--help"], ""), (["--version"], "")):
+    for words, given in ((["script"], OPENING + EVENTS), (["bank"], OPENING + JOB), (["script", "--records"], OPENING), (["bank", "--records"], OPENING + JOB), (["check"], HISTORY), (["check", "--graph"], HISTORY), (["check", "--timeline"], HISTORY), (["--help"], ""), (["--version"], ""), (["version"], "")):
         with open("/dev/full", "w", encoding="ascii") as full:
             status, _, told = sgt.run(*words, given=given, out=full)
         same(f"{words}: standard error", "writing failed\n", told)
         same(f"{words}: status", 2, status)
 
 
-def tells_a_closed_pipe(sgt):
+def ends_in_silence_if_nobody_reads(sgt):
     for words, given in ((["script"], OPENING + EVENTS), (["bank"], OPENING + JOB), (["check"], HISTORY), (["check", "--graph"], HISTORY), (["check", "--timeline"], HISTORY)):
         reader, writer = os.pipe()
         os.close(reader)
         status, _, told = sgt.run(*words, given=given, out=writer)
         os.close(writer)
-        same(f"{words}: standard error", "writing failed\n", told)
+        same(f"{words}: standard error", "", told)
         same(f"{words}: status", 2, status)
 
 
@@ -899,7 +977,7 @@ def tells_a_failed_read(sgt):
             folder = os.open(room, os.O_RDONLY)
             status, out, told = sgt.run(command, source=folder)
             os.close(folder)
-        same(f"{command}: standard error", "reading failed\n", told)
+        same(f"{command}: standard error", "reading failed\nstandard input is a directory\n", told)
         same(f"{command}: standard output", "", out)
         same(f"{command}: status", 2, status)
 
@@ -954,6 +1032,11 @@ CASES = [
     refuses_no_operations,
     names_the_fault_of_a_history,
     refuses_a_history_that_is_too_long,
+    says_what_an_operation_looks_like,
+    says_more_of_each_other_error,
+    shows_what_was_typed,
+    finds_a_faulty_line_after_many,
+    asks_for_input_on_a_terminal,
     wants_an_opening,
     names_the_faulty_line,
     answers_before_it_reads_on,
@@ -961,7 +1044,7 @@ CASES = [
     takes_the_tries,
     tells_threads_that_could_not_be_made,
     tells_a_full_disk,
-    tells_a_closed_pipe,
+    ends_in_silence_if_nobody_reads,
     tells_a_failed_read,
 ]
 

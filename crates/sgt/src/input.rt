@@ -89,6 +89,14 @@ fn open_file<R: Files>(rt: &R, name: &str) -> Result<R::File, FileFlaw> {
     }
 }
 
+/// Where the system has standard input as a file.
+const STANDARD: &str = "/dev/stdin";
+
+/// Whether standard input is a directory.
+pub(crate) fn is_folder<R: Files>(rt: &R) -> bool {
+    matches!(open_file(rt, STANDARD), Err(FileFlaw::Directory))
+}
+
 /// The flaw of a file that gives this error when it is opened.
 fn flaw_of(kind: ErrorKind) -> FileFlaw {
     match kind {
