@@ -7,6 +7,7 @@ A case that differs is reported with what was wanted and what came. The last lin
 stands in `expected`.
 """
 
+import json
 import os
 import random
 import re
@@ -130,9 +131,16 @@ def refuses_numbers(sgt):
         sgt.expect("bank", f"--{option}", number, given=OPENING, status=2, err=text)
 
 
+# The options of a run that exclude each other.
+EXCLUSIVE = [{first, second} for first in ("history", "records") for second in ("explain", "json")]
+EXCLUSIVE += [{"history", "records"}, {"progress", "no-progress"}]
+
+
 def refuses_two_forms_of_one_run(sgt):
-    for command, forms in (("script", ("history", "records", "explain")), ("bank", ("history", "records", "explain"))):
-        for first, second in permutations(forms, 2):
+    for command in ("script", "bank"):
+        for first, second in permutations(("history", "records", "explain", "json", "progress", "no-progress"), 2):
+            if {first, second} not in EXCLUSIVE:
+                continue
             text = usage("conflicting_options").format(command=command, first=first, second=second)
             sgt.expect(command, f"--{first}", f"--{second}", given=OPENING, status=2, err=text)
 
@@ -850,6 +858,128 @@ def asks_for_input_on_a_terminal(sgt):
     os.close(theirs)
 
 
+def writes_objects_of_json(sgt):
+    """An object for each reply or outcome, with the same values as its line, and then the records."""
+    for words, folder in ((["script"], EXAMPLES), (["bank", "--workers", "1"], EXAMPLES / "bank_one_worker")):
+        for given in sorted(folder.glob("*.jsonl")):
+            plain = sgt.run(*words, given=given.read_text())[1].splitlines()
+            status, wrote, told = sgt.run(*words, "--json", given=given.read_text())
+            same(f"{given.name}: standard error and status", ("", 0), (told, status))
+            same(given.name, plain, [line_of(json.loads(line)) for line in wrote.splitlines()])
+            records = "".join(line for line in wrote.splitlines(True) if line.startswith("["))
+            same(f"{given.name}: records", sgt.run(*words, "--records", given=given.read_text())[1], records)
+    given = OPENING + '["job",1,[1,50]]\n["job",0,[9]]\n["job",99,[]]\n'
+    out = '{"job":0,"outcome":"committed","answers":[1050],"tries":1}\n{"job":1,"outcome":"asked","code":1,"tries":1}\n'
+    out += '{"job":2,"outcome":"refused","reason":"no procedure","tries":0}\n["record",0,1,101]\n["record",1,1,500]\n["record",2,1,1050]\n'
+    out = out.replace('["record",1,1,500]\n["record",2,1,1050]', '["record",1,101,500]\n["record",2,101,1050]')
+    sgt.expect("bank", "--json", "--workers", "1", given=given, out=out)
+    sgt.expect("script", "--json", given=OPENING + EVENTS + "[]\n", status=2, err="line 4: bad line\n",
+               out='{"reply":"started","transaction":0}\n{"reply":"read","table":0,"number":1,"value":101}\n')
+
+
+def writes_each_reply_as_an_object(sgt):
+    """Those that no example has."""
+    given = """["begin"]
+["begin"]
+["cut"]
+["write",0,3,1,7]
+["read",1,3,1]
+["read",1,3,2]
+["commit",1]
+["quit",0]
+["commit",1]
+["step",0]
+["step",9]
+["cut"]
+"""
+    out = """{"reply":"started","transaction":0}
+{"reply":"started","transaction":1}
+{"reply":"still live"}
+{"reply":"wrote","table":3,"number":1,"value":7}
+{"reply":"read","table":3,"number":1,"value":7}
+{"reply":"read","table":3,"number":2,"value":null}
+{"reply":"waits","transaction":0}
+{"reply":"aborted","cause":"quit","cascade":[1]}
+{"reply":"over","fate":"cascade","with":0}
+{"reply":"over","fate":"aborted","cause":"quit"}
+{"reply":"unknown"}
+{"reply":"cut","events":10}
+"""
+    records = '["record",0,1,101]\n["record",1,101,500]\n["record",2,101,1000]\n'
+    sgt.expect("script", "--json", given=OPENING + given, out=out + records)
+
+
+def counts_the_tries_in_json(sgt):
+    """As --explain does, on jobs that abort one another."""
+    opening = '{"limits":[16,100000],"accounts":[[1,1,500,1000],[2,2,500,1000]],"procedures":[]}\n'
+    given = opening + '["job",3,[1,2]]\n["job",3,[2,1]]\n["job",1,[1,1]]\n' * 400
+    status, wrote, told = sgt.run("bank", "--json", "--explain", "--workers", "16", "--tries", "1000", given=given)
+    same("status", 0, status)
+    jobs = [json.loads(line) for line in wrote.splitlines() if line.startswith("{")]
+    same("the jobs", list(range(1200)), [job["job"] for job in jobs])
+    same("the tries in all", int(told.splitlines()[-1].split()[-2]), sum(job["tries"] for job in jobs))
+    tries = dict.fromkeys(range(1200), 1)
+    for line in told.splitlines()[:-1]:
+        match = re.fullmatch(r"job (\d+): .* at try (\d+)(?:;.*)?", line)
+        tries[int(match[1])] = int(match[2])
+    same("each", [tries[number] for number in range(1200)], [job["tries"] for job in jobs])
+
+
+REASONS = {"no procedure": 1, "bad args": 2, "spent": 3, "full": 4}
+
+
+def line_of(one):
+    """The line of the output that this object, or record, stands for."""
+    def joined(numbers):
+        return " ".join(map(str, numbers)) or "none"
+
+    if isinstance(one, list):
+        return "{}/{} {}".format(*one[1:])
+    if "job" in one:
+        words = [str(one["job"]), one["outcome"]]
+        words += [str(one["code"])] if "code" in one else [str(REASONS[one["reason"]])] if "reason" in one else []
+        words += [joined(one["answers"])] if "answers" in one else [str(one["tries"])] if one["outcome"] == "gave" else []
+        return " ".join(words)
+    words = [one["reply"]]
+    if "table" in one:
+        words.append(f"{one['table']}/{one['number']}")
+    if "value" in one:
+        words.append("none" if one["value"] is None else str(one["value"]))
+    if "fate" in one:
+        words.append({"cascade": "fell"}.get(one["fate"], one["fate"]))
+    if "cause" in one:
+        words.append({"code": "asked"}.get(one["cause"], one["cause"]))
+    words += [str(one[name]) for name in ("transaction", "events", "code", "with") if name in one]
+    words += [joined(one[name]) for name in ("answers", "cycle") if name in one]
+    return " ".join(words + (["fell", joined(one["cascade"])] if "cascade" in one else []))
+
+
+def gives_signs_of_life(sgt):
+    """How many bytes are read, at most once a second: on a terminal, or with an option."""
+    def told(*words, terminal=False):
+        ours, theirs = os.openpty() if terminal else os.pipe()
+        process = sgt.start("script", *words, stdin=subprocess.PIPE, stdout=subprocess.DEVNULL, stderr=theirs)
+        os.close(theirs)
+        for piece in (OPENING, EVENTS):
+            process.stdin.write(piece.encode())
+            process.stdin.flush()
+            time.sleep(1.3)
+        process.stdin.close()
+        text = read_terminal(ours)
+        same("status", 0, process.wait(SECONDS))
+        return text.splitlines()
+
+    sizes = [len(OPENING), len(OPENING + EVENTS)]
+    for words, terminal, wanted in ((["--progress"], False, True), ([], True, True), ([], False, False), (["--no-progress"], True, False)):
+        lines = told(*words, terminal=terminal)
+        same(f"{words}, a terminal: {terminal}", wanted, bool(lines))
+        same(f"{words}, a terminal: {terminal}", [], [line for line in lines if line not in [f"{size} bytes are read" for size in sizes]])
+    with tempfile.NamedTemporaryFile("w") as file:
+        file.write(OPENING + EVENTS)
+        file.flush()
+        sgt.expect("script", "--progress", file.name, out=REPLIES + RECORDS)
+
+
 def wants_an_opening(sgt):
     for command in ("script", "bank"):
         sgt.expect(command, status=2, err="line 1: no opening\n")
@@ -1016,10 +1146,10 @@ CASES = [
     goes_on_from_the_records_of_an_account,
     explains_each_example,
     explains_each_input,
-    says_how_jobs_ended,
-    says_why_events_are_refused,
     explains_drawn_scripts,
     judges_drawn_scripts,
+    says_how_jobs_ended,
+    says_why_events_are_refused,
     says_how_each_job_of_the_examples_ended,
     tells_by_whom_tries_were_aborted,
     tells_on_a_terminal_how_many_jobs_have_ended,
@@ -1037,6 +1167,10 @@ CASES = [
     shows_what_was_typed,
     finds_a_faulty_line_after_many,
     asks_for_input_on_a_terminal,
+    writes_objects_of_json,
+    writes_each_reply_as_an_object,
+    counts_the_tries_in_json,
+    gives_signs_of_life,
     wants_an_opening,
     names_the_faulty_line,
     answers_before_it_reads_on,

@@ -12,7 +12,8 @@ A script and a bank are lines of JSON. A history is text in the notation of the 
 'sgt script --help', 'sgt bank --help' and 'sgt check --help' describe the inputs. If you type the
 input, ^D at the start of a line ends it. An error is one line on standard error, and mostly a
 second one that says what was expected; the exit status is then 2. If nobody reads the output any
-more, a run ends without a message, with that status.
+more, a run ends without a message, with that status. If a script or a bank takes over a second, a
+terminal shows on standard error how far it is; --progress shows it elsewhere too.
 
 Limits:
 
@@ -84,19 +85,28 @@ Here 0/1 is record 1 of table 0, and 9 events were answered since line 1. A tran
 the number in the reply to its start.
 
 With --explain, standard error says after each abort which accesses make the edges of the cycle, and
-which reads made other transactions abort in cascade. At the end it lists the live transactions:
+which reads made other transactions abort in cascade. It says why an event was refused. At the end
+it lists the live transactions:
 
   line 9: 0 wrote 1/101 at line 8, which 1 read at line 6
   line 9: 1 would write 2/101, which 0 read at line 5
   line 25: 3 read 2/101 of 2 at line 20
+  line 26: DepositChecking takes 2 arguments, found 1
   1 transaction is live at the end: 4
 
 Standard output and the status are as without --explain. It excludes --history and --records.
 
+With --json each reply is an object of JSON, and the records at the end are lines as --records
+writes them:
+
+  {"reply":"read","table":0,"number":1,"value":101}
+  {"reply":"aborted","cause":"cycle","cycle":[1,0],"cascade":[]}
+  ["record",0,1,101]
+
 The first bad line ends the script. The replies to the lines before it are written, and the error is
 on standard error, with a second line that explains it:
 
-  line 26: bad line
+  line 27: bad line
   expected ["step",transaction], found ["step"]
 
 A line has at most 65536 bytes, the input 16777216. A value or a key is a whole number of at most 15
@@ -151,8 +161,16 @@ try how it ended, and which jobs aborted its tries. A summary comes last. All nu
   job 5: refused: DepositChecking takes 2 arguments, found 1
   6 jobs: 4 committed, 1 aborted with a code, 0 given up, 1 refused, 0 without memory; 7 tries
 
-While the jobs run, a terminal shows once a second how many have ended. Standard output and the
-status are as without --explain. It excludes --history and --records.
+Standard output and the status are as without --explain. It excludes --history and --records.
+
+With --json each outcome is an object of JSON, with the number of tries, and the records at the end
+are lines as --records writes them:
+
+  {"job":0,"outcome":"committed","answers":[1050],"tries":1}
+  {"job":1,"outcome":"asked","code":1,"tries":1}
+  {"job":2,"outcome":"refused","reason":"no procedure","tries":0}
+  ["record",0,1,101]
+
 In the repository: docs/FORMATS.md has every line, and examples/ has banks."#;
 
 /// What `sgt check --help` prints after the options.

@@ -21,6 +21,7 @@ mod help;
 mod input;
 mod operation_error;
 mod output;
+mod progress;
 
 ghost use Rattle.std.specs.Prelude.{◌≤◌};
 
@@ -31,6 +32,7 @@ use failure::{Detail, Failure, check_failure, clients_failure, failure_of};
 use help::{BANK_HELP, CHECK_HELP, HELP, SCRIPT_HELP};
 use input::{FILE, open_input};
 use output::OutputBytes;
+use progress::Showing;
 use sgt_bank::{Explanations, MOST_TRIES, MOST_WORKERS, run_bank};
 use sgt_check::{CheckFault, run_check};
 use sgt_clients::{Answer, ClientsFault, ClientsOutput, Flaw, Level, Question, run_clients};
@@ -118,11 +120,15 @@ fn number_option<'a>(
         .default_value(default)
 }
 
-/// The options of a run: write it as a history, write only the database as records, or add explanations. They exclude
-/// each other.
-const RUN_OPTIONS: [&str; 3] = ["history", "records", "explain"];
+/// The options that say what a run writes, and the one that explains it, each with those that it excludes.
+const RUN_OPTIONS: [(&str, &[&str]); 4] = [
+    ("history", &[]),
+    ("records", &["history"]),
+    ("explain", &["history", "records"]),
+    ("json", &["history", "records"]),
+];
 
-/// An option of a run. It excludes the other options of a run.
+/// An option that excludes others.
 fn run_option<'a>(
     alloc: Global,
     name: &'a str,
@@ -140,12 +146,23 @@ fn run_option<'a>(
 fn add_run_options<'a>(
     alloc: Global,
     options: &mut Vec<Arg<'a>>,
-    helps: [&'a str; 3],
+    helps: [&'a str; 4],
 ) -> Result<(), AllocError> {
     for place in 0..RUN_OPTIONS.len() {
-        let others = &RUN_OPTIONS[..place];
-        options.push(run_option(alloc, RUN_OPTIONS[place], helps[place], others)?)?;
+        let (name, others) = RUN_OPTIONS[place];
+        options.push(run_option(alloc, name, helps[place], others)?)?;
     }
+    options.push(flag(
+        alloc,
+        "progress",
+        "Says on standard error, once a second, how far the run is",
+    ))?;
+    options.push(run_option(
+        alloc,
+        "no-progress",
+        "Does not say that on a terminal either",
+        &["progress"],
+    )?)?;
     Ok(())
 }
 
@@ -158,7 +175,8 @@ fn script_options<'a>(alloc: Global) -> Result<Vec<Arg<'a>>, AllocError> {
         [
             "Writes the run as a history for 'sgt check', instead of the replies",
             "Writes the committed database as records, instead of the replies",
-            "Explains on standard error why transactions are aborted",
+            "Explains on standard error why transactions are aborted and events refused",
+            "Writes each reply as an object of JSON, and then the records",
         ],
     )?;
     Ok(options)
@@ -188,6 +206,7 @@ fn bank_options<'a>(alloc: Global) -> Result<Vec<Arg<'a>>, AllocError> {
             "Writes the run as a history for 'sgt check', instead of the outcomes",
             "Writes the committed database as records, instead of the outcomes",
             "Reports on standard error how the jobs ended, and why",
+            "Writes each outcome as an object of JSON, and then the records",
         ],
     )?;
     Ok(options)
@@ -357,16 +376,18 @@ fn number(options: &ArgMatches<'_>, name: &str, most: u32) -> u32
 }
 
 /// Runs a script from the input to standard output.
-fn script<R: Print + Files, I: Read + Drop>(
+fn script<R: Print + Eprint + Files + Clock, I: Read + Drop>(
     rt: &R,
     alloc: Global,
-    stderr: Stderr,
+    streams: Streams,
     options: &ArgMatches<'_>,
     input: I,
+    size: Option<u64>,
 ) -> Result<(), Failure<Fault>> {
-    let mut source = Remembering::new(alloc, Reader::new(input));
+    let shown = Showing::new(rt, input, size, shows_progress(&streams, options));
+    let mut source = Remembering::new(alloc, Reader::new(shown));
     let mut writer = Writer::new(OutputBytes::new(io::writer(rt)));
-    let mut errors = Writer::new(stderr);
+    let mut errors = Writer::new(streams.stderr);
     let explanations = if options.get_flag("explain") {
         Some(&mut errors)
     } else {
@@ -390,19 +411,29 @@ fn script<R: Print + Files, I: Read + Drop>(
     }
 }
 
+/// Whether a run says how far it is: if that is asked for, or else if standard error is a terminal and nobody types the
+/// input.
+fn shows_progress(streams: &Streams, options: &ArgMatches<'_>) -> bool {
+    let is_typed = streams.is_typed && options.get_str(FILE).is_none();
+    let is_watched = streams.stderr.is_terminal() && !is_typed;
+    options.get_flag("progress") || is_watched && !options.get_flag("no-progress")
+}
+
 /// The output mode that the options of a run name.
 fn output_of(options: &ArgMatches<'_>) -> Output {
     if options.get_flag("history") {
         Output::History
     } else if options.get_flag("records") {
         Output::Records
+    } else if options.get_flag("json") {
+        Output::Json
     } else {
         Output::Replies
     }
 }
 
-/// The options of `sgt bank`. Progress is reported if standard error is a terminal.
-fn read_bank_options(stderr: &Stderr, options: &ArgMatches<'_>) -> sgt_bank::Options
+/// The options of `sgt bank`.
+fn read_bank_options(options: &ArgMatches<'_>, shows_progress: bool) -> sgt_bank::Options
     ensures workers { (1 ≤ result.workers) × (result.workers ≤ 16) }
     ensures tries { (1 ≤ result.tries) × (result.tries ≤ 1000) }
 {
@@ -410,11 +441,12 @@ fn read_bank_options(stderr: &Stderr, options: &ArgMatches<'_>) -> sgt_bank::Opt
         sgt_bank::Output::History
     } else if options.get_flag("records") {
         sgt_bank::Output::Records
+    } else if options.get_flag("json") {
+        sgt_bank::Output::Json
     } else {
         sgt_bank::Output::Report
     };
-    let is_explained = options.get_flag("explain");
-    let explanations = if is_explained {
+    let explanations = if options.get_flag("explain") {
         Explanations::Tries
     } else {
         Explanations::Off
@@ -424,7 +456,7 @@ fn read_bank_options(stderr: &Stderr, options: &ArgMatches<'_>) -> sgt_bank::Opt
         tries: number(options, "tries", MOST_TRIES),
         output,
         explanations,
-        shows_progress: is_explained && stderr.is_terminal(),
+        shows_progress,
     }
 }
 
@@ -432,14 +464,16 @@ fn read_bank_options(stderr: &Stderr, options: &ArgMatches<'_>) -> sgt_bank::Opt
 fn bank<R: Print + Eprint + Files + Clock + Threads + Wait + Sync, I: Read + Drop>(
     rt: &R,
     alloc: Global,
-    stderr: Stderr,
+    streams: Streams,
     options: &ArgMatches<'_>,
     input: I,
+    size: Option<u64>,
 ) -> Result<(), Failure<Fault>> {
-    let chosen = read_bank_options(&stderr, options);
-    let mut source = Remembering::new(alloc, Reader::new(input));
+    let shows = shows_progress(&streams, options);
+    let chosen = read_bank_options(options, shows);
+    let mut source = Remembering::new(alloc, Reader::new(Showing::new(rt, input, size, shows)));
     let mut writer = Writer::new(OutputBytes::new(io::writer(rt)));
-    let mut errors = Writer::new(stderr);
+    let mut errors = Writer::new(streams.stderr);
     match run_bank(rt, alloc, &mut source, &mut writer, &mut errors, chosen) {
         Ok(()) => Ok(()),
         Err(Fault::Writing) if writer.inner.is_unread() => Err(Failure::Unread),
@@ -580,7 +614,10 @@ fn run<R: Print + Eprint + Input + Files + Clock + Threads + Wait + Sync>(
         tell(rt, TYPED);
     }
     match open_input(rt, file) {
-        Ok(input) => run_on(rt, alloc, streams.stderr, name, options, input),
+        Ok(input) => {
+            let size = input.size();
+            run_on(rt, alloc, streams, name, options, input, size)
+        }
         Err(fault) => tell(rt, fault),
     }
 }
@@ -597,15 +634,16 @@ fn print_version<R: Print + Eprint>(rt: &R) -> ExitCode {
 fn run_on<R: Print + Eprint + Files + Clock + Threads + Wait + Sync, I: Read + Drop>(
     rt: &R,
     alloc: Global,
-    stderr: Stderr,
+    streams: Streams,
     name: &str,
     options: &ArgMatches<'_>,
     input: I,
+    size: Option<u64>,
 ) -> ExitCode {
     match name {
         "check" => check(rt, alloc, options, input),
-        "bank" => ended(rt, bank(rt, alloc, stderr, options, input)),
-        _ => ended(rt, script(rt, alloc, stderr, options, input)),
+        "bank" => ended(rt, bank(rt, alloc, streams, options, input, size)),
+        _ => ended(rt, script(rt, alloc, streams, options, input, size)),
     }
 }
 
