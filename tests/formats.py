@@ -15,7 +15,7 @@ import tempfile
 import threading
 
 sys.dont_write_bytecode = True
-from helpers.cases import SECONDS, Differs, same, tell  # noqa: E402
+from helpers.cases import SECONDS, Differs, first_line, same, tell  # noqa: E402
 
 # The most bytes of a line, and of an input.
 LONGEST_LINE = 65_536
@@ -39,6 +39,10 @@ class Program:
         except subprocess.TimeoutExpired:
             raise Differs(f"{given!r:.200}: no end after {SECONDS} seconds") from None
         return ran.returncode, ran.stdout.decode(), ran.stderr.decode()
+
+    def fault(self, *words, given):
+        """The same, with the first line of standard error alone."""
+        return first_line(self.run(*words, given=given))
 
     def start(self, *words):
         pipes = {"stdin": subprocess.PIPE, "stdout": subprocess.PIPE, "stderr": subprocess.PIPE}
@@ -257,9 +261,9 @@ def reads_either_spelling(sgt):
 
 def takes_no_blank_inside_a_number(sgt):
     for line in NO_SPELLINGS.split("\n")[1:-1]:
-        same(line, (2, "", "line 2: not JSON\n"), sgt.run("script", given=f"{opening()}\n{line}\n"))
+        same(line, (2, "", "line 2: not JSON\n"), sgt.fault("script", given=f"{opening()}\n{line}\n"))
         job = line.replace("step", "job").replace("start", "job")
-        same(job, (2, "", "line 2: not JSON\n"), sgt.run("bank", "--workers", "1", given=f"{opening()}\n{job}\n"))
+        same(job, (2, "", "line 2: not JSON\n"), sgt.fault("bank", "--workers", "1", given=f"{opening()}\n{job}\n"))
 
 
 def reads_starts(sgt):
@@ -268,19 +272,19 @@ def reads_starts(sgt):
 
 def refuses_lines_of_no_event(sgt):
     for line in NO_EVENTS.split("\n")[1:-1]:
-        same(line, (2, "", "line 2: bad line\n"), sgt.run("script", given=f"{opening()}\n{line}\n"))
+        same(line, (2, "", "line 2: bad line\n"), sgt.fault("script", given=f"{opening()}\n{line}\n"))
 
 
 def refuses_lines_of_no_json(sgt):
     for line in NO_JSON:
-        same(line, (2, "", "line 2: not JSON\n"), sgt.run("script", given=opening().encode() + b"\n" + line + b"\n"))
+        same(line, (2, "", "line 2: not JSON\n"), sgt.fault("script", given=opening().encode() + b"\n" + line + b"\n"))
 
 
 def reads_jobs(sgt):
     given = f'{opening("[4,9]", procedures=TWO_ARGUMENTS)}\n["job",5,[101,-3]]\n["job",65534,[]]\n["job",5,[]]\n["job",65535,[]]\n'
     same("a bank", (0, "0 committed 101 -3\n1 refused 1\n2 refused 2\n3 committed none\n", ""), sgt.run("bank", given=given))
     for line in NO_EVENTS.replace("start", "job").split("\n")[1:-2]:
-        same(line, (2, "", "line 2: bad line\n"), sgt.run("bank", "--workers", "1", given=f"{opening()}\n{line}\n"))
+        same(line, (2, "", "line 2: bad line\n"), sgt.fault("bank", "--workers", "1", given=f"{opening()}\n{line}\n"))
 
 
 def numbers_procedures_as_they_stand_in_the_opening(sgt):
@@ -363,32 +367,32 @@ def puts_no_bad_record(sgt):
     first = opening(accounts="[[1,101,500,1000]]") + '\n["record",4,7,8]\n'
     for line in BAD_RECORDS.split("\n")[1:-1]:
         for command in (["script"], ["bank", "--workers", "1"], ["script", "--history"], ["script", "--records"]):
-            same(line, (2, "", "line 3: bad record\n"), sgt.run(*command, given=f"{first}{line}\n[]\n"))
+            same(line, (2, "", "line 3: bad record\n"), sgt.fault(*command, given=f"{first}{line}\n[]\n"))
 
 
 def ends_the_records_at_any_other_line(sgt):
     first = opening("[1,9]", "[[1,101,500,1000]]", "[0,[]]")
     for line in NO_RECORDS.split("\n")[1:-1]:
         for command in (["script"], ["bank", "--workers", "1"]):
-            same(line, (2, "", "line 3: bad line\n"), sgt.run(*command, given=f'{first}\n["record",4,7,8]\n{line}\n["record",4,7,8]\n'))
+            same(line, (2, "", "line 3: bad line\n"), sgt.fault(*command, given=f'{first}\n["record",4,7,8]\n{line}\n["record",4,7,8]\n'))
     record = '["record",3,1,1]\n'
-    same("behind an event", (2, "started 0\n", "line 3: bad line\n"), sgt.run("script", given=f'{first}\n["start",5,[]]\n{record}'))
-    same("behind a cut", (2, "cut 0\n", "line 3: bad line\n"), sgt.run("script", given=f'{first}\n["cut"]\n{record}'))
-    same("behind a job", (2, "", "line 3: bad line\n"), sgt.run("bank", "--workers", "1", given=f'{first}\n["job",5,[]]\n{record}'))
-    same("in place of line 1", (2, "", "line 1: bad line\n"), sgt.run("script", given=record))
-    same("behind no JSON", (2, "", "line 2: not JSON\n"), sgt.run("script", given=f"{first}\n\n{record}"))
+    same("behind an event", (2, "started 0\n", "line 3: bad line\n"), sgt.fault("script", given=f'{first}\n["start",5,[]]\n{record}'))
+    same("behind a cut", (2, "cut 0\n", "line 3: bad line\n"), sgt.fault("script", given=f'{first}\n["cut"]\n{record}'))
+    same("behind a job", (2, "", "line 3: bad line\n"), sgt.fault("bank", "--workers", "1", given=f'{first}\n["job",5,[]]\n{record}'))
+    same("in place of line 1", (2, "", "line 1: bad line\n"), sgt.fault("script", given=record))
+    same("behind no JSON", (2, "", "line 2: not JSON\n"), sgt.fault("script", given=f"{first}\n\n{record}"))
 
 
 def tests_line_1_before_the_records(sgt):
-    same("limits", (2, "", "line 1: bad limits\n"), sgt.run("script", given=opening("[0,1]") + '\n["record",8,1,1]\n'))
-    same("a flaw", (2, "", "line 1: procedure 5 flaw 2\n"), sgt.run("script", given=opening(procedures='[0,[["answer",["reg",0]]]]') + '\n["record",8,1,1]\n'))
-    same("a long line", (2, "", "line 2: long line\n"), sgt.run("script", given=opening() + '\n["record",8,1,1' + " " * LONGEST_LINE + "]\n"))
+    same("limits", (2, "", "line 1: bad limits\n"), sgt.fault("script", given=opening("[0,1]") + '\n["record",8,1,1]\n'))
+    same("a flaw", (2, "", "line 1: procedure 5 flaw 2\n"), sgt.fault("script", given=opening(procedures='[0,[["answer",["reg",0]]]]') + '\n["record",8,1,1]\n'))
+    same("a long line", (2, "", "line 2: long line\n"), sgt.fault("script", given=opening() + '\n["record",8,1,1' + " " * LONGEST_LINE + "]\n"))
 
 
 def numbers_lines_and_jobs_behind_records(sgt):
     first = opening("[2,2]", procedures="[0,[]]") + "\n" + "".join(f'["record",3,{number},0]\n' for number in range(3))
     database = "".join(f"3/{number} 0\n" for number in range(3))
-    same("an event", (2, "started 0\n", "line 6: bad line\n"), sgt.run("script", given=f'{first}["start",5,[]]\n[]\n'))
+    same("an event", (2, "started 0\n", "line 6: bad line\n"), sgt.fault("script", given=f'{first}["start",5,[]]\n[]\n'))
     same("a job", (0, "0 committed none\n1 committed none\n" + database, ""), sgt.run("bank", "--workers", "1", given=first + '["job",5,[]]\n' * 2))
     same("explained", (0, "started 0\n" + database, "1 transaction is live at the end: 0\n"), sgt.run("script", "--explain", given=first + '["start",5,[]]\n'))
 
@@ -410,7 +414,7 @@ def asks_for_a_million_jobs_behind_records(sgt):
     given = opening("[1,1]") + '\n["record",3,1,1]\n["record",3,2,1]\n' + '["job",9,[]]\n' * 1_000_000
     status, out, err = sgt.run("bank", "--workers", "1", given=given)
     same("a million", (0, "", "999999 refused 1\n3/1 1\n3/2 1\n"), (status, err, out[-32:][out[-32:].index("999999") :]))
-    same("one more", (2, "", "too many jobs\n"), sgt.run("bank", "--workers", "1", given=given + '["job",9,[]]\n'))
+    same("one more", (2, "", "too many jobs\n"), sgt.fault("bank", "--workers", "1", given=given + '["job",9,[]]\n'))
 
 
 # Openings
@@ -454,7 +458,7 @@ procedure 5 flaw 2: {"limits":[1,1],"accounts":[],"procedures":[[0,[["answer",["
 
 def are_refused(sgt, table):
     for fault, line in rows(table):
-        same(line, (2, "", f"line 1: {fault}\n"), sgt.run("script", given=line))
+        same(line, (2, "", f"line 1: {fault}\n"), sgt.fault("script", given=line))
 
 
 def refuses_openings_of_no_shape(sgt):
@@ -469,7 +473,7 @@ def takes_limits_up_to_their_ends(sgt):
     for limits in ("[1,1]", "[32,4000000000]", "[1,1,0]", "[1,1,1]"):
         same(limits, (0, "", ""), sgt.run("script", given=opening(limits)))
     for limits in ("[0,10]", "[33,10]", "[1,0]", "[1,4000000001]", "[1,1,-1]", "[1,1,2]"):
-        same(limits, (2, "", "line 1: bad limits\n"), sgt.run("script", given=opening(limits)))
+        same(limits, (2, "", "line 1: bad limits\n"), sgt.fault("script", given=opening(limits)))
 
 
 def refuses_accounts(sgt):
@@ -614,7 +618,7 @@ no flaw: [0,[["find",0,0,0,1000],["answer",["reg",0]]]]
 
 def says(sgt, text, wanted):
     """Whether this is said of an opening's only procedure."""
-    came = sgt.run("script", given=opening(procedures=text))
+    came = sgt.fault("script", given=opening(procedures=text))
     same(text, (0, "", "") if wanted == "no flaw" else (2, "", f"line 1: procedure 5 {wanted}\n"), came)
 
 
@@ -657,7 +661,7 @@ def tells_the_longest_place(sgt):
         value = "null"
         for depth in range(sums):
             value = f'["sum",{value},0]' if depth < 61 else f'["sum",0,{value}]'
-        came = sgt.run("script", given=opening(procedures=f'[0,[["answer",{value}]]]'))
+        came = sgt.fault("script", given=opening(procedures=f'[0,[["answer",{value}]]]'))
         same(f"{sums} sums", (2, "", f"line 1: {wanted}\n"), came)
 
 
@@ -839,10 +843,12 @@ EXPLAINED_TEXTS = (
 
 
 def tells_more(sgt, command, given, fault, more):
-    """With the word a second line comes, and nothing else changes."""
+    """A second line says more of an error, also with the option that explains aborts, where lines of refused events come before it."""
     status, out, told = sgt.run(*command, given=given)
-    same(f"{given!r:.200}: without the word", (2, fault), (status, told))
-    same(f"{given!r:.200}: with it", (2, out, fault + more), sgt.run(*command, "--explain", given=given))
+    same(f"{given!r:.200}", (2, fault + more), (status, told))
+    *came, told = sgt.run(*command, "--explain", given=given)
+    told = "".join(line for line in told.splitlines(True) if ": no transaction has started with the number " not in line)
+    same(f"{given!r:.200}: with --explain", (2, out, fault + more), (*came, told))
 
 
 def explains_openings(sgt):
@@ -944,9 +950,10 @@ def explains_no_opening_and_a_long_line(sgt):
         tells_more(sgt, command, long, "line 2: long line\n", "a line has at most 65536 bytes\n")
 
 
-def explains_no_fault_that_tells_all(sgt):
-    tells_more(sgt, ["script"], opening() + "\n" + '["step",0]\n' * 1_600_000, "input too long\n", "")
-    tells_more(sgt, ["bank"], opening("[4,9]") + "\n" + '["job",0,[]]\n' * 1_000_001, "too many jobs\n", "")
+def says_how_to_go_on_from_what_is_too_long(sgt):
+    part = "split it, and begin the next part with what --records writes of the one before"
+    tells_more(sgt, ["script"], opening() + "\n" + '["step",0]\n' * 1_600_000, "input too long\n", f"an input has at most 16777216 bytes: {part}\n")
+    tells_more(sgt, ["bank"], opening("[4,9]") + "\n" + '["job",0,[]]\n' * 1_000_001, "too many jobs\n", f"a bank has at most 1000000 jobs: {part}\n")
 
 
 def explains_a_line_far_behind(sgt):
@@ -1289,12 +1296,12 @@ def takes_lines_of_the_greatest_length(sgt):
     """With a newline at the end and without, and with one byte more."""
     for length, ends in ((LONGEST_LINE, (0, UNKNOWN, "")), (LONGEST_LINE + 1, (2, "", "line 2: long line\n"))):
         for size in (len(FIRST) + length + 1, len(FIRST) + length):
-            same(f"{length}, {size} bytes", ends, sgt.run("script", given=lines_of(length, size)))
+            same(f"{length}, {size} bytes", ends, sgt.fault("script", given=lines_of(length, size)))
 
 
 def names_a_long_line(sgt):
     given = FIRST + 16 * f"{EVENT}\n" + " " * (LONGEST_LINE + 1)
-    same("line 18", (2, 16 * UNKNOWN, "line 18: long line\n"), sgt.run("script", given=given))
+    same("line 18", (2, 16 * UNKNOWN, "line 18: long line\n"), sgt.fault("script", given=given))
 
 
 def read_of(sgt, given):
@@ -1314,7 +1321,7 @@ def takes_an_input_of_the_greatest_length(sgt):
 def reads_one_byte_behind_the_limit(sgt):
     for more in (1, 2, 10_000_000):
         came = read_of(sgt, lines_of(LONGEST_LINE - 1, LONGEST_INPUT + more))
-        same(f"{more} bytes more", (2, 255 * UNKNOWN, "input too long\n", LONGEST_INPUT + 1), came)
+        same(f"{more} bytes more", (2, 255 * UNKNOWN, "input too long\n", LONGEST_INPUT + 1), first_line(came))
 
 
 def fed_without_end(sgt, piece):
@@ -1343,8 +1350,8 @@ def fed_without_end(sgt, piece):
 
 def ends_on_an_input_that_never_ends(sgt):
     line = EVENT.ljust(LONGEST_LINE - 1) + "\n"
-    same("lines", (2, 255 * UNKNOWN, "input too long\n"), fed_without_end(sgt, line.encode()))
-    same("no line", (2, "", "line 2: long line\n"), fed_without_end(sgt, b" " * 99_999))
+    same("lines", (2, 255 * UNKNOWN, "input too long\n"), first_line(fed_without_end(sgt, line.encode())))
+    same("no line", (2, "", "line 2: long line\n"), first_line(fed_without_end(sgt, b" " * 99_999)))
 
 
 # What is given, and the replies that have to be written before more is given.
@@ -1421,7 +1428,7 @@ CASES = [
     explains_records_behind_others,
     explains_lines_of_no_json,
     explains_no_opening_and_a_long_line,
-    explains_no_fault_that_tells_all,
+    says_how_to_go_on_from_what_is_too_long,
     explains_a_line_far_behind,
     gives_products_or_asks_1000,
     gives_quotients_towards_zero_or_asks_1000,

@@ -10,7 +10,7 @@ in `tests/program.py`, and the last line counts them.
 import sys
 
 sys.dont_write_bytecode = True
-from helpers.cases import FOREVER, Differs, same, tell_failing  # noqa: E402
+from helpers.cases import FOREVER, Differs, first_line, same, tell_failing  # noqa: E402
 
 # The most bytes of a line, and of an input.
 LONGEST_LINE = 65_536
@@ -44,29 +44,27 @@ BANK = ("bank", "--workers", "1")
 # Memory
 
 
-# The program may succeed without the allocations before the run, while the options are parsed, and without the memory in which the
-# rows of the opening are sorted: they are then sorted in place.
-SORTS = 1
+# The allocations without which the program may succeed: one while the options are parsed, that in which the rows of the opening are
+# sorted (they are then sorted in place), and that in which the newest lines are stored.
+DONE_WITHOUT = 3
 
 
 def refused_growths(sgt, script, replies):
     """One allocation fails, or all from one on: what was written is the replies to the first lines, and no database."""
     starts = {"".join(replies.splitlines(True)[:n]) for n in range(len(replies.splitlines()) + 1)}
-    before = sgt.allocations("--version", given="")
     count = sgt.allocations("script", given=script)
-    done_without = sorts = 0
+    done_without = 0
     for number in range(1, count + 1):
         for last in (number, FOREVER):
             came = sgt.run("script", given=script, refuse_first=number, refuse_last=last)
             if came == (0, replies + LEFT, "") and number == last:
                 done_without += 1
-                sorts += number >= before
                 continue
             status, out, told = came
             same(f"allocations {number} to {last}", (2, "no memory\n"), (status, told))
             if out not in starts:
                 raise Differs(f"allocations {number} to {last}: came {out!r:.400}")
-    same("allocations of the run that it does without", SORTS, sorts)
+    same("allocations that it does without", DONE_WITHOUT, done_without)
     return f"{count} growths refused, one and all from there on; {done_without} done without"
 
 
@@ -80,7 +78,7 @@ def refuses_each_growth_of_a_script_with_cuts(sgt):
 
 FLAWED = OPENING.replace("[]}", '[[1,[["let",0,["arg",1]]]]]}')
 
-# What runs with --explain, its replies, its error, and the explanation.
+# What runs, its replies, its error, and the second line.
 FAULTY = (
     (("script",), SCRIPT + '["stop",0]\n', REPLIES, "line 13: bad line\n", 'unknown word "stop"\n'),
     (("script",), FLAWED, "", "line 1: procedure 5 flaw 3\n", "procedure 5, at 1 0 2 1: argument 1 is not below 1, the number of arguments\n"),
@@ -90,25 +88,24 @@ FAULTY = (
 
 
 def refuses_each_growth_of_what_is_told_of_a_fault(sgt):
-    """It is left out where there is no memory for it. Else a run ends as it does without the option, or with no memory."""
+    """It is left out where there is no memory for it. Else a run ends as it does with memory, or with no memory."""
     counts = {"left out": 0, "told": 0, "no memory": 0}
     for words, given, replies, fault, more in FAULTY:
-        same(f"{words}", (2, replies, fault + more), sgt.run(*words, "--explain", given=given))
-        for number in range(1, sgt.allocations(*words, "--explain", given=given) + 1):
+        same(f"{words}", (2, replies, fault + more), sgt.run(*words, given=given))
+        for number in range(1, sgt.allocations(*words, given=given) + 1):
             for last in (number, FOREVER):
-                status, out, told = sgt.run(*words, "--explain", given=given, refuse_first=number, refuse_last=last)
+                status, out, told = sgt.run(*words, given=given, refuse_first=number, refuse_last=last)
                 what = f"{words}, allocations {number} to {last}"
                 same(f"{what}: status", 2, status)
-                own = told.removeprefix("explanations are left out: no memory\n")
-                if own == "no memory\n":
+                if told == "no memory\n":
                     same(f"{what}: standard output", replies[: len(out)], out)
                     counts["no memory"] += 1
                     continue
                 same(f"{what}: standard output", replies, out)
-                same(f"{what}: the fault", fault, own[: len(fault)])
-                if own[len(fault) :] not in ("", more):
+                same(f"{what}: the fault", fault, told[: len(fault)])
+                if told[len(fault) :] not in ("", more):
                     raise Differs(f"{what}: came {told!r:.400}")
-                counts["told" if own[len(fault) :] else "left out"] += 1
+                counts["told" if told[len(fault) :] else "left out"] += 1
     if not counts["left out"]:
         raise Differs("nothing was left out")
     return ", ".join(f"{count} {what}" for what, count in counts.items())
@@ -182,9 +179,9 @@ def refuses_bad_lines(sgt):
     for lines, fault in ((BAD_LINES, "bad line"), (NO_JSON, "not JSON")):
         for line in lines:
             came = sgt.run("script", given=OPENING.encode() + line + b"\n" + EVENTS.encode())
-            same(f"line 2 {line!r:.60}", (2, "", f"line 2: {fault}\n"), came)
+            same(f"line 2 {line!r:.60}", (2, "", f"line 2: {fault}\n"), first_line(came))
             came = sgt.run("script", given=SCRIPT.encode() + line + b"\n")
-            same(f"last line {line!r:.60}", (2, REPLIES, f"line 13: {fault}\n"), came)
+            same(f"last line {line!r:.60}", (2, REPLIES, f"line 13: {fault}\n"), first_line(came))
 
 
 def padded(size):
@@ -198,16 +195,16 @@ def takes_lines_up_to_their_limit(sgt):
             came = sgt.run("script", given=OPENING + padded(LONGEST_LINE) + end, **more)
             same(f"at the limit, {more}", (0, "unknown\n" + RECORDS, ""), came)
             came = sgt.run("script", given=OPENING + padded(LONGEST_LINE + 1) + end, **more)
-            same(f"one byte longer, {more}", (2, "", "line 2: long line\n"), came)
+            same(f"one byte longer, {more}", (2, "", "line 2: long line\n"), first_line(came))
         came = sgt.run("script", given=OPENING + padded(LONGEST_LINE + 1) + "\n" + EVENTS, **more)
-        same(f"lines behind it, {more}", (2, "", "line 2: long line\n"), came)
+        same(f"lines behind it, {more}", (2, "", "line 2: long line\n"), first_line(came))
 
 
 def takes_an_input_up_to_its_limit(sgt):
     line = padded(LONGEST_LINE) + "\n"
     whole = (LONGEST_INPUT - len(OPENING)) // len(line)
     given = OPENING + line * (whole + 2)
-    same("an endless input", (2, "unknown\n" * whole, "input too long\n"), sgt.run("script", given=given))
+    same("an endless input", (2, "unknown\n" * whole, "input too long\n"), first_line(sgt.run("script", given=given)))
 
 
 CASES = [

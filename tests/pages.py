@@ -399,6 +399,7 @@ LIMITS = [
     ("sgt_line_errors/src/json_text.rt", "DEEPEST", "docs/FORMATS.md", "one another | {};"),
     ("sgt_line_errors/src/excerpt.rt", "LONGEST", "docs/FORMATS.md", "at most {} characters"),
     ("sgt_timeline/src/drawn.rt", "MOST", "docs/FORMATS.md", "more than {} operations"),
+    ("sgt_check/src/checked.rt", "SCREEN", "docs/FORMATS.md", "more than {} operations"),
     ("sgt_timeline/src/drawn.rt", "MOST_PAIRS", "docs/FORMATS.md", "first {} edges"),
     ("sgt_smallbank/src/tables.rt", "PENALTY", "docs/FORMATS.md", "WriteCheck takes {} more"),
 ]
@@ -582,9 +583,9 @@ def have_a_grammar_that_refuses_bad_lines(_sgt):
 
 
 def accepted(sgt, lines):
-    """The error line of a script, if there is one."""
+    """The first line of a script's error, if there is one."""
     ran = subprocess.run([sgt, "script"], input="\n".join(lines).encode(), capture_output=True, timeout=60, check=False)
-    return ran.stderr.decode().strip()
+    return ran.stderr.decode().split("\n")[0]
 
 
 OPENING = '{"limits":[8,100],"accounts":[],"procedures":[]}'

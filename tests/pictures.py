@@ -21,8 +21,11 @@ from program import Program  # noqa: E402
 HISTORIES = TESTS.parent / "examples" / "histories"
 SVG = "{http://www.w3.org/2000/svg}"
 
-# The most operations that are drawn.
+# The most operations that are drawn, with --all.
 MOST = 400
+
+# The kinds of marks and of lines, as the legend lists them.
+KINDS = ["read", "write", "commit", "abort", "reads", "undone", "cycle", "violation"]
 
 
 def spelled(text):
@@ -59,6 +62,8 @@ class Drawing:
         self.marks = [Mark(element) for element in root.findall(f"{SVG}g[{SVG}title]")]
         self.names = ["".join(element.itertext()) for element in root.findall(SVG + "text[@class='name']")]
         self.notes = [element.text or "" for element in root.findall(SVG + "text") if not element.get("class")]
+        legend = root.find(f"{SVG}g[@transform]")
+        self.legend = [element.get("class") for element in legend if element.get("class") != "words"]
         self.lines = {}
         for line in root.findall(SVG + "polyline"):
             points = [tuple(map(int, point.split(","))) for point in line.get("points").split()]
@@ -95,20 +100,21 @@ def places(line):
 
 
 def highlights(report, operations):
-    """The two operations of each edge of the cycle of a report, and those of its first violation where there is no cycle."""
+    """The two operations of each edge of the cycle of a report, and those of the first violation of each other class, each pair once."""
     lines = report.splitlines()
+    cycle = []
     if lines[1].startswith("serializable no"):
-        cycle = [places(edge) for edge in lines[1].split(", ")]
-        return [tuple(pair) for pair in cycle], []
+        cycle = [tuple(places(edge)) for edge in lines[1].split(", ")]
+    violations = set()
     for line in lines[2:]:
-        name = line.split(" no: ")[0]
         if " no: " not in line:
             continue
         told = places(line)
-        if name == "avoids cascading aborts":
-            return [], [(write, read) for write, read, _ in reads_from(operations) if read == told[0]]
-        return [], [tuple(sorted(told[:2]))]
-    return [], []
+        if line.startswith("avoids cascading aborts"):
+            violations |= {(write, read) for write, read, _ in reads_from(operations) if read == told[0]}
+        else:
+            violations.add(tuple(sorted(told[:2])))
+    return cycle, sorted(violations)
 
 
 def compare(operations, report, text):
@@ -130,12 +136,15 @@ def compare(operations, report, text):
     reads = reads_from(operations)
     same("reads", sorted(r[:2] for r in reads if not r[2]), sorted(drawing.ends("reads")))
     same("reads of what is undone", sorted(r[:2] for r in reads if r[2]), sorted(drawing.ends("undone")))
-    cycle, violation = highlights(report, operations)
-    for kind, pairs in (("cycle", cycle), ("violation", violation)):
+    cycle, violations = highlights(report, operations)
+    ends = {place for pair in cycle for place in pair}
+    others = {place for pair in violations for place in pair} - ends
+    for kind, pairs, marked in (("cycle", cycle, ends), ("violation", violations, others)):
         same(f"lines of the {kind}", sorted(pairs), sorted(drawing.ends(kind)))
-        ends = sorted({place for pair in pairs for place in pair})
-        same(f"marks of the {kind}", ends, [m.place for m in marks if f"in-{kind}" in m.classes])
+        same(f"marks of the {kind}", sorted(marked), [m.place for m in marks if f"in-{kind}" in m.classes])
     crossings(drawing)
+    kinds = {m.classes[0] for m in marks} | set(drawing.lines)
+    same("the legend", [kind for kind in KINDS if kind in kinds], drawing.legend)
     same("the report", report.split(), drawing.description.split())
     same("the caption", report.split(), " ".join(drawing.notes).split())
     return drawing
@@ -164,10 +173,10 @@ def drawn_history(dice, transactions, most, items, ends="ca"):
     return operations
 
 
-def picture_of(sgt, operations, status=None):
+def picture_of(sgt, operations, *words, status=None):
     given = " ".join(map(word, operations)) + "\n"
     ended, report, told = sgt.run("check", given=given)
-    drawn, text, told_too = sgt.run("check", "--timeline", given=given)
+    drawn, text, told_too = sgt.run("check", "--timeline", *words, given=given)
     same("status", status if status is not None else ended, drawn)
     same("standard error", "", told + told_too)
     return report, text
@@ -204,7 +213,7 @@ def draws_drawn_histories(sgt):
 def draws_no_empty_history(sgt):
     for given in ("", "# nothing\n"):
         told = sgt.run("check", "--timeline", given=given)
-        same("status, output and error", (2, "", "no operations\n"), told)
+        same("status, output and error", (2, "", "no operations\na history has operations: r1[x], w1[x], c1 or a1\n"), told)
 
 
 def draws_the_widest(sgt):
@@ -224,7 +233,7 @@ def draws_the_longest_whole(sgt):
     operations = drawn_history(dice, 30, MOST - 30, list("xyzuv"), ends="")
     operations += [(dice.choice("cca"), str(t), None) for t in range(1, 31)]
     started = time.monotonic()
-    report, text = picture_of(sgt, operations)
+    report, text = picture_of(sgt, operations, "--all")
     took = time.monotonic() - started
     compare(operations, report, text)
     if took > 2:
@@ -244,6 +253,21 @@ def draws_a_cycle_of_a_long_history(sgt):
     same("left out", f"drawn: 6 of {len(operations)} operations: those of the transactions that stand out", drawing.notes[-1])
 
 
+def draws_what_a_screen_has_room_for(sgt):
+    """A history of over 60 operations: those of the transactions of the violations, and all with an option."""
+    others = [o for t in range(10, 38) for o in (("r", str(t), "q"), ("c", str(t), None))]
+    for first in ([("w", "1", "x"), ("r", "2", "x"), ("c", "2", None), ("a", "1", None)], [("r", "1", "x"), ("w", "2", "x"), ("c", "2", None), ("c", "1", None)]):
+        for count, drawn in ((56, 60), (57, 4)):
+            operations = first + (others + [("r", "99", "q")])[:count]
+            report, text = picture_of(sgt, operations)
+            drawing = Drawing(text)
+            same(f"{count} others", list(map(word, operations[:drawn])), [m.title for m in drawing.marks])
+            same("orange lines", highlights(report, operations)[1], sorted(drawing.ends("violation")))
+            if drawn == 4:
+                same("left out", "drawn: 4 of 61 operations: those of the transactions that stand out", drawing.notes[-1])
+            compare(operations, *picture_of(sgt, operations, "--all"))
+
+
 def draws_a_long_history_without_a_violation(sgt):
     operations = [o for t in range(1, 301) for o in (("w", str(t), "q"), ("c", str(t), None))]
     _, text = picture_of(sgt, operations, status=0)
@@ -256,7 +280,7 @@ def draws_what_stands_out_of_long_transactions(sgt):
     operations = [("r", "1", "x"), ("w", "2", "x")] + [("r", "1", "z")] * 500 + [("c", "2", None), ("w", "1", "x"), ("c", "1", None)]
     report, text = picture_of(sgt, operations, status=1)
     drawing = Drawing(text)
-    same("marks", sorted({p for pair in highlights(report, operations)[0] for p in pair}), [m.place for m in drawing.marks])
+    same("marks", sorted({p for pairs in highlights(report, operations) for pair in pairs for p in pair}), [m.place for m in drawing.marks])
     same("left out", f"drawn: {len(drawing.marks)} of 505 operations: those that stand out", drawing.notes[-1])
 
 
@@ -285,6 +309,12 @@ def stands_beside_no_graph(sgt):
     same("told", True, "cannot be used with" in told)
 
 
+def needs_a_picture(sgt):
+    for words in (["--all"], ["--graph", "--all"]):
+        status, text, told = sgt.run("check", *words, given="c1")
+        same(f"{words}", (2, "", "error: the option '--all' needs '--timeline'"), (status, text, told.splitlines()[0]))
+
+
 def brings_nothing_along(sgt):
     """No script, and no font or image from elsewhere."""
     for picture in sorted(HISTORIES.glob("*.timeline.svg")):
@@ -301,11 +331,13 @@ CASES = [
     draws_the_widest,
     draws_the_longest_whole,
     draws_a_cycle_of_a_long_history,
+    draws_what_a_screen_has_room_for,
     draws_a_long_history_without_a_violation,
     draws_what_stands_out_of_long_transactions,
     draws_a_long_report,
     refuses_what_is_no_history,
     stands_beside_no_graph,
+    needs_a_picture,
     brings_nothing_along,
 ]
 

@@ -7,6 +7,7 @@ A case that differs is reported with what was wanted and what came. The last lin
 stands in `expected`.
 """
 
+import json
 import os
 import random
 import re
@@ -22,7 +23,7 @@ from itertools import permutations
 
 sys.dont_write_bytecode = True
 from helpers import explained  # noqa: E402
-from helpers.cases import SECONDS, TESTS, Differs, same, tell  # noqa: E402
+from helpers.cases import SECONDS, TESTS, Differs, first_line, same, tell  # noqa: E402
 from helpers.legal import Illegal, judge  # noqa: E402
 from helpers.worked import PROGRAMS, Bank, drawn  # noqa: E402
 
@@ -90,7 +91,10 @@ class Program:
         return process.returncode, (wrote or b"").decode(), told.decode()
 
     def expect(self, *words, given="", status=0, out="", err=""):
+        """If one line is wanted of an error, a second one may explain it."""
         came = self.run(*words, given=given)
+        if status == 2 and err.count("\n") == 1:
+            came = first_line(came)
         same("standard error", err, came[2])
         same("standard output", out, came[1])
         same("status", status, came[0])
@@ -100,7 +104,8 @@ class Program:
 
 
 def tells_its_version(sgt):
-    sgt.expect("--version", out="sgt 0.1.0\n")
+    for word in ("--version", "version"):
+        sgt.expect(word, out="sgt 0.1.0\n")
 
 
 def helps(sgt):
@@ -126,9 +131,16 @@ def refuses_numbers(sgt):
         sgt.expect("bank", f"--{option}", number, given=OPENING, status=2, err=text)
 
 
+# The options of a run that exclude each other.
+EXCLUSIVE = [{first, second} for first in ("history", "records") for second in ("explain", "json")]
+EXCLUSIVE += [{"history", "records"}, {"progress", "no-progress"}]
+
+
 def refuses_two_forms_of_one_run(sgt):
-    for command, forms in (("script", ("history", "records", "explain")), ("bank", ("history", "records", "explain"))):
-        for first, second in permutations(forms, 2):
+    for command in ("script", "bank"):
+        for first, second in permutations(("history", "records", "explain", "json", "progress", "no-progress"), 2):
+            if {first, second} not in EXCLUSIVE:
+                continue
             text = usage("conflicting_options").format(command=command, first=first, second=second)
             sgt.expect(command, f"--{first}", f"--{second}", given=OPENING, status=2, err=text)
 
@@ -513,32 +525,48 @@ def explains_each_example(sgt):
 
 
 def explains_each_input(sgt):
-    """Nothing else of a run changes, and its error is reported as without the option, with one line more at most."""
+    """Nothing else of a run changes, and its error is reported as without the option."""
     for folder in ("scripts", "script_faults"):
         for script in sorted((INPUTS / folder).glob("*.jsonl")):
             status, wrote, told = sgt.run("script", given=script.read_text())
             before = explained_by_hand(script) if folder == "scripts" else ""
-            came = sgt.run("script", "--explain", given=script.read_text())
-            lines = came[2].splitlines(True)
-            if folder == "script_faults" and len(lines) == 2:
-                lines.pop()
-            same(f"{folder}/{script.name}", (status, wrote, before + told), (*came[:2], "".join(lines)))
+            same(f"{folder}/{script.name}", (status, wrote, before + told), sgt.run("script", "--explain", given=script.read_text()))
 
 
-# A line of a job's tries, and an attempt that failed in it.
-TRIED = re.compile(r"job (\d+): (\d+) (try|tries)(?:: (.*))?")
-ATTEMPT = re.compile(r"(\d+)(?: \((?:cycle with ([\d, ]+)|fell with (\d+))\))?")
+# The line of a job that did not commit at its first try; why a try failed; and the summary.
+TOLD_JOB = re.compile(r"job (\d+): (committed|aborted with code (\d+)|given up|refused: (.*)|no memory)(?: at try (\d+))?((?:; try \d+: [^;]*)*)")
+FAILED_TRY = re.compile(r"try (\d+): (?:cycle with job ([\d, ]+)|aborted in cascade with job (\d+))")
+SUMMARY = "{} jobs: {} committed, {} aborted with a code, {} given up, {} refused, {} without memory; {} tries"
 
 
-def tells_how_often_each_job_was_tried(sgt):
-    given = OPENING + '["job",1,[1,50]]\n["job",0,[9]]\n["job",99,[]]\n["job",0,[1]]\n'
-    out = "0 committed 1050\n1 asked 1\n2 refused 1\n3 committed 1550\n0/1 101\n1/101 500\n2/101 1050\n"
-    err = "job 0: 1 try: 0\njob 1: 1 try: 1\njob 2: 0 tries\njob 3: 1 try: 2\n"
+def says_how_jobs_ended(sgt):
+    given = OPENING + '["job",1,[1,50]]\n["job",0,[9]]\n["job",99,[]]\n["job",0,[1]]\n["job",1,[1]]\n["job",4,[1,1000000000000000]]\n'
+    out = "0 committed 1050\n1 asked 1\n2 refused 1\n3 committed 1550\n4 refused 2\n5 refused 2\n0/1 101\n1/101 500\n2/101 1050\n"
+    err = "job 1: aborted with code 1 at try 1\njob 2: refused: there is no procedure 99\n"
+    err += "job 4: refused: DepositChecking takes 2 arguments, found 1\n"
+    err += f"job 5: refused: argument 1 is 1000000000000000, {explained.RANGE}\n" + SUMMARY.format(6, 2, 1, 0, 3, 0, 3) + "\n"
     sgt.expect("bank", "--explain", "--workers", "1", given=given, out=out, err=err)
-    sgt.expect("bank", "--explain", given=OPENING, out=RECORDS)
+    sgt.expect("bank", "--explain", given=OPENING, out=RECORDS, err=SUMMARY.format(0, 0, 0, 0, 0, 0, 0) + "\n")
+    one = "1 job: 1 committed, 0 aborted with a code, 0 given up, 0 refused, 0 without memory; 1 try\n"
+    sgt.expect("bank", "--explain", given=OPENING + JOB, out=DEPOSITED, err=one)
 
 
-def tells_how_often_each_job_of_the_examples_was_tried(sgt):
+def says_why_events_are_refused(sgt):
+    """Each with the line of the event, also after a cut."""
+    opening = '{"limits":[2,3],"accounts":[],"procedures":[[1,[["answer",["arg",0]]]]]}\n'
+    events = ['["step",7]', '["start",1,[1]]', '["start",5,[1,2]]', '["start",6,[]]', '["start",4,[1,-1000000000000000]]', '["begin"]',
+              '["write",0,3,1,1000000000000000]', '["begin"]', '["begin"]', '["quit",0]', '["quit",1]', '["begin"]', '["begin"]', '["quit",2]', '["cut"]',
+              '["commit",0]']
+    replies = ["unknown", "bad args", "bad args", "no procedure", "bad args", "started 0", "bad args", "started 1", "full", "aborted quit fell none",
+               "aborted quit fell none", "started 2", "spent", "aborted quit fell none", "cut 14", "unknown"]
+    told = {2: "no transaction has started with the number 7", 3: "DepositChecking takes 2 arguments, found 1", 4: "procedure 5 takes 1 argument, found 2",
+            5: "there is no procedure 6", 6: f"argument 1 is -1000000000000000, {explained.RANGE}", 8: f"the value is 1000000000000000, {explained.RANGE}",
+            10: "as many are live as line 1 allows", 14: "as many have started as line 1 allows", 17: "no transaction has started with the number 0"}
+    sgt.expect("script", "--explain", given=opening + "\n".join(events), out="".join(f"{reply}\n" for reply in replies),
+               err="".join(f"line {line}: {words}\n" for line, words in told.items()))
+
+
+def says_how_each_job_of_the_examples_ended(sgt):
     for jobs, words in banks():
         status, wrote, told = sgt.run("bank", "--explain", *words, given=jobs.read_text())
         try:
@@ -570,28 +598,38 @@ def tells_by_whom_tries_were_aborted(sgt):
 
 
 def tried(report, lines, tally):
-    """Compares lines of tries with the report: each transaction that was started is reported once, and those that failed with others of
-    the run. Counts those in a cycle, and those aborted in cascade."""
+    """Compares the lines of jobs with the report: those that did not commit at their first try, in order, with the jobs that aborted their
+    failed tries; and the summary. Counts tries in a cycle, and those aborted in cascade."""
     outcomes = [line.split() for line in report if "/" not in line.split()[0]]
-    same("the lines", len(outcomes), len(lines))
-    started, others = [], set()
-    for job, line in enumerate(lines):
-        if not (told := TRIED.fullmatch(line)):
+    counts, tries, last = Counter(), 0, -1
+    silent = set(range(len(outcomes)))
+    for line in lines[:-1]:
+        if not (told := TOLD_JOB.fullmatch(line)):
             raise Differs(f"came {line!r}")
-        number, count, word, rest = told.groups()
-        attempts = [ATTEMPT.fullmatch(attempt).groups() for attempt in re.split(r", (?![^(]*\))", rest or "") if attempt]
-        same(line, (str(job), str(len(attempts)), "try" if len(attempts) == 1 else "tries"), (number, count, word))
-        failed = [attempt for attempt in attempts if attempt[1] or attempt[2]]
-        ends = len(attempts) - (outcomes[job][1] in ("committed", "asked"))
-        same(f"{outcomes[job]}: {line}", attempts[:ends], failed)
-        if outcomes[job][1] == "gave":
-            same(line, outcomes[job][2], count)
-        started += [int(attempt[0]) for attempt in attempts]
-        others |= {int(t) for attempt in failed for t in re.findall(r"\d+", attempt[1] or attempt[2])}
-        tally[0] += sum(attempt[1] is not None for attempt in failed)
-        tally[1] += sum(attempt[2] is not None for attempt in failed)
-    same("the transactions", list(range(len(started))), sorted(started))
-    same("those that abort others", set(), others - set(started))
+        job, how, code, _, at, rest = told.groups()
+        same(f"order: {line}", True, last < int(job) < len(outcomes))
+        last = int(job)
+        silent.remove(last)
+        failed = [FAILED_TRY.fullmatch(one).groups() for one in rest.split("; ")[1:]]
+        same(line, [str(number) for number in range(1, len(failed) + 1)], [number for number, _, _ in failed])
+        outcome = outcomes[last]
+        wanted = {"committed": "committed", "asked": f"aborted with code {outcome[-1]}", "gave": "given up", "refused": f"refused: {told[4]}", "no": "no memory"}
+        same(line, wanted[outcome[1]], how)
+        ends = outcome[1] in ("committed", "asked")
+        if outcome[1] != "refused":
+            same(line, str(len(failed) + ends), at)
+        if outcome[1] == "gave":
+            same(line, outcome[2], str(len(failed)))
+        for _, cycle, cascade in failed:
+            if any(int(other) >= len(outcomes) for other in (cycle or cascade).split(", ")):
+                raise Differs(f"no such job: {line}")
+        tries += len(failed) + ends
+        tally[0] += sum(cycle is not None for _, cycle, _ in failed)
+        tally[1] += sum(cascade is not None for _, _, cascade in failed)
+    same("who is silent", {"committed"}, {outcomes[job][1] for job in silent} | {"committed"})
+    counts = Counter(outcome[1] for outcome in outcomes)
+    summary = [counts[kind] for kind in ("committed", "asked", "gave", "refused", "no")]
+    same("the summary", SUMMARY.format(len(outcomes), *summary, tries + len(silent)), lines[-1])
 
 
 def tells_on_a_terminal_how_many_jobs_have_ended(sgt):
@@ -743,6 +781,205 @@ def refuses_a_history_that_is_too_long(sgt):
     sgt.expect("check", given=" " * (most - 4) + "c1c1", status=2, err="line 1: no operation: c1c1\n")
 
 
+def says_what_an_operation_looks_like(sgt):
+    """In a second line, with its column, and with a hint if it is plain what was meant."""
+    form = "an operation is r1[x], w1[x], c1 or a1"
+    small = "an operation starts with a small letter: r1[x], w1[x], c1 or a1"
+    long = "y" * 64
+    for given, column, words in (
+        ("A1", 1, small),
+        ("r1[x] w1[x]\n  C1", 3, small),
+        ("r1(x)", 1, "an item stands in square brackets, as in r1[x]"),
+        ("r1[x]\tw2(y)", 7, "an item stands in square brackets, as in r1[x]"),
+        ("c1 r2", 4, "a read and a write name an item in square brackets, as in r1[x]"),
+        ("b1 r1[x]", 1, f"{form}; a transaction begins with its first one, without a word"),
+        ("# none\nc1 x9", 4, form),
+        ("r1[x], w2[x]", 1, "operations are separated by spaces or newlines, without commas"),
+        ("r1[x];", 1, "operations are separated by spaces or newlines, without commas"),
+        ("c1 r22[x] r2#", 11, "a read and a write name an item in square brackets, as in r1[x]"),
+        (f"r1[x] r2[{long}]\r\nw2[x] r2[{long}y]", 7, form),
+        ("c1 \x01\x7f \x01", 4, form),
+    ):
+        status, out, told = sgt.run("check", given=given)
+        same(given, (2, "", f"column {column}: {words}"), (status, out, told.splitlines()[1]))
+    status, out, told = sgt.run("check", given="c1 x9 " + " " * 3_000_000)
+    same("a line that is not stored", (2, "", form), (status, out, told.splitlines()[1]))
+
+
+def says_more_of_each_other_error(sgt):
+    """In a second line, which comes without an option."""
+    too_long = "an input has at most 16777216 bytes: split it, and begin the next part with what --records writes of the one before"
+    history = "a history has operations: r1[x], w1[x], c1 or a1"
+    for words, given, told in (
+        (["script"], OPENING + " " * LONGEST_INPUT, "line 2: long line\na line has at most 65536 bytes"),
+        (["script"], OPENING + ('["step",9]' + " " * 60_000 + "\n") * 300, f"input too long\n{too_long}"),
+        (["script"], "\ufeff" + OPENING, "line 1: not JSON\ncolumn 1: a byte order mark: save the input without it"),
+        (["bank"], OPENING + '["job",1]\n', 'line 2: bad line\nexpected ["job",procedure,[argument,..]], found ["job",1]'),
+        (["check"], "", f"no operations\n{history}"),
+        (["check"], "c1 c1", "line 1: transaction 1 has ended\nthe commit or abort of a transaction is its last operation"),
+    ):
+        same(f"{words} {given[:40]!r}", (2, f"{told}\n"), sgt.run(*words, given=given)[::2])
+
+
+def shows_what_was_typed(sgt):
+    """Numbers digit by digit, members in their order; without the spaces."""
+    for line, shown in (
+        ('["start",1,[100000000000000000000,1]]', "expected a whole number as argument 0, found 100000000000000000000"),
+        ('["start",1,[1, 123456789012345678901 ]]', "expected a whole number as argument 1, found 123456789012345678901"),
+        ('{"step" : 0, "at" : 1, "b" : [ ]}', 'expected an event, as ["step",0], found {"step":0,"at":1,"b":[]}'),
+        ('["write",0,3,1,1E5]', "expected a whole number as the value, found 1E5"),
+        ('["quit", "1e5"]', 'expected a transaction from 0 to 4294967295, found "1e5"'),
+        ('["step",0,"]",{"z":"\\"","a":1}]', 'expected ["step",transaction], found ["step",0,"]",{"z":"\\"","a":1}]'),
+    ):
+        same(line, f"line 2: bad line\n{shown}\n", sgt.run("script", given=OPENING + line + "\n")[2])
+    line = '{"procedures":[],"limits":[1,10],"accounts":{"b":1,"a":2}}\n'
+    same(line, 'line 1: bad line\n"accounts": expected a list, found {"b":1,"a":2}\n', sgt.run("script", given=line)[2])
+
+
+def finds_a_faulty_line_after_many(sgt):
+    """Of an input that is much longer than what is stored of it."""
+    given = OPENING + '["step",0]\n' * 500_000 + '["step"]\n' + '["step",0]\n' * 20_000
+    told = 'line 500002: bad line\nexpected ["step",transaction], found ["step"]\n'
+    same("standard error", told, sgt.run("script", given=given)[2])
+
+
+def asks_for_input_on_a_terminal(sgt):
+    """Where standard input is a terminal, and no file is named."""
+    ours, theirs = os.openpty()
+    with tempfile.NamedTemporaryFile("w") as history:
+        history.write("c1\n")
+        history.flush()
+        for words, told in ((["check"], "reading standard input; ^D ends\n"), (["check", history.name], "")):
+            process = sgt.start(*words, stdin=theirs, stdout=subprocess.PIPE, stderr=subprocess.PIPE)
+            os.write(ours, b"c1\n\x04")
+            _, err = process.communicate(timeout=SECONDS)
+            same(f"{words}", (0, told), (process.returncode, err.decode()))
+    os.close(ours)
+    os.close(theirs)
+
+
+def writes_objects_of_json(sgt):
+    """An object for each reply or outcome, with the same values as its line, and then the records."""
+    for words, folder in ((["script"], EXAMPLES), (["bank", "--workers", "1"], EXAMPLES / "bank_one_worker")):
+        for given in sorted(folder.glob("*.jsonl")):
+            plain = sgt.run(*words, given=given.read_text())[1].splitlines()
+            status, wrote, told = sgt.run(*words, "--json", given=given.read_text())
+            same(f"{given.name}: standard error and status", ("", 0), (told, status))
+            same(given.name, plain, [line_of(json.loads(line)) for line in wrote.splitlines()])
+            records = "".join(line for line in wrote.splitlines(True) if line.startswith("["))
+            same(f"{given.name}: records", sgt.run(*words, "--records", given=given.read_text())[1], records)
+    given = OPENING + '["job",1,[1,50]]\n["job",0,[9]]\n["job",99,[]]\n'
+    out = '{"job":0,"outcome":"committed","answers":[1050],"tries":1}\n{"job":1,"outcome":"asked","code":1,"tries":1}\n'
+    out += '{"job":2,"outcome":"refused","reason":"no procedure","tries":0}\n["record",0,1,101]\n["record",1,1,500]\n["record",2,1,1050]\n'
+    out = out.replace('["record",1,1,500]\n["record",2,1,1050]', '["record",1,101,500]\n["record",2,101,1050]')
+    sgt.expect("bank", "--json", "--workers", "1", given=given, out=out)
+    sgt.expect("script", "--json", given=OPENING + EVENTS + "[]\n", status=2, err="line 4: bad line\n",
+               out='{"reply":"started","transaction":0}\n{"reply":"read","table":0,"number":1,"value":101}\n')
+
+
+def writes_each_reply_as_an_object(sgt):
+    """Those that no example has."""
+    given = """["begin"]
+["begin"]
+["cut"]
+["write",0,3,1,7]
+["read",1,3,1]
+["read",1,3,2]
+["commit",1]
+["quit",0]
+["commit",1]
+["step",0]
+["step",9]
+["cut"]
+"""
+    out = """{"reply":"started","transaction":0}
+{"reply":"started","transaction":1}
+{"reply":"still live"}
+{"reply":"wrote","table":3,"number":1,"value":7}
+{"reply":"read","table":3,"number":1,"value":7}
+{"reply":"read","table":3,"number":2,"value":null}
+{"reply":"waits","transaction":0}
+{"reply":"aborted","cause":"quit","cascade":[1]}
+{"reply":"over","fate":"cascade","with":0}
+{"reply":"over","fate":"aborted","cause":"quit"}
+{"reply":"unknown"}
+{"reply":"cut","events":10}
+"""
+    records = '["record",0,1,101]\n["record",1,101,500]\n["record",2,101,1000]\n'
+    sgt.expect("script", "--json", given=OPENING + given, out=out + records)
+
+
+def counts_the_tries_in_json(sgt):
+    """As --explain does, on jobs that abort one another."""
+    opening = '{"limits":[16,100000],"accounts":[[1,1,500,1000],[2,2,500,1000]],"procedures":[]}\n'
+    given = opening + '["job",3,[1,2]]\n["job",3,[2,1]]\n["job",1,[1,1]]\n' * 400
+    status, wrote, told = sgt.run("bank", "--json", "--explain", "--workers", "16", "--tries", "1000", given=given)
+    same("status", 0, status)
+    jobs = [json.loads(line) for line in wrote.splitlines() if line.startswith("{")]
+    same("the jobs", list(range(1200)), [job["job"] for job in jobs])
+    same("the tries in all", int(told.splitlines()[-1].split()[-2]), sum(job["tries"] for job in jobs))
+    tries = dict.fromkeys(range(1200), 1)
+    for line in told.splitlines()[:-1]:
+        match = re.fullmatch(r"job (\d+): .* at try (\d+)(?:;.*)?", line)
+        tries[int(match[1])] = int(match[2])
+    same("each", [tries[number] for number in range(1200)], [job["tries"] for job in jobs])
+
+
+REASONS = {"no procedure": 1, "bad args": 2, "spent": 3, "full": 4}
+
+
+def line_of(one):
+    """The line of the output that this object, or record, stands for."""
+    def joined(numbers):
+        return " ".join(map(str, numbers)) or "none"
+
+    if isinstance(one, list):
+        return "{}/{} {}".format(*one[1:])
+    if "job" in one:
+        words = [str(one["job"]), one["outcome"]]
+        words += [str(one["code"])] if "code" in one else [str(REASONS[one["reason"]])] if "reason" in one else []
+        words += [joined(one["answers"])] if "answers" in one else [str(one["tries"])] if one["outcome"] == "gave" else []
+        return " ".join(words)
+    words = [one["reply"]]
+    if "table" in one:
+        words.append(f"{one['table']}/{one['number']}")
+    if "value" in one:
+        words.append("none" if one["value"] is None else str(one["value"]))
+    if "fate" in one:
+        words.append({"cascade": "fell"}.get(one["fate"], one["fate"]))
+    if "cause" in one:
+        words.append({"code": "asked"}.get(one["cause"], one["cause"]))
+    words += [str(one[name]) for name in ("transaction", "events", "code", "with") if name in one]
+    words += [joined(one[name]) for name in ("answers", "cycle") if name in one]
+    return " ".join(words + (["fell", joined(one["cascade"])] if "cascade" in one else []))
+
+
+def gives_signs_of_life(sgt):
+    """How many bytes are read, at most once a second: on a terminal, or with an option."""
+    def told(*words, terminal=False):
+        ours, theirs = os.openpty() if terminal else os.pipe()
+        process = sgt.start("script", *words, stdin=subprocess.PIPE, stdout=subprocess.DEVNULL, stderr=theirs)
+        os.close(theirs)
+        for piece in (OPENING, EVENTS):
+            process.stdin.write(piece.encode())
+            process.stdin.flush()
+            time.sleep(1.3)
+        process.stdin.close()
+        text = read_terminal(ours)
+        same("status", 0, process.wait(SECONDS))
+        return text.splitlines()
+
+    sizes = [len(OPENING), len(OPENING + EVENTS)]
+    for words, terminal, wanted in ((["--progress"], False, True), ([], True, True), ([], False, False), (["--no-progress"], True, False)):
+        lines = told(*words, terminal=terminal)
+        same(f"{words}, a terminal: {terminal}", wanted, bool(lines))
+        same(f"{words}, a terminal: {terminal}", [], [line for line in lines if line not in [f"{size} bytes are read" for size in sizes]])
+    with tempfile.NamedTemporaryFile("w") as file:
+        file.write(OPENING + EVENTS)
+        file.flush()
+        sgt.expect("script", "--progress", file.name, out=REPLIES + RECORDS)
+
+
 def wants_an_opening(sgt):
     for command in ("script", "bank"):
         sgt.expect(command, status=2, err="line 1: no opening\n")
@@ -833,7 +1070,8 @@ def tells_threads_that_could_not_be_made(sgt):
         if came != (0, "0 no memory\n" + unchanged, ""):
             same("standard output", "", came[1])
             if came != (2, "", "no memory\n"):
-                same("status and standard error", (2, "workers not started\n"), (came[0], came[2]))
+                told = "workers not started\neach worker is a thread, and the system did not start so many: take fewer with --workers\n"
+                same("status and standard error", (2, told), (came[0], came[2]))
                 refused += 1
     else:
         raise Differs("no run of three workers ended well")
@@ -845,20 +1083,20 @@ def tells_threads_that_could_not_be_made(sgt):
 
 
 def tells_a_full_disk(sgt):
-    for words, given in ((["script"], OPENING + EVENTS), (["bank"], OPENING + JOB), (["script", "--records"], OPENING), (["bank", "--records"], OPENING + JOB), (["check"], HISTORY), (["check", "--graph"], HISTORY), (["check", "--timeline"], HISTORY), (["--help"], ""), (["--version"], "")):
+    for words, given in ((["script"], OPENING + EVENTS), (["bank"], OPENING + JOB), (["script", "--records"], OPENING), (["bank", "--records"], OPENING + JOB), (["check"], HISTORY), (["check", "--graph"], HISTORY), (["check", "--timeline"], HISTORY), (["--help"], ""), (["--version"], ""), (["version"], "")):
         with open("/dev/full", "w", encoding="ascii") as full:
             status, _, told = sgt.run(*words, given=given, out=full)
         same(f"{words}: standard error", "writing failed\n", told)
         same(f"{words}: status", 2, status)
 
 
-def tells_a_closed_pipe(sgt):
+def ends_in_silence_if_nobody_reads(sgt):
     for words, given in ((["script"], OPENING + EVENTS), (["bank"], OPENING + JOB), (["check"], HISTORY), (["check", "--graph"], HISTORY), (["check", "--timeline"], HISTORY)):
         reader, writer = os.pipe()
         os.close(reader)
         status, _, told = sgt.run(*words, given=given, out=writer)
         os.close(writer)
-        same(f"{words}: standard error", "writing failed\n", told)
+        same(f"{words}: standard error", "", told)
         same(f"{words}: status", 2, status)
 
 
@@ -869,7 +1107,7 @@ def tells_a_failed_read(sgt):
             folder = os.open(room, os.O_RDONLY)
             status, out, told = sgt.run(command, source=folder)
             os.close(folder)
-        same(f"{command}: standard error", "reading failed\n", told)
+        same(f"{command}: standard error", "reading failed\nstandard input is a directory\n", told)
         same(f"{command}: standard output", "", out)
         same(f"{command}: status", 2, status)
 
@@ -910,8 +1148,9 @@ CASES = [
     explains_each_input,
     explains_drawn_scripts,
     judges_drawn_scripts,
-    tells_how_often_each_job_was_tried,
-    tells_how_often_each_job_of_the_examples_was_tried,
+    says_how_jobs_ended,
+    says_why_events_are_refused,
+    says_how_each_job_of_the_examples_ended,
     tells_by_whom_tries_were_aborted,
     tells_on_a_terminal_how_many_jobs_have_ended,
     tells_who_is_live_at_the_end,
@@ -923,6 +1162,15 @@ CASES = [
     refuses_no_operations,
     names_the_fault_of_a_history,
     refuses_a_history_that_is_too_long,
+    says_what_an_operation_looks_like,
+    says_more_of_each_other_error,
+    shows_what_was_typed,
+    finds_a_faulty_line_after_many,
+    asks_for_input_on_a_terminal,
+    writes_objects_of_json,
+    writes_each_reply_as_an_object,
+    counts_the_tries_in_json,
+    gives_signs_of_life,
     wants_an_opening,
     names_the_faulty_line,
     answers_before_it_reads_on,
@@ -930,7 +1178,7 @@ CASES = [
     takes_the_tries,
     tells_threads_that_could_not_be_made,
     tells_a_full_disk,
-    tells_a_closed_pipe,
+    ends_in_silence_if_nobody_reads,
     tells_a_failed_read,
 ]
 

@@ -50,9 +50,10 @@ def outcome_of(came, what):
         same(what, (report_on(done), ""), (out, told))
         return frozenset(done)
     same(what, (2, ""), (status, out))
-    if told not in ("no memory\n", "workers not started\n"):
+    fault = told.splitlines()[0] if told else ""
+    if fault not in ("no memory", "workers not started"):
         raise Differs(f"{what}: came {told!r:.400}")
-    return told.strip()
+    return fault
 
 
 def refuses_each_growth_of_a_bank(sgt, _):

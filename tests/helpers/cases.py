@@ -27,6 +27,15 @@ def same(what, wanted, came):
         raise Differs(f"{what}: wanted {wanted!r:.400}, came {came!r:.400}")
 
 
+def first_line(came):
+    """What a run came to, with the first line of its standard error alone. The second one explains an error, and has tests of its own."""
+    status, out, told, *rest = came
+    lines = told.splitlines(True)
+    if len(lines) > 2:
+        raise Differs(f"more than two lines: {told!r:.400}")
+    return status, out, "".join(lines[:1]), *rest
+
+
 def tell(cases, *given, of="sgt"):
     """Runs each case on what is given, reports how it went, counts them in a last line, and gives the status."""
     failed = 0

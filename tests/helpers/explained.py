@@ -68,6 +68,29 @@ def explanation(script, replies):
     return "".join(told)
 
 
+NAMES = ("Balance", "DepositChecking", "TransactSaving", "Amalgamate", "WriteCheck")
+RANGE = "and has to be from -999999999999999 to 999999999999999"
+
+
+def refusal(event, reply):
+    """Why an event was refused with this reply."""
+    kind, *rest = event
+    if reply == "bad args" and kind == "write":
+        return f"the value is {rest[-1]}, {RANGE}"
+    if reply == "bad args":
+        procedure, args = rest
+        if len(args) != ARGUMENTS[procedure]:
+            name = NAMES[procedure] if procedure < 5 else f"procedure {procedure}"
+            return f"{name} takes {ARGUMENTS[procedure]} argument{'s' * (ARGUMENTS[procedure] != 1)}, found {len(args)}"
+        return next(f"argument {place} is {arg}, {RANGE}" for place, arg in enumerate(args) if abs(arg) >= 10**15)
+    return {
+        "no procedure": f"there is no procedure {rest[0] if rest else ''}",
+        "spent": "as many have started as line 1 allows",
+        "full": "as many are live as line 1 allows",
+        "unknown": f"no transaction has started with the number {rest[0] if rest else ''}",
+    }[reply]
+
+
 class Part:
     """What stands between two cuts."""
 
@@ -87,6 +110,8 @@ class Part:
         elif match := re.fullmatch("(read|wrote|removed) ([0-9]+/-?[0-9]+)(?: (.*))?", reply):
             done = "read" if match[1] == "read" else "wrote"
             self.accesses.append((line, first, done, match[2], match[3], self.source(match[2])))
+        elif reply in ("bad args", "no procedure", "spent", "full", "unknown"):
+            return [refusal(event, reply)]
         elif reply.startswith("committed "):
             self.live.remove(first)
         elif match := re.fullmatch("(?:aborted|refused) (.*) fell (.*)", reply):

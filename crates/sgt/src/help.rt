@@ -9,8 +9,11 @@ pub(crate) const HELP: &str =
   sgt check examples/histories/write_skew.txt
 
 A script and a bank are lines of JSON. A history is text in the notation of the textbook.
-'sgt script --help', 'sgt bank --help' and 'sgt check --help' describe the inputs. An error is one
-line on standard error; the exit status is then 2.
+'sgt script --help', 'sgt bank --help' and 'sgt check --help' describe the inputs. If you type the
+input, ^D at the start of a line ends it. An error is one line on standard error, and mostly a
+second one that says what was expected; the exit status is then 2. If nobody reads the output any
+more, a run ends without a message, with that status. If a script or a bank takes over a second, a
+terminal shows on standard error how far it is; --progress shows it elsewhere too.
 
 Limits:
 
@@ -46,7 +49,8 @@ them is an event and gets one line of reply. The committed database comes last.
   limits      the most live transactions, from 1 to 32; the most starts, from 1 to 4000000000;
               and optionally when an abort code is reported: 0 (the default) at the step, 1 at the
               commit. With 0 the code may rest on a value that is undone later. With 1 it is the
-              code of the serial run.
+              code of the serial run, as in 'refused 5 fell none'. (In a bank, 'refused' means that
+              a job was not started.)
   accounts    of each the name, the customer, the saving and the checking
   procedures  your own, numbered from 5
   record      a table from 0 to 7, a number in it and a value; --records writes such lines
@@ -81,23 +85,32 @@ Here 0/1 is record 1 of table 0, and 9 events were answered since line 1. A tran
 the number in the reply to its start.
 
 With --explain, standard error says after each abort which accesses make the edges of the cycle, and
-which reads made other transactions abort in cascade. At the end it lists the live transactions:
+which reads made other transactions abort in cascade. It says why an event was refused. At the end
+it lists the live transactions:
 
   line 9: 0 wrote 1/101 at line 8, which 1 read at line 6
   line 9: 1 would write 2/101, which 0 read at line 5
   line 25: 3 read 2/101 of 2 at line 20
+  line 26: DepositChecking takes 2 arguments, found 1
   1 transaction is live at the end: 4
-
-If a line is faulty, a second line of standard error explains the error:
-
-  line 26: bad line
-  expected ["step",transaction], found ["step"]
 
 Standard output and the status are as without --explain. It excludes --history and --records.
 
+With --json each reply is an object of JSON, and the records at the end are lines as --records
+writes them:
+
+  {"reply":"read","table":0,"number":1,"value":101}
+  {"reply":"aborted","cause":"cycle","cycle":[1,0],"cascade":[]}
+  ["record",0,1,101]
+
 The first bad line ends the script. The replies to the lines before it are written, and the error is
-on standard error. A line has at most 65536 bytes, the input 16777216. A value or a key is a whole
-number of at most 15 digits.
+on standard error, with a second line that explains it:
+
+  line 27: bad line
+  expected ["step",transaction], found ["step"]
+
+A line has at most 65536 bytes, the input 16777216. A value or a key is a whole number of at most 15
+digits.
 In the repository: docs/FORMATS.md has every line and reply, docs/LANGUAGE.md the procedures, and
 examples/ has scripts."#;
 
@@ -127,29 +140,37 @@ gives
   asked       its procedure aborted with this code; it changed nothing
   gave        all its tries were aborted; the number of tries
   refused     it was not started: 1 no such procedure, 2 bad arguments, 3 no start is left,
-              4 too many are live
+              4 too many are live. (In a script, 'refused' has the code of a procedure.)
   no memory   an allocation failed; it changed nothing
 
 With a third limit of 1, as in [32,1000,1], each code is the code of the serial run, as answers are.
 If you act on codes, set the third limit to 1. Otherwise a code may rest on a value that another job
 wrote and that was undone later.
 
-All jobs are read before the first one runs, at most 1000000. If a line is bad, it is reported and
-no job runs. A line has at most 65536 bytes, the input 16777216. A value or a key is a whole
-number of at most 15 digits. The first limit, from 1 to 32, must be at least the number of workers.
-The order of two jobs is not fixed. Run serially in commit order, the committed jobs give the same
-answers and the same database.
+All jobs are read before the first one runs, at most 1000000. If a line is bad, it is reported with
+what was expected, and no job runs. A line has at most 65536 bytes, the input 16777216. A value or a
+key is a whole number of at most 15 digits. The first limit, from 1 to 32, must be at least the
+number of workers. The order of two jobs is not fixed. Run serially in commit order, the committed
+jobs give the same answers and the same database.
 
-With --explain, standard error says after the report how often each job was tried, with the
-transaction of each try, and why the failed tries were aborted:
+With --explain, standard error says after the report of each job that did not commit at its first
+try how it ended, and which jobs aborted its tries. A summary comes last. All numbers are of jobs:
 
-  job 0: 1 try: 0
-  job 1: 3 tries: 1 (cycle with 0, 2), 3 (fell with 2), 4
-  job 2: 0 tries
+  job 1: committed at try 3; try 1: cycle with job 0, 2; try 2: aborted in cascade with job 2
+  job 4: aborted with code 1 at try 1
+  job 5: refused: DepositChecking takes 2 arguments, found 1
+  6 jobs: 4 committed, 1 aborted with a code, 0 given up, 1 refused, 0 without memory; 7 tries
 
-While the jobs run, a terminal shows once a second how many have ended. If a line is faulty, a
-second line explains the error. Standard output and the status are as without --explain. It excludes
---history and --records.
+Standard output and the status are as without --explain. It excludes --history and --records.
+
+With --json each outcome is an object of JSON, with the number of tries, and the records at the end
+are lines as --records writes them:
+
+  {"job":0,"outcome":"committed","answers":[1050],"tries":1}
+  {"job":1,"outcome":"asked","code":1,"tries":1}
+  {"job":2,"outcome":"refused","reason":"no procedure","tries":0}
+  ["record",0,1,101]
+
 In the repository: docs/FORMATS.md has every line, and examples/ has banks."#;
 
 /// What `sgt check --help` prints after the options.
@@ -200,9 +221,9 @@ first two operations that do. The edges of the cycle are red:
 
 With --timeline the output is a picture of the history in SVG: a row for each transaction, its
 operations from left to right, arrows from writes to the reads that read from them, and the report
-below. The conflicts of the cycle are red. Without a cycle, the first violation in the order of the
-report is orange. If there are more than 400 operations, it draws those of the transactions
-involved.
+below. The conflicts of the cycle are red, and the first violation of each other class is orange. If
+there are more than 60 operations, it draws those of the transactions involved; with --all only if
+there are more than 400.
 
 With --model list-append the history is what the clients of a database saw. Their transactions
 append unique values to lists and read lists. The input has objects of JSON, as Jepsen writes them,
@@ -244,8 +265,8 @@ before say it.
 
 The status is 0 if the history is serializable and recoverable (list-append: serializable, or of the
 level that --level names), 1 if not, 2 after an error, and 3 if --level's answer is undecided. The
-error is on standard error, and nothing is written to standard output. An input has at most
-268435456 bytes.
+error is on standard error, with a second line if there is more to say, and nothing is written to
+standard output. An input has at most 268435456 bytes.
 The classes are those of Bernstein, Hadzilacos and Goodman (1987), chapter 2.
 In the repository: docs/FORMATS.md has each line, examples/histories more histories, and
 examples/clients what clients saw of PostgreSQL."#;

@@ -24,6 +24,19 @@ impl<I: Read + Drop, F: Read + Drop> Read for InputBytes<I, F> {
     }
 }
 
+impl<I: Read + Drop, F: Read + OpenFile + Drop> InputBytes<I, F> {
+    /// How many bytes the file has. Of standard input this is not known.
+    pub(crate) fn size(&self) -> Option<u64> {
+        match self {
+            InputBytes::Standard(_) => None,
+            InputBytes::File(file) => match file.metadata() {
+                Ok(about) if about.is_file() => Some(about.len()),
+                _ => None,
+            },
+        }
+    }
+}
+
 /// Why a file is not read.
 #[derive(Clone, Copy, Debug, PartialEq, Eq)]
 pub(crate) enum FileFlaw {
@@ -87,6 +100,14 @@ fn open_file<R: Files>(rt: &R, name: &str) -> Result<R::File, FileFlaw> {
         Ok(about) if about.is_dir() => Err(FileFlaw::Directory),
         _ => Ok(file),
     }
+}
+
+/// Where the system has standard input as a file.
+const STANDARD: &str = "/dev/stdin";
+
+/// Whether standard input is a directory.
+pub(crate) fn is_folder<R: Files>(rt: &R) -> bool {
+    matches!(open_file(rt, STANDARD), Err(FileFlaw::Directory))
 }
 
 /// The flaw of a file that gives this error when it is opened.

@@ -1,35 +1,43 @@
 //! The program `sgt`, with three subcommands:
 //!
 //! - `sgt script` runs a script of JSON lines on an engine. It writes a line for each reply, and then the committed
-//!   database. On request it explains on standard error why transactions are aborted.
+//!   database. On request it explains on standard error why transactions are aborted and events refused.
 //! - `sgt bank` runs jobs on worker threads. It writes a line for each job's outcome, and then the committed
-//!   database. On request it reports on standard error how often each job was tried.
+//!   database. On request it reports on standard error how the jobs ended, and why.
 //! - `sgt check` reads a history. It writes the classes that the history belongs to, its serialization graph, or a
 //!   picture of it. With `--model list-append` the history is what the clients of a database saw.
 //!
 //! Each reads standard input, or the file that an argument names. Each reports an error on standard error and exits with
-//! status 2. The first two can also explain what is wrong with the line.
+//! status 2. A second line explains the error, if there is more to say. `sgt version` writes the version.
 //!
 //! The crate holds the command line only. `sgt_script` says and proves what a script's run writes, `sgt_bank` what a
 //! bank's run writes, `sgt_check` what a check writes, and `sgt_clients` what a check of a client history writes.
 //! `sgt_line_errors` explains a faulty line.
 #![tactic(auto)]
 
+mod advice;
+mod failure;
 mod help;
 mod input;
+mod operation_error;
+mod output;
+mod progress;
 
 ghost use Rattle.std.specs.Prelude.{◌≤◌};
 
 use clap::builder::ValueParser;
 use clap::error::ErrorKind;
 use clap::{Arg, ArgAction, ArgMatches, Command};
+use failure::{Detail, Failure, check_failure, clients_failure, failure_of};
 use help::{BANK_HELP, CHECK_HELP, HELP, SCRIPT_HELP};
 use input::{FILE, open_input};
+use output::OutputBytes;
+use progress::Showing;
 use sgt_bank::{Explanations, MOST_TRIES, MOST_WORKERS, run_bank};
 use sgt_check::{CheckFault, run_check};
 use sgt_clients::{Answer, ClientsFault, ClientsOutput, Flaw, Level, Question, run_clients};
-use sgt_input::{Fault, Reader, Source, Writer};
-use sgt_line_errors::{Remembering, explain};
+use sgt_input::{Fault, Reader, Writer};
+use sgt_line_errors::Remembering;
 use sgt_notation::NotationFault;
 use sgt_script::Output;
 use std::alloc::{AllocError, Global};
@@ -65,11 +73,29 @@ Usage: sgt check [OPTIONS] [FILE]
 
 For more information, try '--help'.";
 
+/// The message for an option that only a picture has, as `clap` would write it.
+const NEEDS_TIMELINE: &str = "error: the option '--all' needs '--timeline'
+
+Usage: sgt check [OPTIONS] [FILE]
+
+For more information, try '--help'.";
+
 /// The hint for text that is read as what clients saw.
 const IS_TEXT: &str = "; text like r1[x] is read without --model list-append";
 
 /// The hint for what clients saw that is read as text.
 const IS_JSON: &str = "; JSON and EDN are read with --model list-append";
+
+/// What a person reads who types the input.
+const TYPED: &str = "reading standard input; ^D ends";
+
+/// The standard streams, beside those that a run reads and writes.
+#[derive(Drop)]
+struct Streams {
+    stderr: Stderr,
+    /// Whether standard input is a terminal.
+    is_typed: bool,
+}
 
 /// An option without a value.
 fn flag<'a>(alloc: Global, name: &'a str, help: &'a str) -> Arg<'a> {
@@ -94,11 +120,15 @@ fn number_option<'a>(
         .default_value(default)
 }
 
-/// The options of a run: write it as a history, write only the database as records, or add explanations. They exclude
-/// each other.
-const RUN_OPTIONS: [&str; 3] = ["history", "records", "explain"];
+/// The options that say what a run writes, and the one that explains it, each with those that it excludes.
+const RUN_OPTIONS: [(&str, &[&str]); 4] = [
+    ("history", &[]),
+    ("records", &["history"]),
+    ("explain", &["history", "records"]),
+    ("json", &["history", "records"]),
+];
 
-/// An option of a run. It excludes the other options of a run.
+/// An option that excludes others.
 fn run_option<'a>(
     alloc: Global,
     name: &'a str,
@@ -116,12 +146,23 @@ fn run_option<'a>(
 fn add_run_options<'a>(
     alloc: Global,
     options: &mut Vec<Arg<'a>>,
-    helps: [&'a str; 3],
+    helps: [&'a str; 4],
 ) -> Result<(), AllocError> {
     for place in 0..RUN_OPTIONS.len() {
-        let others = &RUN_OPTIONS[..place];
-        options.push(run_option(alloc, RUN_OPTIONS[place], helps[place], others)?)?;
+        let (name, others) = RUN_OPTIONS[place];
+        options.push(run_option(alloc, name, helps[place], others)?)?;
     }
+    options.push(flag(
+        alloc,
+        "progress",
+        "Says on standard error, once a second, how far the run is",
+    ))?;
+    options.push(run_option(
+        alloc,
+        "no-progress",
+        "Does not say that on a terminal either",
+        &["progress"],
+    )?)?;
     Ok(())
 }
 
@@ -134,7 +175,8 @@ fn script_options<'a>(alloc: Global) -> Result<Vec<Arg<'a>>, AllocError> {
         [
             "Writes the run as a history for 'sgt check', instead of the replies",
             "Writes the committed database as records, instead of the replies",
-            "Explains on standard error why transactions abort, and what is wrong with a line",
+            "Explains on standard error why transactions are aborted and events refused",
+            "Writes each reply as an object of JSON, and then the records",
         ],
     )?;
     Ok(options)
@@ -163,7 +205,8 @@ fn bank_options<'a>(alloc: Global) -> Result<Vec<Arg<'a>>, AllocError> {
         [
             "Writes the run as a history for 'sgt check', instead of the outcomes",
             "Writes the committed database as records, instead of the outcomes",
-            "Reports on standard error how often each job was tried; explains errors",
+            "Reports on standard error how the jobs ended, and why",
+            "Writes each outcome as an object of JSON, and then the records",
         ],
     )?;
     Ok(options)
@@ -215,6 +258,11 @@ fn check_options<'a>(alloc: Global) -> Result<Vec<Arg<'a>>, AllocError> {
         "Writes a picture of the history in SVG, instead of the report",
     )
     .conflicts_with("graph")?)?;
+    options.push(flag(
+        alloc,
+        "all",
+        "Draws up to 400 operations of a history, not 60 (--timeline only)",
+    ))?;
     options.push(
         flag(
             alloc,
@@ -262,6 +310,7 @@ enum Word {
     Script,
     Bank,
     Check,
+    Version,
 }
 
 impl Word {
@@ -289,6 +338,9 @@ impl Word {
                 CHECK_HELP,
                 check_options(alloc)?,
             ),
+            Word::Version => Command::new(alloc, "version")
+                .about("Prints the version")
+                .args(Vec::new(alloc)),
         }
     }
 }
@@ -296,7 +348,7 @@ impl Word {
 /// All subcommands of `sgt`.
 fn subcommands<'a>(alloc: Global) -> Result<Vec<Command<'a>>, AllocError> {
     let mut commands = Vec::new(alloc);
-    for word in [Word::Script, Word::Bank, Word::Check] {
+    for word in [Word::Script, Word::Bank, Word::Check, Word::Version] {
         commands.push(word.command(alloc)?)?;
     }
     Ok(commands)
@@ -323,52 +375,48 @@ fn number(options: &ArgMatches<'_>, name: &str, most: u32) -> u32
     options.get_one::<u32>(name).unwrap_or(1).clamp(1, most)
 }
 
-/// How a run failed, with the explanation if one was requested and there is one.
-#[derive(Drop)]
-struct Failure {
-    fault: Fault,
-    explanation: Option<String>,
-}
-
-/// A fault without explanation.
-fn unexplained(ran: Result<(), Fault>) -> Result<(), Failure> {
-    match ran {
-        Ok(()) => Ok(()),
-        Err(fault) => Err(Failure {
-            fault,
-            explanation: None,
-        }),
-    }
-}
-
-/// A fault with its explanation, of a run that read from this source.
-fn explained<S: Source>(
+/// Runs a script from the input to standard output.
+fn script<R: Print + Eprint + Files + Clock, I: Read + Drop>(
+    rt: &R,
     alloc: Global,
-    command: sgt_line_errors::Command,
-    source: &Remembering<S>,
-    ran: Result<(), Fault>,
-) -> Result<(), Failure> {
-    match ran {
+    streams: Streams,
+    options: &ArgMatches<'_>,
+    input: I,
+    size: Option<u64>,
+) -> Result<(), Failure<Fault>> {
+    let shown = Showing::new(rt, input, size, shows_progress(&streams, options));
+    let mut source = Remembering::new(alloc, Reader::new(shown));
+    let mut writer = Writer::new(OutputBytes::new(io::writer(rt)));
+    let mut errors = Writer::new(streams.stderr);
+    let explanations = if options.get_flag("explain") {
+        Some(&mut errors)
+    } else {
+        None
+    };
+    let output = output_of(options);
+    match sgt_script::run(alloc, &mut source, &mut writer, output, explanations) {
         Ok(()) => Ok(()),
+        Err(Fault::Writing) if writer.inner.is_unread() => Err(Failure::Unread),
         Err(fault) => {
-            let explanation = explain(alloc, &fault, command, source);
-            Err(Failure { fault, explanation })
+            let file = options.get_str(FILE);
+            Err(failure_of(
+                rt,
+                alloc,
+                sgt_line_errors::Command::Script,
+                &source,
+                file,
+                fault,
+            ))
         }
     }
 }
 
-/// Runs a script from the input to standard output.
-fn script<R: Print, I: Read + Drop>(
-    rt: &R,
-    alloc: Global,
-    stderr: Stderr,
-    options: &ArgMatches<'_>,
-    input: I,
-) -> Result<(), Failure> {
-    if options.get_flag("explain") {
-        return explained_script(rt, alloc, stderr, input);
-    }
-    unexplained(plain_script(rt, alloc, output_of(options), input))
+/// Whether a run says how far it is: if that is asked for, or else if standard error is a terminal and nobody types the
+/// input.
+fn shows_progress(streams: &Streams, options: &ArgMatches<'_>) -> bool {
+    let is_typed = streams.is_typed && options.get_str(FILE).is_none();
+    let is_watched = streams.stderr.is_terminal() && !is_typed;
+    options.get_flag("progress") || is_watched && !options.get_flag("no-progress")
 }
 
 /// The output mode that the options of a run name.
@@ -377,45 +425,15 @@ fn output_of(options: &ArgMatches<'_>) -> Output {
         Output::History
     } else if options.get_flag("records") {
         Output::Records
+    } else if options.get_flag("json") {
+        Output::Json
     } else {
         Output::Replies
     }
 }
 
-fn plain_script<R: Print, I: Read + Drop>(
-    rt: &R,
-    alloc: Global,
-    output: Output,
-    input: I,
-) -> Result<(), Fault> {
-    let mut reader = Reader::new(input);
-    let mut writer = Writer::new(io::writer(rt));
-    let explanations: Option<&mut Writer<Stderr>> = None;
-    sgt_script::run(alloc, &mut reader, &mut writer, output, explanations)
-}
-
-/// The same, and explains on standard error why transactions are aborted.
-fn explained_script<R: Print, I: Read + Drop>(
-    rt: &R,
-    alloc: Global,
-    stderr: Stderr,
-    input: I,
-) -> Result<(), Failure> {
-    let mut source = Remembering::new(alloc, Reader::new(input));
-    let mut writer = Writer::new(io::writer(rt));
-    let mut errors = Writer::new(stderr);
-    let ran = sgt_script::run(
-        alloc,
-        &mut source,
-        &mut writer,
-        Output::Replies,
-        Some(&mut errors),
-    );
-    explained(alloc, sgt_line_errors::Command::Script, &source, ran)
-}
-
-/// The options of `sgt bank`. Progress is reported if standard error is a terminal.
-fn read_bank_options(stderr: &Stderr, options: &ArgMatches<'_>) -> sgt_bank::Options
+/// The options of `sgt bank`.
+fn read_bank_options(options: &ArgMatches<'_>, shows_progress: bool) -> sgt_bank::Options
     ensures workers { (1 ≤ result.workers) × (result.workers ≤ 16) }
     ensures tries { (1 ≤ result.tries) × (result.tries ≤ 1000) }
 {
@@ -423,72 +441,105 @@ fn read_bank_options(stderr: &Stderr, options: &ArgMatches<'_>) -> sgt_bank::Opt
         sgt_bank::Output::History
     } else if options.get_flag("records") {
         sgt_bank::Output::Records
+    } else if options.get_flag("json") {
+        sgt_bank::Output::Json
     } else {
         sgt_bank::Output::Report
     };
-    let explanations = if !options.get_flag("explain") {
-        Explanations::Off
-    } else if stderr.is_terminal() {
-        Explanations::TriesAndProgress
-    } else {
+    let explanations = if options.get_flag("explain") {
         Explanations::Tries
+    } else {
+        Explanations::Off
     };
     sgt_bank::Options {
         workers: number(options, "workers", MOST_WORKERS),
         tries: number(options, "tries", MOST_TRIES),
         output,
         explanations,
+        shows_progress,
     }
 }
 
 /// Runs the jobs of a bank from the input to standard output.
-fn bank<R: Print + Eprint + Clock + Threads + Wait + Sync, I: Read + Drop>(
+fn bank<R: Print + Eprint + Files + Clock + Threads + Wait + Sync, I: Read + Drop>(
     rt: &R,
     alloc: Global,
-    stderr: Stderr,
+    streams: Streams,
     options: &ArgMatches<'_>,
     input: I,
-) -> Result<(), Failure> {
-    let chosen = read_bank_options(&stderr, options);
-    let mut writer = Writer::new(io::writer(rt));
-    let mut errors = Writer::new(stderr);
-    if options.get_flag("explain") {
-        let mut source = Remembering::new(alloc, Reader::new(input));
-        let ran = run_bank(rt, alloc, &mut source, &mut writer, &mut errors, chosen);
-        let command = sgt_line_errors::Command::Bank {
-            workers: chosen.workers,
-        };
-        return explained(alloc, command, &source, ran);
+    size: Option<u64>,
+) -> Result<(), Failure<Fault>> {
+    let shows = shows_progress(&streams, options);
+    let chosen = read_bank_options(options, shows);
+    let mut source = Remembering::new(alloc, Reader::new(Showing::new(rt, input, size, shows)));
+    let mut writer = Writer::new(OutputBytes::new(io::writer(rt)));
+    let mut errors = Writer::new(streams.stderr);
+    match run_bank(rt, alloc, &mut source, &mut writer, &mut errors, chosen) {
+        Ok(()) => Ok(()),
+        Err(Fault::Writing) if writer.inner.is_unread() => Err(Failure::Unread),
+        Err(fault) => {
+            let command = sgt_line_errors::Command::Bank {
+                workers: chosen.workers,
+            };
+            let file = options.get_str(FILE);
+            Err(failure_of(rt, alloc, command, &source, file, fault))
+        }
     }
-    let mut reader = Reader::new(input);
-    unexplained(run_bank(rt, alloc, &mut reader, &mut writer, &mut errors, chosen))
 }
 
 /// Checks a history from the input to standard output, and returns the exit status.
-fn check<R: Print + Eprint, I: Read + Drop>(
+fn check<R: Print + Eprint + Files, I: Read + Drop>(
     rt: &R,
     alloc: Global,
     options: &ArgMatches<'_>,
     input: I,
 ) -> ExitCode {
-    let mut reader = Reader::new(input);
-    let mut writer = Writer::new(io::writer(rt));
+    if options.get_flag("all") && !options.get_flag("timeline") {
+        return tell(rt, NEEDS_TIMELINE);
+    }
     let strict = options.get_flag("strict");
     let level = options.get_str("level");
     if options.get_str("model") == Some("list-append") {
-        let output = clients_output(options);
-        let question = question_of(level, strict);
-        return match run_clients(alloc, &mut reader, &mut writer, output, question) {
-            Err(fault) if is_no_json(&fault) => tell_hint(rt, fault, IS_TEXT),
-            ran => answered(rt, ran),
-        };
+        return check_clients(rt, alloc, options, question_of(level, strict), input);
     }
     if strict || level.is_some() || options.get_flag("json") {
         return tell(rt, NEEDS_MODEL);
     }
-    match run_check(alloc, &mut reader, &mut writer, check_output(options)) {
+    let mut source = Remembering::new(alloc, Reader::new(input));
+    let mut writer = Writer::new(OutputBytes::new(io::writer(rt)));
+    match run_check(alloc, &mut source, &mut writer, check_output(options)) {
+        Ok(is_sound) => verdict(is_sound),
+        Err(CheckFault::Writing) if writer.inner.is_unread() => failed(
+            rt,
+            Failure::<Fault>::Unread,
+        ),
         Err(fault) if is_brace(&fault) => tell_hint(rt, fault, IS_JSON),
-        ran => checked(rt, ran),
+        Err(fault) => failed(rt, check_failure(rt, &source, options.get_str(FILE), fault)),
+    }
+}
+
+/// Checks what clients saw, from the input to standard output, and returns the exit status.
+fn check_clients<R: Print + Eprint + Files, I: Read + Drop>(
+    rt: &R,
+    alloc: Global,
+    options: &ArgMatches<'_>,
+    question: Question,
+    input: I,
+) -> ExitCode {
+    let mut reader = Reader::new(input);
+    let mut writer = Writer::new(OutputBytes::new(io::writer(rt)));
+    let output = clients_output(options);
+    match run_clients(alloc, &mut reader, &mut writer, output, question) {
+        Ok(answer) => answered(answer),
+        Err(ClientsFault::Check(CheckFault::Writing)) if writer.inner.is_unread() => {
+            failed(rt, Failure::<Fault>::Unread)
+        }
+        Err(ClientsFault::Check(fault)) => failed(
+            rt,
+            clients_failure(rt, options.get_str(FILE), fault),
+        ),
+        Err(fault) if is_no_json(&fault) => tell_hint(rt, fault, IS_TEXT),
+        Err(fault) => tell(rt, fault),
     }
 }
 
@@ -523,8 +574,10 @@ fn is_brace(fault: &CheckFault) -> bool {
 fn check_output(options: &ArgMatches<'_>) -> sgt_check::Output {
     if options.get_flag("graph") {
         sgt_check::Output::Graph
-    } else if options.get_flag("timeline") {
+    } else if options.get_flag("timeline") && options.get_flag("all") {
         sgt_check::Output::Timeline
+    } else if options.get_flag("timeline") {
+        sgt_check::Output::Screen
     } else {
         sgt_check::Output::Report
     }
@@ -547,68 +600,88 @@ fn clients_output(options: &ArgMatches<'_>) -> ClientsOutput {
 fn run<R: Print + Eprint + Input + Files + Clock + Threads + Wait + Sync>(
     rt: &R,
     alloc: Global,
-    stderr: Stderr,
+    streams: Streams,
     matches: &ArgMatches<'_>,
 ) -> ExitCode {
     let Some((name, options)) = matches.subcommand() else {
         return ExitCode::SUCCESS;
     };
-    match open_input(rt, options.get_str(FILE)) {
-        Ok(input) => run_on(rt, alloc, stderr, name, options, input),
+    if name == "version" {
+        return print_version(rt);
+    }
+    let file = options.get_str(FILE);
+    if file.is_none() && streams.is_typed {
+        tell(rt, TYPED);
+    }
+    match open_input(rt, file) {
+        Ok(input) => {
+            let size = input.size();
+            run_on(rt, alloc, streams, name, options, input, size)
+        }
         Err(fault) => tell(rt, fault),
+    }
+}
+
+/// Writes the version to standard output.
+fn print_version<R: Print + Eprint>(rt: &R) -> ExitCode {
+    match println!(rt; "sgt {VERSION}") {
+        Ok(()) => ExitCode::SUCCESS,
+        Err(_) => tell(rt, Fault::Writing),
     }
 }
 
 /// Runs the subcommand with this name on the input, and returns the exit status.
-fn run_on<R: Print + Eprint + Clock + Threads + Wait + Sync, I: Read + Drop>(
+fn run_on<R: Print + Eprint + Files + Clock + Threads + Wait + Sync, I: Read + Drop>(
     rt: &R,
     alloc: Global,
-    stderr: Stderr,
+    streams: Streams,
     name: &str,
     options: &ArgMatches<'_>,
     input: I,
+    size: Option<u64>,
 ) -> ExitCode {
     match name {
         "check" => check(rt, alloc, options, input),
-        "bank" => ended(rt, bank(rt, alloc, stderr, options, input)),
-        _ => ended(rt, script(rt, alloc, stderr, options, input)),
+        "bank" => ended(rt, bank(rt, alloc, streams, options, input, size)),
+        _ => ended(rt, script(rt, alloc, streams, options, input, size)),
     }
 }
 
-/// The exit status of a check.
-fn checked<R: Eprint, E: Display + Drop>(rt: &R, ran: Result<bool, E>) -> ExitCode {
-    match ran {
-        Ok(true) => ExitCode::SUCCESS,
-        Ok(false) => ExitCode::from(1),
-        Err(fault) => tell(rt, fault),
+/// The exit status of a check: whether the history is as it should be.
+fn verdict(is_sound: bool) -> ExitCode {
+    if is_sound {
+        ExitCode::SUCCESS
+    } else {
+        ExitCode::from(1)
     }
 }
 
 /// The exit status of an answer.
-fn answered<R: Eprint, E: Display + Drop>(rt: &R, ran: Result<Answer, E>) -> ExitCode {
-    match ran {
-        Ok(Answer::Yes) => ExitCode::SUCCESS,
-        Ok(Answer::No) => ExitCode::from(1),
-        Ok(Answer::Undecided) => ExitCode::from(3),
-        Err(fault) => tell(rt, fault),
+fn answered(answer: Answer) -> ExitCode {
+    match answer {
+        Answer::Yes => ExitCode::SUCCESS,
+        Answer::No => ExitCode::from(1),
+        Answer::Undecided => ExitCode::from(3),
     }
 }
 
 /// The exit status of a run.
-fn ended<R: Eprint>(rt: &R, ran: Result<(), Failure>) -> ExitCode {
+fn ended<R: Eprint>(rt: &R, ran: Result<(), Failure<Fault>>) -> ExitCode {
     match ran {
         Ok(()) => ExitCode::SUCCESS,
-        Err(failure) => tell_failure(rt, failure),
+        Err(failure) => failed(rt, failure),
     }
 }
 
-/// Reports a fault on standard error, followed by its explanation.
-fn tell_failure<R: Eprint>(rt: &R, failure: Failure) -> ExitCode {
-    let Failure { fault, explanation } = failure;
-    let status = tell(rt, fault);
-    match explanation {
-        Some(text) => tell(rt, text),
-        None => status,
+/// Reports a failure on standard error, and returns its exit status.
+fn failed<R: Eprint, F: Display + Drop>(rt: &R, failure: Failure<F>) -> ExitCode {
+    match failure {
+        Failure::Unread => ExitCode::from(2),
+        Failure::Fault(fault, Detail::Nothing) => tell(rt, fault),
+        Failure::Fault(fault, detail) => {
+            tell(rt, fault);
+            tell(rt, detail)
+        }
     }
 }
 
@@ -640,14 +713,14 @@ fn refuse<R: Print + Eprint>(rt: &R, error: &clap::Error) -> ExitCode {
 fn run_words<R: Print + Eprint + Input + Files + Clock + Threads + Wait + Sync>(
     rt: &R,
     alloc: Global,
-    stderr: Stderr,
+    streams: Streams,
     words: &[String],
 ) -> ExitCode {
     let Ok(command) = command(alloc) else {
         return tell(rt, Fault::NoMemory);
     };
     match command.try_get_matches_from(words) {
-        Ok(matches) => run(rt, alloc, stderr, &matches),
+        Ok(matches) => run(rt, alloc, streams, &matches),
         Err(error) => refuse(rt, &error),
     }
 }
@@ -659,8 +732,12 @@ fn main(rt: HostRuntime) -> ExitCode {
         Err(error) if error.kind() == io::ErrorKind::InvalidData => return tell(&rt, NO_TEXT),
         Err(_) => return tell(&rt, Fault::NoMemory),
     };
+    let streams = Streams {
+        stderr: rt.stderr(),
+        is_typed: rt.stdin().is_terminal(),
+    };
     match words {
-        Ok(words) => run_words(&rt, alloc, rt.stderr(), words.as_slice()),
+        Ok(words) => run_words(&rt, alloc, streams, words.as_slice()),
         Err(_) => tell(&rt, Fault::NoMemory),
     }
 }

@@ -18,7 +18,8 @@ use Rattle.sgt_audit.specs.declared.job.Job.{Job}
 use Rattle.sgt_input.specs.Lines.{Ending, cut}
 use Rattle.sgt_bank.specs.Inputs.{InputAsks, LinesAsk}
 use Rattle.sgt_assembly.specs.Openings.{opened_setting, OpenedIsBank}
-use Rattle.sgt_bank.specs.Banks.{HasRun, AreRun, IsHistory, IsRecords, IsReport, IsRun}
+use Rattle.sgt_bank.specs.Banks.{HasRun, AreRun, IsHistory, IsJson, IsRecords, IsReport, IsRun}
+use Rattle.sgt_bank.specs.OutcomeJson.{json_text}
 use Rattle.sgt_textbook.specs.Laws.{AreCommitOrdered, AreSerializable, AreRecoverable}
 use Rattle.sgt_notation.specs.Transcripts.{TranscriptsSpellTextbooks, transcript}
 use Rattle.sgt_bank.proofs.TextsAgree.{text-same}
@@ -114,6 +115,19 @@ is-records workers tries bytes history outcomes rows out run text = record {
   text = text;
 }
 
+-- so does the text of their objects
+is-json : (workers tries : ℕ) (bytes : List ℕ) (failed : List ℕ) (history : List Entry) (outcomes : List (Outcome Infallible))
+    (rows : List Row) (out : List ℕ) → IsRun workers tries bytes history outcomes rows → out ≡ json_text failed history outcomes rows
+    → IsJson workers tries bytes out
+is-json workers tries bytes failed history outcomes rows out run text = record {
+  history = history;
+  outcomes = outcomes;
+  rows = rows;
+  run = run;
+  failed = failed;
+  text = text;
+}
+
 -- the same if their operations are the output
 is-history : AreCommitOrdered → AreSerializable → AreRecoverable → TranscriptsSpellTextbooks → (workers tries : ℕ) (bytes : List ℕ)
     (history : List Entry) (outcomes : List (Outcome Infallible)) (rows : List Row) (out : List ℕ)
@@ -136,30 +150,32 @@ is-history ordered serializable recoverable spelled workers tries bytes history 
 module _ (ordered : AreCommitOrdered) (serializable : AreSerializable) (recoverable : AreRecoverable)
     (spelled : TranscriptsSpellTextbooks) where
   -- it is the requested output
-  is-output : (o : Output) (workers tries : ℕ) (bytes : List ℕ) (history : List Entry) (outcomes : List (Outcome Infallible))
+  is-output : (o : Output) (workers tries : ℕ) (bytes failed : List ℕ) (history : List Entry) (outcomes : List (Outcome Infallible))
       (rows : List Row) (out : List ℕ) → IsRun workers tries bytes history outcomes rows
-      → out ≡ output_text o history outcomes rows → IsOutput o workers tries bytes out
-  is-output output.Report workers tries bytes history outcomes rows out run text =
+      → out ≡ output_text o failed history outcomes rows → IsOutput o workers tries bytes out
+  is-output output.Report workers tries bytes failed history outcomes rows out run text =
       is-report workers tries bytes history outcomes rows out run text
-  is-output output.History workers tries bytes history outcomes rows out run text =
+  is-output output.History workers tries bytes failed history outcomes rows out run text =
       is-history ordered serializable recoverable spelled workers tries bytes history outcomes rows out run text
-  is-output output.Records workers tries bytes history outcomes rows out run text =
+  is-output output.Records workers tries bytes failed history outcomes rows out run text =
       is-records workers tries bytes history outcomes rows out run text
+  is-output output.Json workers tries bytes failed history outcomes rows out run text =
+      is-json workers tries bytes failed history outcomes rows out run text
 
   -- all of it was written
-  pub writes-all : (o : Output) (workers tries : ℕ) (rest held held' : Option (List ℕ)) (history : List Entry)
+  pub writes-all : (o : Output) (workers tries : ℕ) (rest held held' : Option (List ℕ)) (failed : List ℕ) (history : List Entry)
       (outcomes : List (Outcome Infallible)) (rows : List Row) (out : List ℕ)
-      → IfSome rest (λ bytes. IsRun workers tries bytes history outcomes rows) → out ≡ output_text o history outcomes rows
+      → IfSome rest (λ bytes. IsRun workers tries bytes history outcomes rows) → out ≡ output_text o failed history outcomes rows
       → Appends held held' out → WritesAll o workers tries rest held held'
-  writes-all o workers tries None held held' history outcomes rows out run text wrote = tt
-  writes-all o workers tries (Some bytes) held held' history outcomes rows out run text wrote =
-      (out, is-output o workers tries bytes history outcomes rows out run text, wrote)
+  writes-all o workers tries None held held' failed history outcomes rows out run text wrote = tt
+  writes-all o workers tries (Some bytes) held held' failed history outcomes rows out run text wrote =
+      (out, is-output o workers tries bytes failed history outcomes rows out run text, wrote)
 
   -- a part of it was written
-  pub writes-part : (o : Output) (workers tries : ℕ) (rest held held' : Option (List ℕ)) (history : List Entry)
+  pub writes-part : (o : Output) (workers tries : ℕ) (rest held held' : Option (List ℕ)) (failed : List ℕ) (history : List Entry)
       (outcomes : List (Outcome Infallible)) (rows : List Row) (out : List ℕ)
-      → IfSome rest (λ bytes. IsRun workers tries bytes history outcomes rows) → out ≡ output_text o history outcomes rows
+      → IfSome rest (λ bytes. IsRun workers tries bytes history outcomes rows) → out ≡ output_text o failed history outcomes rows
       → ((k : ℕ) × Appends held held' (take k out)) → WritesPart o workers tries rest held held'
-  writes-part o workers tries None held held' history outcomes rows out run text wrote = tt
-  writes-part o workers tries (Some bytes) held held' history outcomes rows out run text (k, wrote) =
-      (out, k, is-output o workers tries bytes history outcomes rows out run text, wrote)
+  writes-part o workers tries None held held' failed history outcomes rows out run text wrote = tt
+  writes-part o workers tries (Some bytes) held held' failed history outcomes rows out run text (k, wrote) =
+      (out, k, is-output o workers tries bytes failed history outcomes rows out run text, wrote)

@@ -22,6 +22,7 @@ use Rattle.sgt_audit.specs.AllOutcomes.{OutcomesStand}
 use Rattle.sgt_textbook.specs.Laws.{TextbookLaws}
 use Rattle.sgt_notation.specs.Transcripts.{TranscriptsSpellTextbooks, transcript}
 use Rattle.sgt_bank.specs.Inputs.{InputAsks}
+use Rattle.sgt_bank.specs.OutcomeJson.{json_text}
 use Rattle.sgt_bank.specs.Reports.{report_text}
 use Rattle.sgt_bank.specs.SerialText.{serial_text}
 
@@ -88,3 +89,13 @@ pub record IsReport (workers tries : ℕ) (bytes out : List ℕ) : Type 0 where
   pub run : IsRun workers tries bytes history outcomes rows
   pub text : out ≡ report_text history outcomes rows
   pub written : out ≡ serial_text (opened_setting run.opening) history outcomes rows
+
+-- the output for an input of these bytes in the mode Json: the objects of the outcomes of its jobs, and then the record
+-- lines of the database. How often a job was tried in vain is what was seen of the run: these counts can be any
+pub record IsJson (workers tries : ℕ) (bytes out : List ℕ) : Type 0 where
+  pub history : List Entry
+  pub outcomes : List (Outcome Infallible)
+  pub rows : List Row
+  pub run : IsRun workers tries bytes history outcomes rows
+  pub failed : List ℕ
+  pub text : out ≡ json_text failed history outcomes rows

@@ -7,6 +7,7 @@ pub mod Taking
 pub mod OutcomeText
 pub mod Reports
 pub mod SerialText
+pub mod OutcomeJson
 -- what a run is, and what it guarantees
 pub mod Banks
 pub mod Outputs

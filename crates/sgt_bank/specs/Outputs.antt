@@ -12,19 +12,22 @@ use Rattle.sgt_bank.specs.declared.output.Output.{Output}
 use Rattle.sgt_bank.specs.declared.output.Output.TheVariants as output
 use Rattle.sgt_bank.specs.Inputs.{InputFails, IsOfText}
 use Rattle.sgt_bank.specs.Reports.{report_text}
-use Rattle.sgt_bank.specs.Banks.{IsHistory, IsRecords, IsReport}
+use Rattle.sgt_bank.specs.OutcomeJson.{json_text}
+use Rattle.sgt_bank.specs.Banks.{IsHistory, IsJson, IsRecords, IsReport}
 
--- the text of a run
-abbrev pub output_text : {N : Type 0} → Output → List Entry → List (Outcome N) → List Row → List ℕ
-output_text output.Report history outcomes rows = report_text history outcomes rows
-output_text output.History history outcomes rows = transcript (reverse history)
-output_text output.Records history outcomes rows = record_lines rows
+-- the text of a run whose jobs were tried in vain this often
+abbrev pub output_text : {N : Type 0} → Output → List ℕ → List Entry → List (Outcome N) → List Row → List ℕ
+output_text output.Report failed history outcomes rows = report_text history outcomes rows
+output_text output.History failed history outcomes rows = transcript (reverse history)
+output_text output.Records failed history outcomes rows = record_lines rows
+output_text output.Json failed history outcomes rows = json_text failed history outcomes rows
 
 -- what is written for an input of these bytes
 abbrev pub IsOutput : Output → ℕ → ℕ → List ℕ → List ℕ → Type 0
 IsOutput output.Report workers tries bytes out = IsReport workers tries bytes out
 IsOutput output.History workers tries bytes out = IsHistory workers tries bytes out
 IsOutput output.Records workers tries bytes out = IsRecords workers tries bytes out
+IsOutput output.Json workers tries bytes out = IsJson workers tries bytes out
 
 -- the whole output is appended to what a sink held, if the bytes of the input are known
 abbrev pub WritesAll : Output → ℕ → ℕ → Option (List ℕ) → Option (List ℕ) → Option (List ℕ) → Type 0

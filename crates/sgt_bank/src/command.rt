@@ -26,10 +26,8 @@ const LEFT_OUT: &[u8] = b"explanations are left out: no memory\n";
 pub enum Explanations {
     /// Nothing.
     Off,
-    /// After the run, how often each job was tried.
+    /// After the run, how the jobs ended that did not commit at their first try, and a summary.
     Tries,
-    /// The same, and during the run how many jobs have ended: a line on standard error, at most one each second.
-    TriesAndProgress,
 }
 
 /// The options of the command.
@@ -43,12 +41,14 @@ pub struct Options {
     pub output: Output,
     /// What is explained beside it.
     pub explanations: Explanations,
+    /// Whether standard error says during the run how many jobs have ended, at most once a second.
+    pub shows_progress: bool,
 }
 
 /// Runs the jobs of an input as `run_jobs` does, and writes the output that the options name.
 ///
-/// With explanations, the second sink gets a line for each job, by number, after the output. The line has the
-/// transaction of each try at the job, and which transactions aborted the tries that failed. Explanations do not
+/// With explanations, the second sink gets a line for each job that did not commit at its first try, by number, after
+/// the output: how it ended, and which jobs aborted the tries that failed. A summary follows. Explanations do not
 /// affect the run. If memory runs out for them, one line says so. If a write of them fails, they end there. Neither
 /// is a fault.
 ///
@@ -84,19 +84,25 @@ pub fn run_bank<S: Source, T: Sink, E: Sink, W: Threads + Wait + Clock + Eprint 
         tries,
         output,
         explanations,
+        shows_progress,
     } = options;
-    let tells_progress = match explanations {
-        Explanations::Off => {
-            write_run(rt, alloc, source, sink, workers, tries, output, &OpenGate)?;
-            return Ok(());
-        }
-        Explanations::Tries => false,
-        Explanations::TriesAndProgress => true,
-    };
-    let watch = Watch::new(rt, alloc, tells_progress);
+    if !is_watched(&options) {
+        write_run(rt, alloc, source, sink, workers, tries, output, &OpenGate)?;
+        return Ok(());
+    }
+    let watch = Watch::new(rt, alloc, shows_progress);
     let report = write_run(rt, alloc, source, sink, workers, tries, output, &watch)?;
-    explain_tries(alloc, errors, watch.into_seen(), &report);
+    if let Explanations::Tries = explanations {
+        explain_tries(alloc, errors, watch.into_seen(), &report);
+    }
     Ok(())
+}
+
+/// Whether these options need to know how often jobs are tried, or how many have ended.
+fn is_watched(options: &Options) -> bool {
+    options.shows_progress
+        || matches!(options.explanations, Explanations::Tries)
+        || matches!(options.output, Output::Json)
 }
 
 /// Writes the lines of the tries.

@@ -1,6 +1,16 @@
 //! The gate of a run without an observer.
+use sgt_model::NoMemory;
 use sgt_workers::{Gate, Outcome, Pass};
+use std::alloc::Global;
 use std::convert::Infallible;
+
+/// What a gate has seen of failed tries.
+pub(crate) trait Failures {
+    /// How often each of so many jobs was tried in vain. A list that ends early says that it was not seen.
+    ///
+    /// `NoMemory` if an allocation failed, for this list or for a try during the run.
+    fn failures(&self, alloc: Global, jobs: usize) -> Result<Vec<u32>, NoMemory>;
+}
 
 /// A gate that lets every worker continue. Its notes have a type without values, so no outcome is `Left`.
 #[derive(Drop)]
@@ -14,4 +24,10 @@ impl Gate for OpenGate {
     }
 
     fn finished(&self, _worker: u8, _job: u32, _outcome: &Outcome<Infallible>) {}
+}
+
+impl Failures for OpenGate {
+    fn failures(&self, alloc: Global, _jobs: usize) -> Result<Vec<u32>, NoMemory> {
+        Ok(Vec::new(alloc))
+    }
 }

@@ -6,8 +6,8 @@
 //! - [`outcome_line`] is the line of a job's outcome. [`report_text`] is all these lines, and then the database.
 //! - [`run_jobs`] runs the jobs with `run` of `sgt_workers`, which makes the threads, and writes the report.
 //!   `specs/Banks.antt` says what a run is, and `specs/Outputs.antt` what it guarantees.
-//! - [`run_bank`] is the command. Its [`Options`] select the report, the history or the records ([`Output`]), and
-//!   whether it explains how often each job was tried ([`Explanations`]).
+//! - [`run_bank`] is the command. Its [`Options`] select the report, as text or as JSON, the history or the records
+//!   ([`Output`]), and whether it explains how the jobs ended ([`Explanations`]).
 //!
 //! ```
 //! let mut reader = Reader::new(rt.reader());
@@ -21,9 +21,11 @@ mod command;
 mod gate;
 mod input;
 mod jobs;
+mod outcome_json;
 mod outcome_text;
 mod output;
 mod report;
+mod report_json;
 mod run;
 mod tries;
 mod watch;

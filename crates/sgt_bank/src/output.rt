@@ -5,6 +5,7 @@ ghost use Rattle.sgt_notation.specs.Transcripts.{transcript};
 ghost use Rattle.sgt_bank.specs.Outputs.{output_text};
 
 use crate::report::report_text;
+use crate::report_json::json_text;
 use sgt_format::append_records;
 use sgt_log::History;
 use sgt_model::{Database, NoMemory};
@@ -24,19 +25,23 @@ pub enum Output {
     History,
     /// The committed database: a line `["record",table,number,value]` for each record, by table and then by number.
     Records,
+    /// An object of JSON for each job's outcome, by number, and then the committed database as records.
+    Json,
 }
 
-/// The text of a run, in this output mode.
+/// The text of a run, in this output mode. Each job was tried in vain as often as the list says; only the mode `Json`
+/// reports that.
 ///
 /// `NoMemory` if an allocation failed.
 pub(crate) fn output_text(
     alloc: Global,
     output: Output,
     report: &Report<Infallible>,
+    failed: &[u32],
 ) -> Result<Vec<u8>, NoMemory>
     requires { length report.now.outcomes.items ≤ 1000000 }
     ensures { IfOk result (λ text. text.items
-        ≡ output_text output report.now.history.entries report.now.outcomes.items report.now.database) }
+        ≡ output_text output failed.now report.now.history.entries report.now.outcomes.items report.now.database) }
 {
     match output {
         Output::Report => report_text(
@@ -47,6 +52,13 @@ pub(crate) fn output_text(
         ),
         Output::History => history_text(alloc, &report.history),
         Output::Records => records_text(alloc, &report.database),
+        Output::Json => json_text(
+            alloc,
+            &report.history,
+            report.outcomes.as_slice(),
+            failed,
+            &report.database,
+        ),
     }
 }
 

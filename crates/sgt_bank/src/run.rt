@@ -7,12 +7,13 @@ ghost use Rattle.sgt_bank.specs.Banks.{AreRun, IsRun};
 ghost use Rattle.sgt_bank.specs.Outputs.{WritesAll, WritesPart, IsFirstFault, CountsReads, CountsWrites};
 
 use crate::bank::bank_of;
-use crate::gate::OpenGate;
+use crate::gate::{Failures, OpenGate};
 use crate::input::read_input;
 use crate::output::{Output, output_text};
 use sgt_assembly::{SgtAccesses, SgtGraph, SgtRecords, opened_is_bank};
 use sgt_format::Opening;
 use sgt_input::{Fault, Sink, Source, write_all};
+use sgt_model::NoMemory;
 use sgt_notation::transcripts_spell_textbooks;
 use sgt_textbook::{legal_are_commit_ordered, legal_are_recoverable, legal_are_serializable};
 use sgt_workers::{Gate, Job, PoolError, Report, run};
@@ -87,6 +88,19 @@ fn run_input<S: Source, G: Gate<Note = Infallible> + Sync, W: Threads + Wait + S
     Ok(report)
 }
 
+/// How often each of so many jobs was tried in vain, if this output mode reports that; else nothing.
+fn failures_for<G: Failures>(
+    alloc: Global,
+    output: Output,
+    gate: &G,
+    jobs: usize,
+) -> Result<Vec<u32>, NoMemory> {
+    match output {
+        Output::Json => gate.failures(alloc, jobs),
+        Output::Report | Output::History | Output::Records => Ok(Vec::new(alloc)),
+    }
+}
+
 /// Writes the text of a run.
 fn write_text<T: Sink>(sink: &mut T, text: &[u8]) -> Result<(), Fault>
     requires { T.failures sink.old + 1 < 2 ^ 64 }
@@ -110,7 +124,7 @@ fn write_text<T: Sink>(sink: &mut T, text: &[u8]) -> Result<(), Fault>
 pub(crate) fn write_run<
     S: Source,
     T: Sink,
-    G: Gate<Note = Infallible> + Sync,
+    G: Gate<Note = Infallible> + Failures + Sync,
     W: Threads + Wait + Sync,
 >(
     rt: &W,
@@ -140,7 +154,8 @@ pub(crate) fn write_run<
     legal_are_serializable();
     legal_are_recoverable();
     transcripts_spell_textbooks();
-    let text = output_text(alloc, output, &report)?;
+    let failed = failures_for(alloc, output, gate, report.outcomes.len())?;
+    let text = output_text(alloc, output, &report, failed.as_slice())?;
     write_text(sink, text.as_slice())?;
     Ok(report)
 }

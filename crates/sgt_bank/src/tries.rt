@@ -1,8 +1,9 @@
-//! The report of the attempts at each job.
+//! The report of the jobs that were aborted, refused or tried more than once.
 use crate::watch::FailedTry;
+use sgt_explain::{append_refusal, refusal_of};
 use sgt_format::append_numbered;
 use sgt_log::{EntryRef, History};
-use sgt_model::{Cause, NoMemory, Reply, Tid};
+use sgt_model::{Cause, Entry, Event, NoMemory, Reply, Tid};
 use sgt_workers::Outcome;
 use std::alloc::{AllocError, Global};
 
@@ -17,9 +18,27 @@ enum End {
     With(Tid),
 }
 
-/// Appends a line for each job, by number: how many attempts were made, and the transaction of each, with those that
-/// aborted it. An example is `job 2: 3 tries: 5 (cycle with 3, 4), 9 (fell with 7), 12`; `fell` means aborted in
-/// cascade. The failed attempts are sorted by job.
+/// What is known of a transaction: how it ended, and the job that it was a try of.
+#[derive(Clone, Copy)]
+struct Known {
+    end: End,
+    job: Option<u32>,
+}
+
+/// How many jobs ended in each way, and how many tries were made.
+#[derive(Clone, Copy)]
+struct Tally {
+    committed: usize,
+    asked: usize,
+    gave: usize,
+    refused: usize,
+    failed: usize,
+    tries: usize,
+}
+
+/// Appends a line for each job that did not commit at its first try, by number, and a summary. An example is
+/// `job 2: committed at try 3; try 1: cycle with job 3, 4; try 2: aborted in cascade with job 7`. The failed attempts
+/// are sorted by job.
 ///
 /// `NoMemory` if an allocation failed.
 pub(crate) fn append_tries<N>(
@@ -29,47 +48,121 @@ pub(crate) fn append_tries<N>(
     history: &History,
     outcomes: &[Outcome<N>],
 ) -> Result<(), NoMemory> {
-    let ends = ends_of(alloc, history)?;
     failed.sort_by_key(|failed| failed.job)?;
+    let known = known_of(alloc, history, failed.as_slice(), outcomes)?;
+    let mut tally = Tally::new();
     let mut rest = failed.as_slice();
     for job in 0..outcomes.len() {
         let (own, others) = split_job(rest, job);
-        let last = last_transaction(history, &outcomes[job]);
-        append_job(text, job, own, last, ends.as_slice(), history)?;
+        tally.count(&outcomes[job], own.len());
+        append_job(text, job, own, &outcomes[job], known.as_slice(), history)?;
         rest = others;
     }
+    tally.append(text, outcomes.len())?;
     Ok(())
 }
 
+impl Tally {
+    // Nothing is counted yet.
+    fn new() -> Self {
+        Tally {
+            committed: 0,
+            asked: 0,
+            gave: 0,
+            refused: 0,
+            failed: 0,
+            tries: 0,
+        }
+    }
+
+    // Counts a job with so many failed tries.
+    fn count<N>(&mut self, outcome: &Outcome<N>, failed: usize) {
+        let (count, last) = match outcome {
+            Outcome::Done(_) => (&mut self.committed, 1),
+            Outcome::Asked(_) => (&mut self.asked, 1),
+            Outcome::Gave(_) => (&mut self.gave, 0),
+            Outcome::Refused(_) => (&mut self.refused, 0),
+            _ => (&mut self.failed, 0),
+        };
+        *count = count.saturating_add(1);
+        self.tries = self.tries.saturating_add(failed).saturating_add(last);
+    }
+
+    // Appends what was counted of so many jobs, in one line.
+    fn append(&self, text: &mut Vec<u8>, jobs: usize) -> Result<(), AllocError> {
+        append_numbered(text, b"", jobs)?;
+        text.extend_from_slice(if jobs == 1 { b" job" } else { b" jobs" })?;
+        append_numbered(text, b": ", self.committed)?;
+        append_numbered(text, b" committed, ", self.asked)?;
+        append_numbered(text, b" aborted with a code, ", self.gave)?;
+        append_numbered(text, b" given up, ", self.refused)?;
+        append_numbered(text, b" refused, ", self.failed)?;
+        append_numbered(text, b" without memory; ", self.tries)?;
+        text.extend_from_slice(if self.tries == 1 {
+            b" try\n"
+        } else {
+            b" tries\n"
+        })
+    }
+}
+
+// What is known of each transaction, by transaction number.
+fn known_of<N>(
+    alloc: Global,
+    history: &History,
+    failed: &[FailedTry],
+    outcomes: &[Outcome<N>],
+) -> Result<Vec<Known>, NoMemory> {
+    let mut known = ends_of(alloc, history)?;
+    for failed in failed {
+        put_job(known.as_mut_slice(), failed.tid, failed.job);
+    }
+    for job in 0..outcomes.len() {
+        if let Some(t) = last_transaction(history, &outcomes[job]) {
+            put_job(known.as_mut_slice(), t, job as u32);
+        }
+    }
+    Ok(known)
+}
+
 // How each transaction ended, by transaction number.
-fn ends_of(alloc: Global, history: &History) -> Result<Vec<End>, NoMemory> {
-    let mut ends = Vec::new(alloc);
+fn ends_of(alloc: Global, history: &History) -> Result<Vec<Known>, NoMemory> {
+    let mut known = Vec::new(alloc);
     for place in 0..history.len() {
         let entry = history.entry(place);
         if entry.started().is_some() {
-            ends.push(End::Own)?;
+            known.push(Known {
+                end: End::Own,
+                job: None,
+            })?;
         }
-        note_ends(ends.as_mut_slice(), place, &entry);
+        note_ends(known.as_mut_slice(), place, &entry);
     }
-    Ok(ends)
+    Ok(known)
 }
 
 // Records which transactions the entry at a position aborts.
-fn note_ends(ends: &mut [End], place: usize, entry: &EntryRef<'_>) {
+fn note_ends(known: &mut [Known], place: usize, entry: &EntryRef<'_>) {
     let Some(t) = entry.named() else {
         return;
     };
     if entry.is_by_cycle() {
-        put_end(ends, t, End::ByCycle(place));
+        put_end(known, t, End::ByCycle(place));
     }
     for fallen in entry.fell() {
-        put_end(ends, *fallen, End::With(t));
+        put_end(known, *fallen, End::With(t));
     }
 }
 
-fn put_end(ends: &mut [End], t: Tid, end: End) {
-    if let Some(kept) = ends.get_mut(t.0 as usize) {
-        *kept = end;
+fn put_end(known: &mut [Known], t: Tid, end: End) {
+    if let Some(kept) = known.get_mut(t.0 as usize) {
+        kept.end = end;
+    }
+}
+
+fn put_job(known: &mut [Known], t: Tid, job: u32) {
+    if let Some(kept) = known.get_mut(t.0 as usize) {
+        kept.job = Some(job);
     }
 }
 
@@ -93,45 +186,117 @@ fn last_transaction<N>(history: &History, outcome: &Outcome<N>) -> Option<Tid> {
     }
 }
 
-// Appends the line of a job.
-fn append_job(
+// Appends the line of a job, if it did not commit at its first try.
+fn append_job<N>(
     text: &mut Vec<u8>,
     job: usize,
     failed: &[FailedTry],
-    last: Option<Tid>,
-    ends: &[End],
+    outcome: &Outcome<N>,
+    known: &[Known],
     history: &History,
-) -> Result<(), AllocError> {
+) -> Result<(), NoMemory> {
+    if failed.is_empty() && matches!(outcome, Outcome::Done(_)) {
+        return Ok(());
+    }
     append_numbered(text, b"job ", job)?;
-    let tries = failed.len() + usize::from(last.is_some());
-    append_numbered(text, b": ", tries)?;
-    text.extend_from_slice(if tries == 1 { b" try" } else { b" tries" })?;
-    let mut words: &'static [u8] = b": ";
-    for failed in failed {
-        let t = failed.tid;
-        append_numbered(text, words, t.0)?;
-        append_end(text, t, ends, history)?;
-        words = b", ";
+    append_outcome(text, failed.len(), outcome, history)?;
+    for (index, failed) in failed.iter().enumerate() {
+        append_numbered(text, b"; try ", index.saturating_add(1))?;
+        append_end(text, failed.tid, known, history)?;
     }
-    if let Some(t) = last {
-        append_numbered(text, words, t.0)?;
-    }
-    text.extend_from_slice(b"\n")
+    text.extend_from_slice(b"\n")?;
+    Ok(())
 }
 
-// Appends which transactions aborted it.
+// Appends how the job ended, after so many failed tries.
+fn append_outcome<N>(
+    text: &mut Vec<u8>,
+    failed: usize,
+    outcome: &Outcome<N>,
+    history: &History,
+) -> Result<(), NoMemory> {
+    match outcome {
+        Outcome::Done(_) => append_numbered(
+            text,
+            b": committed at try ",
+            failed.saturating_add(1),
+        )?,
+        Outcome::Asked(number) => {
+            append_numbered(text, b": aborted with code ", code_at(history, *number))?;
+            append_numbered(text, b" at try ", failed.saturating_add(1))?;
+        }
+        Outcome::Gave(_) => append_numbered(text, b": given up at try ", failed)?,
+        Outcome::Refused(number) => {
+            text.extend_from_slice(b": refused: ")?;
+            append_refused(text, history, *number)?;
+        }
+        _ => text.extend_from_slice(b": no memory")?,
+    }
+    Ok(())
+}
+
+// The code with which the entry at a position aborts its transaction.
+fn code_at(history: &History, number: u64) -> u16 {
+    match history.get(number as usize) {
+        Some(entry) => match entry.reply {
+            Reply::Aborted {
+                cause: Cause::Asked(code),
+                ..
+            }
+            | Reply::Refused { code, .. } => code,
+            _ => 0,
+        },
+        None => 0,
+    }
+}
+
+// Appends why the entry at a position refuses a start.
+fn append_refused(text: &mut Vec<u8>, history: &History, number: u64) -> Result<(), NoMemory> {
+    let Some(Entry { event, reply }) = history.get(number as usize) else {
+        return Ok(());
+    };
+    match refusal_of(&event, &reply, taken_by(&event)) {
+        Some(refusal) => append_refusal(text, &refusal),
+        None => Ok(()),
+    }
+}
+
+/// How many arguments SmallBank's procedures take, by number.
+const TAKES: [u8; 5] = [1, 2, 2, 2, 2];
+
+// How many arguments the procedure takes that the event starts, if it is one of SmallBank.
+fn taken_by(event: &Event) -> Option<u8> {
+    match event {
+        Event::Start { procedure, .. } => TAKES.get(usize::from(*procedure)).copied(),
+        _ => None,
+    }
+}
+
+// Appends which jobs aborted the transaction of a failed try.
 fn append_end(
     text: &mut Vec<u8>,
     t: Tid,
-    ends: &[End],
+    known: &[Known],
     history: &History,
 ) -> Result<(), AllocError> {
-    match ends.get(t.0 as usize) {
-        Some(End::With(other)) => append_numbered(text, b" (fell with ", other.0)?,
-        Some(End::ByCycle(place)) => append_cycle(text, t, *place, history)?,
-        _ => return Ok(()),
+    match known.get(t.0 as usize) {
+        Some(
+            Known {
+                end: End::With(other),
+                ..
+            },
+        ) => {
+            text.extend_from_slice(b": aborted in cascade with")?;
+            append_owner(text, b" job ", *other, known)
+        }
+        Some(
+            Known {
+                end: End::ByCycle(place),
+                ..
+            },
+        ) => append_cycle(text, t, *place, known, history),
+        _ => Ok(()),
     }
-    text.extend_from_slice(b")")
 }
 
 // Appends the others of the cycle by which the entry at a position aborts the transaction.
@@ -139,24 +304,32 @@ fn append_cycle(
     text: &mut Vec<u8>,
     t: Tid,
     place: usize,
+    known: &[Known],
     history: &History,
 ) -> Result<(), AllocError> {
     let Some(entry) = history.get_entry(place) else {
         return Ok(());
     };
-    let Reply::Aborted {
-        cause: Cause::Cycle(walk),
-        ..
-    } = entry.reply()
-    else {
-        return Ok(());
-    };
-    let mut words: &'static [u8] = b" (cycle with ";
-    for other in walk.as_slice() {
+    text.extend_from_slice(b": cycle with")?;
+    let mut words: &'static [u8] = b" job ";
+    for other in entry.walk() {
         if *other != t {
-            append_numbered(text, words, other.0)?;
+            append_owner(text, words, *other, known)?;
             words = b", ";
         }
     }
     Ok(())
+}
+
+// Appends these words and the job that the transaction was a try of.
+fn append_owner(
+    text: &mut Vec<u8>,
+    words: &'static [u8],
+    t: Tid,
+    known: &[Known],
+) -> Result<(), AllocError> {
+    match known.get(t.0 as usize) {
+        Some(Known { job: Some(job), .. }) => append_numbered(text, words, *job),
+        _ => text.extend_from_slice(b" another"),
+    }
 }

@@ -1,5 +1,6 @@
 //! A gate that watches a run.
-use sgt_model::Tid;
+use crate::gate::Failures;
+use sgt_model::{NoMemory, Tid};
 use sgt_workers::{Gate, Outcome, Pass};
 use std::alloc::Global;
 use std::convert::Infallible;
@@ -92,5 +93,24 @@ impl<W: Wait + Clock + Eprint> Gate for Watch<'_, W> {
                 seen.told = Some(now);
             }
         }
+    }
+}
+
+impl<W: Wait> Failures for Watch<'_, W> {
+    fn failures(&self, alloc: Global, jobs: usize) -> Result<Vec<u32>, NoMemory> {
+        let seen = self.seen.lock(self.rt);
+        if seen.has_lost {
+            return Err(NoMemory);
+        }
+        let mut counts: Vec<u32> = Vec::new(alloc);
+        for _ in 0..jobs {
+            counts.push(0)?;
+        }
+        for failed in seen.failed.iter() {
+            if let Some(count) = counts.get_mut(failed.job as usize) {
+                *count = count.saturating_add(1);
+            }
+        }
+        Ok(counts)
     }
 }

@@ -26,7 +26,8 @@ pub record IsReported (h : History) (text : List ℕ) : Type 0 where
 abbrev pub IsOutput : Output → History → List ℕ → Type 0
 IsOutput output.Report h text = IsReported h text
 IsOutput output.Graph h text = IsDrawn h text
-IsOutput output.Timeline h text = IsPictured h text
+IsOutput output.Timeline h text = IsPictured 400 h text
+IsOutput output.Screen h text = IsPictured 60 h text
 
 -- the verdict: whether the history is serializable and recoverable
 abbrev pub IsVerdict : List Operation → Bool → Type 0

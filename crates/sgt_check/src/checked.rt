@@ -1,5 +1,5 @@
 //! The check of a history that was read: the text of its output, and its verdict.
-ghost use Rattle.std.specs.Prelude.{◌↔◌, List, IfOk};
+ghost use Rattle.std.specs.Prelude.{◌↔◌, List, IfOk, min};
 ghost use Rattle.sgt_classes.specs.declared.operation.Operation.{Operation};
 ghost use Rattle.sgt_classes.specs.Classes.{BreaksRecoverability, IsFirstViolation};
 ghost use Rattle.sgt_classes.specs.Histories.{IsWellFormed};
@@ -21,6 +21,12 @@ use sgt_notation::History;
 use sgt_timeline::append_picture;
 use std::alloc::Global;
 
+/// The most operations of a picture that a screen has room for.
+const SCREEN: usize = 60;
+
+/// The most operations of a picture.
+const MOST: usize = 400;
+
 /// What a check writes.
 #[derive(Clone, Copy, Debug, PartialEq, Eq)]
 pub enum Output {
@@ -28,9 +34,11 @@ pub enum Output {
     Report,
     /// The serialization graph in DOT, with the cycle of the report.
     Graph,
-    /// The picture of the history in SVG, with the report below it. The cycle of the report, or else its first
-    /// violation, stands out.
+    /// The picture of the history in SVG, with the report below it. The cycle of the report stands out, and the first
+    /// violation of each other class. Of a history of over 400 operations, only the transactions involved are drawn.
     Timeline,
+    /// The same, for a screen: of a history of over 60 operations, only the transactions involved are drawn.
+    Screen,
 }
 
 /// What a check finds of a history.
@@ -54,7 +62,8 @@ pub(crate) fn check_for(
     match output {
         Output::Report => check_for_report(alloc, history),
         Output::Graph => check_for_graph(alloc, history),
-        Output::Timeline => check_for_timeline(alloc, history),
+        Output::Timeline => check_for_timeline(alloc, history, MOST),
+        Output::Screen => check_for_timeline(alloc, history, SCREEN),
     }
 }
 
@@ -92,12 +101,12 @@ fn check_for_graph(alloc: Global, history: &History) -> Result<Checked, NoMemory
 }
 
 /// Checks the history for all classes, with its picture as the output.
-fn check_for_timeline(alloc: Global, history: &History) -> Result<Checked, NoMemory>
-    ensures written { IfOk result (λ c. IsPictured history.now c.lines.items) }
+fn check_for_timeline(alloc: Global, history: &History, whole: usize) -> Result<Checked, NoMemory>
+    ensures written { IfOk result (λ c. IsPictured (min whole 400) history.now c.lines.items) }
     ensures verdict { IfOk result (λ c. IsWellFormed history.now.operations.items → IsVerdict history.now.operations.items c.sound) }
 {
     let report = check_history(alloc, history.operations.as_slice())?;
-    let picture = draw_report(alloc, history, &report)?;
+    let picture = draw_report(alloc, history, &report, whole)?;
     let mut lines = Vec::new(alloc);
     append_picture(&mut lines, history, &picture)?;
     let sound = is_sound(&report.serializability, &report.recoverable);

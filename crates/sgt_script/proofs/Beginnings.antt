@@ -25,7 +25,7 @@ use Rattle.sgt_input.proofs.Begun.{Begun, HaveBegun}
 use Rattle.sgt_input.specs.Ends.{End, IsOfInput}
 use Rattle.sgt_input.specs.Spelled.{spelled, end_of}
 use Rattle.sgt_script.specs.declared.output.Output.{Output}
-use Rattle.sgt_script.specs.declared.output.Output.TheVariants.{Replies, History, Records}
+use Rattle.sgt_script.specs.declared.output.Output.TheVariants.{Replies, History, Records, Json}
 use Rattle.sgt_script.specs.Parts.{Answer, LegalAnswer, LegalRun, Part, answer_text, left_by, lines_of, part_behind, part_of, answers_text}
 use Rattle.sgt_script.specs.Scripts.{ScriptOf, script_line_at, Closing, Last}
 use Rattle.sgt_script.specs.Answering.{AnswersAll, AnswersLine, AnswersRead, AnswersScriptRead, AnswersSome, BeginWith, NoLine}
@@ -258,6 +258,12 @@ closes Replies are_rows s rows answers (Ok tt') is =
       (told.0, told.1, λ k. told.2 k ∙ ap (λ m. settled m (part_of s answers).past k) (sym opened.1), refl),
     )
 closes Records are_rows s rows answers (Ok tt') is =
+    let opened = part-rows are_rows s rows answers is in
+    let told = are_rows opened.0 (part_of s answers).past in (
+      record_lines told.0,
+      (told.0, told.1, λ k. told.2 k ∙ ap (λ m. settled m (part_of s answers).past k) (sym opened.1), refl),
+    )
+closes Json are_rows s rows answers (Ok tt') is =
     let opened = part-rows are_rows s rows answers is in
     let told = are_rows opened.0 (part_of s answers).past in (
       record_lines told.0,

@@ -5,6 +5,7 @@ pub mod WholeLines
 pub mod Opened
 pub mod FirstLines
 pub mod RunLaws
+pub mod JsonLaws
 pub mod RecordLaws
 pub mod Beginnings
 pub mod Outcomes

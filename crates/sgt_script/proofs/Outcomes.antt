@@ -10,9 +10,10 @@ use Rattle.sgt_input.specs.Ends.{End}
 use Rattle.sgt_textbook.specs.Laws.{AreCommitOrdered, AreSerializable, AreRecoverable}
 use Rattle.sgt_notation.specs.Transcripts.{TranscriptsSpellTextbooks}
 use Rattle.sgt_script.specs.declared.output.Output.{Output}
-use Rattle.sgt_script.specs.declared.output.Output.TheVariants.{Replies, History, Records}
+use Rattle.sgt_script.specs.declared.output.Output.TheVariants.{Replies, History, Records, Json}
 use Rattle.sgt_script.specs.Outcomes.{IsWhole, LawsOf}
 use Rattle.sgt_script.specs.Scripts.{Execution, ScriptOf}
+use Rattle.sgt_script.proofs.JsonLaws.{json-laws}
 use Rattle.sgt_script.proofs.RecordLaws.{record-laws}
 use Rattle.sgt_script.proofs.RunLaws.{history-laws, run-laws}
 use Rattle.sgt_script.proofs.FirstLines.{Wrote}
@@ -25,6 +26,7 @@ module _ (headline : HeadlineHolds) (opened : OpenedHoldValues) (committed : Com
   laws-hold History ls ending run out end script =
       history-laws headline opened committed bank ordered serializable recoverable spell ls ending run out end script
   laws-hold Records ls ending run out end script = record-laws headline opened committed bank ls ending run out end script
+  laws-hold Json ls ending run out end script = json-laws headline opened committed bank ls ending run out end script
 
   pub with-laws : (w : Output) (rest held held' : Option (List ℕ)) (end : End) → Wrote w rest held held' end → IsWhole w rest held held' end
   with-laws w None held held' end wrote = tt

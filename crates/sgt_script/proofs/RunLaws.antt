@@ -23,7 +23,7 @@ use Rattle.sgt_input.specs.Ends.{End}
 use Rattle.sgt_textbook.specs.Laws.{AreCommitOrdered, AreSerializable, AreRecoverable, TextbookLaws}
 use Rattle.sgt_notation.specs.Transcripts.{TranscriptsSpellTextbooks, cut_comment, operations_text, transcript}
 use Rattle.sgt_script.specs.declared.output.Output.{Output}
-use Rattle.sgt_script.specs.declared.output.Output.TheVariants.{Replies, History, Records}
+use Rattle.sgt_script.specs.declared.output.Output.TheVariants.{Replies, History, Records, Json}
 use Rattle.sgt_script.specs.Parts.{Answer, Replied, WasCut, StillLive, LegalRun, Part, answer_text, answers_text, cut_off, left_by, part_of, parts_of}
 use Rattle.sgt_script.specs.Scripts.{Execution, Closing, Opened, RunOutput, ScriptOf}
 use Rattle.sgt_script.specs.RunLaws.{HistoryLaws, InEachPart, InEachTextbook, IsSerialText, PartLaws, RunLaws, behind_cut, transcripts, carried, chained, line_telling, opened_on, replies_telling, results_left}
@@ -54,6 +54,7 @@ pub closing-same : (w : Output) (m n : Contents) (end : End) (last : List ℕ) �
 closing-same Replies m n (Ok done) last same (rows, by_key, contents, is) = (rows, by_key, (λ k. contents k ∙ sym (same k)), is)
 closing-same History m n (Ok done) last same is = is
 closing-same Records m n (Ok done) last same (rows, by_key, contents, is) = (rows, by_key, (λ k. contents k ∙ sym (same k)), is)
+closing-same Json m n (Ok done) last same (rows, by_key, contents, is) = (rows, by_key, (λ k. contents k ∙ sym (same k)), is)
 closing-same w m n (Err fault) last same is = is
 
 -- a run in the output mode History writes the transcripts of its parts

@@ -5,9 +5,10 @@ use Rattle.std.specs.Io.KnownBytes.{Appends}
 use Rattle.sgt_input.specs.declared.fault.Fault.TheVariants as fault
 use Rattle.sgt_input.specs.Ends.{End, IsExact}
 use Rattle.sgt_script.specs.declared.output.Output.{Output}
-use Rattle.sgt_script.specs.declared.output.Output.TheVariants.{Replies, History, Records}
+use Rattle.sgt_script.specs.declared.output.Output.TheVariants.{Replies, History, Records, Json}
 use Rattle.sgt_script.specs.Answering.{AnswersScriptRead}
 use Rattle.sgt_script.specs.Beginnings.{Begins, ScriptRuns}
+use Rattle.sgt_script.specs.JsonLaws.{JsonLaws}
 use Rattle.sgt_script.specs.Parts.{Answer, answers_text}
 use Rattle.sgt_script.specs.RecordLaws.{RecordLaws}
 use Rattle.sgt_script.specs.RunLaws.{HistoryLaws, RunLaws}
@@ -18,6 +19,7 @@ abbrev pub LawsOf : Output → Execution → List ℕ → End → Type 0
 LawsOf Replies run out end = RunLaws run out end
 LawsOf History run out end = HistoryLaws run out
 LawsOf Records run out end = RecordLaws run out end
+LawsOf Json run out end = JsonLaws run out end
 
 -- a run over these bytes ended well or at a fault of the script. It appended what such a run writes. Its execution
 -- obeys the laws; there is none if the opening is refused.

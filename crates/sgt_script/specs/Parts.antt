@@ -10,8 +10,9 @@ use Rattle.sgt_engine.specs.EngineView.{EngineView, setting_of}
 use Rattle.sgt_format.specs.ReplyText.{text}
 use Rattle.sgt_format.specs.CutText.{cut_text, still_live_text}
 use Rattle.sgt_notation.specs.Transcripts.{operations_text, cut_comment}
+use Rattle.sgt_reply_json.specs.ReplyObjects.{cut_object, reply_object, still_live_object}
 use Rattle.sgt_script.specs.declared.output.Output.{Output}
-use Rattle.sgt_script.specs.declared.output.Output.TheVariants.{Replies, History, Records}
+use Rattle.sgt_script.specs.declared.output.Output.TheVariants.{Replies, History, Records, Json}
 use Rattle.sgt_format.specs.declared.script_line.ScriptLine.{ScriptLine}
 use Rattle.sgt_format.specs.declared.script_line.ScriptLine.TheVariants as script_line
 
@@ -35,7 +36,7 @@ abbrev pub lines_of : List Answer → List ScriptLine
 lines_of answers = map asked (reverse answers)
 
 -- the text of an answer, by the output mode: the line that replies to it; or its operations, with a comment where one
--- history ends and another starts; or nothing
+-- history ends and another starts; or nothing; or the reply as an object of JSON
 abbrev pub answer_text : Output → Answer → List ℕ
 answer_text Replies (Replied e) = text e.reply
 answer_text Replies (WasCut entries) = cut_text entries
@@ -44,6 +45,9 @@ answer_text History (Replied e) = operations_text e.event e.reply
 answer_text History (WasCut entries) = cut_comment entries
 answer_text History StillLive = []
 answer_text Records a = []
+answer_text Json (Replied e) = reply_object e.reply
+answer_text Json (WasCut entries) = cut_object entries
+answer_text Json StillLive = still_live_object
 
 -- the text of these answers, oldest first
 abbrev pub answers_text : Output → List Answer → List ℕ

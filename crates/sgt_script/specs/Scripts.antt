@@ -19,7 +19,7 @@ use Rattle.sgt_input.specs.Lines.{Ending, cut}
 use Rattle.sgt_input.specs.Ends.{End, fault_of_opening, no_opening}
 use Rattle.sgt_input.specs.Spelled.{at_line, spelled, end_of}
 use Rattle.sgt_script.specs.declared.output.Output.{Output}
-use Rattle.sgt_script.specs.declared.output.Output.TheVariants.{Replies, History, Records}
+use Rattle.sgt_script.specs.declared.output.Output.TheVariants.{Replies, History, Records, Json}
 use Rattle.sgt_script.specs.Parts.{Answer, LegalRun, left_by, lines_of, part_of, answers_text}
 
 -- what line n requests, or its fault
@@ -27,11 +27,12 @@ abbrev pub script_line_at : ℕ → List ℕ → Result ScriptLine Fault
 script_line_at n line = at_line n (script_line_of line)
 
 -- what follows the answers of a run that ended well, by the output mode: the database with these contents; nothing;
--- or these contents as record lines
+-- or, in the modes Records and Json, these contents as record lines
 abbrev pub Last : Output → Contents → List ℕ → Type 0
 Last Replies m last = (rows : List Row) × IsByKey rows × ((k : Key) → contents_of rows k ≡ m k) × (last ≡ database_text rows)
 Last History m last = last ≡ []
 Last Records m last = (rows : List Row) × IsByKey rows × ((k : Key) → contents_of rows k ≡ m k) × (last ≡ record_lines rows)
+Last Json m last = (rows : List Row) × IsByKey rows × ((k : Key) → contents_of rows k ≡ m k) × (last ≡ record_lines rows)
 
 -- what follows the answers; nothing at a fault
 abbrev pub Closing : Output → Contents → End → List ℕ → Type 0

@@ -1,9 +1,11 @@
-//! The explanations of a run on a second sink: why transactions are aborted, and which are live at the end.
+//! The explanations of a run on a second sink: why transactions are aborted and events refused, and which are live at
+//! the end.
 ghost use Rattle.std.specs.Prelude.{◌+◌, ◌^◌, ◌<◌};
 
 use crate::live_text::append_live;
 use crate::observer::Observer;
 use crate::pending::pending_at;
+use crate::refused::append_refused;
 use sgt_assembly::SgtEngine;
 use sgt_explain::{IndexedHistory, append_explanation};
 use sgt_input::{Lines, Sink, write_all};
@@ -109,6 +111,13 @@ impl<'a, E: Sink> Explainer<'a, E> {
         }
     }
 
+    // Gathers why the newest entry, of this line, is refused, if it is.
+    fn explain_refusal(&mut self, engine: &SgtEngine, line: u64) {
+        if append_refused(&mut self.text, engine, line).is_err() {
+            self.has_lost = true;
+        }
+    }
+
     // Appends that explanation. If an allocation fails, or failed for an entry, it appends nothing.
     fn append(&mut self, engine: &SgtEngine, place: usize) -> Result<(), NoMemory> {
         if self.history.len() <= place {
@@ -133,6 +142,7 @@ impl<E: Sink> Observer for Explainer<'_, E> {
             self.note_line(entries - 1, line);
             self.note_entry(engine.history(), entries - 1);
             self.explain_at(engine, entries - 1);
+            self.explain_refusal(engine, line);
         }
     }
 

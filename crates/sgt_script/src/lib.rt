@@ -15,10 +15,12 @@
 #![tactic(auto)]
 
 mod explainer;
+mod json_answer;
 mod live_text;
 mod observer;
 mod output;
 mod pending;
+mod refused;
 mod runs;
 mod script;
 

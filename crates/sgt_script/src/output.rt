@@ -9,4 +9,6 @@ pub enum Output {
     History,
     /// The committed database at the end, as JSON records, and nothing before it.
     Records,
+    /// The reply to each line as an object of JSON, and at the end the committed database as JSON records.
+    Json,
 }

@@ -57,11 +57,13 @@ pub fn run_script<S: Source, T: Sink>(
 ///   that it causes. A cut is a comment `# cut N`, and transaction numbers start again after it.
 /// - `Records`: the committed database, a line `["record",table,number,value]` for each record, by table and then by
 ///   number. At a fault nothing is written, except the part before a failed write.
+/// - `Json`: the reply to each line as an object of JSON, and then what `Records` writes.
 ///
-/// With a sink for explanations, it writes there why transactions are aborted:
+/// With a sink for explanations, it writes there why transactions are aborted and events refused:
 ///
 /// - An abort by a cycle gets a line for each edge of the cycle, with its accesses.
 /// - Each cascading abort gets a line that says which transaction it had read from, and what.
+/// - A refused event gets a line that says why.
 /// - A line at the end names the live transactions.
 ///
 /// The explanations of a line follow its answer, and name lines by their numbers.

@@ -15,6 +15,7 @@ ghost use Rattle.sgt_script.specs.Opened.{HasOpened, IsRefused, ReadsNoLine};
 ghost use Rattle.sgt_script.specs.Beginnings.{AppendsPart, Begins, IsStop, LineRuns, WritesAt};
 ghost use Rattle.sgt_script.specs.Outcomes.{CountsReads, CountsWrites, IsCutOff, IsStopped, IsWhole};
 
+use crate::json_answer::{append_cut_json, append_reply_json, append_still_live_json};
 use crate::observer::Observer;
 use crate::output::Output;
 use json::Scratch;
@@ -128,6 +129,7 @@ fn answer_event(
             Output::Replies => append_short_reply(text, reply, engine.reply_lists()),
             Output::History => append_newest(engine, text),
             Output::Records => Ok(()),
+            Output::Json => append_newest_json(engine, text),
         },
         Err(NoMemory) => Err(NoMemory),
     }
@@ -144,6 +146,20 @@ fn append_newest(engine: &SgtEngine, text: &mut Vec<u8>) -> Result<(), NoMemory>
 {
     match engine.history().last() {
         Some(Entry { event, reply }) => append_operations(text, &event, &reply),
+        None => unreachable!(),
+    }
+}
+
+/// Appends the reply of the newest entry as an object of JSON. It is a function of its own for the same reason.
+#[inline(never)]
+fn append_newest_json(engine: &SgtEngine, text: &mut Vec<u8>) -> Result<(), NoMemory>
+    requires { 0 < length engine.now.past }
+    ensures reply { OnOk result ((entry : Entry) → (past : List Entry) → (engine.now.past ≡ entry ∷ past)
+        → text.new.items ≡ text.old.items ++ answer_text Output.Json (Replied entry)) }
+    ensures kept { OnErr result (text.new.items ≡ text.old.items) }
+{
+    match engine.history().last() {
+        Some(entry) => append_reply_json(text, &entry.reply),
         None => unreachable!(),
     }
 }
@@ -184,11 +200,12 @@ fn append_was_cut(entries: usize, output: Output, text: &mut Vec<u8>) -> Result<
         Output::Replies => append_cut(text, entries),
         Output::History => append_cut_comment(text, entries),
         Output::Records => Ok(()),
+        Output::Json => append_cut_json(text, entries),
     }
 }
 
-/// Appends that nothing was cut off, because a transaction is live. Only the output mode `Replies` has a text for
-/// that.
+/// Appends that nothing was cut off, because a transaction is live. The output modes `History` and `Records` have no
+/// text for that.
 fn append_was_not_cut(output: Output, text: &mut Vec<u8>) -> Result<(), NoMemory>
     ensures text { OnOk result (text.new.items ≡ text.old.items ++ answer_text output StillLive) }
     ensures kept { OnErr result (text.new.items ≡ text.old.items) }
@@ -196,6 +213,7 @@ fn append_was_not_cut(output: Output, text: &mut Vec<u8>) -> Result<(), NoMemory
     match output {
         Output::Replies => append_still_live(text),
         Output::History | Output::Records => Ok(()),
+        Output::Json => append_still_live_json(text),
     }
 }
 
@@ -222,6 +240,7 @@ fn append_last(
         Output::Replies => append_database(text, &engine.database(alloc)?),
         Output::History => Ok(()),
         Output::Records => append_records(text, &engine.database(alloc)?),
+        Output::Json => append_records(text, &engine.database(alloc)?),
     }
 }
 

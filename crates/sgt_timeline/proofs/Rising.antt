@@ -23,9 +23,9 @@ pub length-all : (n : ℕ) → length (all_places n) ≡ n
 length-all zero = refl
 length-all (suc n) = length-append (all_places n) (n ∷ []) ∙ ap (λ k. k + 1) (length-all n) ∙ add-one n
 
--- the places below a number are drawn of a history that has no more, or of a longer one than may be drawn whole
-pub all_drawn : (n m : ℕ) (ps : List ℕ) → ps ≡ all_places m → m ≤ n → m ≤ 400 → (n ≤ 400 → m ≡ n) → AreDrawn n ps
-all_drawn n m ps is within few same = subst (λ l. AreDrawn n l) (sym is) (record {
+-- the places below a number are drawn of a history that has no more, or of a longer one than is drawn whole
+pub all_drawn : (most n m : ℕ) (ps : List ℕ) → ps ≡ all_places m → m ≤ n → m ≤ 400 → (n ≤ most → m ≡ n) → AreDrawn most n ps
+all_drawn most n m ps is within few same = subst (λ l. AreDrawn most n l) (sym is) (record {
   once = rising_below 0 (all_places m) m n (all_rising m) within;
   whole = λ short. ap all_places (same short);
   few = subst (λ k. k ≤ 400) (sym (length-all m)) few;

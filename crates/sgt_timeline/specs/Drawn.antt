@@ -14,17 +14,22 @@ abbrev pub AreRising : ℕ → List ℕ → ℕ → Type 0
 AreRising low [] high = low ≤ high
 AreRising low (p ∷ ps) high = (low ≤ p) × AreRising (p + 1) ps high
 
--- The places that are drawn of a history of n operations: each once, in their order. A history of up to 400 operations is drawn
--- whole, and of a longer one no more.
-pub record AreDrawn (n : ℕ) (places : List ℕ) : Type 0 where
+-- The places that are drawn of a history of n operations: each once, in their order. One of at most so many operations is drawn
+-- whole. At most 400 are drawn.
+pub record AreDrawn (most n : ℕ) (places : List ℕ) : Type 0 where
   pub once : AreRising 0 places n
-  pub whole : n ≤ 400 → places ≡ all_places n
+  pub whole : n ≤ most → places ≡ all_places n
   pub few : length places ≤ 400
 
 -- the places of the operations that the marks are of
 abbrev pub marked : List Mark → List ℕ
 marked marks = map (λ m. m.place) marks
 
--- The picture has just one mark of each operation that is drawn, and no other.
+-- The picture has just one mark of each operation that is drawn, and no other. A history of at most so many operations is drawn
+-- whole.
+abbrev pub IsDrawnUpTo : ℕ → List Operation → Picture → Type 0
+IsDrawnUpTo most h p = AreDrawn most (length h) (marked p.marks.items)
+
+-- The same of a history that is drawn whole if it has at most 400 operations.
 abbrev pub IsDrawnFrom : List Operation → Picture → Type 0
-IsDrawnFrom h p = AreDrawn (length h) (marked p.marks.items)
+IsDrawnFrom h p = IsDrawnUpTo 400 h p

@@ -16,7 +16,9 @@ use Rattle.sgt_timeline.specs.declared.picture.LineKind.{LineKind}
 use Rattle.sgt_timeline.specs.declared.picture.LineKind.TheVariants as kind
 use Rattle.sgt_timeline.specs.declared.picture.Mark.{Mark}
 use Rattle.sgt_timeline.specs.declared.picture.Note.{Note}
-use Rattle.sgt_timeline.specs.declared.style.TheConstants.{STYLE, LEGEND}
+use Rattle.sgt_timeline.specs.declared.picture.Part.{Part}
+use Rattle.sgt_timeline.specs.declared.picture.Part.TheVariants as part
+use Rattle.sgt_timeline.specs.declared.style.TheConstants.{STYLE, READS, WRITES, COMMITS, ABORTS, READS_FROM, READS_FROM_ABORTED, CYCLE, VIOLATION}
 
 -- a byte as the text of an element: what has a meaning there is named, and what is no printable ASCII is a `?`
 abbrev pub escaped_byte : ℕ → List ℕ
@@ -133,10 +135,25 @@ paper_text p =
     joined (codes "</desc>\n" ∷ STYLE.now ∷ codes "<rect class=\"paper\" width=\"" ∷ decimal p.width ∷ codes "\" height=\"" ∷
     decimal p.height ∷ codes "\"/>\n" ∷ [])
 
+-- the start of the legend, which stands here
+unfoldable pub legend_start : ℕ → List ℕ
+legend_start y =
+    joined (codes "<g transform=\"translate(12," ∷ decimal y ∷ codes ")\">\n" ∷ [])
+
+-- a part of the legend
+abbrev pub part_text : Part → List ℕ
+part_text part.Reads = READS.now
+part_text part.Writes = WRITES.now
+part_text part.Commits = COMMITS.now
+part_text part.Aborts = ABORTS.now
+part_text part.ReadsFrom = READS_FROM.now
+part_text part.ReadsFromAborted = READS_FROM_ABORTED.now
+part_text part.Cycle = CYCLE.now
+part_text part.Violation = VIOLATION.now
+
 -- the legend
-unfoldable pub legend_text : Picture → List ℕ
-legend_text p =
-    joined (codes "<g transform=\"translate(12," ∷ decimal p.legend ∷ codes ")\">\n" ∷ LEGEND.now ∷ codes "</g>\n" ∷ [])
+abbrev pub legend_text : Picture → List ℕ
+legend_text p = legend_start p.legend ++ flat_map part_text p.parts.items ++ codes "</g>\n"
 
 -- the picture: the rows, the lines, the marks above them, the legend, and the words below
 abbrev pub picture_text : History → Picture → List ℕ

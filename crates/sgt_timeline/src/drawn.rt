@@ -8,69 +8,100 @@ use sgt_model::NoMemory;
 use std::alloc::Global;
 use std::collections::BTreeSet;
 
-/// The most operations that are drawn.
+/// The most operations that are drawn, of any history.
 pub(crate) const MOST: usize = 400;
 
 /// The most pairs that stand out: each has two operations.
 const MOST_PAIRS: usize = 200;
 
-/// What stands out, as pairs of operations, and how.
+/// Two operations that stand out, by their places, and how.
+#[derive(Clone, Copy)]
+pub(crate) struct Pair {
+    pub kind: LineKind,
+    pub earlier: usize,
+    pub later: usize,
+}
+
+/// What stands out.
 #[derive(Drop)]
 pub(crate) struct Pairs {
-    pub kind: LineKind,
-    /// The two operations of each, by their places.
-    pub places: Vec<Violation>,
+    pub places: Vec<Pair>,
 }
 
 impl Pairs {
     /// What stands out, of a cycle its first edges.
     pub fn of(alloc: Global, highlight: Highlight<'_>) -> Result<Self, NoMemory> {
+        let mut pairs = Pairs {
+            places: Vec::new(alloc),
+        };
         match highlight {
-            Highlight::Nothing => Ok(Pairs {
-                kind: LineKind::Violation,
-                places: Vec::new(alloc),
-            }),
-            Highlight::Cycle(edges) => Ok(Pairs {
-                kind: LineKind::Cycle,
-                places: first_edges(alloc, edges)?,
-            }),
-            Highlight::Violation(violation) => Ok(Pairs {
-                kind: LineKind::Violation,
-                places: one(alloc, violation)?,
-            }),
+            Highlight::Nothing => (),
+            Highlight::Cycle(edges) => pairs.add_edges(edges)?,
+            Highlight::Violation(violation) => pairs.add_violation(&violation)?,
+            Highlight::All(edges, violations) => {
+                pairs.add_edges(edges)?;
+                pairs.add_violations(violations)?;
+            }
         }
+        Ok(pairs)
+    }
+
+    /// Adds the edges of a cycle.
+    fn add_edges(&mut self, edges: &[Edge]) -> Result<(), NoMemory> {
+        for edge in edges {
+            self.add(LineKind::Cycle, edge.earlier, edge.later)?;
+        }
+        Ok(())
+    }
+
+    /// Adds the violations. One that two classes have is added once.
+    fn add_violations(&mut self, violations: &[Violation]) -> Result<(), NoMemory> {
+        for violation in violations {
+            self.add_violation(violation)?;
+        }
+        Ok(())
+    }
+
+    /// Adds a violation, unless it stands out already.
+    fn add_violation(&mut self, violation: &Violation) -> Result<(), NoMemory> {
+        if self.has_violation(violation) {
+            return Ok(());
+        }
+        self.add(LineKind::Violation, violation.earlier, violation.later)
+    }
+
+    /// Whether the violation stands out already.
+    fn has_violation(&self, violation: &Violation) -> bool {
+        for pair in &self.places {
+            let is_same = pair.earlier == violation.earlier && pair.later == violation.later;
+            if is_same && matches!(pair.kind, LineKind::Violation) {
+                return true;
+            }
+        }
+        false
+    }
+
+    /// Adds a pair, if there are not too many.
+    fn add(&mut self, kind: LineKind, earlier: usize, later: usize) -> Result<(), NoMemory> {
+        if self.places.len() < MOST_PAIRS {
+            self.places.push(Pair {
+                kind,
+                earlier,
+                later,
+            })?;
+        }
+        Ok(())
     }
 
     /// As part of which line the operation at the place stands out, if it does.
     pub fn ends_at(&self, place: usize) -> Option<LineKind> {
         for pair in &self.places {
             if pair.earlier == place || pair.later == place {
-                return Some(self.kind);
+                return Some(pair.kind);
             }
         }
         None
     }
-}
-
-/// One violation.
-fn one(alloc: Global, violation: Violation) -> Result<Vec<Violation>, NoMemory> {
-    let mut places = Vec::new(alloc);
-    places.push(violation)?;
-    Ok(places)
-}
-
-/// The operations of the first edges.
-fn first_edges(alloc: Global, edges: &[Edge]) -> Result<Vec<Violation>, NoMemory> {
-    let mut places = Vec::new(alloc);
-    for edge in edges {
-        if places.len() < MOST_PAIRS {
-            places.push(Violation {
-                earlier: edge.earlier,
-                later: edge.later,
-            })?;
-        }
-    }
-    Ok(places)
 }
 
 /// What of a history is drawn.
@@ -94,27 +125,47 @@ pub(crate) struct Drawn {
 }
 
 impl Drawn {
-    /// Those of a history: all of a short one. Of a longer one those of the transactions that stand out, and if these are too many,
-    /// the operations that stand out alone; the first ones where nothing does.
-    pub fn of(alloc: Global, history: &[Operation], pairs: &Pairs) -> Result<Self, NoMemory>
-        ensures { IfOk result (λ drawn. AreDrawn (length history.now) drawn.places.items) }
+    /// Those of a history: all of one of at most so many operations. Of a longer one those of the transactions that stand out, and if
+    /// these are too many, the operations that stand out alone; the first ones where nothing does.
+    pub fn of(
+        alloc: Global,
+        history: &[Operation],
+        pairs: &Pairs,
+        whole: usize,
+    ) -> Result<Self, NoMemory>
+        requires { whole ≤ 400 }
+        ensures { IfOk result (λ drawn. AreDrawn whole (length history.now) drawn.places.items) }
     {
-        if history.len() <= MOST {
+        if history.len() <= whole {
             return Ok(Drawn {
                 extent: Extent::Whole,
                 places: places_below(alloc, history.len())?,
             });
         }
         if pairs.places.is_empty() {
-            return Ok(Drawn {
-                extent: Extent::First,
-                places: places_below(alloc, MOST)?,
-            });
+            return Drawn::first(alloc, history.len(), whole);
         }
         let chosen = Chosen::of(alloc, history, pairs)?;
         Ok(Drawn {
             extent: chosen.extent,
-            places: places_in(alloc, history.len(), &chosen.places)?,
+            places: places_in(alloc, history.len(), &chosen.places, whole)?,
+        })
+    }
+
+    /// The first operations of a history of this length: all of one of up to 400.
+    fn first(alloc: Global, len: usize, whole: usize) -> Result<Self, NoMemory>
+        requires { whole ≤ 400 }
+        ensures { IfOk result (λ drawn. AreDrawn whole len drawn.places.items) }
+    {
+        if len <= MOST {
+            return Ok(Drawn {
+                extent: Extent::Whole,
+                places: places_below(alloc, len)?,
+            });
+        }
+        Ok(Drawn {
+            extent: Extent::First,
+            places: places_below(alloc, MOST)?,
         })
     }
 }
@@ -131,9 +182,14 @@ fn places_below(alloc: Global, most: usize) -> Result<Vec<usize>, NoMemory>
 }
 
 /// The first places of the set, below the length of a history.
-fn places_in(alloc: Global, len: usize, chosen: &BTreeSet<usize>) -> Result<Vec<usize>, NoMemory>
-    requires { 400 < len }
-    ensures { IfOk result (λ places. AreDrawn len places.items) }
+fn places_in(
+    alloc: Global,
+    len: usize,
+    chosen: &BTreeSet<usize>,
+    whole: usize,
+) -> Result<Vec<usize>, NoMemory>
+    requires { whole < len }
+    ensures { IfOk result (λ places. AreDrawn whole len places.items) }
 {
     let mut places = Vec::new(alloc);
     for place in 0..len {

@@ -1,8 +1,9 @@
 //! The layout of a picture: where each row, mark and line stands.
-ghost use Rattle.std.specs.Prelude.{◌≡◌, ◌<◌, ◌∷◌, [], ◌++◌, length, IfOk, OnOk, IfSome};
-ghost use Rattle.sgt_timeline.specs.Drawn.{IsDrawnFrom, AreDrawn, marked};
+ghost use Rattle.std.specs.Prelude.{◌≡◌, ◌<◌, ◌∷◌, [], ◌++◌, length, min, IfOk, OnOk, IfSome};
+ghost use Rattle.sgt_timeline.specs.Drawn.{IsDrawnFrom, IsDrawnUpTo, AreDrawn, marked};
 
-use crate::drawn::{Drawn, Pairs};
+use crate::drawn::{Drawn, MOST, Pairs};
+use crate::legend::legend_parts;
 use crate::lines::lines_between;
 use crate::notes::notes_below;
 use crate::picture::{Highlight, LineKind, Mark, Picture, Row};
@@ -39,11 +40,29 @@ pub fn draw(
 ) -> Result<Picture, NoMemory>
     ensures { IfOk result (IsDrawnFrom history.now.operations.items) }
 {
+    draw_up_to(alloc, history, highlight, caption, MOST)
+}
+
+/// The same, of a history of up to so many operations whole, and of at most 400.
+///
+/// # Errors
+///
+/// `NoMemory` if an allocation failed.
+pub fn draw_up_to(
+    alloc: Global,
+    history: &History,
+    highlight: Highlight<'_>,
+    caption: &[u8],
+    whole: usize,
+) -> Result<Picture, NoMemory>
+    ensures { IfOk result (IsDrawnUpTo (min whole 400) history.now.operations.items) }
+{
     let operations = history.operations.as_slice();
     let pairs = Pairs::of(alloc, highlight)?;
-    let drawn = Drawn::of(alloc, operations, &pairs)?;
+    let drawn = Drawn::of(alloc, operations, &pairs, whole.min(MOST))?;
     let layout = Layout::of(alloc, history, drawn.places.as_slice(), &pairs)?;
     let lines = lines_between(alloc, operations, layout.marks.as_slice(), &pairs)?;
+    let parts = legend_parts(alloc, operations, layout.marks.as_slice(), lines.as_slice())?;
     let legend = layout.rows.len().saturating_mul(ROW).saturating_add(8);
     let notes = notes_below(
         alloc,
@@ -61,6 +80,7 @@ pub fn draw(
         lines,
         marks: layout.marks,
         legend,
+        parts,
         notes,
     })
 }

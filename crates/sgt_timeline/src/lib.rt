@@ -1,7 +1,7 @@
 //! The picture of a history, as textbooks draw it: a row for each transaction, the operations from left to right, arrows of reads from
 //! writes, and the conflicts of a cycle in red.
 //!
-//! - [`draw`] lays a picture out: which operations are drawn, and where each mark, row and line stands.
+//! - [`draw`] and [`draw_up_to`] lay a picture out: which operations are drawn, and where each mark, row and line stands.
 //! - [`append_picture`] writes it as SVG 1.1: one file by itself, for light and dark.
 //!
 //! `specs/Drawn.antt` says which operations have a mark, and `specs/PictureText.antt` what the text of a picture is. Positions are
@@ -20,6 +20,7 @@
 mod drawn;
 mod escape;
 mod layout;
+mod legend;
 mod lines;
 mod notes;
 mod picture;
@@ -27,6 +28,6 @@ mod piece;
 mod style;
 mod svg;
 
-pub use layout::draw;
-pub use picture::{Highlight, Line, LineKind, Mark, Note, Picture, Row};
+pub use layout::{draw, draw_up_to};
+pub use picture::{Highlight, Line, LineKind, Mark, Note, Part, Picture, Row};
 pub use svg::append_picture;

@@ -14,8 +14,11 @@ const NEAREST: usize = 13;
 /// How far the lanes of a row are from each other.
 const APART: usize = 6;
 
-/// How far from the middle of a box the lines of what stands out leave and arrive.
+/// How far from the middle of a box the lines of a cycle leave and arrive.
 const NEAR: usize = 6;
+
+/// The same of a violation's line.
+const BETWEEN: usize = 10;
 
 /// The same of a read's line.
 const FAR: usize = 14;
@@ -107,7 +110,7 @@ fn aborted_of(alloc: Global, history: &[Operation]) -> Result<BTreeSet<u32>, NoM
 /// Adds the lines of what stands out.
 fn add_pairs(lines: &mut Vec<Line>, marks: &[Mark], pairs: &Pairs) -> Result<(), NoMemory> {
     for pair in &pairs.places {
-        if let Some(line) = line_of(marks, pairs.kind, pair.earlier, pair.later) {
+        if let Some(line) = line_of(marks, pair.kind, pair.earlier, pair.later) {
             lines.push(line)?;
         }
     }
@@ -132,12 +135,16 @@ fn mark_at(marks: &[Mark], place: usize) -> Option<Mark> {
 }
 
 /// The way from one mark to another: along the column of the first, in which no other mark stands, to a lane beside the row of the
-/// second, in which none stands either. No two of the four ways to leave a box and to arrive at it have one place.
+/// second, in which none stands either. No two of the six ways to leave a box and to arrive at it have one place.
 fn route(kind: LineKind, from: &Mark, to: &Mark, lane: usize) -> Line {
     let (leaves, arrives) = match kind {
-        LineKind::Cycle | LineKind::Violation => (
+        LineKind::Cycle => (
             from.middle.saturating_sub(NEAR),
             to.middle.saturating_add(NEAR),
+        ),
+        LineKind::Violation => (
+            from.middle.saturating_sub(BETWEEN),
+            to.middle.saturating_add(BETWEEN),
         ),
         LineKind::ReadsFrom | LineKind::ReadsFromAborted => (
             from.middle.saturating_add(FAR),

@@ -10,6 +10,8 @@ pub enum Highlight<'a> {
     Cycle(&'a [Edge]),
     /// The two operations of a violation.
     Violation(Violation),
+    /// The edges of a cycle, if there is one, and the violations of other classes.
+    All(&'a [Edge], &'a [Violation]),
 }
 
 /// A picture of a history.
@@ -27,6 +29,8 @@ pub struct Picture {
     pub marks: Vec<Mark>,
     /// Where the legend stands.
     pub legend: usize,
+    /// What the legend explains.
+    pub parts: Vec<Part>,
     /// The words below the picture.
     pub notes: Vec<Note>,
 }
@@ -58,6 +62,19 @@ pub struct Mark {
     pub top: usize,
     /// The base of its text.
     pub base: usize,
+}
+
+/// A part of the legend: the marks or the lines of a kind that the picture has.
+#[derive(Clone, Copy, PartialEq, Eq)]
+pub enum Part {
+    Reads,
+    Writes,
+    Commits,
+    Aborts,
+    ReadsFrom,
+    ReadsFromAborted,
+    Cycle,
+    Violation,
 }
 
 /// What a line says of the two operations at its ends.

@@ -1,4 +1,4 @@
-//! The style of a picture, and its legend.
+//! The style of a picture, and the parts of its legend. Each part has a place of its own.
 
 /// The looks of the elements, in light and dark, and the heads of the arrows.
 pub(crate) const STYLE: &[u8] = b"<style type=\"text/css\">
@@ -56,17 +56,46 @@ text{fill:#f0f6fc}
 </defs>
 ";
 
-/// What the marks and the lines mean.
-pub(crate) const LEGEND: &[u8] =
+/// What a mark of a read means.
+pub(crate) const READS: &[u8] =
     b"<g class=\"read\"><rect width=\"40\" height=\"20\" rx=\"5\"/><text x=\"20\" y=\"15\">r[x]</text></g>
-<g class=\"write\"><rect x=\"108\" width=\"40\" height=\"20\" rx=\"5\"/><text x=\"128\" y=\"15\">w[x]</text></g>
-<g class=\"commit\"><rect x=\"224\" width=\"24\" height=\"20\" rx=\"5\"/><text x=\"236\" y=\"15\">c</text></g>
-<g class=\"abort\"><rect x=\"332\" width=\"24\" height=\"20\" rx=\"5\"/><text x=\"344\" y=\"15\">a</text></g>
-<polyline class=\"reads\" points=\"0,42 32,42\"/>
-<polyline class=\"undone\" points=\"148,42 180,42\"/>
-<polyline class=\"cycle\" points=\"396,42 428,42\"/>
-<polyline class=\"violation\" points=\"560,42 592,42\"/>
-<g class=\"words\"><text x=\"48\" y=\"15\">read</text><text x=\"156\" y=\"15\">write</text><text x=\"256\" y=\"15\">commit</text>
-<text x=\"364\" y=\"15\">abort</text><text x=\"40\" y=\"46\">reads from</text><text x=\"188\" y=\"46\">from one that aborts</text>
-<text x=\"436\" y=\"46\">the cycle</text><text x=\"600\" y=\"46\">first violation</text></g>
+<g class=\"words\"><text x=\"48\" y=\"15\">read</text></g>
+";
+
+/// What a mark of a write means.
+pub(crate) const WRITES: &[u8] =
+    b"<g class=\"write\"><rect x=\"148\" width=\"40\" height=\"20\" rx=\"5\"/><text x=\"168\" y=\"15\">w[x]</text></g>
+<g class=\"words\"><text x=\"196\" y=\"15\">write</text></g>
+";
+
+/// What a mark of a commit means.
+pub(crate) const COMMITS: &[u8] =
+    b"<g class=\"commit\"><rect x=\"396\" width=\"24\" height=\"20\" rx=\"5\"/><text x=\"408\" y=\"15\">c</text></g>
+<g class=\"words\"><text x=\"436\" y=\"15\">commit</text></g>
+";
+
+/// What a mark of an abort means.
+pub(crate) const ABORTS: &[u8] =
+    b"<g class=\"abort\"><rect x=\"560\" width=\"24\" height=\"20\" rx=\"5\"/><text x=\"572\" y=\"15\">a</text></g>
+<g class=\"words\"><text x=\"600\" y=\"15\">abort</text></g>
+";
+
+/// What a line from a write to a read means.
+pub(crate) const READS_FROM: &[u8] = b"<polyline class=\"reads\" points=\"0,42 32,42\"/>
+<g class=\"words\"><text x=\"40\" y=\"46\">reads from</text></g>
+";
+
+/// The same, where the writer aborts.
+pub(crate) const READS_FROM_ABORTED: &[u8] = b"<polyline class=\"undone\" points=\"148,42 180,42\"/>
+<g class=\"words\"><text x=\"188\" y=\"46\">from one that aborts</text></g>
+";
+
+/// What a line of the cycle means.
+pub(crate) const CYCLE: &[u8] = b"<polyline class=\"cycle\" points=\"396,42 428,42\"/>
+<g class=\"words\"><text x=\"436\" y=\"46\">the cycle</text></g>
+";
+
+/// What a line of a violation means.
+pub(crate) const VIOLATION: &[u8] = b"<polyline class=\"violation\" points=\"560,42 592,42\"/>
+<g class=\"words\"><text x=\"600\" y=\"46\">first violation</text></g>
 ";

@@ -3,11 +3,13 @@ ghost use Rattle.std.specs.Prelude.{◌≡◌, ◌++◌, OnOk};
 ghost use Rattle.std.specs.List.{flat_map};
 ghost use Rattle.sgt_notation.specs.Readings.{texts};
 ghost use Rattle.sgt_notation.specs.Spellings.{text_at};
-ghost use Rattle.sgt_timeline.specs.PictureText.{title_text, description_text, paper_text, row_text, line_text, mark_head, box_text, item_text, label_text, operation_mark, mark_text, legend_text, note_text, picture_text, letter_text, class_text, ends_text, kind_text};
+ghost use Rattle.sgt_timeline.specs.PictureText.{title_text, description_text, paper_text, row_text, line_text, mark_head, box_text, item_text, label_text, operation_mark, mark_text, legend_start, part_text, legend_text, note_text, picture_text, letter_text, class_text, ends_text, kind_text};
 
-use crate::picture::{Line, LineKind, Mark, Note, Picture, Row};
+use crate::picture::{Line, LineKind, Mark, Note, Part, Picture, Row};
 use crate::piece::{Piece, append_pieces};
-use crate::style::{LEGEND, STYLE};
+use crate::style::{
+    ABORTS, COMMITS, CYCLE, READS, READS_FROM, READS_FROM_ABORTED, STYLE, VIOLATION, WRITES,
+};
 use sgt_classes::{Action, Operation};
 use sgt_model::NoMemory;
 use sgt_notation::History;
@@ -295,20 +297,54 @@ fn name_of<'a>(history: &'a History, item: u32) -> &'a [u8]
 }
 
 /// Adds the legend.
-#[tactic(auto, unfolding(crate::specs::PictureText::legend_text))]
 fn append_legend(text: &mut Vec<u8>, picture: &Picture) -> Result<(), NoMemory>
     ensures { OnOk result (text.new.items ≡ text.old.items ++ legend_text picture.now) }
+{
+    append_legend_start(text, picture.legend)?;
+    append_parts(text, picture.parts.as_slice())?;
+    text.extend_from_slice(b"</g>\n")?;
+    Ok(())
+}
+
+/// Adds the start of the legend, which stands here.
+#[tactic(auto, unfolding(crate::specs::PictureText::legend_start))]
+fn append_legend_start(text: &mut Vec<u8>, legend: usize) -> Result<(), NoMemory>
+    ensures { OnOk result (text.new.items ≡ text.old.items ++ legend_start legend) }
 {
     append_pieces(
         text,
         &[
             Piece::Markup(b"<g transform=\"translate(12,"),
-            Piece::Number(picture.legend),
+            Piece::Number(legend),
             Piece::Markup(b")\">\n"),
-            Piece::Markup(LEGEND),
-            Piece::Markup(b"</g>\n"),
         ],
     )
+}
+
+/// Adds the parts of the legend.
+fn append_parts(text: &mut Vec<u8>, parts: &[Part]) -> Result<(), NoMemory>
+    ensures { OnOk result (text.new.items ≡ text.old.items ++ flat_map part_text parts.now) }
+{
+    for part in parts {
+        text.extend_from_slice(part_words(*part))?;
+    }
+    Ok(())
+}
+
+/// The text of a part of the legend.
+fn part_words(part: Part) -> &'static [u8]
+    ensures { result.now ≡ part_text part }
+{
+    match part {
+        Part::Reads => READS,
+        Part::Writes => WRITES,
+        Part::Commits => COMMITS,
+        Part::Aborts => ABORTS,
+        Part::ReadsFrom => READS_FROM,
+        Part::ReadsFromAborted => READS_FROM_ABORTED,
+        Part::Cycle => CYCLE,
+        Part::Violation => VIOLATION,
+    }
 }
 
 /// Adds the words below the picture.

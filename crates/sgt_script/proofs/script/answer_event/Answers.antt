@@ -23,3 +23,11 @@ returns-in-History-clause-answered c =
     let past : c.answer.new.self.past ≡ entry ∷ c.args.engine.now.past = ap (λ (e : EngineView). e.past) done.adds in
     on_ok_weaker c.append_newest.result (λ says. (entry, past, refl, rw c.in-History.is (says entry c.args.engine.now.past past)))
     c.append_newest.ensures.operations
+
+pub returns-in-Json-clause-answered : goal.returns-in-Json-clause-answered
+returns-in-Json-clause-answered c =
+    let done = c.in-Ok.ensures.adds in
+    let entry : Entry = record { event = c.args.event.now; reply = done.reply } in
+    let past : c.answer.new.self.past ≡ entry ∷ c.args.engine.now.past = ap (λ (e : EngineView). e.past) done.adds in
+    on_ok_weaker c.append_newest_json.result (λ says. (entry, past, refl, rw c.in-Json.is (says entry c.args.engine.now.past past)))
+    c.append_newest_json.ensures.reply
