@@ -1,0 +1,96 @@
+"""Runs a server. When its history is long it is cut, and a snapshot stored: seconds of work, while another process serves."""
+
+import ctypes
+import logging
+import marshal
+import os
+import pathlib
+import signal
+import sys
+import time
+from multiprocessing.connection import Connection, Pipe
+from multiprocessing.reduction import send_handle
+from typing import NoReturn
+
+from administration import listen_at
+from bank import Unusable
+from chain import Chain
+from journal import BEAT
+from server import Server
+
+NEAR = 100_000  # bytes of calls, which run in some milliseconds
+
+
+def run(server: Server, port: int, admin: pathlib.Path, begin: float) -> None:
+    """Runs a server until SIGTERM or SIGINT."""
+    with listen_at(admin) as listener:
+        send_handle(server.fronts[-1], listener.fileno(), None)
+    print(f"serving on port {port} after call {server.chain.bank.seq}, started in {time.perf_counter() - begin:.2f} s", flush=True)
+    while not server.chain.ends:
+        server.turn()
+        if server.chain.bank.is_long():
+            cut(server)
+    server.before_replies()
+    admin.unlink(missing_ok=True)
+
+
+def end_by_signals(chain: Chain) -> None:
+    """From now on SIGTERM and SIGINT end a server well. Nobody waits for a child that has ended."""
+    signal.signal(signal.SIGCHLD, signal.SIG_IGN)
+    for number in (signal.SIGTERM, signal.SIGINT):
+        signal.signal(number, lambda *_: setattr(chain, "ends", True))
+
+
+def cut(server: Server) -> None:
+    """Frees the history, and stores a snapshot. One that can't be stored ends nothing: the next cut tries again.
+
+    Where a primary does it a copy of its process, by a fork, serves meanwhile, and notes the calls that it runs in a file in memory.
+    """
+    chain, number = server.chain, server.chain.number
+    ran, (link, its_link) = os.memfd_create("calls"), Pipe()
+    with BEAT:  # so no other thread holds a lock
+        deputy = os.fork() if chain.leads else -1
+    if deputy == 0:
+        serve(server, its_link, ran)
+    its_link.close()
+    chain.bank.cut()
+    server.trouble = chain.store.save(number, chain.bank)
+    if deputy > 0:
+        take_over(server, deputy, link, ran)
+    os.close(ran)
+    if server.trouble:
+        logging.warning(server.trouble)
+    else:
+        chain.stored(number)
+
+
+def serve(server: Server, link: Connection, ran: int) -> NoReturn:
+    """Serves until it has to hand over. Then the other process needs what a turn changes."""
+    ctypes.CDLL(None).prctl(1, signal.SIGKILL)  # PR_SET_PDEATHSIG: it dies with the other one
+    chain = server.chain
+    chain.bank.noted = ran
+    while not link.poll():
+        server.turn()
+    numbers = {name: it for name, it in vars(server).items() if isinstance(it, (int, float, type(None)))}
+    link.send_bytes(marshal.dumps((chain.number, chain.bank.seq, numbers)))
+    os._exit(0)
+
+
+def take_over(server: Server, deputy: int, link: Connection, ran: int) -> None:
+    """Runs what the other process has run, has it end, and runs the rest."""
+    chain, at, after = server.chain, -1, 0
+    while after > at + NEAR or at < 0:
+        at, after = after, chain.bank.rerun(ran, after)
+    link.send_bytes(b"hand over")
+    while not link.poll(0.1):
+        if chain.ends:
+            os.kill(deputy, signal.SIGTERM)  # it may wait for a journal that is away
+    try:
+        chain.number, seq, numbers = marshal.loads(link.recv_bytes())
+    except EOFError:
+        sys.exit(1)  # it has said why
+    while (at := after) < (after := chain.bank.rerun(ran, at)):
+        pass
+    if chain.bank.seq != seq:
+        raise Unusable(f"the calls up to {seq} end with call {chain.bank.seq} where the history was cut")
+    vars(server).update(numbers)
