@@ -1,12 +1,10 @@
 """Runs a server. When its history is long it is cut, and a snapshot stored: seconds of work, while another process serves."""
 
 import ctypes
-import logging
 import marshal
 import os
 import pathlib
 import signal
-import sys
 import time
 from multiprocessing.connection import Connection, Pipe
 from multiprocessing.reduction import send_handle
@@ -18,7 +16,7 @@ from chain import Chain
 from journal import BEAT
 from server import Server
 
-NEAR = 100_000  # bytes of calls, which run in some milliseconds
+NEAR, HAND_OVER = 100_000, b"hand over"  # bytes of calls, which run in some milliseconds; what is said to the deputy then
 
 
 def run(server: Server, port: int, admin: pathlib.Path, begin: float) -> None:
@@ -51,6 +49,7 @@ def cut(server: Server) -> None:
     with BEAT:  # so no other thread holds a lock
         deputy = os.fork() if chain.leads else -1
     if deputy == 0:
+        link.close()  # else it would not see the end of this process
         serve(server, its_link, ran)
     its_link.close()
     chain.bank.cut()
@@ -58,19 +57,21 @@ def cut(server: Server) -> None:
     if deputy > 0:
         take_over(server, deputy, link, ran)
     os.close(ran)
-    if server.trouble:
-        logging.warning(server.trouble)
-    else:
+    if not server.trouble:
         chain.stored(number)
 
 
 def serve(server: Server, link: Connection, ran: int) -> NoReturn:
     """Serves until it has to hand over. Then the other process needs what a turn changes."""
-    ctypes.CDLL(None).prctl(1, signal.SIGKILL)  # PR_SET_PDEATHSIG: it dies with the other one
+    ctypes.CDLL(None).prctl(1, signal.SIGKILL)  # PR_SET_PDEATHSIG: if the other process dies, it does at once
     chain = server.chain
     chain.bank.noted = ran
-    while not link.poll():
+    said = b""
+    while said != HAND_OVER:
+        begin = time.monotonic()
         server.turn()
+        time.sleep(min(time.monotonic() - begin, 0.02) if said else 0)  # as the other process has to catch up, it works half of the time
+        said = link.recv_bytes() if link.poll() else said
     numbers = {name: it for name, it in vars(server).items() if isinstance(it, (int, float, type(None)))}
     link.send_bytes(marshal.dumps((chain.number, chain.bank.seq, numbers)))
     os._exit(0)
@@ -79,16 +80,17 @@ def serve(server: Server, link: Connection, ran: int) -> NoReturn:
 def take_over(server: Server, deputy: int, link: Connection, ran: int) -> None:
     """Runs what the other process has run, has it end, and runs the rest."""
     chain, at, after = server.chain, -1, 0
-    while after > at + NEAR or at < 0:
-        at, after = after, chain.bank.rerun(ran, after)
-    link.send_bytes(b"hand over")
-    while not link.poll(0.1):
-        if chain.ends:
-            os.kill(deputy, signal.SIGTERM)  # it may wait for a journal that is away
     try:
+        link.send_bytes(b"catches up")
+        while after > at + NEAR or at < 0:
+            at, after = after, chain.bank.rerun(ran, after)
+        link.send_bytes(HAND_OVER)
+        while not link.poll(0.1):
+            if chain.ends:
+                os.kill(deputy, signal.SIGTERM)  # it may wait for a journal that is away
         chain.number, seq, numbers = marshal.loads(link.recv_bytes())
-    except EOFError:
-        sys.exit(1)  # it has said why
+    except (EOFError, ConnectionError):
+        raise SystemExit(1) from None  # it has said why
     while (at := after) < (after := chain.bank.rerun(ran, at)):
         pass
     if chain.bank.seq != seq:

@@ -25,8 +25,8 @@ class Server:
         self.is_marked, self.day, self.trouble = True, -1, ""  # the trouble is of the last snapshot
         self.forgot: Optional[int] = -1  # the day of the bank on which no old id was left
         self.began, self.calls, self.batches, self.appending = time.monotonic(), 0, 0, 0.0
-        self.asked = 0  # how many fronts asked in the last turn
-        self.words = {"rows": self.rows, "health": self.health, "figures": self.figures, "day": self.set_day}
+        # How many fronts asked in the last turn; and what administrators may.
+        self.asked, self.words = 0, {"rows": self.rows, "health": self.health, "figures": self.figures, "day": self.set_day}
         self.writers = {chain.bank.numbers[name] for name, it in procedures.items() if it.writes}
         for front in fronts:
             front.send_bytes(marshal.dumps(chain.bank.numbers))
