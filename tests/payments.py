@@ -1042,7 +1042,7 @@ def other_procedures():
             (procedures / f"{name}.json").write_text(json.dumps(it))
         own = (*words, "--procedures", procedures)
         before = names_in(folder / "j")
-        wanted = "payments: the journal has other procedures than this server: few, gift, many, open differ. --new-procedures goes on with these\n"
+        wanted = "payments: these procedures are not those of the journal: few, gift, many, open. With --new-procedures a server goes on with its own\n"
         same("a start with other procedures", (1, "", wanted), run(*own))
         same("the files", before, names_in(folder / "j"))
         with Server(*own, "--new-procedures") as server:
@@ -1056,7 +1056,7 @@ def other_procedures():
         same("a start with the first procedures", (1, "", wanted), run(*words))
         (procedures / "gift.json").write_text(json.dumps({**gift, "procedure": [2, [["ask", 1]]]}))
         status, _, error = run(*own)
-        same("a start with a procedure that was changed", (1, True), (status, "this server: gift differ" in error))
+        same("a start with a procedure that was changed", (1, True), (status, "of the journal: gift. With" in error))
 
 
 def bad_procedures():

@@ -7,8 +7,7 @@
 SECONDS (3), as the machine's speed changes. Tables of medians are printed: payments a second, with the least and the greatest; the median
 latency; and what a payment takes of the processors: of the server's process, which is the only one that runs payments, of its fronts, of
 the generator of load, one thread (load.c) or two (pgbench), and of the Redis or the three nodes of etcd, which are on this machine too.
-At last a server with RECORDS records, which forgets old ids, is loaded by 64 clients until it has cut its history: how long the longest
-reply took, and how much memory its processes had.
+At last a server with RECORDS records, which forgets old ids, is loaded by 64 clients until it has cut its history: the longest reply.
 
 It needs the library of `bindings/build` and `cc`. The servers run by the Python that runs this: Debian's, /usr/bin/python3, is faster than
 one that was built without optimization. What else is missing (etcd, Redis, PostgreSQL) is left out, and said. It is no part of the gate.
@@ -27,7 +26,6 @@ import statistics
 import subprocess
 import sys
 import tempfile
-import threading
 import time
 import zlib
 
@@ -110,16 +108,6 @@ def old_payments(records):
     return b"".join(ROW.pack(*row) for row in rows)
 
 
-def memory(process):
-    """Megabytes of a process and of those that it has made, each shared page once."""
-    made = pathlib.Path(f"/proc/{process}/task/{process}/children").read_text().split()
-    texts = []
-    for one in (process, *made):
-        with contextlib.suppress(OSError):
-            texts.append(pathlib.Path(f"/proc/{one}/smaps_rollup").read_text())
-    return sum(int(re.search(r"^Pss: +(\d+)", text, re.M)[1]) for text in texts) / 1000
-
-
 def cut(room, python, load):
     """Loads a server that has many records until it has cut its history, and stored a snapshot."""
     folder, rows = room / "many", old_payments(RECORDS)
@@ -128,24 +116,13 @@ def cut(room, python, load):
     (folder / f"{1:015}.snapshot").write_bytes(seal(json.dumps([1, texts, len(rows), zlib.crc32(rows)])) + b"\n" + rows)
     (folder / f"{2:015}.batches").touch()
     process = subprocess.Popen([python, PAYMENTS / "payments.py", "serve", folder], stdout=subprocess.PIPE, text=True)
-    port, sizes = re.search(r"port (\d+)", process.stdout.readline())[1], [memory(process.pid)]
-    over = threading.Event()
-
-    def watch():
-        while not over.wait(0.5):
-            sizes.append(memory(process.pid))
-
-    watches = threading.Thread(target=watch)
-    watches.start()
+    port = re.search(r"port (\d+)", process.stdout.readline())[1]
     for _ in range(UNTIL_CUT // 5):
         ran = subprocess.run([load, port, "64", "5", "1000", str(random.randrange(10**6))], capture_output=True, text=True, check=True)
         rate, median, _, longest = map(float, ran.stdout.split())
         print(f"{RECORDS:,} records: {rate:,.0f} payments a second, median {median:.2f} ms, the longest reply {longest:.0f} ms", flush=True)
         if len(list(folder.glob("*.batches"))) > 1 or not (folder / f"{2:015}.batches").exists():
             break
-    over.set()
-    watches.join()
-    print(f"memory of the server at the start {sizes[0]:,.0f} MB, and at most {max(sizes):,.0f} MB")
     process.kill()
     process.wait()
 

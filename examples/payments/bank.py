@@ -96,12 +96,13 @@ class Bank:
         outcomes = self._engine.run_bytes(calls)
         return outcomes, [*compress(entries, wrote(outcomes))]
 
-    def rerun(self, noted: int, at: int) -> int:
-        """Runs calls that another process has noted in a file, from this byte on, some of them. Returns where the next one begins."""
-        calls = os.pread(noted, AT_ONCE * CALL, at)
-        calls = calls[: len(calls) // CALL * CALL]
-        self.seq += sum(wrote(self._engine.run_bytes(calls)))
-        return at + len(calls)
+    def rerun(self, noted: int, at: int, left: int) -> int:
+        """Runs the calls that another process notes in a file, from this byte on until at most so many are left. Where the next one begins."""
+        while len(calls := os.pread(noted, AT_ONCE * CALL, at)) > left:
+            calls = calls[: len(calls) // CALL * CALL]  # the last one may not be whole yet
+            self.seq += sum(wrote(self._engine.run_bytes(calls)))
+            at += len(calls)
+        return at
 
     def replay(self, calls: Sequence[Call]) -> None:
         """Runs the next calls of the journal. They committed when they were journaled, so they commit again, or it is not this bank's."""

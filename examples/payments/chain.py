@@ -119,7 +119,7 @@ class Chain:
         """`Unusable` if the journal goes on with other procedures. These may take its records for something else."""
         own, last = self.opening["procedures"], self.bank.texts
         if others := [name for name in sorted({**own, **last}) if own.get(name) != last.get(name)]:
-            raise Unusable(f"the journal has other procedures than this server: {', '.join(others)} differ. --new-procedures goes on with these")
+            raise Unusable(f"these procedures are not those of the journal: {', '.join(others)}. With --new-procedures a server goes on with its own")
 
     def append(self, calls: Union[list[str], Opening]) -> None:
         """Returns once the calls of these entries are safe. They have run already, but for an opening."""

@@ -1,5 +1,6 @@
 """Runs a server. When its history is long it is cut, and a snapshot stored: seconds of work, while another process serves."""
 
+import contextlib
 import ctypes
 import marshal
 import os
@@ -45,8 +46,8 @@ def cut(server: Server) -> None:
     Where a primary does it a copy of its process, by a fork, serves meanwhile, and notes the calls that it runs in a file in memory.
     """
     chain, number = server.chain, server.chain.number
-    ran, (link, its_link) = os.memfd_create("calls"), Pipe()
-    with BEAT:  # so no other thread holds a lock
+    ran, (link, its_link), deputy = os.memfd_create("calls"), Pipe(), -1
+    with BEAT, contextlib.suppress(OSError):  # so no other thread holds a lock. Where no process can be made, clients wait
         deputy = os.fork() if chain.leads else -1
     if deputy == 0:
         link.close()  # else it would not see the end of this process
@@ -79,11 +80,10 @@ def serve(server: Server, link: Connection, ran: int) -> NoReturn:
 
 def take_over(server: Server, deputy: int, link: Connection, ran: int) -> None:
     """Runs what the other process has run, has it end, and runs the rest."""
-    chain, at, after = server.chain, -1, 0
+    chain = server.chain
     try:
         link.send_bytes(b"catches up")
-        while after > at + NEAR or at < 0:
-            at, after = after, chain.bank.rerun(ran, after)
+        at = chain.bank.rerun(ran, 0, NEAR)
         link.send_bytes(HAND_OVER)
         while not link.poll(0.1):
             if chain.ends:
@@ -91,8 +91,7 @@ def take_over(server: Server, deputy: int, link: Connection, ran: int) -> None:
         chain.number, seq, numbers = marshal.loads(link.recv_bytes())
     except (EOFError, ConnectionError):
         raise SystemExit(1) from None  # it has said why
-    while (at := after) < (after := chain.bank.rerun(ran, at)):
-        pass
+    chain.bank.rerun(ran, at, 0)
     if chain.bank.seq != seq:
         raise Unusable(f"the calls up to {seq} end with call {chain.bank.seq} where the history was cut")
     vars(server).update(numbers)
