@@ -1294,6 +1294,11 @@ def failover(kind):
             event(group, primary, load)
         load.run(group.servers[group.primary()], 0.3)
         group.judge(load)
+        shutil.copytree(PAYMENTS / "procedures", folder / "procedures")
+        (folder / "procedures" / "open.json").unlink()
+        words = ("serve", folder / "0", "--journal", journal.address, "--procedures", folder / "procedures")
+        wanted = "these procedures are not those of the journal: open. "
+        same("whether a start with other procedures is refused", True, is_refused(wanted, *words, python=journal.python))
         copied = takes_a_copy(group)
     return f"{len(load.acknowledged)} payments acknowledged, each there once{copied}"
 
@@ -1332,7 +1337,7 @@ def ended_while_away():
         shutil.copytree(PAYMENTS / "procedures", folder / "other")
         (folder / "other" / "note.json").unlink()
         words = ("serve", folder / "new", "--journal", etcd.address, "--procedures", folder / "other")
-        same("whether other procedures are refused", True, is_refused("the primary has other procedures\n", *words))
+        same("whether other procedures are refused", True, is_refused("these procedures are not those of the journal: note. ", *words))
         with etcd.stopped(0, 1, 2), group.servers[primary].connect() as client:
             client.sendall(json.dumps(pay(1, 1, 2, 5)).encode() + b"\n")
             follower = group.servers[(primary + 1) % 3]
