@@ -6,9 +6,9 @@
 It runs the server as a user does, with the library of `bindings/out`, which has to be made: the replies; a crash under load, ROUNDS
 times (30), or one of its front processes, with what no fsync had kept taken away or garbled; a journal cut at each byte and with a flipped
 bit in each, and one with a damaged tail, or without its newest file; a full disk; an fsync that fails; large snapshots, and one that fails;
-a clock that jumps; another program's procedures; a forged journal; clients that vanish, or ask nothing; what administrators ask; holds,
-statements, ids that are forgotten, lists of requests, tokens and TLS; and failovers over etcd, Redis and PostgreSQL, where the machine has them,
-also of hosts that are cut off. Each case is reported, and the last line counts them. With names of cases only those run.
+cuts while a deputy serves; a clock that jumps; other procedures; a forged journal; clients that vanish, or ask nothing; what administrators
+ask; holds, statements, ids that are forgotten, lists of requests, tokens and TLS; and failovers over etcd, Redis and PostgreSQL, where the
+machine has them, also of hosts that are cut off. Each case is reported, and the last line counts them. With names of cases only those run.
 """
 
 import ast
@@ -82,10 +82,25 @@ class Server:
         except subprocess.TimeoutExpired:
             raise Differs("a front process goes on without the server") from None
 
-    def fronts(self):
-        """The numbers of its front processes."""
+    def children(self):
+        """The numbers of its front processes, and then of the deputy that serves while it cuts its history, if there is one."""
         number = self.process.pid
         return [int(word) for word in pathlib.Path(f"/proc/{number}/task/{number}/children").read_text().split()]
+
+    def fronts(self):
+        """The numbers of its front processes."""
+        return self.children()[: FRONTS + 1]
+
+    def deputies(self):
+        """The number of its deputy, if there is one. One that has handed over may not have ended yet."""
+        return self.children()[FRONTS + 1 :]
+
+    def signal(self, number):
+        """Sends a signal to the process that leads, and then to its deputy: as a stop of the machine does. The first can't make another then."""
+        self.process.send_signal(number)
+        for deputy in self.deputies():
+            with contextlib.suppress(ProcessLookupError):
+                os.kill(deputy, number)
 
     def connect(self):
         return socket.create_connection(("127.0.0.1", self.port), timeout=SECONDS)
@@ -242,8 +257,9 @@ def administration():
             same("rows", (2, 64), (ask(admin, "rows")["seq"], len(ask(admin, "rows")["sha256"])))
             same("verify", (0, "calls 1 to 2 give the rows of the server\n", ""), run("verify", folder / "j"))
             same("health", {"health": "ok", "leads": True, "seq": 2}, {key: value for key, value in ask(admin, "health").items() if key != "batch"})
+            same("the records", 3 + 2 + 9 + 2 + 1 + 1, ask(admin, "rows")["records"])
             figures = ask(admin, "figures")
-            same("the figures", {"seq": 2, "records": 3 + 2 + 9 + 2 + 1 + 1}, {key: figures[key] for key in ("seq", "records")})
+            same("the figures", {"seq": 2, "records": 3}, {key: figures[key] for key in ("seq", "records")})
             same("an unknown word", [{"error"}] * 2, [set(ask(admin, word)) for word in ("nothing", "promote")])
             same("a second server", 1, run(*words)[0])
             same("health beside a second server", "ok", ask(admin, "health")["health"])
@@ -348,7 +364,7 @@ def forgotten():
     days, paid = 90, 20
     with room() as folder, Server("serve", folder / "j", "--accounts", 4) as server:
         admin = folder / "j" / "admin"
-        records = ask(admin, "figures")["records"]
+        records = ask(admin, "rows")["records"]
         held = {"hold": 99, "from": 1, "to": 2, "amount": 100}
         first = server.ask(*[pay(number, 1, 2, 100) for number in range(1, paid + 1)], held, pay(98, 3, 2, 10**9))
         day = ask(admin, "day")["day"]
@@ -365,7 +381,7 @@ def forgotten():
         same("one that is held", {"capture": 99, "captured": True, "to_has": 102_121}, server.ask({"capture": 99, "to": 2})[0])
         # Nine of each payment, and of the held one its state and its second number; the newest payment of three accounts; what two have paid today; three
         # days that began; and how many ids came, and were forgotten.
-        same("records", records + 9 * (paid + 2) + 2 + 3 + 2 + 3 + 2, ask(admin, "figures")["records"])
+        same("records", records + 9 * (paid + 2) + 2 + 3 + 2 + 3 + 2, ask(admin, "rows")["records"])
         same("verify", 0, run("verify", folder / "j")[0])
 
 
@@ -828,11 +844,11 @@ def failing_fsync():
 
 
 def large_snapshots():
-    """A snapshot in many chunks, each written in parts, as one of over 2 GB is."""
+    """A snapshot that is written in many parts, as one of over 2 GB is."""
     load = Load(random.Random(13))
     with room() as folder:
         words = ("serve", folder / "j", "--accounts", ACCOUNTS, "--cents", CENTS, "--keep")
-        small = adjusted(CUT_AFTER=4000, CHUNK=5000, SHORT_WRITE=1000, **preloaded(folder, "short_write"))
+        small = adjusted(CUT_AFTER=4000, SHORT_WRITE=1000, **preloaded(folder, "short_write"))
         with Server(*words, **small) as server:
             load.run(server, until=lambda: load.replies >= 2_000)
             server.process.kill()
@@ -858,7 +874,7 @@ def failed_snapshot():
             limits = resource.prlimit(server.process.pid, resource.RLIMIT_FSIZE, (40_000, resource.RLIM_INFINITY))
             pay_some(server)
             health = wait_until(lambda: re.search(r"no snapshot.*", ask(admin, "health")["health"]), "a snapshot that can't be stored")[0]
-            if not re.search(r"no snapshot: .*\.new: .*too large", health):
+            if not re.search(r"no snapshot .*\.snapshot: .*too large", health):
                 raise Differs(f"health is {health}")
             same("the files", ["000000000000001.batches", "admin", "newest"], names_in(folder / "j"))
             resource.prlimit(server.process.pid, resource.RLIMIT_FSIZE, limits)
@@ -873,26 +889,42 @@ def failed_snapshot():
         same("the payments", [(it["id"], it["from_has"], it["to_has"]) for it in paid], payments_in(folder / "j"))
 
 
-def snapshots_aside():
-    """The server replies while a snapshot is being stored. If the process that stores it is killed, that ends nothing, and the next one is taken."""
+def deputies():
+    """While a server cuts its history and stores a snapshot, a deputy serves, and what it has run is there when it has handed over."""
+    load = Load(random.Random(15))
     with room() as folder:
         admin, waits = folder / "j" / "admin", folder / "waits"
         waits.touch()
-        with Server("serve", folder / "j", "--accounts", 1000, **adjusted(CUT_AFTER=100, SNAPSHOT_WAITS=waits)) as server:
-            numbers = iter(range(1, 10**6))
-
-            def pay_some():
-                return server.ask(*[pay(next(numbers), 1, 2, 1) for _ in range(50)])
-
-            stores = wait_until(lambda: pay_some() and server.fronts()[FRONTS + 1 :], "a process that stores a snapshot")
-            same("replies meanwhile", [True] * 50, [it["paid"] for it in pay_some()])
-            same("processes that store snapshots, and snapshots", (stores, []), (server.fronts()[FRONTS + 1 :], list((folder / "j").glob("*.snapshot"))))
-            os.kill(stores[0], signal.SIGKILL)
-            wait_until(lambda: ask(admin, "health")["health"] == "no snapshot: the process that stored it was killed", "a server that says so")
+        words = ("serve", folder / "j", "--accounts", ACCOUNTS, "--cents", CENTS)
+        adjusts = adjusted(CUT_AFTER=1_000, SNAPSHOT_WAITS=waits)
+        with Server(*words, **adjusts) as server:
+            load.run(server, until=server.deputies)
+            for _ in range(3):  # there is no snapshot before the file is gone
+                load.run(server, 0.3)
+                before = [ask(admin, word)[key] for word, key in (("health", "seq"), ("figures", "batches"))]
+                same("deputies, and snapshots", (1, []), (len(server.deputies()), list((folder / "j").glob("*.snapshot"))))
+                same("verify", 0, run("verify", folder / "j")[0])
+            many = len(load.acknowledged)
             waits.unlink()
-            wait_until(lambda: pay_some() and list((folder / "j").glob("*.snapshot")), "the next snapshot")
-            wait_until(lambda: ask(admin, "health")["health"] == "ok", "a server that has it")
+            wait_until(lambda: list((folder / "j").glob("*.snapshot")) and not server.deputies(), "a snapshot, and no deputy")
+            after = [ask(admin, word)[key] for word, key in (("health", "seq"), ("figures", "batches"))]
+            if any(one < other for one, other in zip(after, before)):
+                raise Differs(f"after its deputy the server has the numbers {after}, and its deputy had {before}")
             same("verify", 0, run("verify", folder / "j")[0])
+            load.run(server, 0.3)
+            load.judge(*recovered(folder / "j")[:2])
+        # What is killed while a deputy serves, by which signal; and how the server ends.
+        for kills, number, status in ((False, signal.SIGTERM, 0), (True, signal.SIGKILL, 1), (False, signal.SIGKILL, -signal.SIGKILL)):
+            waits.touch()
+            with Server(*words, **adjusts) as server:
+                load.run(server, until=server.deputies)
+                load.run(server, 0.2)
+                os.kill(server.deputies()[0] if kills else server.process.pid, number)
+                waits.unlink()
+                load.run(server)
+                same("the status", status, server.process.wait(SECONDS))
+            load.judge(*recovered(folder / "j")[:2])
+    return f"{len(load.acknowledged)} acknowledged, {many} of them by a deputy"
 
 
 def begun_snapshots():
@@ -993,7 +1025,7 @@ def payments_in(folder):
 
 
 def other_procedures():
-    """A program with other procedures recovers by the old ones, and goes on with its own."""
+    """A start with other procedures than those of the journal is refused. With --new-procedures it recovers by the old ones, and goes on with its own."""
     with room() as folder:
         procedures = folder / "procedures"
         shutil.copytree(PAYMENTS / "procedures", procedures)
@@ -1009,13 +1041,22 @@ def other_procedures():
         for name, it in (("few", few), ("many", many)):
             (procedures / f"{name}.json").write_text(json.dumps(it))
         own = (*words, "--procedures", procedures)
-        with Server(*own) as server:
+        before = names_in(folder / "j")
+        wanted = "payments: these procedures are not those of the journal: few, gift, many, open. With --new-procedures a server goes on with its own\n"
+        same("a start with other procedures", (1, "", wanted), run(*own))
+        same("the files", before, names_in(folder / "j"))
+        with Server(*own, "--new-procedures") as server:
             asked(server, [({"gift": 2, "amount": 5}, {"gift": 2, "has": 101_005}), ({"balance": 1}, {"balance": 1, "has": 98_990}), ({"gift": 7, "amount": 5}, {"gift": 7, "refused": "code 1"})])
             asked(server, [({"few": 5}, {"few": 5, "100 %d": True, "one": 5}), ({"many %s": -7}, {"many %s": -7, "one": -7})])
             server.process.kill()
         with Server(*own) as server:
             asked(server, [({"balance": 2}, {"balance": 2, "has": 101_005})])
             same("verify", 0, run("verify", folder / "j")[0])
+            server.end()
+        same("a start with the first procedures", (1, "", wanted), run(*words))
+        (procedures / "gift.json").write_text(json.dumps({**gift, "procedure": [2, [["ask", 1]]]}))
+        status, _, error = run(*own)
+        same("a start with a procedure that was changed", (1, True), (status, "of the journal: gift. With" in error))
 
 
 def bad_procedures():
@@ -1197,7 +1238,7 @@ class Group:
 
     def start(self, number):
         words = ("serve", self.folder / f"{number}", "--journal", self.journal.address, "--accounts", ACCOUNTS, "--cents", CENTS)
-        numbers = {"CUT_AFTER": 8_000, "CHUNK": 5_000, "PATIENCE": SECONDS, **self.numbers}  # with snapshots now and then, in many chunks
+        numbers = {"CUT_AFTER": 8_000, "PATIENCE": SECONDS, **self.numbers}  # with snapshots now and then
         self.servers[number] = self.stack.enter_context(started(*words, python=self.journal.python, **adjusted(**numbers)))
 
     def health(self, number):
@@ -1253,6 +1294,11 @@ def failover(kind):
             event(group, primary, load)
         load.run(group.servers[group.primary()], 0.3)
         group.judge(load)
+        shutil.copytree(PAYMENTS / "procedures", folder / "procedures")
+        (folder / "procedures" / "open.json").unlink()
+        words = ("serve", folder / "0", "--journal", journal.address, "--procedures", folder / "procedures")
+        wanted = "these procedures are not those of the journal: open. "
+        same("whether a start with other procedures is refused", True, is_refused(wanted, *words, python=journal.python))
         copied = takes_a_copy(group)
     return f"{len(load.acknowledged)} payments acknowledged, each there once{copied}"
 
@@ -1291,7 +1337,7 @@ def ended_while_away():
         shutil.copytree(PAYMENTS / "procedures", folder / "other")
         (folder / "other" / "note.json").unlink()
         words = ("serve", folder / "new", "--journal", etcd.address, "--procedures", folder / "other")
-        same("whether other procedures are refused", True, is_refused("the primary has other procedures\n", *words))
+        same("whether other procedures are refused", True, is_refused("these procedures are not those of the journal: note. ", *words))
         with etcd.stopped(0, 1, 2), group.servers[primary].connect() as client:
             client.sendall(json.dumps(pay(1, 1, 2, 5)).encode() + b"\n")
             follower = group.servers[(primary + 1) % 3]
@@ -1315,13 +1361,13 @@ def kill_primary(group, primary, load):
 def stop_primary(group, primary, load):
     """A primary that was stopped is replaced, and when it wakes it acknowledges nothing, and ends."""
     old = group.servers[primary]
-    stop = threading.Timer(0.2, old.process.send_signal, (signal.SIGSTOP,))
+    stop = threading.Timer(0.2, old.signal, (signal.SIGSTOP,))
     stop.start()
     load.run(old, 0.5)
     stop.join()
     load.run(group.servers[group.primary(primary)], 0.3)
     before = dict(load.acknowledged)
-    wake = threading.Timer(0.1, old.process.send_signal, (signal.SIGCONT,))
+    wake = threading.Timer(0.1, old.signal, (signal.SIGCONT,))
     wake.start()
     load.run(old, 5)  # until it ends
     wake.join()
@@ -1620,7 +1666,7 @@ def main():
     crash_test.__name__, dying_nodes.__name__ = "crashes", "nodes_die"
     cases = [sizes, replies, holds, statements, forgotten, lists, tokens, tls, second_server, between_partitions, administration]
     cases += [torn_tails, damaged_tails, damage, newest_file_gone, forged_journal]
-    cases += [full_disk, failing_fsync, large_snapshots, failed_snapshot, snapshots_aside, begun_snapshots]
+    cases += [full_disk, failing_fsync, large_snapshots, failed_snapshot, deputies, begun_snapshots]
     cases += [jumping_clock, other_procedures, bad_procedures]
     cases += [killed_fronts, vanished_clients, idle_clients]
     cases += [over_etcd, dying_nodes, ended_while_away, partitions, over_redis, forgetful_redis, redis_replicas, over_postgresql, forgetful_postgresql, crash_test]

@@ -1,5 +1,5 @@
 #!/usr/bin/env python3
-"""Measures durable payments: examples/payments by each journal, beside SQLite behind the same server, and PostgreSQL. It takes three minutes.
+"""Measures durable payments: examples/payments by each journal, beside SQLite behind the same server, and PostgreSQL. It takes four minutes.
 
     bench/payments/run.py [ROUNDS [SECONDS]]
 
@@ -7,12 +7,14 @@
 SECONDS (3), as the machine's speed changes. Tables of medians are printed: payments a second, with the least and the greatest; the median
 latency; and what a payment takes of the processors: of the server's process, which is the only one that runs payments, of its fronts, of
 the generator of load, one thread (load.c) or two (pgbench), and of the Redis or the three nodes of etcd, which are on this machine too.
+At last a server with RECORDS records, which forgets old ids, is loaded by 64 clients until it has cut its history: the longest reply.
 
 It needs the library of `bindings/build` and `cc`. The servers run by the Python that runs this: Debian's, /usr/bin/python3, is faster than
 one that was built without optimization. What else is missing (etcd, Redis, PostgreSQL) is left out, and said. It is no part of the gate.
 """
 
 import contextlib
+import json
 import os
 import pathlib
 import pwd
@@ -25,15 +27,19 @@ import subprocess
 import sys
 import tempfile
 import time
+import zlib
 
 HERE = pathlib.Path(__file__).resolve().parent
 PAYMENTS = HERE.parents[1] / "examples" / "payments"
-sys.path.insert(0, str(HERE.parents[1] / "tests"))
+sys.path[:0] = [str(HERE.parents[1] / "tests"), str(PAYMENTS)]
+from bank import ROW, load_procedures  # noqa: E402
 from helpers.machines import Etcd, Redis, running  # noqa: E402
+from journal import seal  # noqa: E402
 
 CLIENTS = (1, 8, 64)
 LISTS = "8 in lists of 100"
 CENTS = 100_000_000
+RECORDS, UNTIL_CUT = 5_000_000, 60  # the seconds at most until the history is cut
 RATE, LATENCY, TIME = "Payments a second", "Median latency, ms", "Processor time a payment, microseconds"
 told: dict = {}  # by what is measured, contestant and clients
 
@@ -79,13 +85,44 @@ def served(name, python, load, seconds, *words, others=()):
         if ran.returncode:
             print(f"{name}, {column}: left out: {ran.stderr.strip() or 'no reply came'}", flush=True)
             continue
-        rate, latency, _ = ran.stdout.split()
+        rate, latency, *_ = ran.stdout.split()
         paid = max(1, float(rate) * seconds)
         note(RATE, name, column, float(rate))
         note(LATENCY, name, column, float(latency))
         for part, processes in parts.items():
             note(TIME, f"{name}: {part}", column, (used(processes) - before[part]) / paid * 1e6)
         note(TIME, f"{name}: load", column, (taken() - load_before) / paid * 1e6)
+    process.kill()
+    process.wait()
+
+
+def old_payments(records):
+    """The rows of a bank with about so many records: 1000 accounts, and payments that came over 90 days ago, so each new one has some forgotten."""
+    count, today = (records - 1004) // 9, int(time.time() // 86_400)
+    rows = [(0, -20_000_000_000 - today, count), (0, 90 - 20_000_000_000 - today, count), (0, -(10**10), count), (0, 0, today)]
+    rows += [(0, number, number) for number in range(1, count + 1)] + [(1, -number, number) for number in range(count, 0, -1)]
+    rows += [(1, account, CENTS) for account in range(1000)]
+    for table in range(2, 7):
+        rows += [(table, -number, 0) for number in range(count, 0, -1) if table < 4]
+        rows += [(table, number, 1) for number in range(1, count + 1)]
+    return b"".join(ROW.pack(*row) for row in rows)
+
+
+def cut(room, python, load):
+    """Loads a server that has many records until it has cut its history, and stored a snapshot."""
+    folder, rows = room / "many", old_payments(RECORDS)
+    folder.mkdir()
+    texts = {name: it.text for name, it in load_procedures(PAYMENTS / "procedures").items()}
+    (folder / f"{1:015}.snapshot").write_bytes(seal(json.dumps([1, texts, len(rows), zlib.crc32(rows)])) + b"\n" + rows)
+    (folder / f"{2:015}.batches").touch()
+    process = subprocess.Popen([python, PAYMENTS / "payments.py", "serve", folder], stdout=subprocess.PIPE, text=True)
+    port = re.search(r"port (\d+)", process.stdout.readline())[1]
+    for _ in range(UNTIL_CUT // 5):
+        ran = subprocess.run([load, port, "64", "5", "1000", str(random.randrange(10**6))], capture_output=True, text=True, check=True)
+        rate, median, _, longest = map(float, ran.stdout.split())
+        print(f"{RECORDS:,} records: {rate:,.0f} payments a second, median {median:.2f} ms, the longest reply {longest:.0f} ms", flush=True)
+        if len(list(folder.glob("*.batches"))) > 1 or not (folder / f"{2:015}.batches").exists():
+            break
     process.kill()
     process.wait()
 
@@ -180,6 +217,7 @@ def main():
             if postgres.is_there:
                 postgres.turn(seconds)
             print(f"round {number + 1}: load {os.getloadavg()[0]:.1f}", flush=True)
+        cut(room, sys.executable, load)
     missing = {"etcd": Etcd.missing(), "Redis": Redis.missing(), "PostgreSQL": None if postgres.is_there else "it is not on this machine"}
     for name, why in missing.items():
         if why:

@@ -16,8 +16,9 @@ from typing import Callable, NamedTuple
 PAYMENTS = pathlib.Path(__file__).resolve().parents[2] / "examples" / "payments"
 sys.path.insert(0, str(PAYMENTS))
 from bank import load_procedures  # noqa: E402
-from fronts import Options, start_fronts  # noqa: E402
-from server import Server, end_by_signals, run  # noqa: E402
+from fronts import start_fronts  # noqa: E402
+from running import end_by_signals, run  # noqa: E402
+from server import Server  # noqa: E402
 from sgt import Kind, unpack_calls  # noqa: E402
 
 # An outcome as the library has it, for the fronts: whether it wrote, and of its reply the kind, the code and the answers.
@@ -97,7 +98,7 @@ class Bank:
         outcomes = [OUTCOME(not it.code, Kind.REFUSED if it.code else Kind.COMMITTED, it.code, len(it.answers), *it.answers or (0, 0)) for it in told]
         return b"".join(outcomes), [entry for entry, it in zip(entries, told) if not it.code]
 
-    def cut_if_long(self) -> bool:
+    def is_long(self) -> bool:
         return False
 
 
@@ -105,7 +106,7 @@ class Chain:
     """In place of the journal: the batch is one transaction."""
 
     def __init__(self, bank: Bank) -> None:
-        self.bank, self.leads, self.ends, self.number, self.saving, self.journal = bank, True, False, 0, None, self
+        self.bank, self.leads, self.ends, self.number, self.journal = bank, True, False, 0, self
 
     def check(self) -> None:
         pass
@@ -133,7 +134,7 @@ def main() -> None:
     command, path = sys.argv[1:3]
     if command == "serve":
         procedures = {"pay": load_procedures(PAYMENTS / "procedures")["pay"]}
-        port, fronts = start_fronts(Options(), procedures)
+        port, fronts = start_fronts(procedures)
         chain = Chain(Bank(made(path)))
         end_by_signals(chain)
         run(Server(chain, fronts, procedures), port, pathlib.Path(path + ".admin"), time.perf_counter())

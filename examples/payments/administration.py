@@ -13,10 +13,7 @@ def listen_at(path: pathlib.Path) -> socket.socket:
         path.unlink()
     listener = socket.socket(socket.AF_UNIX)
     os.fchmod(listener.fileno(), 0o600)  # of the file, once there is one
-    try:
-        listener.bind(str(path))
-    except OSError as why:
-        raise OSError(f"{path}: {why}") from None
+    listener.bind(str(path))
     listener.listen()
     return listener
 

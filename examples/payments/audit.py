@@ -45,7 +45,7 @@ def verify(words: argparse.Namespace, journal: Journal) -> None:
     """Replays the journal in a second engine, and compares every row with each snapshot, and with those of its server, if one runs."""
     last, wanted, first, store = sys.maxsize, "", 0, Store(words.folder)
     with contextlib.suppress(FileNotFoundError, ConnectionRefusedError):
-        last, wanted = ask(words.admin or words.folder / "admin", "rows").values()
+        last, wanted, _ = ask(words.admin or words.folder / "admin", "rows").values()
     snapshots = set(store.numbers())
     for bank, number, calls in batches(store, journal):
         first = first or bank.seq + 1

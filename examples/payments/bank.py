@@ -1,6 +1,7 @@
 """The bank: an engine with the procedures of a folder, and the number of its last journaled call."""
 
 import json
+import os
 import pathlib
 import struct
 import sys
@@ -17,15 +18,12 @@ COMMITTED = int(Kind.COMMITTED)  # a member of an enum is compared slowly
 # Of an outcome, laid out as `sgt_outcome` of sgt.h, what a client is told of: its reply's kind, the code, and how many answers; then these.
 read_outcomes = struct.Struct("=8xI8xI24xI12x8q256x").iter_unpack
 NO_PROCEDURE = 65_535  # the number of none
+CALL = len(pack_calls([(0,)]))  # bytes of a packed call
 Call = Sequence[Any]  # the name of a procedure, and its arguments; as JSON it is an entry of the journal
 
 
 class Unusable(Exception):
     """A journal or a snapshot that can't be trusted, or a file that is no procedure."""
-
-
-class NoSnapshot(OSError):
-    """A snapshot that could not be stored. The journal goes on without it."""
 
 
 class Procedure:
@@ -83,15 +81,28 @@ class Bank:
 
     def __init__(self, seq: int, texts: dict[str, list[Any]], rows: bytes) -> None:
         """`texts` are the procedures by name, and `rows` the database as `rows()` returns it."""
-        self.seq, self.texts = seq, texts
-        self._engine, self.records = Engine.bare(1, 4_000_000_000), len(rows) // ROW.size  # as the last snapshot has them
+        self.seq, self.texts, self.noted = seq, texts, -1
+        self._engine, self.records = Engine.bare(1, 4_000_000_000), len(rows) // ROW.size  # as the last cut has left them
         self._engine.put_bytes(rows)
         self.numbers = {name: self._engine.procedure(text) for name, text in sorted(texts.items())}
 
     def run(self, calls: bytes, entries: Sequence[str]) -> tuple[bytes, list[str]]:
-        """Runs packed calls one after another, each as a transaction of its own. Their packed outcomes, and the entries of those that wrote."""
+        """Runs packed calls one after another, each as a transaction of its own. Their packed outcomes, and the entries of those that wrote.
+
+        If `noted` is a file, the calls are added to it, for another process with this bank.
+        """
+        if self.noted >= 0:
+            os.write(self.noted, calls)
         outcomes = self._engine.run_bytes(calls)
         return outcomes, [*compress(entries, wrote(outcomes))]
+
+    def rerun(self, noted: int, at: int, left: int) -> int:
+        """Runs the calls that another process notes in a file, from this byte on until at most so many are left. Where the next one begins."""
+        while len(calls := os.pread(noted, AT_ONCE * CALL, at)) > left:
+            calls = calls[: len(calls) // CALL * CALL]  # the last one may not be whole yet
+            self.seq += sum(wrote(self._engine.run_bytes(calls)))
+            at += len(calls)
+        return at
 
     def replay(self, calls: Sequence[Call]) -> None:
         """Runs the next calls of the journal. They committed when they were journaled, so they commit again, or it is not this bank's."""
@@ -111,17 +122,11 @@ class Bank:
         """The day, counted from 1970, or None before the first, or if these procedures have no days."""
         return self._engine.get(0, 0) if "day" in self.numbers else None
 
-    def sizes(self) -> dict[str, int]:
-        """How many records the database has, and how many entries the history."""
-        return {"records": self._engine.records(), "entries": len(self._engine)}
+    def is_long(self) -> bool:
+        """Whether it is time to free the history: it costs memory, and a cut costs a pass over the records."""
+        return len(self._engine) >= max(ENTRIES, self.records)
 
-    def cut_if_long(self) -> bool:
-        """Frees the history when it is time: it costs memory, and a cut costs a pass over the records. The database stays."""
-        if is_long := len(self._engine) >= max(ENTRIES, self.records):
-            self._engine.cut()
-        return is_long
-
-
-def first_rows(accounts: int, cents: int) -> bytes:
-    """The database of a new journal: accounts from 0 on, each with so many cents. Account 0 gets the fees."""
-    return b"".join(ROW.pack(1, account, cents) for account in range(accounts))
+    def cut(self) -> None:
+        """Frees the history. The database stays."""
+        self._engine.cut()
+        self.records = self._engine.records()

@@ -1,20 +1,18 @@
 """The bank that the batches of a journal make: replay, appends and promotion, whatever the journal is."""
 
 import json
-import logging
 import time
-from typing import Any, Callable, Optional, Sequence, TypeVar, Union
+from typing import Any, Callable, Sequence, Union
 
-from bank import Bank, Call, Unusable, first_rows
+from bank import ROW, Bank, Call, Unusable
 from journal import Away, Journal, seal, unseal
-from snapshots import Saving, Store
+from snapshots import Store
 
 PATIENCE = 60.0  # seconds that a primary waits for a journal that is away
 PAUSE = 0.05  # seconds between two times that a follower reads
 CALLS = 10_000  # of a batch, at most: no journal takes batches of any size
 Opening = dict[str, Any]  # what a batch has in place of calls: procedures, from there on; accounts and cents, if it is the first batch
 Batch = Union[list[Call], Opening]
-Result = TypeVar("Result")
 
 
 def seal_batch(number: int, seq: int, calls: Union[Sequence[str], Opening]) -> bytes:
@@ -36,8 +34,8 @@ def unseal_batch(data: bytes, number: int, seq: int) -> Batch:
 def applied(bank: Bank, calls: Batch) -> Bank:
     """The bank after a batch."""
     if isinstance(calls, dict):
-        rows = bank.rows() if bank.texts else first_rows(calls["accounts"], calls["cents"])
-        return Bank(bank.seq, calls["procedures"], rows)
+        first = (ROW.pack(1, account, calls["cents"]) for account in range(calls["accounts"]))
+        return Bank(bank.seq, calls["procedures"], bank.rows() if bank.texts else b"".join(first))
     bank.replay(calls)
     return bank
 
@@ -45,24 +43,24 @@ def applied(bank: Bank, calls: Batch) -> Bank:
 class Chain:
     """The bank after batch `number`. It follows until it leads."""
 
-    def __init__(self, store: Store, journal: Journal, opening: Opening, server: str) -> None:
-        self.store, self.journal, self.opening, self.server = store, journal, opening, server
+    def __init__(self, store: Store, journal: Journal, opening: Opening, server: str, renews: bool = False) -> None:
+        """With `renews` the procedures of the opening may be others than those of the journal, if this server leads."""
+        self.store, self.journal, self.opening, self.server, self.renews = store, journal, opening, server, renews
         self.leads, self.ends, self.trouble = False, False, ""  # the trouble is of a follower with the journal
-        self.saving: Optional[Saving] = None
         self.number = max(store.numbers(), default=0)
         self.bank = store.load(self.number)
         self.fresh = self._next = time.monotonic()  # when the bank was as the journal; when to read on
 
     def start(self) -> None:
         """Recovers. Returns once the bank is as the journal was, and has this server's procedures."""
-        self.insist(lambda: self.journal.stored(self.server, self.number))
+        self.stored(self.number)
         self.insist(self._lead_or_read)
         while not self.bank.texts and not self.ends:  # the primary has not begun yet
             time.sleep(PAUSE)
             self.insist(self._lead_or_read)
         self._compare()
 
-    def insist(self, ask: Callable[[], Result]) -> Result:
+    def insist(self, ask: Callable[[], Any]) -> Any:
         """Asks until the journal answers. Meanwhile clients wait."""
         end = time.monotonic() + PATIENCE
         while True:
@@ -94,14 +92,12 @@ class Chain:
         """A follower reads on now and then, and becomes the primary if there is none. It answers while the journal is away, too."""
         if time.monotonic() < self._next:
             return
-        was_away, self.trouble = self.trouble, ""
+        self.trouble = ""
         try:
             self._lead_or_read()
             self._compare()
         except Away as why:
             self.trouble = f"the journal is away: {why}"
-            if not was_away:
-                logging.warning(self.trouble)
         self._next = time.monotonic() + PAUSE
 
     def _lead_or_read(self) -> None:
@@ -112,14 +108,18 @@ class Chain:
         if not self.journal.lead():
             return self.catch_up()
         self.insist(self.catch_up)
-        self.append([] if self.bank.texts == self.opening["procedures"] else self.opening)
-        if self.bank.texts != self.opening["procedures"]:
-            self.bank = applied(self.bank, self.opening)
+        if self.bank.texts and not self.renews:
+            self._compare()
+        is_new = self.bank.texts != self.opening["procedures"]
+        self.append(self.opening if is_new else [])
+        self.bank = applied(self.bank, self.opening) if is_new else self.bank
         self.leads = True
 
     def _compare(self) -> None:
-        if self.bank.texts != self.opening["procedures"]:
-            raise Unusable("the primary has other procedures")
+        """`Unusable` if the journal goes on with other procedures. These may take its records for something else."""
+        own, last = self.opening["procedures"], self.bank.texts
+        if others := [name for name in sorted({**own, **last}) if own.get(name) != last.get(name)]:
+            raise Unusable(f"these procedures are not those of the journal: {', '.join(others)}. With --new-procedures a server goes on with its own")
 
     def append(self, calls: Union[list[str], Opening]) -> None:
         """Returns once the calls of these entries are safe. They have run already, but for an opening."""
@@ -131,13 +131,6 @@ class Chain:
             seq += len(part) if isinstance(part, list) else 0
             self.number += 1
 
-    def cut(self) -> None:
-        """Begins to store a snapshot of the bank, unless the one before is being stored still."""
-        self.saving = self.saving or self.store.begin(self.number, self.bank)
-
-    def end_cut(self, saving: Saving) -> None:
-        """Once a snapshot is stored older batches can be deleted. `NoSnapshot` if it could not be: then nothing has changed."""
-        self.saving = None
-        self.store.end(saving, self.bank)
-        self.insist(lambda: self.journal.stored(self.server, saving.number))
-        self.store.delete_before(saving.number)
+    def stored(self, number: int) -> None:
+        """Has the journal delete what is not needed any more, as there is a snapshot after this batch."""
+        self.insist(lambda: self.journal.stored(self.server, number, self.number + 1))

@@ -9,6 +9,7 @@ import http.client
 import json
 import os
 from base64 import b64decode, b64encode
+from functools import partial
 from typing import Any
 from urllib.parse import SplitResult
 
@@ -71,16 +72,14 @@ class EtcdJournal:
 
     def lead(self) -> bool:
         leader = self._leader()
-        if not leader and self._term < 0:
+        if not leader:
             lease = self._etcd.ask("lease/grant", TTL=LEASE)["ID"]
             put = {"request_put": {"key": self._key("leader"), "value": self._nonce, "lease": lease}}
             self._etcd.ask("kv/txn", compare=[self._created(self._key("leader"), 0)], success=[put])
             leader = self._leader()
-        if self._term < 0 and leader.get("value") == self._nonce:
-            self._term, lease, beat = int(leader["create_revision"]), leader["lease"], Gateway(self.nodes)
-            keep_alive(lambda: beat.ask("lease/keepalive", ID=lease))
-        if self._term >= 0:
-            self.check()
+        if leader.get("value") == self._nonce:
+            self._term = int(leader["create_revision"])
+            keep_alive(lambda: partial(Gateway(self.nodes).ask, "lease/keepalive", ID=leader["lease"]))
         return self._term >= 0
 
     def append(self, number: int, data: bytes) -> None:
@@ -100,7 +99,7 @@ class EtcdJournal:
         found = self._etcd.ask("kv/range", key=self._batch(number), range_end=self._key("batch0"), limit=AT_ONCE)
         return from_number(number, [b64decode(it["value"]) for it in found.get("kvs", ())])
 
-    def stored(self, server: str, number: int) -> None:
+    def stored(self, server: str, number: int, after: int) -> None:
         self._etcd.ask("kv/put", key=self._key("stored", server), value=coded(b"%d" % number))
         found = self._etcd.ask("kv/range", key=self._key("stored", ""), range_end=self._key("stored0"))
         keep = needed(int(b64decode(it["value"])) for it in found["kvs"])

@@ -4,9 +4,10 @@ import os
 import pathlib
 import time
 from bisect import bisect_right
+from typing import BinaryIO, Optional
 
 from bank import Unusable
-from journal import Missing, is_whole, seal, store, sync_names, write_all
+from journal import Missing, is_whole, seal, store, sync_names
 
 SHORTEST = len(seal('[1, 1, [["a"]]]')) + 2  # bytes of a batch that has a call
 
@@ -16,25 +17,23 @@ class FileJournal:
 
     def __init__(self, folder: pathlib.Path, keep: bool = False) -> None:
         self.folder, self.keep, self._newest = folder, keep, folder / "newest"
-        self.report, self._file, self._next = "", -1, 1  # the number of the next batch
+        self.report = ""
+        self._file: Optional[BinaryIO] = None  # the last one, if this server leads
 
     def paths(self) -> list[pathlib.Path]:
         return sorted(self.folder.glob("*.batches"))
 
     def lead(self) -> bool:
         """Opens the last file, and cuts off its torn tail."""
-        if self._file < 0:
-            if self._newest.is_symlink() and not self._newest.exists():
-                gone = self.folder / os.readlink(self._newest)
-                raise Unusable(f"{gone}: this file is gone, and with it what was acknowledged in it")
-            if not self.paths():
-                self._begin(1)
-            path = self.paths()[-1]
-            lines, tail = whole_lines(path)
-            self._next = int(path.stem) + len(lines)
-            self.report = self._told_of(self._next - 1, tail)
-            self._open(path)
-            os.ftruncate(self._file, path.stat().st_size - len(tail))
+        if self._newest.is_symlink() and not self._newest.exists():
+            gone = self.folder / os.readlink(self._newest)
+            raise Unusable(f"{gone}: this file is gone, and with it what was acknowledged in it")
+        if not self.paths():
+            self._begin(1)
+        path = self.paths()[-1]
+        lines, tail = whole_lines(path)
+        self.report = self._told_of(int(path.stem) + len(lines) - 1, tail)
+        self._open(path).truncate(path.stat().st_size - len(tail))
         return True
 
     def _told_of(self, number: int, tail: bytes) -> str:
@@ -43,14 +42,15 @@ class FileJournal:
         if tail.decode("latin-1").isprintable():
             return begin + "the beginning of a batch that was not safe, and that nobody was told of" if tail else ""
         path, most = self.folder / f"{number:015}-{time.time_ns()}.tail", (len(tail) + 1) // SHORTEST
-        store(path, [tail])
+        store(path, tail)
         return begin + f"if power was lost, a batch that nobody was told of; else damage to at most {most} that were safe. Kept in {path}"
 
     def append(self, number: int, data: bytes) -> None:
         """An OSError must end the program: nobody knows what a failed fsync has kept. The newline before a line parts it from damage."""
-        write_all(self._file, b"\n%b\n" % data)
-        os.fsync(self._file)
-        self._next = number + 1
+        if self._file:
+            self._file.write(b"\n%b\n" % data)
+            self._file.flush()
+            os.fsync(self._file)
 
     def check(self) -> None:
         """Nobody else can lead."""
@@ -69,13 +69,13 @@ class FileJournal:
             raise Unusable(f"{paths[at]}: the end of this file is damaged, or gone")
         return lines[number - firsts[at] :]
 
-    def stored(self, server: str, number: int) -> None:
+    def stored(self, server: str, number: int, after: int) -> None:
         """Goes on in a new file, and deletes the files of which no batch is needed."""
-        if self._file < 0 or number < int(self.paths()[-1].stem):
+        if not self._file or number < int(self.paths()[-1].stem):
             return
-        self._begin(self._next)
-        for path, after in zip(self.paths(), self.paths()[1:]):
-            if int(after.stem) <= number + 1 and not self.keep:
+        self._begin(after)
+        for path, later in zip(self.paths(), self.paths()[1:]):
+            if int(later.stem) <= number + 1 and not self.keep:
                 path.unlink()
 
     def _begin(self, number: int) -> None:
@@ -83,16 +83,15 @@ class FileJournal:
         path.touch(0o600)
         self._open(path)
 
-    def _open(self, path: pathlib.Path) -> None:
+    def _open(self, path: pathlib.Path) -> BinaryIO:
         """Makes the file's name safe, and then the link to it. A start compares them: of a file that is gone nothing else would tell."""
-        if self._file >= 0:
-            os.close(self._file)
-        self._file = os.open(path, os.O_WRONLY | os.O_APPEND)
+        self._file = open(path, "ab")
         sync_names(self.folder)
         new = self._newest.with_suffix(".new")
         new.symlink_to(path.name)
         new.rename(self._newest)
         sync_names(self.folder)
+        return self._file
 
 
 def whole_lines(path: pathlib.Path) -> tuple[list[bytes], bytes]:

@@ -5,23 +5,13 @@ import pathlib
 import socket
 import ssl
 from multiprocessing.connection import Connection, Pipe
-from typing import NamedTuple, Optional
+from typing import Optional
 
 from bank import Procedure, Unusable
 from front import Front
 from lines import Reader, Rights
 
 FRONTS = 3  # processes: each waits while the server runs what it has asked, so they are more than are busy at a time
-
-
-class Options(NamedTuple):
-    """How the fronts serve: where; after how many idle seconds a client is dropped; the rights of tokens, if clients need some; and TLS."""
-
-    host: str = "127.0.0.1"
-    port: int = 0
-    idle: float = 60
-    tokens: Optional[dict[str, Rights]] = None
-    tls: Optional[ssl.SSLContext] = None
 
 
 def load_tls(folder: pathlib.Path) -> ssl.SSLContext:
@@ -47,12 +37,15 @@ def listen(host: str, port: int) -> list[socket.socket]:
     return listeners
 
 
-def start_fronts(options: Options, procedures: dict[str, Procedure]) -> tuple[int, list[Connection]]:
+def start_fronts(
+    procedures: dict[str, Procedure], host: str = "127.0.0.1", port: int = 0, idle: float = 60,
+    tokens: Optional[dict[str, Rights]] = None, tls: Optional[ssl.SSLContext] = None
+) -> tuple[int, list[Connection]]:
     """Starts the front processes, before anything is opened that they must not share. Their port, and a connection to each.
 
-    The last one is for administrators alone: the server sends it a socket to listen at.
+    After `idle` seconds a client is dropped. The last front is for administrators alone: the server sends it a socket to listen at.
     """
-    listeners, fronts = listen(options.host, options.port), []
+    listeners, fronts = listen(host, port), []
     for number in range(FRONTS + 1):
         front, server = Pipe()
         fronts.append(front)
@@ -60,9 +53,6 @@ def start_fronts(options: Options, procedures: dict[str, Procedure]) -> tuple[in
             for it in fronts:
                 it.close()  # else a front would not see the end of the server
             own = listeners[number:] + listeners[:number] if number < FRONTS else []
-            Front(own, server, Reader(procedures, options.tokens, not own), options.idle, options.tls if own else None).run()
+            Front(own, server, Reader(procedures, tokens, not own), idle, tls if own else None).run()
         server.close()
-    port = listeners[0].getsockname()[1]
-    for it in listeners:
-        it.close()
-    return port, fronts
+    return listeners[0].getsockname()[1], fronts

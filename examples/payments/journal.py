@@ -9,12 +9,13 @@ import time
 import zlib
 from typing import Any, Callable, Iterable, Protocol, Sequence
 
-from bank import NoSnapshot, Unusable
+from bank import Unusable
 
 AT_ONCE = 200  # batches that are read
 BEHIND = 50_000  # batches that stay for a server that is away
 LEASE = 3  # seconds without a word of the primary, after which another server leads
 TRY = 1.5  # seconds until a request is given up
+BEAT = threading.Lock()  # has who renews a lease, or forks
 
 
 class Away(Exception):
@@ -35,7 +36,7 @@ class Journal(Protocol):
     report: str  # what an operator should know after `lead`
 
     def lead(self) -> bool:
-        """Becomes the primary, or stays it. False if another server is."""
+        """Becomes the primary, after which it is not asked again. False if another server is."""
 
     def append(self, number: int, data: bytes) -> None:
         """Returns once the next batch is safe. `Fenced` if this server does not lead any more: then it is not, and never will be, there."""
@@ -46,8 +47,8 @@ class Journal(Protocol):
     def read(self, number: int) -> Sequence[bytes]:
         """Some batches from this one on that are safe; none if there is none yet. `Missing` if it was deleted."""
 
-    def stored(self, server: str, number: int) -> None:
-        """Notes that a server has a snapshot after this batch, and deletes the batches before which none is `needed`."""
+    def stored(self, server: str, number: int, after: int) -> None:
+        """Notes that a server has a snapshot after this batch, and deletes the batches before which none is `needed`. The next is batch `after`."""
 
 
 def needed(stored: Iterable[int]) -> int:
@@ -56,16 +57,21 @@ def needed(stored: Iterable[int]) -> int:
     return max(numbers[-1], numbers[len(numbers) // 2] - BEHIND)
 
 
-def keep_alive(renew: Callable[[], object]) -> None:
-    """Renews a lease from a thread while this process lives and is not stopped. If that fails, the next append is fenced."""
+def keep_alive(begin: Callable[[], Callable[[], object]]) -> None:
+    """Renews a lease from a thread, by what `begin` returns there, while this process lives and is not stopped: a copy of it by a fork, too.
+
+    If that fails, the next append is fenced.
+    """
 
     def live() -> None:
+        renew = begin()
         while True:
-            with contextlib.suppress(Away, Unusable):
+            with BEAT, contextlib.suppress(Away, Unusable):
                 renew()
             time.sleep(LEASE / 6)
 
     threading.Thread(target=live, daemon=True).start()
+    os.register_at_fork(after_in_child=lambda: keep_alive(begin))
 
 
 def seal(text: str) -> bytes:
@@ -93,26 +99,15 @@ def from_number(number: int, batches: list[bytes]) -> list[bytes]:
     return batches
 
 
-def write_all(file: int, data: bytes) -> None:
-    """Writes all. One call may take a part of it only: when it is over 2 GB, or the disk is nearly full."""
-    rest = memoryview(data)
-    while rest:
-        rest = rest[os.write(file, rest) :]
-
-
-def store(path: pathlib.Path, chunks: Iterable[bytes]) -> None:
-    """Writes a new file, which is on disk when this returns. `NoSnapshot` if that fails: then there is no file."""
+def store(path: pathlib.Path, *parts: bytes) -> None:
+    """Writes a new file, which is on disk when this returns. Until then it has the suffix .new."""
     new = path.with_suffix(".new")
-    try:
-        with open(new, "wb", opener=lambda name, flags: os.open(name, flags, 0o600)) as file:
-            for chunk in chunks:
-                write_all(file.fileno(), chunk)
-            os.fsync(file)
-        new.rename(path)
-        sync_names(path.parent)
-    except (OSError, MemoryError) as why:
-        new.unlink(missing_ok=True)
-        raise NoSnapshot(f"{new}: {why}") from None
+    with open(new, "wb", opener=lambda name, flags: os.open(name, flags, 0o600)) as file:
+        file.writelines(parts)
+        file.flush()
+        os.fsync(file)
+    new.rename(path)
+    sync_names(path.parent)
 
 
 def sync_names(folder: pathlib.Path) -> None:

@@ -14,10 +14,11 @@ from audit import show, verify
 from bank import Unusable, load_procedures
 from chain import Chain
 from file_journal import FileJournal
-from fronts import Options, load_tls, start_fronts
+from fronts import load_tls, start_fronts
 from journal import Journal
 from lines import load_tokens
-from server import Server, end_by_signals, run
+from running import end_by_signals, run
+from server import Server
 from snapshots import Store
 
 
@@ -40,10 +41,10 @@ def serve(words: argparse.Namespace, journal: Journal) -> None:
     tokens, tls = words.tokens and load_tokens(words.tokens), words.tls and load_tls(words.tls)
     if not (tls or words.plain or ip_address(socket.gethostbyname(words.host)).is_loopback):
         raise Unusable(f"{words.host}: other machines reach it, so it takes --tls, or --plain in a network of its own")
-    port, fronts = start_fronts(Options(words.host, words.port, words.idle, tokens, tls), procedures)
+    port, fronts = start_fronts(procedures, words.host, words.port, words.idle, tokens, tls)
     store.claim()
     opening = {"procedures": {name: it.text for name, it in procedures.items()}, "accounts": words.accounts, "cents": words.cents}
-    chain = Chain(store, journal, opening, f"{socket.gethostname()}:{words.folder.resolve()}")
+    chain = Chain(store, journal, opening, f"{socket.gethostname()}:{words.folder.resolve()}", words.new_procedures)
     end_by_signals(chain)
     chain.start()
     if journal.report:
@@ -65,6 +66,7 @@ def main() -> None:
     parser.add_argument("--tls", type=pathlib.Path, help="a folder with server.pem and clients.pem: clients need a certificate")
     parser.add_argument("--plain", action="store_true", help="serve other machines without TLS")
     parser.add_argument("--procedures", type=pathlib.Path, default=pathlib.Path(__file__).resolve().parent / "procedures")
+    parser.add_argument("--new-procedures", action="store_true", help="go on with other procedures than those of the journal")
     parser.add_argument("--accounts", type=int, default=1000, help="of a new journal")
     parser.add_argument("--cents", type=int, default=100_000, help="that each of them has")
     words = parser.parse_args()

@@ -5,6 +5,7 @@ not promised: a standby that is promoted knows nothing of the old server. Whoeve
 """
 
 import os
+from functools import partial
 from typing import Any, Optional
 from urllib.parse import SplitResult
 
@@ -33,7 +34,7 @@ class PostgresJournal:
     """postgresql://..: the tables `batch`, `leader` and `stored`. The row of who leads is locked while a batch is inserted: that fences."""
 
     def __init__(self, address: SplitResult) -> None:
-        self.address, self.report, self._nonce, self._leads = address, "", os.urandom(8).hex(), False
+        self.address, self.report, self._nonce = address, "", os.urandom(8).hex()
         self._link: Optional[Any] = None
 
     def _ask(self, text: str, **values: Any) -> list[tuple[Any, ...]]:
@@ -53,11 +54,10 @@ class PostgresJournal:
             raise Unusable(f"PostgreSQL: {why}") from None
 
     def lead(self) -> bool:
-        did, self._leads = self._leads, bool(self._ask(RENEW if self._leads else LEAD, nonce=self._nonce))
-        if self._leads and not did:
-            beat = PostgresJournal(self.address)
-            keep_alive(lambda: beat._ask(RENEW, nonce=self._nonce))
-        return self._leads
+        leads = bool(self._ask(LEAD, nonce=self._nonce))
+        if leads:
+            keep_alive(lambda: partial(PostgresJournal(self.address)._ask, RENEW, nonce=self._nonce))
+        return leads
 
     def append(self, number: int, data: bytes) -> None:
         if not self._ask(APPEND, nonce=self._nonce, at=number, data=psycopg2.Binary(data)):
@@ -71,6 +71,6 @@ class PostgresJournal:
         rows = self._ask(f"select data from batch where number >= %(at)s order by number limit {AT_ONCE}", at=number)
         return from_number(number, [bytes(data) for data, in rows])
 
-    def stored(self, server: str, number: int) -> None:
+    def stored(self, server: str, number: int, after: int) -> None:
         self._ask("insert into stored values (%(server)s, %(at)s) on conflict (server) do update set number = %(at)s", server=server, at=number)
         self._ask("delete from batch where number < %(keep)s", keep=needed(it for it, in self._ask("select number from stored")))

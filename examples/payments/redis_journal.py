@@ -25,7 +25,7 @@ class RedisJournal:
     """redis://HOST:PORT/NAME: the stream NAME, and NAME:leader, by a lease, and NAME:stored, the batches after which servers have snapshots."""
 
     def __init__(self, address: SplitResult) -> None:
-        self.name, self.report, self._nonce, self._leads = address.path.strip("/"), "", os.urandom(8).hex(), False
+        self.name, self.report, self._nonce = address.path.strip("/"), "", os.urandom(8).hex()
         self._replicas = int(parse_qs(address.query).get("replicas", ["0"])[0])
         self._redis = redis.Redis(address.hostname or "127.0.0.1", address.port or 6379, socket_timeout=TRY, socket_connect_timeout=TRY)
 
@@ -45,10 +45,9 @@ class RedisJournal:
         if has != {b"appendonly": b"yes", b"appendfsync": b"always"} and has != {"appendonly": "yes", "appendfsync": "always"}:
             raise Unusable("Redis: it must run with appendonly yes and appendfsync always")
         self._ask("SET", self.name + ":leader", self._nonce, "NX", "PX", LEASE * 1000)
-        did, self._leads = self._leads, self._renew()
-        if self._leads and not did:
-            keep_alive(self._renew)
-        return self._leads
+        if leads := self._renew():
+            keep_alive(lambda: self._renew)
+        return leads
 
     def append(self, number: int, data: bytes) -> None:
         if not self._ask("EVAL", APPEND, 2, self.name + ":leader", self.name, self._nonce, f"{number}-0", data):
@@ -64,6 +63,6 @@ class RedisJournal:
         entries = self._ask("XRANGE", self.name, f"{number}-0", "+", "COUNT", AT_ONCE)
         return from_number(number, [fields[b"batch"] for _, fields in entries])
 
-    def stored(self, server: str, number: int) -> None:
+    def stored(self, server: str, number: int, after: int) -> None:
         self._ask("HSET", self.name + ":stored", server, number)
         self._ask("XTRIM", self.name, "MINID", f"{needed(map(int, self._ask('HVALS', self.name + ':stored')))}-0")

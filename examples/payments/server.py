@@ -2,21 +2,15 @@
 
 import hashlib
 import json
-import logging
 import marshal
-import pathlib
 import select
-import signal
 import time
 from multiprocessing.connection import Connection
-from multiprocessing.reduction import send_handle
 from typing import Any, Optional, Sequence
 
-from administration import listen_at
-from bank import NO_PROCEDURE, NoSnapshot, Procedure
+from bank import NO_PROCEDURE, ROW, Procedure
 from chain import PAUSE, Chain
 from sgt import pack_calls, unpack_calls
-from snapshots import Saving
 
 QUICK = 0.0005  # seconds of an append. If one takes longer, a turn waits for the fronts that asked in the last one, half as long at most
 IDLE = 0.1  # seconds without a request, after which the journal notes what is safe
@@ -31,8 +25,8 @@ class Server:
         self.is_marked, self.day, self.trouble = True, -1, ""  # the trouble is of the last snapshot
         self.forgot: Optional[int] = -1  # the day of the bank on which no old id was left
         self.began, self.calls, self.batches, self.appending = time.monotonic(), 0, 0, 0.0
-        self.asked = 0  # how many fronts asked in the last turn
-        self.words = {"rows": self.rows, "health": self.health, "figures": self.figures, "day": self.set_day}
+        # How many fronts asked in the last turn; and what administrators may.
+        self.asked, self.words = 0, {"rows": self.rows, "health": self.health, "figures": self.figures, "day": self.set_day}
         self.writers = {chain.bank.numbers[name] for name, it in procedures.items() if it.writes}
         for front in fronts:
             front.send_bytes(marshal.dumps(chain.bank.numbers))
@@ -45,8 +39,6 @@ class Server:
             time.sleep(0.0002)
             ready = select.select(self.fronts, (), (), 0)[0]
         self.asked = len(ready)
-        if (saving := self.chain.saving) and select.select([saving.said], (), (), 0)[0]:
-            self.end_cut(saving)
         if not self.chain.leads:
             self.chain.follow()
         self.begin_day()
@@ -60,17 +52,6 @@ class Server:
                 front.send_bytes(marshal.dumps((outcomes, words, age)))
         except (EOFError, ConnectionError):
             raise OSError("a front process has ended") from None
-        if self.chain.bank.cut_if_long():
-            self.chain.cut()
-
-    def end_cut(self, saving: Saving) -> None:
-        """A snapshot that could not be stored ends nothing: the next cut tries again."""
-        self.trouble = ""
-        try:
-            self.chain.end_cut(saving)
-        except NoSnapshot as why:
-            self.trouble = f"no snapshot: {why}"
-            logging.warning(self.trouble)
 
     def before_replies(self) -> None:
         """Makes the batch safe. Nothing is told before: a refusal or a balance may rest on a call of the same batch.
@@ -103,8 +84,9 @@ class Server:
         return outcomes, [*map(json.dumps, told)]
 
     def rows(self, _: int) -> dict[str, Any]:
-        """A digest of all rows. Nobody is served while it is made: a second for some ten million rows."""
-        return {"seq": self.chain.bank.seq, "sha256": hashlib.sha256(self.chain.bank.rows()).hexdigest()}
+        """A digest of all rows, and how many there are. Nobody is served while it is made: some seconds for ten million rows."""
+        rows = self.chain.bank.rows()
+        return {"seq": self.chain.bank.seq, "sha256": hashlib.sha256(rows).hexdigest(), "records": len(rows) // ROW.size}
 
     def health(self, _: int) -> dict[str, Any]:
         """What an operator should look after, or ok. That there is a reply says that batches become safe, as each reply waits for that."""
@@ -112,29 +94,25 @@ class Server:
         return {"health": told, "leads": self.chain.leads, "seq": self.chain.bank.seq, "batch": self.chain.number}
 
     def figures(self, _: int) -> dict[str, Any]:
-        """Since the start: seconds, calls, batches, and seconds in which batches were made safe. And how large the bank is now."""
+        """Since the start: seconds, calls, batches, and seconds in which batches were made safe. And the records at the last cut."""
         seconds = {"seconds": round(time.monotonic() - self.began, 3), "append_seconds": round(self.appending, 3)}
-        return {"seq": self.chain.bank.seq, "calls": self.calls, "batches": self.batches, **seconds, **self.chain.bank.sizes()}
+        return {"seq": self.chain.bank.seq, "calls": self.calls, "batches": self.batches, **seconds, "records": self.chain.bank.records}
 
     def begin_day(self) -> None:
         """Tells the bank the day, as a call: a procedure has no clock, so the day stands in the journal.
 
-        The procedure takes the day after its own day alone. When the clock jumps, the bank keeps its day until an operator says another.
+        The procedure takes the day after its own day alone. When the clock jumps, the bank keeps its day until an operator says another,
+        and `health` says so.
         """
         if self.day != today() and self.chain.leads:
             self.day = today()
             self.call("day", self.day)
-            if trouble := self.trouble_of_clock():
-                logging.warning(trouble)
 
     def forget(self) -> None:
         """Has the bank forget old ids, at most twice as many as calls of the batch. So they do not pile up, and nobody waits for long."""
         if (calls := len(self.batch)) and self.forgot != (day := self.chain.bank.day()):
-            self.call("forget")
-            if len(self.batch) > calls:
-                self.call("forget", times=2 * calls - 1)
-            else:
-                self.forgot = day
+            self.call("forget", times=2 * calls)
+            self.forgot = day if len(self.batch) == calls else self.forgot
 
     def trouble_of_clock(self) -> str:
         """Whether the bank has another day than the clock. A follower may get the next day a moment late."""
@@ -151,20 +129,3 @@ class Server:
 def today() -> int:
     """The day by the clock, in UTC, counted from 1970."""
     return int(time.time() // 86_400)
-
-
-def run(server: Server, port: int, admin: pathlib.Path, begin: float) -> None:
-    """Runs a server until SIGTERM or SIGINT."""
-    with listen_at(admin) as listener:
-        send_handle(server.fronts[-1], listener.fileno(), None)
-    print(f"serving on port {port} after call {server.chain.bank.seq}, started in {time.perf_counter() - begin:.2f} s", flush=True)
-    while not server.chain.ends:
-        server.turn()
-    server.before_replies()
-    admin.unlink(missing_ok=True)
-
-
-def end_by_signals(chain: Chain) -> None:
-    """From now on SIGTERM and SIGINT end a server well."""
-    for number in (signal.SIGTERM, signal.SIGINT):
-        signal.signal(number, lambda *_: setattr(chain, "ends", True))

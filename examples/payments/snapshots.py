@@ -1,36 +1,20 @@
-"""The snapshots of the bank, which each server stores for itself, by a process of their own."""
+"""The snapshots of the bank, which each server stores for itself."""
 
 import fcntl
 import json
 import os
 import pathlib
 import zlib
-from typing import Iterator, NamedTuple
 
-from bank import ROW, Bank, NoSnapshot, Unusable
+from bank import Bank, Unusable
 from journal import seal, store, sync_names, unseal
-
-CHUNK = 1 << 26  # bytes of a snapshot that are stored at a time
-
-
-class Saving(NamedTuple):
-    """A process that stores the snapshot after a batch, and the file in which it says why it could not: that ends when it ends."""
-
-    number: int
-    process: int
-    said: int
-
-
-def seal_snapshot(bank: Bank) -> Iterator[bytes]:
-    """A bank in chunks: a line that has the procedures' texts, as a journal of calls means nothing without, and then the rows."""
-    rows = bank.rows()
-    yield seal(json.dumps([bank.seq, bank.texts, len(rows), zlib.crc32(rows)])) + b"\n"
-    for at in range(0, len(rows), CHUNK):
-        yield rows[at : at + CHUNK]
 
 
 class Store:
-    """A folder of one server: N.snapshot is the bank after batch N."""
+    """A folder of one server: N.snapshot is the bank after batch N.
+
+    First a line that has the procedures' texts, as a journal of calls means nothing without, and then the rows.
+    """
 
     def __init__(self, folder: pathlib.Path, keep: bool = False) -> None:
         self.folder, self.keep = folder, keep
@@ -58,38 +42,20 @@ class Store:
         """The bank after this batch. After batch 0 it is empty. `Unusable` if the snapshot is damaged."""
         if number == 0:
             return Bank(0, {}, b"")
-        data = self.path(number).read_bytes()
-        at = data.find(b"\n") + 1
-        seq, texts, length, checksum = unseal(data[: at - 1]) or [0, {}, 0, -1]
-        if length != len(data) - at or zlib.crc32(data[at:]) != checksum:
+        header, _, rows = self.path(number).read_bytes().partition(b"\n")
+        seq, texts, length, checksum = unseal(header) or [0, {}, 0, -1]
+        if length != len(rows) or zlib.crc32(rows) != checksum:
             raise Unusable(f"{self.path(number)}: the snapshot is damaged")
-        return Bank(seq, texts, data[at:])
+        return Bank(seq, texts, rows)
 
-    def begin(self, number: int, bank: Bank) -> Saving:
-        """Has a process of its own store a snapshot: it has the bank as it is now, and the server goes on."""
-        said, says = os.pipe()
-        if process := os.fork():
-            os.close(says)
-            return Saving(number, process, said)
+    def save(self, number: int, bank: Bank) -> str:
+        """Stores the bank after this batch, and deletes the snapshots before it, unless they are to be kept. Or says why it can't."""
         try:
-            os.closerange(3, says)  # the server's: its fronts must see its end, and its folder be free then
-            os.closerange(says + 1, 4096)
-            store(self.path(number), seal_snapshot(bank))
-            os._exit(0)
+            rows = bank.rows()
+            store(self.path(number), seal(json.dumps([bank.seq, bank.texts, len(rows), zlib.crc32(rows)])), b"\n", rows)
         except (OSError, MemoryError) as why:
-            os.write(says, str(why).encode())
-        finally:
-            os._exit(1)
-
-    def end(self, saving: Saving, bank: Bank) -> None:
-        """Waits for the end of a snapshot. `NoSnapshot` if it could not be stored: then nothing has changed."""
-        why = os.read(saving.said, 4096).decode()
-        os.close(saving.said)
-        if os.waitpid(saving.process, 0)[1]:
-            raise NoSnapshot(why or "the process that stored it was killed")
-        bank.records = self.path(saving.number).stat().st_size // ROW.size
-
-    def delete_before(self, number: int) -> None:
-        """Deletes the snapshots before this batch, if they are not to be kept."""
+            self.path(number).with_suffix(".new").unlink(missing_ok=True)
+            return f"no snapshot {self.path(number)}: {why}"
         for it in [it for it in self.numbers() if it < number and not self.keep]:
             self.path(it).unlink()
+        return ""

@@ -1,12 +1,12 @@
 """Runs a program of `examples/payments` with small numbers, and notes for each file how long it was when its last fsync returned.
 
-    [NOTE_FSYNC=FILE] [CUT_AFTER=ENTRIES] [CHUNK=BYTES] [LEASE=SECONDS] [PATIENCE=SECONDS] [DAYS_AHEAD=FILE] noting_fsync.py PROGRAM WORD..
+    [NOTE_FSYNC=FILE] [CUT_AFTER=ENTRIES] [LEASE=SECONDS] [PATIENCE=SECONDS] [DAYS_AHEAD=FILE] noting_fsync.py PROGRAM WORD..
 
 Its clock shows the time of day of a day that is always the same, so that no test depends on when it runs.
 
 A kill loses nothing of the page cache. With these notes a test can take away what only stood there, as a loss of power may.
-CUT_AFTER has the bank cut its history after so many entries, CHUNK has a snapshot stored in chunks of so many bytes, LEASE is after how
-many seconds a primary is replaced, and PATIENCE after how many it ends if its journal is away. The file of DAYS_AHEAD says how many days
+CUT_AFTER has the bank cut its history after so many entries, LEASE is after how many seconds a primary is replaced, and PATIENCE after how
+many it ends if its journal is away. The file of DAYS_AHEAD says how many days
 its clock is ahead of that day, each time that it is read. While the file of SNAPSHOT_WAITS is there, no snapshot becomes whole.
 """
 
@@ -43,10 +43,6 @@ if "CUT_AFTER" in os.environ:
     import bank
 
     bank.ENTRIES = int(os.environ["CUT_AFTER"])
-if "CHUNK" in os.environ:
-    import snapshots
-
-    snapshots.CHUNK = int(os.environ["CHUNK"])
 if "LEASE" in os.environ:
     import journal
 
