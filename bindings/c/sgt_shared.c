@@ -665,7 +665,7 @@ static sgt_shared *made(const sgt_shared_config *config, const sgt_engine *engin
     return s;
 }
 
-uint32_t sgt_shared_open(sgt_shared **shared, const uint8_t *opening, size_t length, const sgt_row *rows, size_t count,
+uint32_t sgt_shared_open(sgt_shared **shared, const char *opening, size_t length, const sgt_row *rows, size_t count,
                          const sgt_shared_config *config, sgt_fault *fault)
 {
     sgt_shared_config with = SGT_SHARED_CONFIG;

@@ -183,7 +183,7 @@ typedef struct sgt_shared_outcome {
  *
  * SGT_NO_MEMORY; SGT_BAD_CALL also if the size in `config` is too small; the faults of sgt_open_with, which are written into `fault`.
  */
-uint32_t sgt_shared_open(sgt_shared **shared, const uint8_t *opening, size_t length, const sgt_row *rows, size_t count,
+uint32_t sgt_shared_open(sgt_shared **shared, const char *opening, size_t length, const sgt_row *rows, size_t count,
                          const sgt_shared_config *config, sgt_fault *fault);
 
 /*

@@ -67,11 +67,7 @@ inline void check_version()
 }
 
 // Returns the bytes of a text, which may be empty.
-inline const std::uint8_t *bytes_of(std::string_view text)
-{
-    static const std::uint8_t none = 0;
-    return text.data() ? reinterpret_cast<const std::uint8_t *>(text.data()) : &none;
-}
+inline const char *bytes_of(std::string_view text) { return text.data() ? text.data() : ""; }
 
 // Returns the explanation of a fault, or the fault's own text if there is none.
 template <typename Explain> std::string explained(const sgt_fault &fault, Explain explain)

@@ -36,7 +36,7 @@ static const int64_t name[] = {1};
 
 static uint32_t opens(sgt_shared **shared, const char *text, const sgt_shared_config *config, sgt_fault *fault)
 {
-    return sgt_shared_open(shared, (const uint8_t *)text, strlen(text), 0, 0, config, fault);
+    return sgt_shared_open(shared, text, strlen(text), 0, 0, config, fault);
 }
 
 /* An engine with two live at most, and two accounts. */
@@ -81,7 +81,7 @@ static void engines_are_opened_and_closed(void)
     CHECK(opens(&shared, opening, &small, &fault) == SGT_BAD_CALL && !shared);
     CHECK(opens(0, opening, 0, &fault) == SGT_BAD_CALL && opens(&shared, opening, 0, 0) == SGT_BAD_CALL);
     CHECK(sgt_shared_open(&shared, 0, 0, 0, 0, 0, &fault) == SGT_BAD_CALL);
-    const uint8_t *text = (const uint8_t *)opening;
+    const char *text = opening;
     CHECK(sgt_shared_open(&shared, text, strlen(opening), 0, 1, 0, &fault) == SGT_BAD_CALL);
     CHECK(sgt_shared_open(&shared, text, strlen(opening), rows, 2, 0, &fault) == SGT_BAD_CALL && !shared);
     CHECK(sgt_shared_open(&shared, text, strlen(opening), rows, 1, 0, &fault) == SGT_OK);
@@ -104,7 +104,7 @@ static void an_engine_is_taken_over(void)
     int64_t value = 0;
     uint32_t tid = 0;
     CHECK(sgt_shared_take(&shared, &engine, 0) == SGT_CLOSED);
-    CHECK(sgt_open(&engine, (const uint8_t *)opening, strlen(opening), &fault) == SGT_OK);
+    CHECK(sgt_open(&engine, opening, strlen(opening), &fault) == SGT_OK);
     CHECK(sgt_run(&engine, 1, deposit, 2, &tid, &reply) == SGT_OK);
     CHECK(sgt_shared_take(&shared, &engine, 0) == SGT_BEGUN && !shared && engine.is_open);
     uint64_t live = 0;

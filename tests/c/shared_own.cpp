@@ -194,7 +194,7 @@ static void bodies_of_c_throw()
     sgt_shared_outcome outcome{};
     std::uint64_t count = 77;
     outcome.size = sizeof outcome;
-    auto text = reinterpret_cast<const std::uint8_t *>(opening);
+    const char *text = opening;
     CHECK(sgt_shared_open(&shared, text, std::strlen(opening), rows.data(), rows.size(), nullptr, &fault) == SGT_OK);
     CHECK(throws<std::runtime_error>([&] { sgt_shared_transact(shared, throws_in_c, nullptr, nullptr, &outcome); }));
     CHECK(sgt_shared_live(shared, nullptr, 0, &count) == SGT_OK && count == 0);
