@@ -970,7 +970,7 @@ uint32_t sgt_shared_commit(sgt_shared *shared, const sgt_ticket *ticket, int64_t
     if (status != SGT_OK) return status;
     status = ask(shared, sgt_commit, ticket->tid, &told);
     if (status == SGT_OK) status = go_on(shared, ticket->tid, &until, &told, &waits);
-    if (status == SGT_OK) *reply = told;
+    if (status == SGT_OK || status == SGT_TIMED_OUT || status == SGT_SELF_WAIT) *reply = told;
     return leave(shared, status);
 }
 

@@ -339,8 +339,8 @@ uint32_t sgt_shared_abandon(sgt_shared *shared, const sgt_ticket *ticket);
 /*
  * Commits a transaction. Where it has to wait for another one, it waits until that has ended.
  *
- * SGT_TIMED_OUT if the deadline comes first, SGT_SELF_WAIT: the transaction is still live, so commit it again later, or quit it. SGT_STALE;
- * SGT_NO_MEMORY.
+ * SGT_TIMED_OUT if the deadline comes first, SGT_SELF_WAIT: the transaction is still live, so commit it again later, or quit it. The reply
+ * is then SGT_WAITS, and its `tid` is the transaction that it waits for. SGT_STALE; SGT_NO_MEMORY.
  */
 uint32_t sgt_shared_commit(sgt_shared *shared, const sgt_ticket *ticket, int64_t wait_ns, sgt_reply *reply);
 

@@ -217,6 +217,7 @@ _ENGINE_CALLS = {
     "sgt_explain_opening": [_text, _size, _text, _size, _count],
     "sgt_explain_procedure": [_u64, _text, _size, _text, _size, _count],
     "sgt_close": [_engine],
+    "sgt_shared_take": [ctypes.POINTER(_shared), _engine, ctypes.POINTER(CSharedConfig)],
 }
 _SHARED_CALLS = {
     "sgt_shared_open": [ctypes.POINTER(_shared), _text, _size, _row, _size, ctypes.POINTER(CSharedConfig), _fault],
