@@ -150,6 +150,7 @@ typedef struct sgt_transaction {
     size_t size;        /* sizeof(sgt_transaction) */
     sgt_shared *shared;
     sgt_ticket ticket;  /* the last try */
+    uint64_t sequence;  /* of a committed try: the `sequence` of its sgt_ended; else UINT64_MAX */
     uint64_t ends;      /* how many transactions had ended when the last try was aborted */
     uint32_t tries;     /* how many were started */
     uint32_t waits;     /* how often they waited */
@@ -172,6 +173,7 @@ typedef struct sgt_shared_outcome {
     uint32_t tries;     /* how many transactions were started for it, the last one included */
     uint32_t waits;     /* how often it waited */
     sgt_ticket ticket;  /* the last of these transactions */
+    uint64_t sequence;  /* of SGT_COMMITTED and SGT_REFUSED: the `sequence` of its sgt_ended; else UINT64_MAX */
     sgt_reply reply;    /* the last reply */
 } sgt_shared_outcome;
 

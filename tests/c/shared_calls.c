@@ -254,7 +254,10 @@ static void a_commit_waits(void)
         CHECK(sgt_shared_start(shared, 0, name, 1, 0, &reader.ticket, &reply) == SGT_OK);
         for (int step = 0; step < 4; step++) CHECK(sgt_shared_step(shared, &reader.ticket, &reply) == SGT_OK);
         CHECK(reply.kind == SGT_ENDED && sgt_shared_commit(shared, &reader.ticket, 2 * MS, &reply) == SGT_TIMED_OUT);
-        CHECK(reply.kind == SGT_ENDED);
+        CHECK(reply.kind == SGT_WAITS && reply.tid == writer.tid);
+        reply = (sgt_reply){0};
+        CHECK(sgt_shared_commit(shared, &reader.ticket, SGT_FOREVER, &reply) == SGT_SELF_WAIT);
+        CHECK(reply.kind == SGT_WAITS && reply.tid == writer.tid);
         in_a_thread(&reader);
         until_one_waits(shared);
         pause_for(20 * MS);
@@ -369,7 +372,7 @@ static void a_run_has_so_many_tries(void)
     CHECK(sgt_shared_quit(shared, &writer, &reply) == SGT_OK);
     pthread_join(reader.id, 0);
     CHECK(reader.status == SGT_OK && reader.outcome.reply.kind == SGT_OVER && reader.outcome.reply.cause == SGT_BY_FALL);
-    CHECK(reader.outcome.tries == 1);
+    CHECK(reader.outcome.tries == 1 && reader.outcome.sequence == UINT64_MAX);
     closes(shared);
 }
 
@@ -499,16 +502,19 @@ static void hooks_are_told(void)
     const int64_t unknown[] = {9, 1};
     CHECK(sgt_shared_run(shared, 1, deposit, 2, 0, &outcome) == SGT_OK && heard.calls == 1 && heard.misuses == 3);
     CHECK(heard.last.sequence == 0 && heard.last.call.kind == SGT_COMMITTED && heard.last.call.procedure == 1 && heard.last.call.args == 2);
+    CHECK(outcome.sequence == 0);
     CHECK(heard.last.call.arg[1] == 100 && heard.last.call.answers == 1 && heard.last.call.answer[0] == 1100);
     CHECK(memcmp(&heard.last.ticket, &outcome.ticket, sizeof outcome.ticket) == 0);
     CHECK(sgt_shared_run(shared, 1, unknown, 2, 0, &outcome) == SGT_OK && heard.calls == 2);
     CHECK(heard.last.call.kind == SGT_REFUSED && heard.last.call.code == 1 && heard.last.call.answers == 0 && heard.last.sequence == 1);
+    CHECK(outcome.sequence == 1);
     sgt_ticket ticket = begins(shared, 1);
     CHECK(sgt_shared_quit(shared, &ticket, &reply) == SGT_OK && heard.calls == 2); /* an abort is not told */
     ticket = begins(shared, 4);
     CHECK(sgt_shared_commit(shared, &ticket, 0, &reply) == SGT_OK && heard.calls == 3 && heard.last.call.answer[0] == 1200);
     CHECK(sgt_shared_cut(shared, 0) == SGT_OK && heard.parts == 1 && heard.entries > 0);
     CHECK(sgt_shared_run(shared, 1, deposit, 2, 0, &outcome) == SGT_OK && heard.last.sequence == 3 && heard.last.ticket.part == 1);
+    CHECK(outcome.sequence == 3);
     closes(shared);
     closes(heard.other);
 }

@@ -226,6 +226,28 @@ static void single_calls_are_answered()
     CHECK(engine.calls(0, 8)->first.at(0).accesses == 3);
 }
 
+// A shared engine is made of a prepared one, and a commit that times out says for whom it waited.
+static void engines_are_taken_over()
+{
+    auto prepared = sgt::Engine::bare(2, 100);
+    prepared.put(rows);
+    CHECK(prepared.procedure(R"([0,[["put",2,101,11]]])") == 0 && prepared.procedure(R"([0,[["look",0,2,101,6]]])") == 1);
+    sgt::SharedEngine bank(std::move(prepared));
+    CHECK(throws<std::logic_error>([&] { prepared.rows(); }));
+    auto writer = bank.start(0, {}).first, reader = bank.start(1, {}).first;
+    CHECK(writer->step().kind == SGT_WROTE && reader->step().kind == SGT_LOOKED && reader->step().kind == SGT_ENDED);
+    CHECK(!reader->waits_for());
+    CHECK(throws<sgt::TimedOut>([&] { static_cast<void>(reader->commit(milliseconds(1))); }));
+    CHECK(reader->waits_for() == writer->ticket().tid);
+    CHECK(writer->step().kind == SGT_ENDED && writer->commit().kind == SGT_COMMITTED);
+    CHECK(reader->commit().kind == SGT_COMMITTED && !reader->waits_for());
+    auto outcome = bank.run(0, {});
+    CHECK(outcome.reply.kind == SGT_COMMITTED && outcome.sequence == 2);
+    sgt::Engine begun(opening, rows);
+    begun.begin();
+    CHECK(throws<sgt::Begun>([&] { sgt::SharedEngine taken(std::move(begun)); }) && begun.entries() == 1);
+}
+
 // Which transaction: its part and its number.
 using Name = std::pair<std::uint64_t, std::uint32_t>;
 using Accesses = std::vector<std::tuple<std::uint32_t, std::int64_t, std::optional<std::int64_t>>>;
@@ -299,6 +321,7 @@ int main()
     bodies_of_c_throw();
     threads_end_in_bodies();
     single_calls_are_answered();
+    engines_are_taken_over();
     threads_share_three_records();
     std::printf("%d checks, %d failed\n", checks.load(), failed.load());
     return failed ? 1 : 0;

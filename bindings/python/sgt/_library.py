@@ -159,6 +159,7 @@ class CSharedOutcome(ctypes.Structure):
         ("tries", ctypes.c_uint32),
         ("waits", ctypes.c_uint32),
         ("ticket", CTicket),
+        ("sequence", ctypes.c_uint64),
         ("reply", CReply),
     ]
 
@@ -172,6 +173,7 @@ class CTransaction(ctypes.Structure):
         ("size", ctypes.c_size_t),
         ("shared", ctypes.c_void_p),
         ("ticket", CTicket),
+        ("sequence", ctypes.c_uint64),
         ("ends", ctypes.c_uint64),
         *((name, ctypes.c_uint32) for name in ("tries", "waits", "status", "is_live")),
         ("reply", CReply),

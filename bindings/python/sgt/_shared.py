@@ -63,12 +63,14 @@ class Live(NamedTuple):
 
 
 class Outcome(NamedTuple):
-    """The outcome of a run: the last reply, the last transaction, how many were started for it, and how often it waited."""
+    """The outcome of a run: the last reply, the last transaction, how many were started for it, and how often it waited. `sequence` is that
+    of its Ended, if it was committed or refused."""
 
     reply: Reply
     ticket: Optional[Ticket]
     tries: int
     waits: int
+    sequence: Optional[int]
 
 
 class SharedEngine(Uncopied):
@@ -175,7 +177,8 @@ class SharedEngine(Uncopied):
         check(self._wait(FREE.sgt_shared_run, whole(procedure, 0, 65535), given, len(args), options, outcome))
         self._tell(outcome.ticket)
         ticket = ticket_of(outcome.ticket) if outcome.tries else None
-        return Outcome(reply_of(outcome.reply, outcome.reply), ticket, outcome.tries, outcome.waits)
+        sequence = outcome.sequence if outcome.sequence < 2**64 - 1 else None
+        return Outcome(reply_of(outcome.reply, outcome.reply), ticket, outcome.tries, outcome.waits, sequence)
 
     def transact(self, body: Callable[[OwnTransaction], _Result], *, timeout: Optional[float] = None, tries: int = 8) -> _Result:
         """Runs `body(t)` as a transaction, commits it, and returns what the body returned. The body reads and writes by `t.read`, `t.write`

@@ -63,6 +63,8 @@ pub struct Outcome {
     pub waits: u32,
     /// The last transaction, if one was started.
     pub ticket: Option<Ticket>,
+    /// That of its [`Ended`], if it was committed or refused.
+    pub sequence: Option<u64>,
     pub reply: Reply,
 }
 
@@ -150,6 +152,7 @@ impl SharedEngine {
             tries: outcome.tries,
             waits: outcome.waits,
             ticket: (outcome.tries > 0).then_some(outcome.ticket),
+            sequence: (outcome.sequence != u64::MAX).then_some(outcome.sequence),
             reply: reply_of(&outcome.reply),
         })
     }
