@@ -78,8 +78,8 @@ static void open_engine(struct run *run)
     uint64_t at = 0;
     for (int64_t n = 0; n < ACCOUNTS; n++) rows[n] = (sgt_row){.table = 1, .number = n, .value = BALANCE};
     if (sgt_open_bare(&run->engine, LIVE, 4000000000, 0) != SGT_OK
-        || sgt_procedure(&run->engine, (const uint8_t *)pay, sizeof pay - 1, &run->pay, &fault) != SGT_OK
-        || sgt_procedure(&run->engine, (const uint8_t *)forget, sizeof forget - 1, &run->forget, &fault) != SGT_OK
+        || sgt_procedure(&run->engine, pay, sizeof pay - 1, &run->pay, &fault) != SGT_OK
+        || sgt_procedure(&run->engine, forget, sizeof forget - 1, &run->forget, &fault) != SGT_OK
         || sgt_put(&run->engine, rows, ACCOUNTS, &at) != SGT_OK) {
         end(1, "the engine could not be opened");
     }

@@ -62,7 +62,7 @@ static void open_accounts(sgt_engine *engine, const int64_t *number, int64_t cou
         end += sprintf(end, "%s[%" PRId64 ",%" PRId64 ",100,100]", n ? "," : "", number[n], 1000000000 + number[n]);
     }
     end += sprintf(end, "],\"procedures\":[]}");
-    check(sgt_open(engine, (const uint8_t *)text, (size_t)(end - text), &fault), "sgt_open");
+    check(sgt_open(engine, text, (size_t)(end - text), &fault), "sgt_open");
 }
 
 /* Reads all rows by pages, each from behind the last row of the one before. */
@@ -107,7 +107,7 @@ int main(int argc, char **argv)
         check(sgt_open_bare(&engine, 8, 4000000000, 0), "sgt_open_bare");
         check(sgt_put(&engine, rows, (size_t)count, &got), "sgt_put");
     } else {
-        check(sgt_open_with(&engine, (const uint8_t *)bare, sizeof bare - 1, rows, (size_t)count, &fault), "sgt_open_with");
+        check(sgt_open_with(&engine, bare, sizeof bare - 1, rows, (size_t)count, &fault), "sgt_open_with");
     }
     const int later = strstr(load, "_later") != NULL, removes = !strcmp(load, "cut_removed");
     const int64_t commits = later || removes ? (strncmp(load, "pages", 5) ? COMMITS : 1) : 0;

@@ -87,7 +87,7 @@ int main(int argc, char **argv)
     int state[MOST_LIVE] = {0};
     int64_t committed = 0;
     char *text = opening(accounts);
-    if (sgt_open(&engine, (const uint8_t *)text, strlen(text), &fault) != SGT_OK) return 1;
+    if (sgt_open(&engine, text, strlen(text), &fault) != SGT_OK) return 1;
     free(text);
     struct timespec from, to;
     clock_gettime(CLOCK_PROCESS_CPUTIME_ID, &from);

@@ -72,7 +72,7 @@ static void *run_alone(void *of)
     sgt_fault fault = {0};
     sgt_reply reply = {0};
     uint64_t entries = 0, live = 0;
-    must(sgt_open(&engine, (const uint8_t *)opening, opening_len, &fault) == SGT_OK);
+    must(sgt_open(&engine, opening, opening_len, &fault) == SGT_OK);
     for (long made = 0; made < each; made++) {
         int64_t args[2];
         uint32_t tid = 0;
@@ -138,7 +138,7 @@ int main(int argc, char **argv)
     sgt_fault fault = {0};
     sgt_shared_config config = SGT_SHARED_CONFIG;
     config.cut_after = PART, config.cut_wait_ns = 10000000;
-    must(sgt_shared_open(&shared, (const uint8_t *)opening, opening_len, 0, 0, &config, &fault) == SGT_OK);
+    must(sgt_shared_open(&shared, opening, opening_len, 0, 0, &config, &fault) == SGT_OK);
     const double from = seconds(CLOCK_MONOTONIC), worked = seconds(CLOCK_PROCESS_CPUTIME_ID);
     for (int i = 0; i < many; i++) {
         threads[i].drawn = 20190408u + (unsigned)i;

@@ -238,7 +238,7 @@ typedef struct sgt_outcome {
  *   - SGT_NO_MEMORY.
  *   - From SGT_NOT_JSON on: the first fault of the opening, which is written to `fault`.
  */
-uint32_t sgt_open(sgt_engine *engine, const uint8_t *opening, size_t length, sgt_fault *fault);
+uint32_t sgt_open(sgt_engine *engine, const char *opening, size_t length, sgt_fault *fault);
 
 /*
  * The same, and then writes `count` rows of the caller into the database of the opening's accounts, one after another. Each
@@ -248,7 +248,7 @@ uint32_t sgt_open(sgt_engine *engine, const uint8_t *opening, size_t length, sgt
  *   - SGT_OPEN, tested first: the engine is open.
  *   - SGT_BAD_CALL, tested next: a table is over 7, or a number or a value is out of range.
  */
-uint32_t sgt_open_with(sgt_engine *engine, const uint8_t *opening, size_t length, const sgt_row *rows, size_t count,
+uint32_t sgt_open_with(sgt_engine *engine, const char *opening, size_t length, const sgt_row *rows, size_t count,
                        sgt_fault *fault);
 
 /*
@@ -297,7 +297,7 @@ uint32_t sgt_put(sgt_engine *engine, const sgt_row *rows, size_t count, uint64_t
  *     `fault`, with the number that the procedure was to get.
  *   - SGT_NO_MEMORY.
  */
-uint32_t sgt_procedure(sgt_engine *engine, const uint8_t *text, size_t length, uint16_t *number, sgt_fault *fault);
+uint32_t sgt_procedure(sgt_engine *engine, const char *text, size_t length, uint16_t *number, sgt_fault *fault);
 
 /*
  * The text of the procedure of a number: JSON that sgt_procedure reads as this procedure, without a zero byte after it. So a
@@ -569,10 +569,10 @@ uint32_t sgt_fault_text(const sgt_fault *fault, char *text, size_t room, uint64_
  *   - SGT_NONE: there is nothing to explain, as the opening has no fault.
  *   - SGT_NO_MEMORY.
  */
-uint32_t sgt_explain_opening(const uint8_t *opening, size_t length, char *text, size_t room, uint64_t *written);
+uint32_t sgt_explain_opening(const char *opening, size_t length, char *text, size_t room, uint64_t *written);
 
 /* The same of a text that sgt_procedure refused. `number` is the number that the text names: pass `procedure` of the fault. */
-uint32_t sgt_explain_procedure(uint64_t number, const uint8_t *procedure, size_t length, char *text, size_t room,
+uint32_t sgt_explain_procedure(uint64_t number, const char *procedure, size_t length, char *text, size_t room,
                                uint64_t *written);
 
 /*

@@ -475,9 +475,11 @@ def waits_with_deadlines_in_python(_):
                 pass
             same("a third start", "timed out", what(sgt.TimedOut, lambda: bank.transaction(0, 1, timeout=0.01), "timed out"))
             same("a commit", "timed out", what(sgt.TimedOut, lambda: reader.commit(0.01), "timed out"))
+            same("for whom it waited", writer.ticket.tid, reader.waits_for)
             began = time.monotonic()
             threading.Timer(0.05, writer.commit).start()
             same("its answers", (1600,), reader.commit(SOON).answers)
+            same("for whom it waits then", None, reader.waits_for)
             same("that it waited", True, time.monotonic() - began > 0.04)
         same("who is live", [], bank.live())
         same("a refused start", "no procedure", what(sgt.NotStarted, lambda: bank.transaction(99), "no procedure"))
@@ -499,6 +501,28 @@ def waits_with_deadlines_in_python(_):
         writer.commit()
         waiting.join()
     same("a closed engine", "refused", refusal(lambda: bank.get(2, 101)))
+
+
+def takes_a_prepared_engine_in_python(_):
+    """A shared engine on one for one thread; the limits of a shared engine; the number of an outcome."""
+    sgt = module()
+    asks = [0, [["ask", 7]]]
+    engine = sgt.Engine.bare(8, 100)
+    engine.put([(7, 1, 10)])
+    same("the number of a procedure", (0, 1), (engine.procedure([0, [["put", 7, 1, 5]]]), engine.procedure(asks)))
+    with sgt.SharedEngine.take(engine, keeps_ended=True) as bank:
+        same("the engine that was taken", "closed", what(sgt.Closed, engine.records, "closed"))
+        same("the numbers of outcomes", [0, 1], [bank.run(0).sequence, bank.run(1).sequence])
+        same("what was drained", [0, 1], [ended.sequence for ended in bank.drain()])
+        same("the outcome of no start", None, bank.run(2).sequence)
+        same("the record", 5, bank.get(7, 1))
+    with sgt.Engine(limits=(8, 100)) as engine:
+        engine.start(0, 1)
+        same("an engine with a history", "begun", what(sgt.Begun, lambda: sgt.SharedEngine.take(engine), "begun"))
+        same("its entries", 1, len(engine))
+    for limits, kind in (((8, 100), sgt.Kind.REFUSED), ((8, 100, 1), sgt.Kind.REFUSED), ((8, 100, 0), sgt.Kind.ABORTED)):
+        with sgt.SharedEngine(limits=limits, procedures=[asks]) as bank:
+            same(f"a code with {limits}", (kind, 7), bank.run(5).reply[:1] + (bank.run(5).reply.code,))
 
 
 def stepped(transaction):
@@ -728,6 +752,7 @@ CASES = [
     puts_a_million_rows_soon,
     mixes_no_threads_replies,
     waits_with_deadlines_in_python,
+    takes_a_prepared_engine_in_python,
     ends_a_wait_at_a_signal,
     loses_nothing_at_signals,
     keeps_the_place_of_a_wait,

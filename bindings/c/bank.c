@@ -39,7 +39,7 @@ int main(void)
     int64_t value = 0;
     uint64_t entries = 0, count = 0, length = 0, live = 0, at = 0;
     char text[1024];
-    if (sgt_open(&engine, (const uint8_t *)opening, strlen(opening), &fault) != SGT_OK) return 1;
+    if (sgt_open(&engine, opening, strlen(opening), &fault) != SGT_OK) return 1;
     for (uint32_t tid = 0; tid < 2; tid++) { /* procedure 1 is a deposit; procedure 0, with the account alone, a balance */
         if (sgt_start(&engine, tid == 0 ? 1 : 0, account_and_amount, tid == 0 ? 2 : 1, &reply) != SGT_OK) return 1;
         show(&reply);
@@ -61,7 +61,7 @@ int main(void)
     }
     sgt_close(&engine);
     rows[count - 1].value = 7; /* a new engine with these rows, one of them changed */
-    if (sgt_open_with(&engine, (const uint8_t *)empty, strlen(empty), rows, count, &fault) != SGT_OK) return 1;
+    if (sgt_open_with(&engine, empty, strlen(empty), rows, count, &fault) != SGT_OK) return 1;
     if (sgt_rows(&engine, 0, SGT_LEAST, rows, 0, &count) != SGT_OK || sgt_get(&engine, 2, 101, &value) != SGT_OK) return 1;
     printf("again %" PRIu64 " rows, 2/101 %" PRId64 "\n", count, value);
     for (int run = 0; run < 3; run++) { /* two deposits and a balance, each in one call */
@@ -78,13 +78,13 @@ int main(void)
     printf("%" PRIu64 " entries, 2/101 %" PRId64 "\n", entries, value);
     if (sgt_put(&engine, &own, 1, &at) != SGT_OK) return 1; /* one more record and procedure, while the history is empty */
     if (sgt_put(&engine, &own, 1, &at) == SGT_TAKEN) printf("row %" PRIu64 " taken\n", at);
-    if (sgt_procedure(&engine, (const uint8_t *)lookup, strlen(lookup), &number, &fault) != SGT_OK) return 1;
+    if (sgt_procedure(&engine, lookup, strlen(lookup), &number, &fault) != SGT_OK) return 1;
     if (sgt_run(&engine, number, account_and_amount, 1, &last, &reply) != SGT_OK) return 1;
     printf("procedure %u: ", number), show(&reply);
     if (sgt_put(&engine, &own, 1, &at) == SGT_BEGUN) printf("begun\n");
     sgt_close(&engine);
-    if (sgt_open(&engine, (const uint8_t *)misfit, strlen(misfit), &fault) != SGT_PROC_SHAPE) return 1;
-    if (sgt_explain_opening((const uint8_t *)misfit, strlen(misfit), text, sizeof text, &length) != SGT_OK || length > sizeof text) return 1;
+    if (sgt_open(&engine, misfit, strlen(misfit), &fault) != SGT_PROC_SHAPE) return 1;
+    if (sgt_explain_opening(misfit, strlen(misfit), text, sizeof text, &length) != SGT_OK || length > sizeof text) return 1;
     printf("%.*s\n", (int)length, text);
     return 0;
 }

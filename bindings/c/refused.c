@@ -79,7 +79,7 @@ static int adds(sgt_engine *engine, sgt_fault *fault)
         refused++;
     }
     if (status != SGT_OK || sgt_get(engine, 6, 1, &value) != SGT_OK || value != 53) return -1;
-    while ((status = sgt_procedure(engine, (const uint8_t *)lookup, strlen(lookup), &number, fault)) == SGT_NO_MEMORY) {
+    while ((status = sgt_procedure(engine, lookup, strlen(lookup), &number, fault)) == SGT_NO_MEMORY) {
         if (number != 77) return -1;
         refused++;
     }
@@ -107,7 +107,7 @@ static int texts(const sgt_reply *reply)
     memset(text, '.', sizeof text);
     while ((status = sgt_fault_text(&flaw, text, 17, &length)) == SGT_NO_MEMORY) refused++;
     if (status != SGT_OK || length != 18 || text[0] != '.') return -1;
-    while ((status = sgt_explain_procedure(5, (const uint8_t *)"7", 1, text, 17, &length)) == SGT_NO_MEMORY) {
+    while ((status = sgt_explain_procedure(5, "7", 1, text, 17, &length)) == SGT_NO_MEMORY) {
         if (length != 18 || text[0] != '.') return -1;
         refused++;
     }
@@ -142,7 +142,7 @@ static int run(void)
     uint32_t status;
     long before_event, opened;
     int refused = 0, added, more, told, cut;
-    while ((status = sgt_open_with(&engine, (const uint8_t *)opening, strlen(opening), &own, 1, &fault)) == SGT_NO_MEMORY) {
+    while ((status = sgt_open_with(&engine, opening, strlen(opening), &own, 1, &fault)) == SGT_NO_MEMORY) {
         if (engine.is_open || engine.at) return -1;
         refused++;
     }

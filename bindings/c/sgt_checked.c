@@ -6,11 +6,11 @@
 
 #include "sgt.h"
 
-uint32_t proved_sgt_open(sgt_engine *, const uint8_t *, size_t, sgt_fault *);
-uint32_t proved_sgt_open_with(sgt_engine *, const uint8_t *, size_t, const sgt_row *, size_t, sgt_fault *);
+uint32_t proved_sgt_open(sgt_engine *, const char *, size_t, sgt_fault *);
+uint32_t proved_sgt_open_with(sgt_engine *, const char *, size_t, const sgt_row *, size_t, sgt_fault *);
 uint32_t proved_sgt_open_bare(sgt_engine *, uint64_t, uint64_t, uint64_t);
 uint32_t proved_sgt_put(sgt_engine *, const sgt_row *, size_t, uint64_t *);
-uint32_t proved_sgt_procedure(sgt_engine *, const uint8_t *, size_t, uint16_t *, sgt_fault *);
+uint32_t proved_sgt_procedure(sgt_engine *, const char *, size_t, uint16_t *, sgt_fault *);
 void proved_sgt_close(sgt_engine *);
 uint32_t proved_sgt_start(sgt_engine *, uint64_t, const int64_t *, size_t, sgt_reply *);
 uint32_t proved_sgt_step(sgt_engine *, uint32_t, sgt_reply *);
@@ -35,14 +35,13 @@ uint32_t proved_sgt_part(sgt_engine *, uint64_t *);
 uint32_t proved_sgt_procedure_text(sgt_engine *, uint64_t, char *, size_t, uint64_t *);
 uint32_t proved_sgt_reply_text(const sgt_reply *, char *, size_t, uint64_t *);
 uint32_t proved_sgt_fault_text(const sgt_fault *, char *, size_t, uint64_t *);
-uint32_t proved_sgt_explain_opening(const uint8_t *, size_t, char *, size_t, uint64_t *);
-uint32_t proved_sgt_explain_procedure(uint64_t, const uint8_t *, size_t, char *, size_t, uint64_t *);
+uint32_t proved_sgt_explain_opening(const char *, size_t, char *, size_t, uint64_t *);
+uint32_t proved_sgt_explain_procedure(uint64_t, const char *, size_t, char *, size_t, uint64_t *);
 
 /* What a list of no items points to. Nothing is read or written there. */
 static union {
     int64_t number;
     char byte;
-    uint8_t text;
     sgt_row row;
     sgt_call call;
     sgt_access access;
@@ -62,16 +61,16 @@ static bool is_list(const void *at, size_t count)
  */
 static sgt_engine *read_from(const sgt_engine *engine) { return (sgt_engine *)engine; }
 
-uint32_t sgt_open(sgt_engine *engine, const uint8_t *opening, size_t length, sgt_fault *fault)
+uint32_t sgt_open(sgt_engine *engine, const char *opening, size_t length, sgt_fault *fault)
 {
     if (!engine || !is_list(opening, length) || !fault) return SGT_BAD_CALL;
-    return proved_sgt_open(engine, opening ? opening : &none.text, length, fault);
+    return proved_sgt_open(engine, opening ? opening : &none.byte, length, fault);
 }
 
-uint32_t sgt_open_with(sgt_engine *engine, const uint8_t *opening, size_t length, const sgt_row *rows, size_t count, sgt_fault *fault)
+uint32_t sgt_open_with(sgt_engine *engine, const char *opening, size_t length, const sgt_row *rows, size_t count, sgt_fault *fault)
 {
     if (!engine || !is_list(opening, length) || !is_list(rows, count) || !fault) return SGT_BAD_CALL;
-    return proved_sgt_open_with(engine, opening ? opening : &none.text, length, rows ? rows : &none.row, count, fault);
+    return proved_sgt_open_with(engine, opening ? opening : &none.byte, length, rows ? rows : &none.row, count, fault);
 }
 
 uint32_t sgt_open_bare(sgt_engine *engine, uint64_t live, uint64_t begins, uint64_t asks)
@@ -86,11 +85,11 @@ uint32_t sgt_put(sgt_engine *engine, const sgt_row *rows, size_t count, uint64_t
     return proved_sgt_put(engine, rows ? rows : &none.row, count, at);
 }
 
-uint32_t sgt_procedure(sgt_engine *engine, const uint8_t *text, size_t length, uint16_t *number, sgt_fault *fault)
+uint32_t sgt_procedure(sgt_engine *engine, const char *text, size_t length, uint16_t *number, sgt_fault *fault)
 {
     if (!engine) return SGT_CLOSED;
     if (!is_list(text, length) || !number || !fault) return SGT_BAD_CALL;
-    return proved_sgt_procedure(engine, text ? text : &none.text, length, number, fault);
+    return proved_sgt_procedure(engine, text ? text : &none.byte, length, number, fault);
 }
 
 void sgt_close(sgt_engine *engine)
@@ -239,14 +238,14 @@ uint32_t sgt_fault_text(const sgt_fault *fault, char *text, size_t room, uint64_
     return proved_sgt_fault_text(fault, text ? text : &none.byte, room, length);
 }
 
-uint32_t sgt_explain_opening(const uint8_t *opening, size_t length, char *text, size_t room, uint64_t *written)
+uint32_t sgt_explain_opening(const char *opening, size_t length, char *text, size_t room, uint64_t *written)
 {
     if (!is_list(opening, length) || !is_list(text, room) || !written) return SGT_BAD_CALL;
-    return proved_sgt_explain_opening(opening ? opening : &none.text, length, text ? text : &none.byte, room, written);
+    return proved_sgt_explain_opening(opening ? opening : &none.byte, length, text ? text : &none.byte, room, written);
 }
 
-uint32_t sgt_explain_procedure(uint64_t number, const uint8_t *procedure, size_t length, char *text, size_t room, uint64_t *written)
+uint32_t sgt_explain_procedure(uint64_t number, const char *procedure, size_t length, char *text, size_t room, uint64_t *written)
 {
     if (!is_list(procedure, length) || !is_list(text, room) || !written) return SGT_BAD_CALL;
-    return proved_sgt_explain_procedure(number, procedure ? procedure : &none.text, length, text ? text : &none.byte, room, written);
+    return proved_sgt_explain_procedure(number, procedure ? procedure : &none.byte, length, text ? text : &none.byte, room, written);
 }

@@ -395,6 +395,12 @@ static void deliver(sgt_shared *s, uint32_t tid)
     if (s->config.ended) s->ended = ended, s->tells = true;
 }
 
+/* The number of the call that this reply has just committed or refused, or UINT64_MAX. */
+static uint64_t sequence_of(const sgt_shared *s, const sgt_reply *reply)
+{
+    return reply->kind == SGT_COMMITTED || reply->kind == SGT_REFUSED ? s->sequence - 1 : UINT64_MAX;
+}
+
 /* What the reply to an event of this transaction changes. */
 static void answered(sgt_shared *s, uint32_t tid, const sgt_reply *reply)
 {
@@ -665,7 +671,7 @@ static sgt_shared *made(const sgt_shared_config *config, const sgt_engine *engin
     return s;
 }
 
-uint32_t sgt_shared_open(sgt_shared **shared, const uint8_t *opening, size_t length, const sgt_row *rows, size_t count,
+uint32_t sgt_shared_open(sgt_shared **shared, const char *opening, size_t length, const sgt_row *rows, size_t count,
                          const sgt_shared_config *config, sgt_fault *fault)
 {
     sgt_shared_config with = SGT_SHARED_CONFIG;
@@ -811,7 +817,10 @@ static uint32_t run(sgt_shared *s, struct run *it, sgt_shared_outcome *out)
         if (status == SGT_OK) status = try_once(s, &it->call, &it->until, out);
         if (status != SGT_OK) return status;
         const bool is_full = out->reply.kind == SGT_FULL;
-        if (!is_full && (!is_conflict(&out->reply) || out->tries == it->tries)) return SGT_OK;
+        if (!is_full && (!is_conflict(&out->reply) || out->tries == it->tries)) {
+            out->sequence = sequence_of(s, &out->reply);
+            return SGT_OK;
+        }
         if (out->reply.kind == SGT_OVER) continue; /* one has just ended */
         out->waits++;
         status = is_full ? await_room(s, &it->until) : await_end(s, s->ends, &it->until);
@@ -970,7 +979,7 @@ uint32_t sgt_shared_commit(sgt_shared *shared, const sgt_ticket *ticket, int64_t
     if (status != SGT_OK) return status;
     status = ask(shared, sgt_commit, ticket->tid, &told);
     if (status == SGT_OK) status = go_on(shared, ticket->tid, &until, &told, &waits);
-    if (status == SGT_OK) *reply = told;
+    if (status == SGT_OK || status == SGT_TIMED_OUT || status == SGT_SELF_WAIT) *reply = told;
     return leave(shared, status);
 }
 
@@ -1068,7 +1077,7 @@ static uint32_t start_try(sgt_shared *s, sgt_transaction *t, bool alone, struct 
     uint32_t status = alone ? (uint32_t)SGT_OK : await_next(s, t, until);
     if (status == SGT_OK) status = start(s, &call, alone, until, &t->ticket, &reply);
     if (status != SGT_OK) return status;
-    t->reply = reply, t->status = SGT_OK;
+    t->reply = reply, t->status = SGT_OK, t->sequence = UINT64_MAX;
     t->is_live = reply.kind == SGT_STARTED;
     t->tries += t->is_live;
     return SGT_OK;
@@ -1109,7 +1118,7 @@ static uint32_t commit_try(sgt_shared *s, sgt_transaction *t, struct deadline *u
     if (status == SGT_OK) status = ask(s, sgt_commit, t->ticket.tid, &reply);
     if (status == SGT_OK) status = go_on(s, t->ticket.tid, until, &reply, &t->waits);
     if (status != SGT_OK) quit(s, t->ticket.tid);
-    else t->reply = reply;
+    else t->reply = reply, t->sequence = sequence_of(s, &reply);
     t->ends = s->ends;
     return status;
 }
@@ -1228,7 +1237,7 @@ uint32_t sgt_shared_transact(sgt_shared *shared, sgt_body body, void *context, c
         if (status == SGT_OK && t.is_live) status = end_as_told(&t, call(body, context, &t), &until);
     } while (status == SGT_UNDONE);
     outcome->tries = t.tries, outcome->waits = t.waits;
-    if (status == SGT_OK) outcome->ticket = t.ticket, outcome->reply = t.reply;
+    if (status == SGT_OK) outcome->ticket = t.ticket, outcome->sequence = t.sequence, outcome->reply = t.reply;
     return status;
 }
 

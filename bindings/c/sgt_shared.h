@@ -150,6 +150,7 @@ typedef struct sgt_transaction {
     size_t size;        /* sizeof(sgt_transaction) */
     sgt_shared *shared;
     sgt_ticket ticket;  /* the last try */
+    uint64_t sequence;  /* of a committed try: the `sequence` of its sgt_ended; else UINT64_MAX */
     uint64_t ends;      /* how many transactions had ended when the last try was aborted */
     uint32_t tries;     /* how many were started */
     uint32_t waits;     /* how often they waited */
@@ -172,6 +173,7 @@ typedef struct sgt_shared_outcome {
     uint32_t tries;     /* how many transactions were started for it, the last one included */
     uint32_t waits;     /* how often it waited */
     sgt_ticket ticket;  /* the last of these transactions */
+    uint64_t sequence;  /* of SGT_COMMITTED and SGT_REFUSED: the `sequence` of its sgt_ended; else UINT64_MAX */
     sgt_reply reply;    /* the last reply */
 } sgt_shared_outcome;
 
@@ -183,7 +185,7 @@ typedef struct sgt_shared_outcome {
  *
  * SGT_NO_MEMORY; SGT_BAD_CALL also if the size in `config` is too small; the faults of sgt_open_with, which are written into `fault`.
  */
-uint32_t sgt_shared_open(sgt_shared **shared, const uint8_t *opening, size_t length, const sgt_row *rows, size_t count,
+uint32_t sgt_shared_open(sgt_shared **shared, const char *opening, size_t length, const sgt_row *rows, size_t count,
                          const sgt_shared_config *config, sgt_fault *fault);
 
 /*
@@ -339,8 +341,8 @@ uint32_t sgt_shared_abandon(sgt_shared *shared, const sgt_ticket *ticket);
 /*
  * Commits a transaction. Where it has to wait for another one, it waits until that has ended.
  *
- * SGT_TIMED_OUT if the deadline comes first, SGT_SELF_WAIT: the transaction is still live, so commit it again later, or quit it. SGT_STALE;
- * SGT_NO_MEMORY.
+ * SGT_TIMED_OUT if the deadline comes first, SGT_SELF_WAIT: the transaction is still live, so commit it again later, or quit it. The reply
+ * is then SGT_WAITS, and its `tid` is the transaction that it waits for. SGT_STALE; SGT_NO_MEMORY.
  */
 uint32_t sgt_shared_commit(sgt_shared *shared, const sgt_ticket *ticket, int64_t wait_ns, sgt_reply *reply);
 

@@ -67,7 +67,7 @@ int main(void)
     int64_t money = 0;
     int calls = 0;
     config.cut_after = 100000; /* entries of the history, 40 bytes each and their lists */
-    uint32_t status = sgt_shared_open(&bank, (const uint8_t *)opening, strlen(opening), 0, 0, &config, &fault);
+    uint32_t status = sgt_shared_open(&bank, opening, strlen(opening), 0, 0, &config, &fault);
     if (status != SGT_OK) {
         fprintf(stderr, "%s\n", sgt_status_text(status));
         return 1;

@@ -111,7 +111,7 @@ int main(void)
     const size_t count = sizeof transfers / sizeof *transfers;
     sgt_engine engine = {0};
     sgt_fault fault = {0};
-    uint32_t status = sgt_open(&engine, (const uint8_t *)OPENING, strlen(OPENING), &fault);
+    uint32_t status = sgt_open(&engine, OPENING, strlen(OPENING), &fault);
     if (status >= SGT_NOT_JSON) { /* a fault of the opening, which has a text */
         char text[2048];
         uint64_t length = 0;

@@ -67,11 +67,7 @@ inline void check_version()
 }
 
 // Returns the bytes of a text, which may be empty.
-inline const std::uint8_t *bytes_of(std::string_view text)
-{
-    static const std::uint8_t none = 0;
-    return text.data() ? reinterpret_cast<const std::uint8_t *>(text.data()) : &none;
-}
+inline const char *bytes_of(std::string_view text) { return text.data() ? text.data() : ""; }
 
 // Returns the explanation of a fault, or the fault's own text if there is none.
 template <typename Explain> std::string explained(const sgt_fault &fault, Explain explain)
@@ -397,6 +393,8 @@ public:
     }
 
 private:
+    friend class SharedEngine;
+
     sgt_engine engine{};
 
     Engine(std::uint64_t live, std::uint64_t begins, bool asks)
@@ -541,13 +539,17 @@ private:
 // reply to each call is SGT_OVER, or the call throws Stale.
 class [[nodiscard]] Transaction {
 public:
-    Transaction(Transaction &&other) noexcept : shared(other.shared), of(other.of), is_live(std::exchange(other.is_live, false)) {}
+    Transaction(Transaction &&other) noexcept
+        : shared(other.shared), of(other.of), is_live(std::exchange(other.is_live, false)), first(other.first)
+    {
+    }
 
     Transaction &operator=(Transaction &&other) noexcept
     {
         std::swap(shared, other.shared);
         std::swap(of, other.of);
         std::swap(is_live, other.is_live);
+        std::swap(first, other.first);
         return *this;
     }
 
@@ -568,8 +570,12 @@ public:
         return told(sgt_shared_step(shared, &of, &reply), reply);
     }
 
-    // Commits the transaction, and waits for its predecessors. Throws TimedOut if the deadline comes first; it is still live then.
+    // Commits the transaction, and waits for its predecessors. Throws TimedOut if the deadline comes first; it is still live then, and
+    // `waits_for` names the predecessor.
     [[nodiscard]] sgt_reply commit(Wait wait = std::nullopt);
+
+    // Returns the number of the transaction that the last commit waits for, if it threw TimedOut or SelfWait.
+    [[nodiscard]] std::optional<std::uint32_t> waits_for() const { return first; }
 
     // Aborts the transaction.
     sgt_reply quit()
@@ -588,6 +594,7 @@ private:
     sgt_shared *shared;
     sgt_ticket of;
     bool is_live = true; // false once it has ended, or has been moved from
+    std::optional<std::uint32_t> first; // what its last commit waits for
 };
 
 // An engine for many threads: any thread may call it at any time. Move it and close it while no other thread uses it.
@@ -598,16 +605,19 @@ public:
     {
         check_version();
         sgt_fault fault{};
-        sgt_shared_config config{};
-        config.size = sizeof config;
-        config.context = hooks.get();
-        if (hooks->ended) config.ended = tell_ended;
-        if (hooks->cutting) config.cutting = tell_cutting;
-        config.keeps_ended = hooks->keeps_ended;
-        config.cut_after = hooks->cut_after;
-        config.cut_wait_ns = hooks->cut_wait.count();
+        const auto config = for_c();
         auto status = sgt_shared_open(&shared, bytes_of(opening), opening.size(), rows.data(), rows.size(), &config, &fault);
         if (status >= SGT_NOT_JSON) throw Refused::opening(fault, opening);
+        check(status);
+    }
+
+    // Takes over an engine without a history: one that `put` and `procedure` have prepared, say. It is closed afterwards. Throws Begun if
+    // it has a history; then it is as before.
+    explicit SharedEngine(Engine &&prepared, Configuration with = {}) : hooks(std::make_unique<Configuration>(std::move(with)))
+    {
+        const auto config = for_c();
+        auto status = sgt_shared_take(&shared, &prepared.engine, &config);
+        if (status == SGT_BEGUN) throw Begun();
         check(status);
     }
 
@@ -781,6 +791,20 @@ private:
     std::unique_ptr<Configuration> hooks; // at a stable address, since the library keeps a pointer to it
     sgt_shared *shared = nullptr;
 
+    // The configuration in the library's form. It points to `hooks`.
+    sgt_shared_config for_c() const
+    {
+        sgt_shared_config config{};
+        config.size = sizeof config;
+        config.context = hooks.get();
+        if (hooks->ended) config.ended = tell_ended;
+        if (hooks->cutting) config.cutting = tell_cutting;
+        config.keeps_ended = hooks->keeps_ended;
+        config.cut_after = hooks->cut_after;
+        config.cut_wait_ns = hooks->cut_wait.count();
+        return config;
+    }
+
     // What is left of the limits.
     static Wait left(TransactLimits limits, std::chrono::steady_clock::time_point begin)
     {
@@ -862,7 +886,9 @@ inline bool OwnTransaction::is_committed(Wait wait)
 inline sgt_reply Transaction::commit(Wait wait)
 {
     sgt_reply reply{};
-    return told(sgt_shared_commit(shared, &of, SharedEngine::nanoseconds(wait), &reply), reply);
+    auto status = sgt_shared_commit(shared, &of, SharedEngine::nanoseconds(wait), &reply);
+    first = reply.kind == SGT_WAITS ? std::optional(reply.tid) : std::nullopt;
+    return told(status, reply);
 }
 
 inline sgt_reply Transaction::told(std::uint32_t status, const sgt_reply &reply)

@@ -30,12 +30,12 @@ static const int64_t deposit[] = {1, 100};
 
 static uint32_t opens(sgt_engine *engine, const char *text, sgt_fault *fault)
 {
-    return sgt_open(engine, (const uint8_t *)text, strlen(text), fault);
+    return sgt_open(engine, text, strlen(text), fault);
 }
 
 static uint32_t opens_with(sgt_engine *engine, const char *text, const sgt_row *rows, size_t count, sgt_fault *fault)
 {
-    return sgt_open_with(engine, (const uint8_t *)text, strlen(text), rows, count, fault);
+    return sgt_open_with(engine, text, strlen(text), rows, count, fault);
 }
 
 static int is_row(const sgt_row *row, uint32_t table, int64_t number, int64_t value)
@@ -297,7 +297,7 @@ static void rows_are_put(void)
 
 static uint32_t adds(sgt_engine *engine, const char *text, uint16_t *number, sgt_fault *fault)
 {
-    return sgt_procedure(engine, (const uint8_t *)text, strlen(text), number, fault);
+    return sgt_procedure(engine, text, strlen(text), number, fault);
 }
 
 static void procedures_are_added(void)
@@ -353,8 +353,8 @@ static void refusals_are_explained(void)
     const char limit[] = "\"limits\": the first number is 33, and has to be from 1 to 32";
     char text[200] = "unwritten";
     uint64_t length = 77;
-#define OPENING(given, room) sgt_explain_opening((const uint8_t *)(given), strlen(given), text, room, &length)
-#define PROCEDURE(number, given, room) sgt_explain_procedure(number, (const uint8_t *)(given), strlen(given), text, room, &length)
+#define OPENING(given, room) sgt_explain_opening((given), strlen(given), text, room, &length)
+#define PROCEDURE(number, given, room) sgt_explain_procedure(number, (given), strlen(given), text, room, &length)
     CHECK(OPENING(opening, sizeof text) == 4 && PROCEDURE(5, "[0,[]]", sizeof text) == 4);
     CHECK(length == 77 && !strcmp(text, "unwritten"));
     CHECK(OPENING(shape, sizeof misfit - 2) == 0 && length == sizeof misfit - 1 && !strcmp(text, "unwritten"));
@@ -366,8 +366,8 @@ static void refusals_are_explained(void)
     CHECK(explains("column 1: not JSON from here", PROCEDURE(0, "nope", sizeof text), text, &length));
     CHECK(sgt_explain_opening(0, 0, 0, 0, &length) == 0 && length > 0);
     CHECK(sgt_explain_opening(0, 1, text, sizeof text, &length) == 5 && sgt_explain_procedure(0, 0, 1, text, sizeof text, &length) == 5);
-    CHECK(sgt_explain_opening((const uint8_t *)shape, 1, 0, 1, &length) == 5);
-    CHECK(sgt_explain_procedure(0, (const uint8_t *)shape, 1, text, sizeof text, 0) == 5);
+    CHECK(sgt_explain_opening(shape, 1, 0, 1, &length) == 5);
+    CHECK(sgt_explain_procedure(0, shape, 1, text, sizeof text, 0) == 5);
 #undef OPENING
 #undef PROCEDURE
 }
@@ -395,7 +395,7 @@ static void procedures_are_texts(void)
     CHECK(sgt_open_bare(&other, 8, 100, 1) == 0);
     for (uint16_t each = 0; each <= 5; each++) {
         CHECK(sgt_procedure_text(&engine, each, text, sizeof text, &length) == 0 && length <= sizeof text);
-        CHECK(sgt_procedure(&other, (const uint8_t *)text, length, &number, &fault) == 0 && number == each);
+        CHECK(sgt_procedure(&other, text, length, &number, &fault) == 0 && number == each);
         CHECK(sgt_procedure_text(&other, each, back, sizeof back, &again) == 0 && again == length && memcmp(text, back, length) == 0);
     }
     sgt_close(&engine);
@@ -712,7 +712,7 @@ static void fields_of_faults_stay(void)
     CHECK(opens(&engine, opening, &fault) == 0);
     CHECK(opens(&engine, shape, &fault) == 3);
     CHECK(opens_with(&engine, shape, 0, 0, &fault) == 3);
-    CHECK(sgt_procedure(&engine, (const uint8_t *)"[0,[]]", 6, &number, &fault) == 0 && number == 5);
+    CHECK(sgt_procedure(&engine, "[0,[]]", 6, &number, &fault) == 0 && number == 5);
     CHECK(memcmp(&fault, &want, sizeof fault) == 0);
     sgt_close(&engine);
 }
@@ -720,7 +720,7 @@ static void fields_of_faults_stay(void)
 /* Each pointer of each call in turn: a null engine is a closed one, and another null pointer a bad call. Nothing is written. */
 static void null_pointers_are_told(void)
 {
-    const uint8_t *line = (const uint8_t *)opening;
+    const char *line = opening;
     const size_t length = strlen(opening);
     const sgt_call asked = {.procedure = 1, .args = 2, .arg = {1, 100}};
     const sgt_row own = {7, 0, 5, 50};
@@ -843,7 +843,7 @@ static void a_busy_engine_is_left_alone(void)
     CHECK(opens_with(&engine, opening, &own, 1, &fault) == 10);
     CHECK(sgt_open_bare(&engine, 8, 100, 1) == 10);
     CHECK(sgt_put(&engine, &own, 1, &count) == 10);
-    CHECK(sgt_procedure(&engine, (const uint8_t *)"", 0, &number, &fault) == 10);
+    CHECK(sgt_procedure(&engine, "", 0, &number, &fault) == 10);
     CHECK(sgt_start(&engine, 1, deposit, 2, &told) == 10);
     CHECK(sgt_step(&engine, 0, &told) == 10);
     CHECK(sgt_commit(&engine, 0, &told) == 10);

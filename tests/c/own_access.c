@@ -27,7 +27,7 @@ static const int64_t deposit[] = {1, 100};
 static void opens(sgt_engine *engine)
 {
     sgt_fault fault = {0};
-    CHECK(sgt_open(engine, (const uint8_t *)bank, strlen(bank), &fault) == 0);
+    CHECK(sgt_open(engine, bank, strlen(bank), &fault) == 0);
 }
 
 static uint32_t begins(sgt_engine *engine)

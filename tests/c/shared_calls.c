@@ -36,7 +36,7 @@ static const int64_t name[] = {1};
 
 static uint32_t opens(sgt_shared **shared, const char *text, const sgt_shared_config *config, sgt_fault *fault)
 {
-    return sgt_shared_open(shared, (const uint8_t *)text, strlen(text), 0, 0, config, fault);
+    return sgt_shared_open(shared, text, strlen(text), 0, 0, config, fault);
 }
 
 /* An engine with two live at most, and two accounts. */
@@ -81,7 +81,7 @@ static void engines_are_opened_and_closed(void)
     CHECK(opens(&shared, opening, &small, &fault) == SGT_BAD_CALL && !shared);
     CHECK(opens(0, opening, 0, &fault) == SGT_BAD_CALL && opens(&shared, opening, 0, 0) == SGT_BAD_CALL);
     CHECK(sgt_shared_open(&shared, 0, 0, 0, 0, 0, &fault) == SGT_BAD_CALL);
-    const uint8_t *text = (const uint8_t *)opening;
+    const char *text = opening;
     CHECK(sgt_shared_open(&shared, text, strlen(opening), 0, 1, 0, &fault) == SGT_BAD_CALL);
     CHECK(sgt_shared_open(&shared, text, strlen(opening), rows, 2, 0, &fault) == SGT_BAD_CALL && !shared);
     CHECK(sgt_shared_open(&shared, text, strlen(opening), rows, 1, 0, &fault) == SGT_OK);
@@ -104,7 +104,7 @@ static void an_engine_is_taken_over(void)
     int64_t value = 0;
     uint32_t tid = 0;
     CHECK(sgt_shared_take(&shared, &engine, 0) == SGT_CLOSED);
-    CHECK(sgt_open(&engine, (const uint8_t *)opening, strlen(opening), &fault) == SGT_OK);
+    CHECK(sgt_open(&engine, opening, strlen(opening), &fault) == SGT_OK);
     CHECK(sgt_run(&engine, 1, deposit, 2, &tid, &reply) == SGT_OK);
     CHECK(sgt_shared_take(&shared, &engine, 0) == SGT_BEGUN && !shared && engine.is_open);
     uint64_t live = 0;
@@ -254,7 +254,10 @@ static void a_commit_waits(void)
         CHECK(sgt_shared_start(shared, 0, name, 1, 0, &reader.ticket, &reply) == SGT_OK);
         for (int step = 0; step < 4; step++) CHECK(sgt_shared_step(shared, &reader.ticket, &reply) == SGT_OK);
         CHECK(reply.kind == SGT_ENDED && sgt_shared_commit(shared, &reader.ticket, 2 * MS, &reply) == SGT_TIMED_OUT);
-        CHECK(reply.kind == SGT_ENDED);
+        CHECK(reply.kind == SGT_WAITS && reply.tid == writer.tid);
+        reply = (sgt_reply){0};
+        CHECK(sgt_shared_commit(shared, &reader.ticket, SGT_FOREVER, &reply) == SGT_SELF_WAIT);
+        CHECK(reply.kind == SGT_WAITS && reply.tid == writer.tid);
         in_a_thread(&reader);
         until_one_waits(shared);
         pause_for(20 * MS);
@@ -369,7 +372,7 @@ static void a_run_has_so_many_tries(void)
     CHECK(sgt_shared_quit(shared, &writer, &reply) == SGT_OK);
     pthread_join(reader.id, 0);
     CHECK(reader.status == SGT_OK && reader.outcome.reply.kind == SGT_OVER && reader.outcome.reply.cause == SGT_BY_FALL);
-    CHECK(reader.outcome.tries == 1);
+    CHECK(reader.outcome.tries == 1 && reader.outcome.sequence == UINT64_MAX);
     closes(shared);
 }
 
@@ -499,16 +502,19 @@ static void hooks_are_told(void)
     const int64_t unknown[] = {9, 1};
     CHECK(sgt_shared_run(shared, 1, deposit, 2, 0, &outcome) == SGT_OK && heard.calls == 1 && heard.misuses == 3);
     CHECK(heard.last.sequence == 0 && heard.last.call.kind == SGT_COMMITTED && heard.last.call.procedure == 1 && heard.last.call.args == 2);
+    CHECK(outcome.sequence == 0);
     CHECK(heard.last.call.arg[1] == 100 && heard.last.call.answers == 1 && heard.last.call.answer[0] == 1100);
     CHECK(memcmp(&heard.last.ticket, &outcome.ticket, sizeof outcome.ticket) == 0);
     CHECK(sgt_shared_run(shared, 1, unknown, 2, 0, &outcome) == SGT_OK && heard.calls == 2);
     CHECK(heard.last.call.kind == SGT_REFUSED && heard.last.call.code == 1 && heard.last.call.answers == 0 && heard.last.sequence == 1);
+    CHECK(outcome.sequence == 1);
     sgt_ticket ticket = begins(shared, 1);
     CHECK(sgt_shared_quit(shared, &ticket, &reply) == SGT_OK && heard.calls == 2); /* an abort is not told */
     ticket = begins(shared, 4);
     CHECK(sgt_shared_commit(shared, &ticket, 0, &reply) == SGT_OK && heard.calls == 3 && heard.last.call.answer[0] == 1200);
     CHECK(sgt_shared_cut(shared, 0) == SGT_OK && heard.parts == 1 && heard.entries > 0);
     CHECK(sgt_shared_run(shared, 1, deposit, 2, 0, &outcome) == SGT_OK && heard.last.sequence == 3 && heard.last.ticket.part == 1);
+    CHECK(outcome.sequence == 3);
     closes(shared);
     closes(heard.other);
 }

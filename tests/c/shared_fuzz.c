@@ -310,8 +310,7 @@ static void opens(struct input *input)
     sgt_fault fault = {0};
     uint64_t length = 0;
     const size_t taken = input->left < 200 ? input->left : 200;
-    const uint8_t none = 0;
-    const uint32_t status = sgt_open(&engine, taken ? input->at : &none, taken, &fault);
+    const uint32_t status = sgt_open(&engine, taken ? (const char *)input->at : "", taken, &fault);
     must(status == SGT_OK ? engine.is_open : status >= SGT_NOT_JSON && fault.kind == status && !engine.is_open, "an opening");
     char text[16];
     if (status >= SGT_NOT_JSON) must(sgt_fault_text(&fault, text, sizeof text, &length) == SGT_OK, "a fault has no text");
@@ -358,7 +357,7 @@ int LLVMFuzzerTestOneInput(const uint8_t *data, size_t size)
     struct pair pair = {0};
     struct input input = {data, size};
     sgt_fault fault = {0};
-    const uint8_t *text = (const uint8_t *)opening;
+    const char *text = opening;
     must(sgt_open(&pair.plain, text, sizeof opening - 1, &fault) == SGT_OK, "not opened");
     sgt_shared_config config = SGT_SHARED_CONFIG;
     config.cutting = compare, config.context = &pair;

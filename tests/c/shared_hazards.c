@@ -39,7 +39,7 @@ static sgt_shared *opened(const sgt_shared_config *config)
 {
     sgt_shared *shared = 0;
     sgt_fault fault = {0};
-    CHECK(sgt_shared_open(&shared, (const uint8_t *)opening, strlen(opening), 0, 0, config, &fault) == SGT_OK);
+    CHECK(sgt_shared_open(&shared, opening, strlen(opening), 0, 0, config, &fault) == SGT_OK);
     return shared;
 }
 

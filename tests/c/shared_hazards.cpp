@@ -53,7 +53,7 @@ static void hooks_of_c_throw()
     config.ended = throws;
     config.keeps_ended = 1;
     outcome.size = sizeof outcome;
-    auto text = reinterpret_cast<const std::uint8_t *>(opening);
+    const char *text = opening;
     CHECK(sgt_shared_open(&shared, text, std::strlen(opening), nullptr, 0, &config, &fault) == SGT_OK);
     CHECK(thrown([&] { sgt_shared_run(shared, WRITE, nullptr, 0, nullptr, &outcome); }) == "full disk");
     CHECK(outcome.reply.kind == SGT_COMMITTED && sgt_shared_live(shared, nullptr, 0, &count) == SGT_OK && count == 0);

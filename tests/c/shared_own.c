@@ -38,7 +38,7 @@ static sgt_shared *opened(const sgt_shared_config *config)
     const sgt_row rows[] = {{TABLE, 0, 1, 10}, {TABLE, 0, 2, 20}, {TABLE, 0, 3, 30}};
     sgt_shared *shared = 0;
     sgt_fault fault = {0};
-    CHECK(sgt_shared_open(&shared, (const uint8_t *)opening, strlen(opening), rows, 3, config, &fault) == SGT_OK);
+    CHECK(sgt_shared_open(&shared, opening, strlen(opening), rows, 3, config, &fault) == SGT_OK);
     return shared;
 }
 
@@ -391,7 +391,7 @@ static void spent_starts_are_told(void)
     sgt_fault fault = {0};
     sgt_shared_outcome out = fresh;
     struct note note = {.returns = SGT_BODY_COMMIT};
-    CHECK(sgt_shared_open(&shared, (const uint8_t *)few, strlen(few), 0, 0, 0, &fault) == SGT_OK);
+    CHECK(sgt_shared_open(&shared, few, strlen(few), 0, 0, 0, &fault) == SGT_OK);
     CHECK(sgt_shared_transact(shared, removes, &note, 0, &out) == SGT_OK && out.reply.kind == SGT_COMMITTED);
     CHECK(sgt_shared_transact(shared, adds, &note, 0, &out) == SGT_OK && out.reply.kind == SGT_SPENT && out.tries == 0 && note.calls == 0);
     closes(shared);
@@ -550,7 +550,7 @@ static sgt_shared *bank(void)
     static const char accounts[] = "{\"limits\":[4,100000,1],\"accounts\":[[1,101,500,1000]],\"procedures\":[]}";
     sgt_shared *shared = 0;
     sgt_fault fault = {0};
-    CHECK(sgt_shared_open(&shared, (const uint8_t *)accounts, strlen(accounts), 0, 0, 0, &fault) == SGT_OK);
+    CHECK(sgt_shared_open(&shared, accounts, strlen(accounts), 0, 0, 0, &fault) == SGT_OK);
     return shared;
 }
 

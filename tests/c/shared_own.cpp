@@ -194,7 +194,7 @@ static void bodies_of_c_throw()
     sgt_shared_outcome outcome{};
     std::uint64_t count = 77;
     outcome.size = sizeof outcome;
-    auto text = reinterpret_cast<const std::uint8_t *>(opening);
+    const char *text = opening;
     CHECK(sgt_shared_open(&shared, text, std::strlen(opening), rows.data(), rows.size(), nullptr, &fault) == SGT_OK);
     CHECK(throws<std::runtime_error>([&] { sgt_shared_transact(shared, throws_in_c, nullptr, nullptr, &outcome); }));
     CHECK(sgt_shared_live(shared, nullptr, 0, &count) == SGT_OK && count == 0);
@@ -224,6 +224,28 @@ static void single_calls_are_answered()
     CHECK(throws<std::invalid_argument>([&] { engine.read(tid, 8, 1); }));
     CHECK(engine.commit(tid).kind == SGT_COMMITTED && engine.get(TABLE, 104) == 5 && !engine.get(TABLE, 101));
     CHECK(engine.calls(0, 8)->first.at(0).accesses == 3);
+}
+
+// A shared engine is made of a prepared one, and a commit that times out says for whom it waited.
+static void engines_are_taken_over()
+{
+    auto prepared = sgt::Engine::bare(2, 100);
+    prepared.put(rows);
+    CHECK(prepared.procedure(R"([0,[["put",2,101,11]]])") == 0 && prepared.procedure(R"([0,[["look",0,2,101,6]]])") == 1);
+    sgt::SharedEngine bank(std::move(prepared));
+    CHECK(throws<std::logic_error>([&] { prepared.rows(); }));
+    auto writer = bank.start(0, {}).first, reader = bank.start(1, {}).first;
+    CHECK(writer->step().kind == SGT_WROTE && reader->step().kind == SGT_LOOKED && reader->step().kind == SGT_ENDED);
+    CHECK(!reader->waits_for());
+    CHECK(throws<sgt::TimedOut>([&] { static_cast<void>(reader->commit(milliseconds(1))); }));
+    CHECK(reader->waits_for() == writer->ticket().tid);
+    CHECK(writer->step().kind == SGT_ENDED && writer->commit().kind == SGT_COMMITTED);
+    CHECK(reader->commit().kind == SGT_COMMITTED && !reader->waits_for());
+    auto outcome = bank.run(0, {});
+    CHECK(outcome.reply.kind == SGT_COMMITTED && outcome.sequence == 2);
+    sgt::Engine begun(opening, rows);
+    begun.begin();
+    CHECK(throws<sgt::Begun>([&] { sgt::SharedEngine taken(std::move(begun)); }) && begun.entries() == 1);
 }
 
 // Which transaction: its part and its number.
@@ -299,6 +321,7 @@ int main()
     bodies_of_c_throw();
     threads_end_in_bodies();
     single_calls_are_answered();
+    engines_are_taken_over();
     threads_share_three_records();
     std::printf("%d checks, %d failed\n", checks.load(), failed.load());
     return failed ? 1 : 0;

@@ -238,6 +238,27 @@ fn shares() -> Result<(), Error> {
     Ok(())
 }
 
+/// A shared engine is made of a prepared one, and a commit that times out says for whom it waited.
+fn takes_over() -> Result<(), Error> {
+    let mut engine = Engine::open_bare(2, 100, true)?;
+    engine.put(&[Row { table: TABLE, number: 101, value: 10 }])?;
+    assert_eq!((engine.procedure(r#"[0,[["put",2,101,11]]]"#)?, engine.procedure(r#"[0,[["look",0,2,101,6]]]"#)?), (0, 1));
+    let bank = SharedEngine::take(engine, Configuration::default())?;
+    let mut writer = bank.start(0, &[], None)?.expect("it is started");
+    let mut reader = bank.start(1, &[], None)?.expect("it is started");
+    assert!(matches!((writer.step()?, reader.step()?), (Reply::Wrote { .. }, Reply::Looked { .. })));
+    assert_eq!((reader.step()?, reader.waits_for()), (Reply::Ended, None));
+    assert_eq!(reader.commit(Some(Duration::from_millis(1))), Err(Error::TimedOut));
+    assert_eq!(reader.waits_for(), Some(writer.ticket().tid));
+    assert_eq!(writer.step()?, Reply::Ended);
+    assert!(matches!((writer.commit(None)?, reader.commit(None)?), (Reply::Committed(_), Reply::Committed(_))));
+    assert_eq!((reader.waits_for(), bank.run(0, &[])?.sequence, bank.run(9, &[])?.sequence), (None, Some(2), None));
+    let mut begun = Engine::open(OPENING)?;
+    begun.begin()?;
+    assert_eq!(SharedEngine::take(begun, Configuration::default()).err(), Some(Error::Begun));
+    Ok(())
+}
+
 fn main() -> Result<(), Error> {
     std::panic::set_hook(Box::new(|_| {})); // the panic here is meant
     commits()?;
@@ -246,6 +267,7 @@ fn main() -> Result<(), Error> {
     says_why()?;
     tries_again()?;
     answers_single_calls()?;
+    takes_over()?;
     shares()?;
     println!("all held");
     Ok(())

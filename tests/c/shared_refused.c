@@ -126,7 +126,7 @@ static int run(void)
     uint32_t status;
     int refused = 0, ran, stepped, transacted, ended;
     config.keeps_ended = 1;
-    while ((status = sgt_shared_open(&shared, (const uint8_t *)opening, strlen(opening), 0, 0, &config, &fault)) == SGT_NO_MEMORY) {
+    while ((status = sgt_shared_open(&shared, opening, strlen(opening), 0, 0, &config, &fault)) == SGT_NO_MEMORY) {
         if (shared) return -1;
         refused++;
     }

@@ -386,7 +386,7 @@ int main(int argc, char **argv)
     sgt_shared_config config = SGT_SHARED_CONFIG;
     config.ended = tell_ended, config.cutting = write_entries;
     config.keeps_ended = 1, config.cut_after = 1000, config.cut_wait_ns = 2000000;
-    const uint8_t *text = (const uint8_t *)opening;
+    const char *text = opening;
     must(sgt_shared_open(&shared, text, sizeof opening - 1, 0, 0, &config, &fault) == SGT_OK, "the engine is not opened");
     work_all(threads, many);
     must(sgt_shared_cut(shared, 0) == SGT_OK, "somebody is live at the end");

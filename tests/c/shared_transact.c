@@ -231,7 +231,7 @@ static void opens(void)
     sgt_fault fault = {0};
     config.ended = notes_end, config.cutting = notes_accesses;
     config.cut_after = 5000, config.cut_wait_ns = 1000000;
-    if (sgt_shared_open(&bank, (const uint8_t *)opening, strlen(opening), 0, 0, &config, &fault) != SGT_OK) exit(2);
+    if (sgt_shared_open(&bank, opening, strlen(opening), 0, 0, &config, &fault) != SGT_OK) exit(2);
 }
 
 /* Starts the threads, and ends them. What they did is put together, and counted in the first of them. */

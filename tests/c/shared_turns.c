@@ -67,7 +67,7 @@ int main(int argc, char **argv)
     must(many >= 1 && many <= MOST_THREADS, "shared_turns THREADS RUNS");
     wanted = atol(argv[2]), left = many;
     sgt_fault fault = {0};
-    must(sgt_shared_open(&shared, (const uint8_t *)opening, sizeof opening - 1, 0, 0, 0, &fault) == SGT_OK, "no engine");
+    must(sgt_shared_open(&shared, opening, sizeof opening - 1, 0, 0, 0, &fault) == SGT_OK, "no engine");
     must(pthread_barrier_init(&begin, 0, (unsigned)many) == 0, "no barrier");
     clock_gettime(CLOCK_MONOTONIC, &opened);
     for (int i = 0; i < many; i++) must(pthread_create(&threads[i].id, 0, runs, &threads[i]) == 0, "no thread");

@@ -159,6 +159,7 @@ class CSharedOutcome(ctypes.Structure):
         ("tries", ctypes.c_uint32),
         ("waits", ctypes.c_uint32),
         ("ticket", CTicket),
+        ("sequence", ctypes.c_uint64),
         ("reply", CReply),
     ]
 
@@ -172,6 +173,7 @@ class CTransaction(ctypes.Structure):
         ("size", ctypes.c_size_t),
         ("shared", ctypes.c_void_p),
         ("ticket", CTicket),
+        ("sequence", ctypes.c_uint64),
         ("ends", ctypes.c_uint64),
         *((name, ctypes.c_uint32) for name in ("tries", "waits", "status", "is_live")),
         ("reply", CReply),
@@ -217,6 +219,7 @@ _ENGINE_CALLS = {
     "sgt_explain_opening": [_text, _size, _text, _size, _count],
     "sgt_explain_procedure": [_u64, _text, _size, _text, _size, _count],
     "sgt_close": [_engine],
+    "sgt_shared_take": [ctypes.POINTER(_shared), _engine, ctypes.POINTER(CSharedConfig)],
 }
 _SHARED_CALLS = {
     "sgt_shared_open": [ctypes.POINTER(_shared), _text, _size, _row, _size, ctypes.POINTER(CSharedConfig), _fault],

@@ -11,6 +11,7 @@ from typing import Callable, NamedTuple, Optional, Sequence, TypeVar, Union, ove
 
 from ._errors import BadCall, Busy, Error, Misuse, NotStarted
 from ._ended import Ended, Stored, Teller, Ticket, ended_of, ticket_of
+from ._engine import Engine
 from ._interrupts import interruptible
 from ._library import (
     ABANDON,
@@ -18,6 +19,7 @@ from ._library import (
     CLOSED,
     FIRST_FAULT,
     FREE,
+    HELD,
     LEAST,
     MOST,
     NONE,
@@ -61,12 +63,14 @@ class Live(NamedTuple):
 
 
 class Outcome(NamedTuple):
-    """The outcome of a run: the last reply, the last transaction, how many were started for it, and how often it waited."""
+    """The outcome of a run: the last reply, the last transaction, how many were started for it, and how often it waited. `sequence` is that
+    of its Ended, if it was committed or refused."""
 
     reply: Reply
     ticket: Optional[Ticket]
     tries: int
     waits: int
+    sequence: Optional[int]
 
 
 class SharedEngine(Uncopied):
@@ -95,22 +99,51 @@ class SharedEngine(Uncopied):
 
         With `keeps_ended` such calls are stored until `drain` takes them. Once the history has `cut_after` entries and no transaction
         is live, it is cut off (0: never); new transactions wait at most `cut_wait` seconds for that.
+
+        If there are two limits, the third one is 1: codes are reported at the commit, so that they are true in the serial order.
         """
-        self._shared = ctypes.c_void_p()
-        self._keeps = bool(keeps_ended)
-        self._stored = Stored()
-        self._teller = Teller(self._shared, ended, self._stored if keeps_ended else None) if ended else None
-        config = CSharedConfig(
-            size=ctypes.sizeof(CSharedConfig),
-            keeps_ended=self._keeps or self._teller is not None,
-            cut_after=whole(cut_after, 0, 2**64 - 1),
-            cut_wait_ns=nanoseconds(cut_wait),
-        )
+        config = self._configured(ended, keeps_ended, cut_after, cut_wait)
+        limits = (*limits, 1) if len(limits) == 2 else limits
         line, fault = opening_of(limits, accounts, procedures), CFault()
         status = FREE.sgt_shared_open(self._shared, line, len(line), rows_for(rows), len(rows), config, fault)
         if status >= FIRST_FAULT:
             raise opening_refused(status, fault, line)
         check(status)
+
+    @classmethod
+    def take(
+        cls,
+        engine: Engine,
+        *,
+        ended: Optional[Callable[[Ended], None]] = None,
+        keeps_ended: bool = False,
+        cut_after: int = 0,
+        cut_wait: float = 0,
+    ) -> SharedEngine:
+        """Takes over an engine without a history: one that `put` and `procedure` have prepared, say. It is closed afterwards. Its limits
+        stay. The options are those of `SharedEngine`.
+
+        Raises Begun if it has a history; then it is as before.
+        """
+        taker = cls.__new__(cls)
+        config = taker._configured(ended, keeps_ended, cut_after, cut_wait)
+        check(HELD.sgt_shared_take(taker._shared, engine._engine, config))
+        return taker
+
+    def _configured(
+        self, ended: Optional[Callable[[Ended], None]], keeps_ended: bool, cut_after: int, cut_wait: float
+    ) -> CSharedConfig:
+        """Sets all but the engine, and returns the configuration in the library's form."""
+        self._shared = ctypes.c_void_p()
+        self._keeps = bool(keeps_ended)
+        self._stored = Stored()
+        self._teller = Teller(self._shared, ended, self._stored if keeps_ended else None) if ended else None
+        return CSharedConfig(
+            size=ctypes.sizeof(CSharedConfig),
+            keeps_ended=self._keeps or self._teller is not None,
+            cut_after=whole(cut_after, 0, 2**64 - 1),
+            cut_wait_ns=nanoseconds(cut_wait),
+        )
 
     def _ask(self, function: Callable[..., int], *words: object) -> int:
         """Makes a call and returns its status."""
@@ -144,7 +177,8 @@ class SharedEngine(Uncopied):
         check(self._wait(FREE.sgt_shared_run, whole(procedure, 0, 65535), given, len(args), options, outcome))
         self._tell(outcome.ticket)
         ticket = ticket_of(outcome.ticket) if outcome.tries else None
-        return Outcome(reply_of(outcome.reply, outcome.reply), ticket, outcome.tries, outcome.waits)
+        sequence = outcome.sequence if outcome.sequence < 2**64 - 1 else None
+        return Outcome(reply_of(outcome.reply, outcome.reply), ticket, outcome.tries, outcome.waits, sequence)
 
     def transact(self, body: Callable[[OwnTransaction], _Result], *, timeout: Optional[float] = None, tries: int = 8) -> _Result:
         """Runs `body(t)` as a transaction, commits it, and returns what the body returned. The body reads and writes by `t.read`, `t.write`
@@ -324,6 +358,9 @@ class Transaction:
 
     _guard: Optional[weakref.ref[Transaction]] = None  # aborts it; no Python code runs then, in which an interrupt could come
 
+    waits_for: Optional[int] = None
+    """The number of the transaction that the last commit waits for, if it raised TimedOut or SelfWait."""
+
     def __init__(self, engine: SharedEngine, ticket: CTicket) -> None:
         self._engine, self._ticket = engine, ticket
         self._guard = weakref.ref(self, functools.partial(ABANDON, engine._shared, ticket))
@@ -339,9 +376,13 @@ class Transaction:
         return self._replied(told)
 
     def commit(self, timeout: Optional[float] = None) -> Reply:
-        """Commits it, and waits for its predecessors. Raises TimedOut if the deadline comes first; it is still live then."""
+        """Commits it, and waits for its predecessors. Raises TimedOut if the deadline comes first; it is still live then, and `waits_for`
+        names the predecessor.
+        """
         told = CReply()
-        check(self._engine._wait(FREE.sgt_shared_commit, self._ticket, nanoseconds(timeout), told))
+        status = self._engine._wait(FREE.sgt_shared_commit, self._ticket, nanoseconds(timeout), told)
+        self.waits_for = told.tid if told.kind == Kind.WAITS else None
+        check(status)
         reply = self._replied(told)
         self._engine._tell(self._ticket)
         return reply

@@ -253,6 +253,11 @@ impl Engine {
         }
     }
 
+    /// The engine, as the library has it.
+    pub(crate) fn handle(&mut self) -> &mut c::Engine {
+        self.inner.get_mut()
+    }
+
     fn ask(&mut self, event: Ask, tid: u32) -> Result<Reply, Error> {
         let mut reply = c::Reply::default();
         let status = unsafe { event(self.inner.get_mut(), tid, &mut reply) };

@@ -132,6 +132,7 @@ impl OwnTransaction {
             size: size_of::<c::Transaction>(),
             shared: std::ptr::null_mut(),
             ticket: Ticket::default(),
+            sequence: u64::MAX,
             ends: 0,
             tries: 0,
             waits: 0,

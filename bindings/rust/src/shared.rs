@@ -1,6 +1,6 @@
 //! One engine for many threads.
 use crate::convert::{accesses_of, call_of, done, no_fault, opening_refused, reply_of, row_for, row_of};
-use crate::{check_version, Access, Call, Error, Reply, Row};
+use crate::{check_version, Access, Call, Engine, Error, Reply, Row};
 use sgt_sys::{self as c, Ticket};
 use std::mem::size_of;
 use std::os::raw::c_void;
@@ -63,6 +63,8 @@ pub struct Outcome {
     pub waits: u32,
     /// The last transaction, if one was started.
     pub ticket: Option<Ticket>,
+    /// That of its [`Ended`], if it was committed or refused.
+    pub sequence: Option<u64>,
     pub reply: Reply,
 }
 
@@ -110,18 +112,7 @@ impl SharedEngine {
     pub fn open_with(opening: &str, rows: &[Row], with: Configuration) -> Result<SharedEngine, Error> {
         check_version()?;
         let rows: Vec<c::Row> = rows.iter().map(row_for).collect();
-        let hook = with.ended.map_or(std::ptr::null_mut(), |hook| Box::into_raw(Box::new(hook)));
-        let config = c::SharedConfig {
-            size: size_of::<c::SharedConfig>(),
-            ended: (!hook.is_null()).then_some(tell as c::EndedHook),
-            cutting: None,
-            context: hook.cast(),
-            keeps_ended: with.keeps_ended.into(),
-            spare: 0,
-            cut_after: with.cut_after,
-            cut_wait_ns: nanoseconds(Some(with.cut_wait)),
-        };
-        let (mut inner, mut fault) = (Inner { shared: std::ptr::null_mut(), hook }, no_fault());
+        let ((mut inner, config), mut fault) = (configured(with), no_fault());
         let (bytes, length) = (opening.as_ptr(), opening.len());
         // The pointers are of distinct values that live during the call. The same holds for each call below.
         let status = unsafe {
@@ -131,6 +122,13 @@ impl SharedEngine {
             c::NOT_JSON.. => Err(opening_refused(&fault, opening)),
             _ => done(status).map(|()| SharedEngine(Arc::new(inner))),
         }
+    }
+
+    /// Takes over an engine without a history: one that `put` and `procedure` have prepared, say. `Begun` if it has a history; it is closed
+    /// then, too.
+    pub fn take(mut engine: Engine, with: Configuration) -> Result<SharedEngine, Error> {
+        let (mut inner, config) = configured(with);
+        done(unsafe { c::sgt_shared_take(&mut inner.shared, engine.handle(), &config) }).map(|()| SharedEngine(Arc::new(inner)))
     }
 
     /// Runs a procedure from its start to its commit, with at most four arguments. It waits and tries again as often as needed.
@@ -154,6 +152,7 @@ impl SharedEngine {
             tries: outcome.tries,
             waits: outcome.waits,
             ticket: (outcome.tries > 0).then_some(outcome.ticket),
+            sequence: (outcome.sequence != u64::MAX).then_some(outcome.sequence),
             reply: reply_of(&outcome.reply),
         })
     }
@@ -171,7 +170,7 @@ impl SharedEngine {
             c::sgt_shared_start(self.at(), procedure.into(), args.as_ptr(), count, wait, &mut ticket, &mut reply)
         })?;
         Ok(match reply_of(&reply) {
-            Reply::Started(_) => Ok(Transaction { engine: self.clone(), ticket, is_live: true }),
+            Reply::Started(_) => Ok(Transaction { engine: self.clone(), ticket, is_live: true, waits_for: None }),
             refused => Err(refused),
         })
     }
@@ -249,6 +248,7 @@ pub struct Transaction {
     engine: SharedEngine,
     ticket: Ticket,
     is_live: bool,
+    waits_for: Option<u32>,
 }
 
 impl Transaction {
@@ -263,11 +263,21 @@ impl Transaction {
         self.told(status, &reply)
     }
 
-    /// Commits it, and waits for its predecessors; `None` without a limit. `TimedOut` if the deadline comes first; it is still live then.
+    /// Commits it, and waits for its predecessors; `None` without a limit. `TimedOut` if the deadline comes first; it is still live then,
+    /// and `waits_for` names the predecessor.
     pub fn commit(&mut self, wait: Option<Duration>) -> Result<Reply, Error> {
         let mut reply = c::Reply::default();
         let status = unsafe { c::sgt_shared_commit(self.engine.at(), &self.ticket, nanoseconds(wait), &mut reply) };
+        self.waits_for = match reply_of(&reply) {
+            Reply::Waits(first) => Some(first),
+            _ => None,
+        };
         self.told(status, &reply)
+    }
+
+    /// The number of the transaction that the last commit waits for, if its error was `TimedOut` or `SelfWait`.
+    pub fn waits_for(&self) -> Option<u32> {
+        self.waits_for
     }
 
     /// Aborts it.
@@ -293,6 +303,22 @@ impl Drop for Transaction {
             let _ = unsafe { c::sgt_shared_abandon(self.engine.at(), &self.ticket) };
         }
     }
+}
+
+/// Returns what a shared engine keeps, and its configuration in the library's form, which points to the hook.
+fn configured(with: Configuration) -> (Inner, c::SharedConfig) {
+    let hook = with.ended.map_or(std::ptr::null_mut(), |hook| Box::into_raw(Box::new(hook)));
+    let config = c::SharedConfig {
+        size: size_of::<c::SharedConfig>(),
+        ended: (!hook.is_null()).then_some(tell as c::EndedHook),
+        cutting: None,
+        context: hook.cast(),
+        keeps_ended: with.keeps_ended.into(),
+        spare: 0,
+        cut_after: with.cut_after,
+        cut_wait_ns: nanoseconds(Some(with.cut_wait)),
+    };
+    (Inner { shared: std::ptr::null_mut(), hook }, config)
 }
 
 /// The hook for C.

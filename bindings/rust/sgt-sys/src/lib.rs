@@ -206,6 +206,7 @@ pub struct SharedOutcome {
     pub tries: u32,
     pub waits: u32,
     pub ticket: Ticket,
+    pub sequence: u64,
     pub reply: Reply,
 }
 
@@ -226,6 +227,7 @@ pub struct Transaction {
     pub size: usize,
     pub shared: *mut Shared,
     pub ticket: Ticket,
+    pub sequence: u64,
     pub ends: u64,
     pub tries: u32,
     pub waits: u32,
