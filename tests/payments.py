@@ -912,7 +912,7 @@ def deputies():
                 raise Differs(f"after its deputy the server has the numbers {after}, and its deputy had {before}")
             same("verify", 0, run("verify", folder / "j")[0])
             load.run(server, 0.3)
-            load.judge(*recovered(folder / "j")[:2])
+        load.judge(*recovered(folder / "j")[:2])
         # What is killed while a deputy serves, by which signal; and how the server ends.
         for kills, number, status in ((False, signal.SIGTERM, 0), (True, signal.SIGKILL, 1), (False, signal.SIGKILL, -signal.SIGKILL)):
             waits.touch()

@@ -134,7 +134,7 @@ def main() -> None:
     command, path = sys.argv[1:3]
     if command == "serve":
         procedures = {"pay": load_procedures(PAYMENTS / "procedures")["pay"]}
-        port, fronts = start_fronts(procedures)
+        port, fronts = start_fronts(procedures, "127.0.0.1", 0)
         chain = Chain(Bank(made(path)))
         end_by_signals(chain)
         run(Server(chain, fronts, procedures), port, pathlib.Path(path + ".admin"), time.perf_counter())

@@ -9,7 +9,7 @@ from typing import Optional
 
 from bank import Procedure, Unusable
 from front import Front
-from lines import Reader, Rights
+from lines import Reader, Tokens
 
 FRONTS = 3  # processes: each waits while the server runs what it has asked, so they are more than are busy at a time
 
@@ -38,8 +38,7 @@ def listen(host: str, port: int) -> list[socket.socket]:
 
 
 def start_fronts(
-    procedures: dict[str, Procedure], host: str = "127.0.0.1", port: int = 0, idle: float = 60,
-    tokens: Optional[dict[str, Rights]] = None, tls: Optional[ssl.SSLContext] = None
+    procedures: dict[str, Procedure], host: str, port: int, idle: float = 60, tokens: Tokens = None, tls: Optional[ssl.SSLContext] = None
 ) -> tuple[int, list[Connection]]:
     """Starts the front processes, before anything is opened that they must not share. Their port, and a connection to each.
 

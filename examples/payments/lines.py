@@ -17,15 +17,18 @@ NO_RIGHT = '{"error": "no right to this"}'
 # A value, and where it ends: three times as fast as `json.loads`. An object is a tuple of pairs, as it may have a key twice.
 read_json = json.JSONDecoder(object_pairs_hook=tuple).raw_decode
 Rights = Optional[dict[str, list[list[int]]]]  # by "pay" and "read": from which account to which; None if all is allowed
+Tokens = Optional[dict[str, Rights]]  # the rights of clients by the SHA-256 of their tokens; None if they need none
+
+
 # A call; what an administrator asks of the server itself, as {"rows": True}, or {"day": 20784}; or what is wrong, as a reply.
 Request = Union[tuple[Procedure, tuple[int, ...]], dict[str, int], str]
 Line = Union[Request, list[Request]]  # a list of requests is answered by a list
 
 
 class Reader:
-    """Reads the lines of clients, or of administrators. `tokens` has the rights of clients by the SHA-256 of a token; None if they need none."""
+    """Reads the lines of clients, or of administrators."""
 
-    def __init__(self, procedures: dict[str, Procedure], tokens: Optional[dict[str, Rights]], is_for_administrators: bool) -> None:
+    def __init__(self, procedures: dict[str, Procedure], tokens: Tokens, is_for_administrators: bool) -> None:
         self.takes_words, self.tokens = is_for_administrators, tokens
         self.first_rights: Rights = None if tokens is None or is_for_administrators else {}
         served = [it for it in procedures.values() if it.request and (is_for_administrators or not it.is_for_administrators)]
