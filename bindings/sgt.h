@@ -452,6 +452,12 @@ uint32_t sgt_rows(const sgt_engine *engine, uint64_t table, int64_t number, sgt_
  */
 uint32_t sgt_records(const sgt_engine *engine, uint64_t *count);
 
+/*
+ * The numbers of the live transactions, rising, into the first items of `tids`, and how many they are into `count`. There are never more
+ * than 32. SGT_CLOSED.
+ */
+uint32_t sgt_live_tids(const sgt_engine *engine, uint32_t tids[32], uint64_t *count);
+
 /* How many entries the history has: one for each event since the engine was opened or last cut. SGT_CLOSED. */
 uint32_t sgt_entries(const sgt_engine *engine, uint64_t *count);
 

@@ -177,7 +177,10 @@ def answers_single_calls_in_python(_):
     sgt = module()
     Asked, Event, Kind = sgt.Asked, sgt.Event, sgt.Kind
     with sgt.Engine(limits=(4, 100, 1), rows=[(TABLE, 101, 10)]) as engine:
-        tid = engine.begin().tid
+        tid, other = engine.begin().tid, engine.begin().tid
+        same("who is live", [tid, other], engine.live())
+        same("an abort", Kind.ABORTED, engine.quit(other).kind)
+        same("who is live then", [tid], engine.live())
         same("a read", (Kind.LOOKED, 101, 10), (engine.read(tid, TABLE, 101)[0], 101, engine.read(tid, TABLE, 101).value))
         same("a write", (Kind.WROTE, 5), (engine.write(tid, TABLE, 102, 5).kind, engine.get(TABLE, 102) or 5))
         removed = engine.remove(tid, TABLE, 101)
@@ -188,8 +191,8 @@ def answers_single_calls_in_python(_):
         same("the accesses", [Asked.READ, Asked.READ, Asked.WRITE, Asked.REMOVE], [access.kind for access in engine.accesses(tid)])
         same("the commit", Kind.COMMITTED, engine.commit(tid).kind)
         same("the rows", [(TABLE, 102, 5)], engine.rows())
-        same("an entry", Event(Asked.WRITE, tid, table=TABLE, number=102, value=5), engine.entry(3)[0])
-        same("another", Event(Asked.REMOVE, tid, table=TABLE, number=101), engine.entry(4)[0])
+        same("an entry", Event(Asked.WRITE, tid, table=TABLE, number=102, value=5), engine.entry(5)[0])
+        same("another", Event(Asked.REMOVE, tid, table=TABLE, number=101), engine.entry(6)[0])
         same("the call", [sgt.Call(tid, 65535, (), (), None, 4)], engine.calls()[0])
 
 

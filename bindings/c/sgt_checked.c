@@ -25,6 +25,7 @@ uint32_t proved_sgt_run_many(sgt_engine *, const sgt_call *, size_t, sgt_outcome
 uint32_t proved_sgt_get(sgt_engine *, uint64_t, int64_t, int64_t *);
 uint32_t proved_sgt_rows(sgt_engine *, uint64_t, int64_t, sgt_row *, size_t, uint64_t *);
 uint32_t proved_sgt_records(sgt_engine *, uint64_t *);
+uint32_t proved_sgt_live_tids(sgt_engine *, uint32_t *, uint64_t *);
 uint32_t proved_sgt_entries(sgt_engine *, uint64_t *);
 uint32_t proved_sgt_entry(sgt_engine *, uint64_t, sgt_event *, sgt_reply *);
 uint32_t proved_sgt_calls(sgt_engine *, uint64_t, sgt_call *, size_t, uint64_t *, uint64_t *);
@@ -177,6 +178,12 @@ uint32_t sgt_records(const sgt_engine *engine, uint64_t *count)
 {
     if (!engine) return SGT_CLOSED;
     return count ? proved_sgt_records(read_from(engine), count) : (uint32_t)SGT_BAD_CALL;
+}
+
+uint32_t sgt_live_tids(const sgt_engine *engine, uint32_t tids[32], uint64_t *count)
+{
+    if (!engine) return SGT_CLOSED;
+    return tids && count ? proved_sgt_live_tids(read_from(engine), tids, count) : (uint32_t)SGT_BAD_CALL;
 }
 
 uint32_t sgt_entries(const sgt_engine *engine, uint64_t *count)

@@ -342,6 +342,15 @@ public:
         return count;
     }
 
+    // Returns the numbers of the live transactions, rising.
+    std::vector<std::uint32_t> live() const
+    {
+        std::uint32_t tids[32]; // no more are ever live
+        std::uint64_t count = 0;
+        check(sgt_live_tids(&engine, tids, &count));
+        return {tids, tids + count};
+    }
+
     // Returns how often the history was cut. With this number, the number of a transaction is unique.
     std::uint64_t part() const
     {

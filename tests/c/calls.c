@@ -774,6 +774,8 @@ static void null_pointers_are_told(void)
     CHECK(sgt_rows(&engine, 0, 0, &row, 1, 0) == 5);
     CHECK(sgt_records(0, &count) == 2 && sgt_records(&engine, 0) == 5);
     CHECK(sgt_entries(0, &count) == 2 && sgt_entries(&engine, 0) == 5);
+    uint32_t tids[32];
+    CHECK(sgt_live_tids(0, tids, &count) == 2 && sgt_live_tids(&engine, 0, &count) == 5 && sgt_live_tids(&engine, tids, 0) == 5);
     CHECK(sgt_entry(0, 0, &event, &told) == 2);
     CHECK(sgt_entry(&engine, 0, 0, &told) == 5 && sgt_entry(&engine, 0, &event, 0) == 5);
     CHECK(sgt_calls(0, 0, &call, 1, &count, &next) == 2);
@@ -853,6 +855,7 @@ static void a_busy_engine_is_left_alone(void)
     CHECK(sgt_get(&engine, 2, 101, &value) == 10);
     CHECK(sgt_rows(&engine, 0, 0, &row, 1, &count) == 10);
     CHECK(sgt_records(&engine, &count) == 10);
+    CHECK(sgt_live_tids(&engine, (uint32_t[32]){0}, &count) == 10);
     CHECK(sgt_entries(&engine, &count) == 10);
     CHECK(sgt_entry(&engine, 0, &event, &told) == 10);
     CHECK(sgt_calls(&engine, 0, &call, 1, &count, &next) == 10);
@@ -914,6 +917,7 @@ static void an_engine_is_opened_bare(void)
     CHECK(sgt_open_bare(&engine, 8, 100, 2) == 18);
     CHECK(sgt_open_bare(&engine, (UINT64_C(1) << 32) + 8, 100, 1) == 18);
     CHECK(sgt_records(&engine, &count) == 2);
+    CHECK(sgt_live_tids(&engine, (uint32_t[32]){0}, &count) == 2);
     CHECK(!engine.is_open && count == 77);
     CHECK(sgt_open_bare(&engine, 8, 2, 1) == 0);
     CHECK(sgt_open_bare(&engine, 0, 100, 1) == 3);

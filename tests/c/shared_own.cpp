@@ -219,7 +219,7 @@ static void single_calls_are_answered()
     sgt::Engine engine(opening, rows);
     auto tid = engine.begin().tid;
     CHECK(engine.read(tid, TABLE, 101).value == 10 && engine.write(tid, TABLE, 104, 5).found == 1);
-    CHECK(engine.remove(tid, TABLE, 101).found == 0);
+    CHECK(engine.remove(tid, TABLE, 101).found == 0 && engine.live() == std::vector<std::uint32_t>{tid});
     CHECK(engine.write(tid, TABLE, 104, SGT_MOST + 1).kind == SGT_BAD_ARGS && engine.accesses(tid).size() == 3);
     CHECK(throws<std::invalid_argument>([&] { engine.read(tid, 8, 1); }));
     CHECK(engine.commit(tid).kind == SGT_COMMITTED && engine.get(TABLE, 104) == 5 && !engine.get(TABLE, 101));

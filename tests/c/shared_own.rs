@@ -255,6 +255,7 @@ fn takes_over() -> Result<(), Error> {
     assert_eq!((reader.waits_for(), bank.run(0, &[])?.sequence, bank.run(9, &[])?.sequence), (None, Some(2), None));
     let mut begun = Engine::open(OPENING)?;
     begun.begin()?;
+    assert_eq!(begun.live()?, [0]);
     assert_eq!(SharedEngine::take(begun, Configuration::default()).err(), Some(Error::Begun));
     Ok(())
 }

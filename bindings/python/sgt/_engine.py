@@ -298,6 +298,12 @@ class Engine(Uncopied):
         check(HELD.sgt_records(self._engine, count))
         return count.value
 
+    def live(self) -> list[int]:
+        """Returns the numbers of the live transactions, rising."""
+        tids, count = (ctypes.c_uint32 * 32)(), ctypes.c_uint64()  # no more are ever live
+        check(HELD.sgt_live_tids(self._engine, tids, count))
+        return tids[: count.value]
+
     def part(self) -> int:
         """How often the history was cut. With this number, the number of a transaction is unique."""
         part = ctypes.c_uint64()

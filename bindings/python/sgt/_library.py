@@ -207,6 +207,7 @@ _ENGINE_CALLS = {
     "sgt_get": [_engine, _u64, _i64, ctypes.POINTER(_i64)],
     "sgt_rows": [_engine, _u64, _i64, _row, _size, _count],
     "sgt_records": [_engine, _count],
+    "sgt_live_tids": [_engine, ctypes.POINTER(_u32), _count],
     "sgt_part": [_engine, _count],
     "sgt_entries": [_engine, _count],
     "sgt_entry": [_engine, _u64, ctypes.POINTER(CEvent), _reply],

@@ -205,6 +205,13 @@ impl Engine {
         done(unsafe { c::sgt_records(self.inner.get(), &mut count) }).map(|()| count)
     }
 
+    /// Returns the numbers of the live transactions, rising.
+    pub fn live(&self) -> Result<Vec<u32>, Error> {
+        let (mut tids, mut count) = ([0; 32], 0); // no more are ever live
+        done(unsafe { c::sgt_live_tids(self.inner.get(), tids.as_mut_ptr(), &mut count) })?;
+        Ok(tids[..count as usize].to_vec())
+    }
+
     /// Returns how often the history was cut. With this number, the number of a transaction is unique.
     pub fn part(&self) -> u64 {
         let mut part = 0;

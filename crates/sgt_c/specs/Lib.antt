@@ -23,3 +23,6 @@ pub mod BareOpenings
 pub mod Cuts
 pub mod Puts
 pub mod ProcedureTexts
+-- turns of a desk
+pub mod DeskStructs
+pub mod DeskTurns

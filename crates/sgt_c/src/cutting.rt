@@ -118,7 +118,7 @@ fn cut(alloc: Global, held: &mut Held) -> Result<(), Uncut>
 
 /// Cuts the history off where no transaction is live. An empty history is left as it is, and so are the records.
 #[tactic(auto, using(crate::proofs::CutValues::commits_kept, crate::proofs::CutValues::nothing_cut))]
-fn cut_engine(alloc: Global, engine: &mut SgtEngine) -> Result<(), NoMemory>
+pub fn cut_engine(alloc: Global, engine: &mut SgtEngine) -> Result<(), NoMemory>
     requires { NobodyLive engine.old.past }
     ensures cut { OnOk result (IsCut engine.old engine.new) }
     ensures unchanged { OnErr result (engine.new ≡ engine.old) }

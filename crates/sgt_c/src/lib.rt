@@ -41,6 +41,7 @@ mod cutting;
 mod events;
 mod explanations;
 mod history;
+mod live;
 mod opening;
 mod opening_bare;
 mod opening_with;
@@ -55,6 +56,9 @@ mod run;
 mod run_many;
 mod texts;
 
+// An engine that threads share.
+mod shared;
+
 pub use access_struct::SgtAccess;
 pub use call_struct::SgtCall;
 pub use event_struct::SgtEvent;
@@ -63,3 +67,6 @@ pub use handle::Handle;
 pub use outcome_struct::SgtOutcome;
 pub use reply_struct::SgtReply;
 pub use row_struct::SgtRow;
+pub use shared::ask_struct::SgtAsk;
+pub use shared::desk_struct::SgtDesk;
+pub use shared::run_struct::SgtRun;

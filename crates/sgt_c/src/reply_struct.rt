@@ -190,8 +190,10 @@ pub fn write_answers(to: &mut [i64; 8], answers: &[i64]) -> u32
     count as u32
 }
 
-fn write_tids(to: &mut [u32; 32], tids: &Tids) -> u32
+/// Writes numbers of transactions, and returns how many there are. The items after them stay.
+pub fn write_tids(to: &mut [u32; 32], tids: &Tids) -> u32
     ensures tids { take result to.new ≡ tids.now }
+    ensures count { result ≡ length tids.now }
     ensures rest { drop result to.new ≡ drop result to.old }
 {
     let count = tids.len();

@@ -33,6 +33,12 @@ pub const TOO_MANY: u32 = 9;
 /// Another call is in the engine.
 pub const BUSY: u32 = 10;
 
+/// The deadline has come.
+pub const TIMED_OUT: u32 = 12;
+
+/// The transaction belongs to a part of the history that was cut off.
+pub const STALE: u32 = 13;
+
 /// The opening is not JSON.
 pub const NOT_JSON: u32 = 16;
 
@@ -50,3 +56,9 @@ pub const PROC_SHAPE: u32 = 20;
 
 /// A procedure has a flaw.
 pub const PROC_FLAW: u32 = 21;
+
+/// The call rests: its next turn comes after a wake, or at its deadline.
+pub const REST: u32 = 32;
+
+/// The next turn of the call comes at once.
+pub const AGAIN: u32 = 33;

@@ -287,6 +287,7 @@ extern "C" {
     pub fn sgt_get(engine: *const Engine, table: u64, number: i64, value: *mut i64) -> u32;
     pub fn sgt_rows(engine: *const Engine, table: u64, number: i64, rows: *mut Row, room: usize, count: *mut u64) -> u32;
     pub fn sgt_records(engine: *const Engine, count: *mut u64) -> u32;
+    pub fn sgt_live_tids(engine: *const Engine, tids: *mut u32, count: *mut u64) -> u32;
     pub fn sgt_entries(engine: *const Engine, count: *mut u64) -> u32;
     pub fn sgt_entry(engine: *const Engine, place: u64, event: *mut Event, reply: *mut Reply) -> u32;
     pub fn sgt_calls(

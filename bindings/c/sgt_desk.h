@@ -1,0 +1,84 @@
+/*
+ * sgt_desk: the decisions of an engine that threads share. sgt_shared.c alone uses it; programs use sgt_shared.h.
+ *
+ * Each of these calls is proved, in crates/sgt_c/src/shared over crates/sgt_desk. It makes one turn of a call of a thread, under the lock
+ * of that thread's program, and never waits. Its status says what comes next:
+ *
+ *   SGT_OK          the call is done; its reply is written
+ *   SGT_REST        the thread sleeps until all are woken or its deadline comes, and then makes the next turn with the same struct
+ *   SGT_TIMED_OUT   the deadline has come; nothing of a run is left live
+ *   SGT_AGAIN       the thread makes the next turn at once
+ *   SGT_STALE       the ticket names a transaction of a part of the history that was cut off
+ *   SGT_NO_MEMORY, SGT_CLOSED, SGT_BAD_CALL, SGT_BUSY as in sgt.h
+ *
+ * `wakes` becomes 1 if all that sleep have to be woken, and else stays. A call that its thread gives up needs one more turn, with SGT_AT_ONCE,
+ * so that it is no longer counted.
+ */
+#ifndef SGT_DESK_H
+#define SGT_DESK_H
+
+#include "sgt.h"
+
+enum { SGT_REST = 32, SGT_AGAIN = 33 };
+
+/* Until when a call rests. */
+enum { SGT_FOR_EVER = 0, SGT_AT_ONCE = 1, SGT_UNTIL = 2 };
+
+/* Why it rests. */
+enum {
+    SGT_WAITS_TURN = 1, /* the commit of `turn` waits for `first` */
+    SGT_IS_FULL = 2,    /* `number` are live: as many as the limits allow */
+    SGT_WAITS_END = 3,  /* no transaction has ended since `ended` was `number` */
+    SGT_IS_BUSY = 4,    /* the history may not be cut yet */
+    SGT_WAITS_CUT = 5   /* a call waits for a cut */
+};
+
+/* What the threads of an engine know of each other. All bytes are zero at first. */
+typedef struct sgt_desk {
+    uint64_t ended;      /* how often a transaction has ended */
+    uint64_t told;       /* how many calls were committed or refused */
+    uint64_t committing; /* commits that rest */
+    uint64_t cutters;    /* calls that wait for a cut */
+} sgt_desk;
+
+/* A call under way. All bytes but those of `until` and `deadline` are zero before its first turn. */
+typedef struct sgt_ask {
+    uint32_t until, reason;
+    uint64_t deadline;   /* in nanoseconds of the clock that gives `now` */
+    uint64_t number;
+    uint32_t turn, first;
+    uint32_t is_counted, spare;
+} sgt_ask;
+
+/* A run under way. */
+typedef struct sgt_run_ask {
+    sgt_ask ask;
+    uint64_t tries, most; /* attempts that were begun, and that may be */
+    uint64_t part;        /* the newest attempt, if there is one */
+    uint32_t tid, has_ticket;
+    uint32_t attempt, has_attempt; /* the attempt that rests in its commit, if one does */
+} sgt_run_ask;
+
+#pragma GCC visibility push(hidden)
+
+uint32_t sgt_desk_start(sgt_engine *engine, sgt_desk *desk, sgt_ask *ask, uint64_t procedure, const int64_t *args, size_t count, uint64_t now,
+                        sgt_reply *reply, uint32_t *wakes);
+uint32_t sgt_desk_commit(sgt_engine *engine, sgt_desk *desk, sgt_ask *ask, uint64_t part, uint32_t tid, uint64_t now, sgt_reply *reply,
+                         uint32_t *wakes);
+uint32_t sgt_desk_run(sgt_engine *engine, sgt_desk *desk, sgt_run_ask *run, uint64_t procedure, const int64_t *args, size_t count,
+                      uint64_t now, sgt_reply *reply, uint32_t *wakes);
+uint32_t sgt_desk_cut(sgt_engine *engine, sgt_desk *desk, sgt_ask *ask, uint64_t now, uint32_t *wakes);
+
+/* `cuts` is 1 if the next turn of this cut would cut the history off. */
+uint32_t sgt_desk_cuts(sgt_engine *engine, const sgt_desk *desk, const sgt_ask *ask, uint32_t *cuts);
+
+/* Gives a cut up. */
+void sgt_desk_leave(sgt_desk *desk, sgt_ask *ask, uint32_t *wakes);
+
+/* Asks an event of a transaction that never rests: SGT_STEP, SGT_QUIT, SGT_READ, SGT_WRITE or SGT_REMOVE. */
+uint32_t sgt_desk_make(sgt_engine *engine, sgt_desk *desk, uint64_t part, uint32_t tid, uint32_t kind, uint64_t table, int64_t number,
+                       int64_t value, sgt_reply *reply, uint32_t *wakes);
+
+#pragma GCC visibility pop
+
+#endif

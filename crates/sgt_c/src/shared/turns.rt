@@ -1,0 +1,53 @@
+//! Numbers for turns.
+ghost use Rattle.std.specs.Prelude.{◌≡◌, ◌≢◌, ◌||◌, true, nat_eq, Ok};
+ghost use Rattle.sgt_model.specs.ShortReplies.{reply_with};
+ghost use Rattle.sgt_c.specs.DeskTurns.{status_of};
+ghost use Rattle.sgt_c.specs.KeptFields.{KeepsOtherFields};
+ghost use Rattle.sgt_c.specs.ReplyStructs.{HoldsReply};
+
+use crate::reply_struct::{SgtReply, write_reply};
+use crate::status;
+use sgt_desk::Turn;
+use sgt_model::{NoMemory, ReplyLists, ShortReply};
+
+/// The number of what comes next.
+pub fn status_of(turn: &Result<Turn, NoMemory>) -> u32
+    ensures { result ≡ status_of turn.now }
+{
+    match turn {
+        Ok(Turn::Done) => status::OK,
+        Ok(Turn::Rest) => status::REST,
+        Ok(Turn::Late) => status::TIMED_OUT,
+        Ok(Turn::Again) => status::AGAIN,
+        Ok(Turn::Stale) => status::STALE,
+        Err(NoMemory) => status::NO_MEMORY,
+    }
+}
+
+/// Notes that all that rest are to be woken, if so.
+pub fn note_wake(wakes: &mut u32, woken: bool)
+    ensures noted { woken ≡ true → wakes.new ≡ 1 }
+    ensures woken { nat_eq wakes.new 1 ≡ (woken || nat_eq wakes.old 1) }
+{
+    if woken {
+        *wakes = 1;
+    }
+}
+
+/// Writes the reply of a call, if it is done.
+#[inline(always)]
+pub fn tell(
+    into: &mut SgtReply,
+    turn: &Result<Turn, NoMemory>,
+    short: &ShortReply,
+    lists: &ReplyLists,
+)
+    ensures told { turn.now ≡ Ok Turn.Done → HoldsReply into.new (reply_with short.now lists.now) }
+    ensures kept { turn.now ≡ Ok Turn.Done → KeepsOtherFields into.old into.new }
+    ensures unwritten { turn.now ≢ Ok Turn.Done → into.new ≡ into.old }
+{
+    match turn {
+        Ok(Turn::Done) => write_reply(into, short, lists),
+        _ => (),
+    }
+}
