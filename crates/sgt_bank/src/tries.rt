@@ -22,7 +22,7 @@ enum End {
 #[derive(Clone, Copy)]
 struct Known {
     end: End,
-    job: Option<u32>,
+    job: Option<usize>,
 }
 
 /// How many jobs ended in each way, and how many tries were made.
@@ -77,14 +77,14 @@ impl Tally {
 
     // Counts a job with so many failed tries.
     fn count<N>(&mut self, outcome: &Outcome<N>, failed: usize) {
-        let (count, last) = match outcome {
-            Outcome::Done(_) => (&mut self.committed, 1),
-            Outcome::Asked(_) => (&mut self.asked, 1),
-            Outcome::Gave(_) => (&mut self.gave, 0),
-            Outcome::Refused(_) => (&mut self.refused, 0),
-            _ => (&mut self.failed, 0),
-        };
-        *count = count.saturating_add(1);
+        match outcome {
+            Outcome::Done(_) => self.committed = self.committed.saturating_add(1),
+            Outcome::Asked(_) => self.asked = self.asked.saturating_add(1),
+            Outcome::Gave(_) => self.gave = self.gave.saturating_add(1),
+            Outcome::Refused(_) => self.refused = self.refused.saturating_add(1),
+            _ => self.failed = self.failed.saturating_add(1),
+        }
+        let last = usize::from(matches!(outcome, Outcome::Done(_) | Outcome::Asked(_)));
         self.tries = self.tries.saturating_add(failed).saturating_add(last);
     }
 
@@ -115,11 +115,11 @@ fn known_of<N>(
 ) -> Result<Vec<Known>, NoMemory> {
     let mut known = ends_of(alloc, history)?;
     for failed in failed {
-        put_job(known.as_mut_slice(), failed.tid, failed.job);
+        put_job(known.as_mut_slice(), failed.tid, failed.job as usize);
     }
     for job in 0..outcomes.len() {
         if let Some(t) = last_transaction(history, &outcomes[job]) {
-            put_job(known.as_mut_slice(), t, job as u32);
+            put_job(known.as_mut_slice(), t, job);
         }
     }
     Ok(known)
@@ -160,7 +160,7 @@ fn put_end(known: &mut [Known], t: Tid, end: End) {
     }
 }
 
-fn put_job(known: &mut [Known], t: Tid, job: u32) {
+fn put_job(known: &mut [Known], t: Tid, job: usize) {
     if let Some(kept) = known.get_mut(t.0 as usize) {
         kept.job = Some(job);
     }
