@@ -802,8 +802,9 @@ def says_what_an_operation_looks_like(sgt):
     ):
         status, out, told = sgt.run("check", given=given)
         same(given, (2, "", f"column {column}: {words}"), (status, out, told.splitlines()[1]))
-    status, out, told = sgt.run("check", given="c1 x9 " + " " * 3_000_000)
-    same("a line that is not stored", (2, "", form), (status, out, told.splitlines()[1]))
+    for column, given in ((4, "c1 x9 " + " " * 3_000_000), (3_000_003, "c1" + " " * 3_000_000 + "x9")):
+        status, out, told = sgt.run("check", given=given)
+        same("a line of three megabytes", (2, "", f"column {column}: {form}"), (status, out, told.splitlines()[1]))
 
 
 def says_more_of_each_other_error(sgt):
