@@ -564,7 +564,7 @@ uint32_t sgt_fault_text(const sgt_fault *fault, char *text, size_t room, uint64_
 
 /*
  * Why an opening was refused, in one line for a person: where its first error is, what was expected there and what was found.
- * It is the second line of `sgt script --explain`. `opening` is what was passed to sgt_open, sgt_open_with or sgt_shared_open.
+ * It is the second line of an error of `sgt script`. `opening` is what was passed to sgt_open, sgt_open_with or sgt_shared_open.
  * Of the opening with the procedure `[0,[7]]` it is `procedure 5, at 1 0: expected a statement, found 7`.
  *
  * The text is written as by sgt_fault_text, and its length to `written`. The words are ASCII, and may change with the version.
