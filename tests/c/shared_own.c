@@ -607,7 +607,7 @@ static void threads_that_wait_for_themselves_are_told(void)
     sgt_shared_outcome out = fresh;
     writes(shared, &first, 1, 1);
     writes(shared, &second, 1, 2);
-    CHECK(sgt_shared_commit(shared, &second, SGT_FOREVER, &reply) == SGT_SELF_WAIT && reply.kind == 0 && lives(shared) == 2);
+    CHECK(sgt_shared_commit(shared, &second, SGT_FOREVER, &reply) == SGT_SELF_WAIT && reply.kind == SGT_WAITS && reply.tid == first.tid && lives(shared) == 2);
     CHECK(sgt_shared_commit(shared, &second, MS, &reply) == SGT_TIMED_OUT && lives(shared) == 2);
     CHECK(sgt_shared_transact(shared, adds, &note, 0, &out) == SGT_SELF_WAIT && note.calls == 1 && lives(shared) == 2);
     CHECK(sgt_shared_cut(shared, SGT_FOREVER) == SGT_SELF_WAIT && sgt_shared_cut(shared, MS) == SGT_TIMED_OUT);
