@@ -4,6 +4,7 @@ use crate::advice::advise;
 use crate::input::is_folder;
 use crate::operation_error::{column_of, operation_error};
 use sgt_check::CheckFault;
+use sgt_clients::ClientsFault;
 use sgt_input::{Fault, Source};
 use sgt_line_errors::{Command, Remembering, explain};
 use sgt_notation::{NotationFault, Shown};
@@ -82,15 +83,17 @@ pub(crate) fn check_failure<R: Files, S: Source>(
     Failure::Fault(fault, detail)
 }
 
-/// The failure of a check of what clients saw, with an error that every check can have.
+/// The failure of a check of what clients saw: from a file, or from standard input.
 pub(crate) fn clients_failure<R: Files>(
     rt: &R,
     file: Option<&str>,
-    fault: CheckFault,
-) -> Failure<CheckFault> {
+    fault: ClientsFault,
+) -> Failure<ClientsFault> {
     let detail = match &fault {
-        CheckFault::Reading => unread_detail(rt, file),
-        CheckFault::TooLong => Detail::Words("a history has at most 268435456 bytes"),
+        ClientsFault::Check(CheckFault::Reading) => unread_detail(rt, file),
+        ClientsFault::Check(CheckFault::TooLong) => {
+            Detail::Words("a history has at most 268435456 bytes")
+        }
         _ => Detail::Nothing,
     };
     Failure::Fault(fault, detail)

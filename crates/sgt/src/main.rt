@@ -21,9 +21,8 @@ mod help;
 mod input;
 mod operation_error;
 mod output;
-mod progress;
 
-ghost use Rattle.std.specs.Prelude.{◌≤◌};
+ghost use Rattle.std.specs.Prelude.{◌≤◌, ◌<◌, ◌+◌, ◌^◌};
 
 use clap::builder::ValueParser;
 use clap::error::ErrorKind;
@@ -32,11 +31,10 @@ use failure::{Detail, Failure, check_failure, clients_failure, failure_of};
 use help::{BANK_HELP, CHECK_HELP, HELP, SCRIPT_HELP};
 use input::{FILE, open_input};
 use output::OutputBytes;
-use progress::Showing;
 use sgt_bank::{Explanations, MOST_TRIES, MOST_WORKERS, run_bank};
 use sgt_check::{CheckFault, run_check};
 use sgt_clients::{Answer, ClientsFault, ClientsOutput, Flaw, Level, Question, run_clients};
-use sgt_input::{Fault, Reader, Writer};
+use sgt_input::{Fault, Reader, Sink, Source, Writer};
 use sgt_line_errors::Remembering;
 use sgt_notation::NotationFault;
 use sgt_script::Output;
@@ -152,17 +150,6 @@ fn add_run_options<'a>(
         let (name, others) = RUN_OPTIONS[place];
         options.push(run_option(alloc, name, helps[place], others)?)?;
     }
-    options.push(flag(
-        alloc,
-        "progress",
-        "Says on standard error, once a second, how far the run is",
-    ))?;
-    options.push(run_option(
-        alloc,
-        "no-progress",
-        "Does not say that on a terminal either",
-        &["progress"],
-    )?)?;
     Ok(())
 }
 
@@ -209,6 +196,17 @@ fn bank_options<'a>(alloc: Global) -> Result<Vec<Arg<'a>>, AllocError> {
             "Writes each outcome as an object of JSON, and then the records",
         ],
     )?;
+    options.push(flag(
+        alloc,
+        "progress",
+        "Says on standard error, once a second, how many jobs have ended",
+    ))?;
+    options.push(flag(
+        alloc,
+        "no-progress",
+        "Does not say that on a terminal either",
+    )
+    .conflicts_with("progress")?)?;
     Ok(options)
 }
 
@@ -376,18 +374,16 @@ fn number(options: &ArgMatches<'_>, name: &str, most: u32) -> u32
 }
 
 /// Runs a script from the input to standard output.
-fn script<R: Print + Eprint + Files + Clock, I: Read + Drop>(
+fn script<R: Print + Eprint + Files, I: Read + Drop>(
     rt: &R,
     alloc: Global,
-    streams: Streams,
+    stderr: Stderr,
     options: &ArgMatches<'_>,
     input: I,
-    size: Option<u64>,
 ) -> Result<(), Failure<Fault>> {
-    let shown = Showing::new(rt, input, size, shows_progress(&streams, options));
-    let mut source = Remembering::new(alloc, Reader::new(shown));
+    let mut source = Remembering::new(alloc, Reader::new(input));
     let mut writer = Writer::new(OutputBytes::new(io::writer(rt)));
-    let mut errors = Writer::new(streams.stderr);
+    let mut errors = Writer::new(stderr);
     let explanations = if options.get_flag("explain") {
         Some(&mut errors)
     } else {
@@ -411,8 +407,8 @@ fn script<R: Print + Eprint + Files + Clock, I: Read + Drop>(
     }
 }
 
-/// Whether a run says how far it is: if that is asked for, or else if standard error is a terminal and nobody types the
-/// input.
+/// Whether a bank says how many jobs have ended: if that is asked for, or else if standard error is a terminal and nobody types
+/// the input.
 fn shows_progress(streams: &Streams, options: &ArgMatches<'_>) -> bool {
     let is_typed = streams.is_typed && options.get_str(FILE).is_none();
     let is_watched = streams.stderr.is_terminal() && !is_typed;
@@ -467,14 +463,12 @@ fn bank<R: Print + Eprint + Files + Clock + Threads + Wait + Sync, I: Read + Dro
     streams: Streams,
     options: &ArgMatches<'_>,
     input: I,
-    size: Option<u64>,
 ) -> Result<(), Failure<Fault>> {
-    let shows = shows_progress(&streams, options);
-    let chosen = read_bank_options(options, shows);
-    let mut source = Remembering::new(alloc, Reader::new(Showing::new(rt, input, size, shows)));
+    let chosen = read_bank_options(options, shows_progress(&streams, options));
+    let mut source = Remembering::new(alloc, Reader::new(input));
     let mut writer = Writer::new(OutputBytes::new(io::writer(rt)));
     let mut errors = Writer::new(streams.stderr);
-    match run_bank(rt, alloc, &mut source, &mut writer, &mut errors, chosen) {
+    match run_jobs(rt, alloc, &mut source, &mut writer, &mut errors, chosen) {
         Ok(()) => Ok(()),
         Err(Fault::Writing) if writer.inner.is_unread() => Err(Failure::Unread),
         Err(fault) => {
@@ -485,6 +479,24 @@ fn bank<R: Print + Eprint + Files + Clock + Threads + Wait + Sync, I: Read + Dro
             Err(failure_of(rt, alloc, command, &source, file, fault))
         }
     }
+}
+
+/// Runs the jobs of a bank, whatever it reads from and writes to.
+fn run_jobs<S: Source, T: Sink, E: Sink, R: Print + Eprint + Clock + Threads + Wait + Sync>(
+    rt: &R,
+    alloc: Global,
+    source: &mut S,
+    sink: &mut T,
+    errors: &mut E,
+    options: sgt_bank::Options,
+) -> Result<(), Fault>
+    requires reading { S.failures source.old + 1 < 2 ^ 64 }
+    requires writing { T.failures sink.old + 1 < 2 ^ 64 }
+    requires explaining { E.failures errors.old + 1 < 2 ^ 64 }
+    requires workers { (1 ≤ options.workers) × (options.workers ≤ 16) }
+    requires tries { (1 ≤ options.tries) × (options.tries ≤ 1000) }
+{
+    run_bank(rt, alloc, source, sink, errors, options)
 }
 
 /// Checks a history from the input to standard output, and returns the exit status.
@@ -531,16 +543,24 @@ fn check_clients<R: Print + Eprint + Files, I: Read + Drop>(
     let output = clients_output(options);
     match run_clients(alloc, &mut reader, &mut writer, output, question) {
         Ok(answer) => answered(answer),
-        Err(ClientsFault::Check(CheckFault::Writing)) if writer.inner.is_unread() => {
-            failed(rt, Failure::<Fault>::Unread)
-        }
-        Err(ClientsFault::Check(fault)) => failed(
-            rt,
-            clients_failure(rt, options.get_str(FILE), fault),
-        ),
-        Err(fault) if is_no_json(&fault) => tell_hint(rt, fault, IS_TEXT),
-        Err(fault) => tell(rt, fault),
+        Err(fault) => clients_failed(rt, options.get_str(FILE), writer.inner.is_unread(), fault),
     }
+}
+
+/// Reports why what clients saw could not be checked, and returns the exit status.
+fn clients_failed<R: Eprint + Files>(
+    rt: &R,
+    file: Option<&str>,
+    is_unread: bool,
+    fault: ClientsFault,
+) -> ExitCode {
+    if is_no_json(&fault) {
+        return tell_hint(rt, fault, IS_TEXT);
+    }
+    if is_unread && fault == ClientsFault::Check(CheckFault::Writing) {
+        return failed(rt, Failure::<Fault>::Unread);
+    }
+    failed(rt, clients_failure(rt, file, fault))
 }
 
 /// What the options ask of what clients saw: by default whether it is serializable, or strictly so.
@@ -614,10 +634,7 @@ fn run<R: Print + Eprint + Input + Files + Clock + Threads + Wait + Sync>(
         tell(rt, TYPED);
     }
     match open_input(rt, file) {
-        Ok(input) => {
-            let size = input.size();
-            run_on(rt, alloc, streams, name, options, input, size)
-        }
+        Ok(input) => run_on(rt, alloc, streams, name, options, input),
         Err(fault) => tell(rt, fault),
     }
 }
@@ -638,12 +655,11 @@ fn run_on<R: Print + Eprint + Files + Clock + Threads + Wait + Sync, I: Read + D
     name: &str,
     options: &ArgMatches<'_>,
     input: I,
-    size: Option<u64>,
 ) -> ExitCode {
     match name {
         "check" => check(rt, alloc, options, input),
-        "bank" => ended(rt, bank(rt, alloc, streams, options, input, size)),
-        _ => ended(rt, script(rt, alloc, streams, options, input, size)),
+        "bank" => ended(rt, bank(rt, alloc, streams, options, input)),
+        _ => ended(rt, script(rt, alloc, streams.stderr, options, input)),
     }
 }
 
