@@ -12,8 +12,8 @@ A script and a bank are lines of JSON. A history is text in the notation of the 
 'sgt script --help', 'sgt bank --help' and 'sgt check --help' describe the inputs. If you type the
 input, ^D at the start of a line ends it. An error is one line on standard error, and mostly a
 second one that says what was expected; the exit status is then 2. If nobody reads the output any
-more, a run ends without a message, with that status. If a script or a bank takes over a second, a
-terminal shows on standard error how far it is; --progress shows it elsewhere too.
+more, a run ends without a message, with that status. If a bank takes over a second, a terminal
+shows on standard error how many jobs have ended; --progress shows it elsewhere too.
 
 Limits:
 
