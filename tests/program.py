@@ -133,16 +133,19 @@ def refuses_numbers(sgt):
 
 # The options of a run that exclude each other.
 EXCLUSIVE = [{first, second} for first in ("history", "records") for second in ("explain", "json")]
-EXCLUSIVE += [{"history", "records"}, {"progress", "no-progress"}]
+EXCLUSIVE += [{"history", "records"}]
 
 
 def refuses_two_forms_of_one_run(sgt):
     for command in ("script", "bank"):
-        for first, second in permutations(("history", "records", "explain", "json", "progress", "no-progress"), 2):
+        for first, second in permutations(("history", "records", "explain", "json"), 2):
             if {first, second} not in EXCLUSIVE:
                 continue
             text = usage("conflicting_options").format(command=command, first=first, second=second)
             sgt.expect(command, f"--{first}", f"--{second}", given=OPENING, status=2, err=text)
+    for first, second in permutations(("progress", "no-progress"), 2):
+        text = usage("conflicting_options").format(command="bank", first=first, second=second)
+        sgt.expect("bank", f"--{first}", f"--{second}", given=OPENING, status=2, err=text)
 
 
 def reads_a_named_file(sgt):
@@ -956,29 +959,21 @@ def line_of(one):
 
 
 def gives_signs_of_life(sgt):
-    """How many bytes are read, at most once a second: on a terminal, or with an option."""
-    def told(*words, terminal=False):
+    """How many jobs of a bank have ended, at most once a second: on a terminal, or with an option."""
+    for words, terminal, shows in ((["--progress"], False, True), ([], True, True), ([], False, False), (["--no-progress"], True, False)):
         ours, theirs = os.openpty() if terminal else os.pipe()
-        process = sgt.start("script", *words, stdin=subprocess.PIPE, stdout=subprocess.DEVNULL, stderr=theirs)
+        with tempfile.TemporaryFile() as given:
+            given.write((OVERLAPPING + '["job",6,[]]\n' * 40_000).encode())
+            given.seek(0)
+            began = time.monotonic()
+            process = sgt.start("bank", *words, stdin=given, stdout=subprocess.DEVNULL, stderr=theirs)
         os.close(theirs)
-        for piece in (OPENING, EVENTS):
-            process.stdin.write(piece.encode())
-            process.stdin.flush()
-            time.sleep(1.3)
-        process.stdin.close()
-        text = read_terminal(ours)
+        lines = read_terminal(ours).splitlines()
         same("status", 0, process.wait(SECONDS))
-        return text.splitlines()
-
-    sizes = [len(OPENING), len(OPENING + EVENTS)]
-    for words, terminal, wanted in ((["--progress"], False, True), ([], True, True), ([], False, False), (["--no-progress"], True, False)):
-        lines = told(*words, terminal=terminal)
-        same(f"{words}, a terminal: {terminal}", wanted, bool(lines))
-        same(f"{words}, a terminal: {terminal}", [], [line for line in lines if line not in [f"{size} bytes are read" for size in sizes]])
-    with tempfile.NamedTemporaryFile("w") as file:
-        file.write(OPENING + EVENTS)
-        file.flush()
-        sgt.expect("script", "--progress", file.name, out=REPLIES + RECORDS)
+        seconds = time.monotonic() - began
+        same(f"{words}, a terminal: {terminal}", [], [line for line in lines if not re.fullmatch("[0-9]+ jobs have ended", line)])
+        if len(lines) > (seconds if shows else 0) or shows and seconds > 3 and not lines:
+            raise Differs(f"{words}, a terminal: {terminal}: {len(lines)} lines in {seconds} seconds")
 
 
 def wants_an_opening(sgt):
