@@ -1,17 +1,11 @@
 /*
- * See sgt_shared.h. Every call enters, holds the lock while it works, releases it where it rests, and leaves.
- *
- * What is decided between threads is proved, and made by the calls of sgt_desk.h: who rests and why, who is woken, what is tried again,
- * what a ticket names, when a cut may be made. Here is what may not be proved, as it waits, wakes or calls back: the lock (sgt_lock.h), the
- * conditions, the clock, hooks, forks, misuse, opening and closing. And four things beside: whether a call would wait for its own thread,
- * tries that are made alone, cuts that the configuration asks for, and the calls that are stored until they are drained.
+ * See sgt_shared.h. Every call enters, holds the lock (sgt_lock.h) while it works, releases it where it rests, and leaves.
  */
 #define _POSIX_C_SOURCE 200809L
 #include <stddef.h>
 #include <stdlib.h>
 #include <string.h>
 
-#include "sgt_desk.h"
 #include "sgt_lock.h"
 #include "sgt_shared.h"
 
@@ -19,18 +13,34 @@ enum { MOST_LIVE = 32, MOST_ARGS = 4, MOST_PROCEDURE = 65535, MOST_ABORTS = 8 };
 enum { IN_BODY = 2 }; /* `is_live` of a transaction whose body is under way */
 
 enum {
-    WATCH = 100000000,   /* nanoseconds between two questions to a thread that waits, whether it is interrupted: as often as a person notices */
+    WATCH = 100000000,   /* nanoseconds between two questions to a thread that waits, whether it is interrupted: as soon as a person notices */
     SET_ASIDE = 64       /* so many engines have to be closed after one before its memory serves another */
+};
+
+static const uint32_t NO_TID = UINT32_MAX; /* the limits never allow this number */
+
+/* A call of a procedure. */
+struct call {
+    uint32_t procedure;
+    uint32_t count;
+    int64_t args[MOST_ARGS];
 };
 
 struct deadline {
     bool never, at_once;
     bool is_over;            /* whether the call ends now, since its thread was interrupted */
-    int64_t at;
+    int64_t at;              /* INT64_MAX: never */
 };
 
-/* What is noted of a transaction that was live between two calls, and may have ended since. The engine knows who is live. */
-struct note {
+/* A run that a thread asks for. */
+struct run {
+    struct call call;
+    struct deadline until;
+    uint32_t tries;
+};
+
+/* A transaction that is live between two calls to the engine. */
+struct live {
     uint32_t tid;
     uint32_t procedure;
     bool waits;
@@ -53,16 +63,20 @@ struct sgt_shared {
     atomic_uint draining;        /* threads that wait for a call to drain */
     bool is_open;
     bool tells;                  /* whether the hook has to be called for `ended` */
-    struct event changed;        /* a reason to rest may have ceased */
+    struct event changed;        /* a transaction has ended, or a cut is over */
     struct event queued;         /* a call can be drained */
     atomic_uint_fast64_t number; /* of this engine, in its tickets: looked at before the lock is taken */
     sgt_engine engine;           /* this and what follows is zero at first, up to `next` */
-    sgt_desk desk;
     sgt_shared_config config;
     uint64_t part;               /* cuts so far: that of sgt_part */
-    uint64_t read;               /* the place of the history up to which calls that ended were handed on */
-    struct note note[MOST_LIVE]; /* by rising numbers: of all live ones but a run's that does not rest, and of some that have ended */
-    uint32_t notes;
+    uint64_t sequence;           /* calls that were committed or refused so far */
+    uint64_t read;               /* the place of the history up to which these were handed on */
+    uint64_t ends;               /* transactions that have ended so far, runs included */
+    struct live live[MOST_LIVE]; /* by rising numbers */
+    uint32_t lives;
+    uint32_t most;               /* how many the limits allow, known after an SGT_FULL */
+    uint32_t committing;         /* threads whose commit waits, or has ended and not returned yet */
+    uint32_t cutters;            /* threads that wait for a cut */
     uint32_t loners;             /* threads that wait until nobody is live, to start one alone */
     bool is_alone;               /* whether the live one is to stay alone */
     uint32_t asked;              /* threads that are asked whether they are interrupted */
@@ -111,21 +125,14 @@ static atomic_uint_fast64_t threads;
 
 /* Deadlines */
 
-static inline struct deadline deadline_in(int64_t ns)
+static struct deadline deadline_in(int64_t ns)
 {
-    struct deadline until = {.never = ns == SGT_FOREVER, .at_once = ns <= 0, .at = INT64_MAX};
-    if (!until.never) until.at = in_ns(ns);
-    return until;
+    const bool never = ns == SGT_FOREVER;
+    return (struct deadline){.never = never, .at_once = ns <= 0, .at = never ? INT64_MAX : in_ns(ns)};
 }
 
-/* A call of the desk with this deadline, before its first turn. */
-static inline sgt_ask asked_until(const struct deadline *until)
-{
-    return (sgt_ask){.until = until->never ? SGT_FOR_EVER : until->at_once ? SGT_AT_ONCE : SGT_UNTIL, .deadline = (uint64_t)until->at};
-}
-
-/* The time for a turn, if the call has a deadline. */
-static inline uint64_t time_for(const sgt_ask *ask) { return ask->until == SGT_UNTIL ? (uint64_t)now() : 0; }
+/* Whether the deadline came while the call waited for its turn. A call that never waits for others does wait for that. */
+static bool is_late(const struct deadline *until) { return !until->never && !until->at_once && now() >= until->at; }
 
 static inline void lock(sgt_shared *s) { take_lock(&s->lock); }
 
@@ -257,7 +264,8 @@ static inline uint32_t enter_for(sgt_shared *s, const sgt_ticket *ticket)
     if (!s) return SGT_CLOSED;
     if (!ticket) return SGT_BAD_CALL;
     if (ticket->engine != atomic_load_explicit(&s->number, memory_order_relaxed)) return SGT_MISUSE;
-    return enter(s);
+    uint32_t status = enter(s);
+    return status != SGT_OK || ticket->part == s->part ? status : leave(s, SGT_STALE);
 }
 
 /* Hooks */
@@ -310,113 +318,43 @@ static uint64_t this_thread(void)
     return own_number;
 }
 
-/* How many are live. */
-static uint64_t lives(sgt_shared *s)
+static struct live *find(sgt_shared *s, uint32_t tid)
 {
-    uint32_t tids[MOST_LIVE];
-    uint64_t count = 0;
-    sgt_live_tids(&s->engine, tids, &count);
-    return count;
-}
-
-/* Drops the notes of those that have ended: who is live is what the engine says. */
-static void refresh(sgt_shared *s)
-{
-    uint32_t tids[MOST_LIVE], kept = 0;
-    uint64_t count = 0, at = 0;
-    sgt_live_tids(&s->engine, tids, &count);
-    for (uint32_t i = 0; i < s->notes; i++) {
-        while (at < count && tids[at] < s->note[i].tid) at++;
-        if (at < count && tids[at] == s->note[i].tid) s->note[kept++] = s->note[i];
+    for (uint32_t i = 0; i < s->lives; i++) {
+        if (s->live[i].tid == tid) return &s->live[i];
     }
-    s->notes = kept;
+    return 0;
 }
 
-static struct note *find(sgt_shared *s, uint32_t tid)
+/* Numbers rise, so the newest is the last. */
+static void add(sgt_shared *s, uint32_t tid, uint32_t procedure)
 {
-    uint32_t i = s->notes;
-    while (i > 0 && s->note[i - 1].tid != tid) i--;
-    return i > 0 ? &s->note[i - 1] : 0;
+    if (s->lives == MOST_LIVE) return;
+    s->live[s->lives++] = (struct live){.tid = tid, .procedure = procedure, .thread = this_thread(), .since = now()};
 }
 
 /* Notes that this thread makes a call for a transaction. */
 static void claim(sgt_shared *s, uint32_t tid)
 {
-    struct note *it = find(s, tid);
+    struct live *it = find(s, tid);
     if (it) it->thread = this_thread();
 }
 
-/* Begins the note of a live transaction of this thread, if it has none. */
-static struct note *noted(sgt_shared *s, uint32_t tid, uint32_t procedure)
-{
-    struct note *it = find(s, tid);
-    if (it) return it;
-    if (s->notes == MOST_LIVE) refresh(s);
-    if (s->notes == MOST_LIVE) return 0;
-    uint32_t i = s->notes++;
-    for (; i > 0 && s->note[i - 1].tid > tid; i--) s->note[i] = s->note[i - 1];
-    s->note[i] = (struct note){.tid = tid, .procedure = procedure, .thread = this_thread(), .since = now()};
-    return &s->note[i];
-}
-
-/* Drops the note of a transaction, if its reply says that it has ended. Others may have ended with it: their notes stay for a while. */
-static void drop_ended(sgt_shared *s, uint32_t tid, const sgt_reply *reply)
-{
-    if (reply->kind != SGT_COMMITTED && reply->kind != SGT_ABORTED && reply->kind != SGT_REFUSED && reply->kind != SGT_OVER) return;
-    struct note *it = find(s, tid);
-    if (!it) return;
-    memmove(it, it + 1, (size_t)(&s->note[s->notes] - (it + 1)) * sizeof *it);
-    s->notes--;
-}
-
 /* Whether a live transaction is this thread's. */
-static bool has_own(sgt_shared *s)
+static bool has_own(const sgt_shared *s)
 {
     uint32_t i = 0;
-    refresh(s);
-    while (i < s->notes && s->note[i].thread != this_thread()) i++;
-    return i < s->notes;
+    while (i < s->lives && s->live[i].thread != this_thread()) i++;
+    return i < s->lives;
 }
 
-/* Whether all live transactions are this thread's. */
-static bool has_all(sgt_shared *s)
+static void drop(sgt_shared *s, uint32_t tid)
 {
-    uint32_t i = 0;
-    refresh(s);
-    while (i < s->notes && s->note[i].thread == this_thread()) i++;
-    return i == s->notes;
-}
-
-/* The transaction for which a thread waits for ever in a commit, or null. */
-static const struct note *waited_for(sgt_shared *s, uint64_t thread)
-{
-    uint32_t i = 0;
-    while (i < s->notes && !(s->note[i].thread == thread && s->note[i].waits_for_ever)) i++;
-    return i < s->notes ? find(s, s->note[i].first) : 0;
-}
-
-/* Whether this thread would wait for itself, maybe through others, if it waited for this transaction for ever. */
-static bool is_own(sgt_shared *s, uint32_t tid)
-{
-    refresh(s);
-    const struct note *it = find(s, tid);
-    for (uint32_t i = 0; it && i < s->notes; i++) {
-        if (it->thread == this_thread()) return true;
-        it = waited_for(s, it->thread);
-    }
-    return false;
-}
-
-/* Whether a call that rests for this reason waits for its own thread, as far as is seen. */
-static bool waits_for_itself(sgt_shared *s, const sgt_ask *ask)
-{
-    switch (ask->reason) {
-    case SGT_WAITS_TURN: return is_own(s, ask->first);
-    case SGT_IS_FULL:
-    case SGT_WAITS_END: return has_all(s);
-    case SGT_IS_BUSY: return has_own(s);
-    default: return false;
-    }
+    struct live *it = find(s, tid);
+    if (!it) return;
+    size_t behind = (size_t)(&s->live[s->lives] - (it + 1));
+    memmove(it, it + 1, behind * sizeof *it);
+    if (--s->lives == 0) s->is_alone = false;
 }
 
 static sgt_ticket ticket_of(const sgt_shared *s, uint32_t tid) { return (sgt_ticket){s->number, s->part, tid, 0}; }
@@ -440,16 +378,16 @@ static bool reserve(struct queue *queue, size_t more)
 }
 
 /*
- * Hands on the call that a turn has just committed or refused: the next one of the list of sgt_calls. The hook is called when the thread
- * leaves, which it does in the same hold of the lock.
+ * Hands on the call that has just been committed or refused. It is the next one of the list of sgt_calls, which is proved to be what
+ * gives the same answers one after another. The hook is called when the thread leaves, which it does in the same hold of the lock.
  */
-static void deliver(sgt_shared *s, uint64_t sequence)
+static void deliver(sgt_shared *s, uint32_t tid)
 {
+    const uint64_t sequence = s->sequence++;
     if (!s->config.ended && !s->config.keeps_ended) return;
-    sgt_ended ended = {.sequence = sequence};
+    sgt_ended ended = {.sequence = sequence, .ticket = ticket_of(s, tid)};
     uint64_t count = 0;
     sgt_calls(&s->engine, s->read, &ended.call, 1, &count, &s->read);
-    ended.ticket = ticket_of(s, ended.call.tid);
     if (s->config.keeps_ended) {
         s->queue.at[s->queue.first + s->queue.count++] = ended;
         announce(&s->lock, &s->queued);
@@ -460,126 +398,127 @@ static void deliver(sgt_shared *s, uint64_t sequence)
 /* The number of the call that this reply has just committed or refused, or UINT64_MAX. */
 static uint64_t sequence_of(const sgt_shared *s, const sgt_reply *reply)
 {
-    return reply->kind == SGT_COMMITTED || reply->kind == SGT_REFUSED ? s->desk.told - 1 : UINT64_MAX;
+    return reply->kind == SGT_COMMITTED || reply->kind == SGT_REFUSED ? s->sequence - 1 : UINT64_MAX;
 }
 
-/* Does what a turn asks for: hands on the call that it has committed or refused, if it has, and wakes those that rest. */
-static inline void after_turn(sgt_shared *s, uint64_t told, uint32_t wakes)
+/* What the reply to an event of this transaction changes. */
+static void answered(sgt_shared *s, uint32_t tid, const sgt_reply *reply)
 {
-    if (s->desk.told != told) deliver(s, told);
-    if (wakes) announce(&s->lock, &s->changed);
+    if (reply->kind != SGT_COMMITTED && reply->kind != SGT_REFUSED && reply->kind != SGT_ABORTED) return;
+    if (reply->kind != SGT_ABORTED) deliver(s, tid);
+    drop(s, tid);
+    for (uint32_t i = 0; reply->kind != SGT_COMMITTED && i < reply->fallen; i++) drop(s, reply->fell[i]);
+    s->ends++;
+    announce(&s->lock, &s->changed);
 }
 
-/* What is asked of a transaction that was started, as by sgt_step, sgt_quit, sgt_read, sgt_write and sgt_remove. */
-struct asked {
-    uint32_t kind;
-    uint64_t table;
-    int64_t number, value;
-};
-
-static uint32_t make(sgt_shared *s, const sgt_ticket *ticket, const struct asked *it, sgt_reply *reply)
+/* An event of a transaction that was started. */
+static uint32_t ask(sgt_shared *s, uint32_t (*event)(sgt_engine *, uint32_t, sgt_reply *), uint32_t tid, sgt_reply *reply)
 {
-    uint32_t wakes = 0;
-    const uint64_t told = s->desk.told;
-    claim(s, ticket->tid);
-    const uint32_t turn =
-        sgt_desk_make(&s->engine, &s->desk, ticket->part, ticket->tid, it->kind, it->table, it->number, it->value, reply, &wakes);
-    after_turn(s, told, wakes);
-    if (turn == SGT_OK) drop_ended(s, ticket->tid, reply);
-    return turn;
+    claim(s, tid);
+    uint32_t status = event(&s->engine, tid, reply);
+    if (status == SGT_OK) answered(s, tid, reply);
+    return status;
 }
 
-/* Aborts a transaction. This needs no memory if it is live. */
-static uint32_t quit(sgt_shared *s, const sgt_ticket *ticket)
-{
-    sgt_reply reply = {0};
-    return make(s, ticket, &(struct asked){.kind = SGT_QUIT}, &reply);
-}
-
-/* Aborts a transaction, if it is live. */
-static uint32_t abandon(sgt_shared *s, const sgt_ticket *ticket)
-{
-    refresh(s);
-    if (ticket->part != s->part) return SGT_STALE;
-    if (find(s, ticket->tid)) quit(s, ticket);
-    return SGT_OK;
-}
-
-/* Aborts the live transactions that a hook has abandoned. */
+/* Aborts the live transactions that a hook has abandoned. This needs no memory. */
 static void quit_abandoned(sgt_shared *s)
 {
     uint32_t i = 0;
     s->abandons = false;
-    refresh(s);
-    while (i < s->notes) {
-        const sgt_ticket ticket = ticket_of(s, s->note[i].tid);
-        const bool is_abandoned = s->note[i].is_abandoned;
-        s->note[i].is_abandoned = false;
-        if (is_abandoned) quit(s, &ticket), refresh(s);
+    while (i < s->lives) {
+        sgt_reply reply = {0};
+        const bool is_abandoned = s->live[i].is_abandoned;
+        s->live[i].is_abandoned = false;
+        if (is_abandoned) ask(s, sgt_quit, s->live[i].tid, &reply);
         i = is_abandoned ? 0 : i + 1;
     }
 }
 
-/* Resting */
+/* Waiting */
+
+/* Whether all live transactions are this thread's. */
+static bool has_all(const sgt_shared *s)
+{
+    uint32_t i = 0;
+    while (i < s->lives && s->live[i].thread == this_thread()) i++;
+    return i == s->lives;
+}
+
+/* The transaction for which a thread waits for ever in a commit, or null. */
+static const struct live *waited_for(sgt_shared *s, uint64_t thread)
+{
+    uint32_t i = 0;
+    while (i < s->lives && !(s->live[i].thread == thread && s->live[i].waits_for_ever)) i++;
+    return i < s->lives ? find(s, s->live[i].first) : 0;
+}
+
+/* Whether this thread would wait for itself, maybe through others, if it waited for this transaction for ever. */
+static bool is_own(sgt_shared *s, uint32_t tid)
+{
+    const struct live *it = find(s, tid);
+    for (uint32_t i = 0; it && i < s->lives; i++) {
+        if (it->thread == this_thread()) return true;
+        it = waited_for(s, it->thread);
+    }
+    return false;
+}
+
+/* Waits until more transactions have ended than these, or nobody is live. SGT_TIMED_OUT; SGT_SELF_WAIT. */
+static uint32_t await_end(sgt_shared *s, uint64_t ends, struct deadline *until)
+{
+    bool in_time = true;
+    while (s->ends == ends && s->lives > 0 && in_time) {
+        if (until->never && has_all(s)) return SGT_SELF_WAIT;
+        in_time = rest(s, &s->changed, until);
+    }
+    return s->ends != ends || s->lives == 0 ? SGT_OK : SGT_TIMED_OUT;
+}
+
+/* Waits until fewer are live than the limits allow. SGT_TIMED_OUT; SGT_SELF_WAIT. */
+static uint32_t await_room(sgt_shared *s, struct deadline *until)
+{
+    bool in_time = true;
+    while (s->lives >= s->most && in_time) {
+        if (until->never && has_all(s)) return SGT_SELF_WAIT;
+        in_time = rest(s, &s->changed, until);
+    }
+    return s->lives < s->most ? SGT_OK : SGT_TIMED_OUT;
+}
+
+/* Waits until a transaction, or the one that its commit waits for, has ended. SGT_TIMED_OUT; SGT_SELF_WAIT. */
+static uint32_t await_turn(sgt_shared *s, uint32_t tid, uint32_t first, struct deadline *until)
+{
+    bool in_time = true;
+    struct live *it = find(s, tid);
+    if (it && until->never && is_own(s, first)) return SGT_SELF_WAIT;
+    if (it) it->waits = true, it->waits_for_ever = until->never, it->first = first;
+    while (find(s, tid) && find(s, first) && in_time) in_time = rest(s, &s->changed, until);
+    it = find(s, tid);
+    if (it) it->waits = it->waits_for_ever = false;
+    return !it || !find(s, first) ? SGT_OK : SGT_TIMED_OUT;
+}
 
 /*
- * Has the thread sleep for the reason for which its call rests. If it is interrupted, or would wait for itself, the next turn is the last
- * one, and the status says why.
+ * Goes on with a commit whose reply this is: as long as it has to wait, it waits, and asks again. No cut comes before its thread has
+ * returned its end.
  */
-static uint32_t sleep_for(sgt_shared *s, sgt_ask *ask, struct deadline *until)
+static uint32_t go_on(sgt_shared *s, uint32_t tid, struct deadline *until, sgt_reply *reply, uint32_t *waits)
 {
-    if (until->never && waits_for_itself(s, ask)) {
-        ask->until = SGT_AT_ONCE;
-        return SGT_SELF_WAIT;
+    uint32_t status = SGT_OK;
+    s->committing++;
+    while (status == SGT_OK && reply->kind == SGT_WAITS) {
+        ++*waits;
+        status = await_turn(s, tid, reply->tid, until);
+        if (status == SGT_OK) status = ask(s, sgt_commit, tid, reply);
     }
-    struct note *it = ask->reason == SGT_WAITS_TURN ? find(s, ask->turn) : 0;
-    if (it) it->waits = true, it->waits_for_ever = until->never, it->first = ask->first;
-    rest(s, &s->changed, until);
-    it = ask->reason == SGT_WAITS_TURN ? find(s, ask->turn) : 0;
-    if (it) it->waits = it->waits_for_ever = false;
-    if (until->is_over) ask->until = SGT_AT_ONCE;
-    return SGT_TIMED_OUT;
-}
-
-/* Whether a call rests for another reason than when it rested before, which is noted. */
-static bool rests_anew(const sgt_ask *ask, sgt_ask *before)
-{
-    const bool is_new =
-        ask->reason != before->reason || ask->number != before->number || ask->turn != before->turn || ask->first != before->first;
-    *before = *ask;
-    return is_new;
-}
-
-/* Commits a transaction. The status is that of the last turn, or SGT_SELF_WAIT. */
-static uint32_t commit(sgt_shared *s, const sgt_ticket *ticket, struct deadline *until, sgt_reply *reply, uint32_t *waits)
-{
-    uint32_t late = SGT_TIMED_OUT;
-    sgt_ask ask = asked_until(until), before = {0};
-    claim(s, ticket->tid);
-    for (;;) {
-        uint32_t wakes = 0;
-        const uint64_t told = s->desk.told;
-        const uint32_t turn =
-            sgt_desk_commit(&s->engine, &s->desk, &ask, ticket->part, ticket->tid, time_for(&ask), reply, &wakes);
-        after_turn(s, told, wakes);
-        if (turn == SGT_OK) drop_ended(s, ticket->tid, reply);
-        if (turn == SGT_TIMED_OUT) reply->kind = SGT_WAITS, reply->tid = ask.first;
-        if (turn != SGT_REST) return turn == SGT_TIMED_OUT ? late : turn;
-        if (rests_anew(&ask, &before)) ++*waits;
-        late = sleep_for(s, &ask, until);
-    }
+    if (--s->committing == 0 && s->lives == 0) announce(&s->lock, &s->changed);
+    return status;
 }
 
 /* Cutting */
 
-/* Whether the history may not be cut. */
-static bool is_busy(sgt_shared *s)
-{
-    uint32_t cuts = 0;
-    const sgt_ask ask = {0};
-    sgt_desk_cuts(&s->engine, &s->desk, &ask, &cuts);
-    return !cuts;
-}
+static bool is_busy(const sgt_shared *s) { return s->lives > 0 || s->committing > 0; }
 
 static uint64_t entries(sgt_shared *s)
 {
@@ -614,51 +553,44 @@ static void tell_of_cut(sgt_shared *s)
     end_hook(&hook);
 }
 
-/* A turn of a cut. The hook is called before, if it will be made. */
-static uint32_t cut_turn(sgt_shared *s, sgt_ask *ask)
+/* Cuts the history off. Nobody is live. */
+static uint32_t cut(sgt_shared *s)
 {
-    uint32_t wakes = 0, cuts = 0;
-    sgt_desk_cuts(&s->engine, &s->desk, ask, &cuts);
-    if (cuts && s->config.cutting) {
-        sgt_desk_leave(&s->desk, ask, &wakes);
-        tell_of_cut(s);
-    }
-    const uint32_t turn = sgt_desk_cut(&s->engine, &s->desk, ask, time_for(ask), &wakes);
-    if (turn == SGT_OK && cuts) {
-        sgt_part(&s->engine, &s->part);
-        s->read = 0, s->notes = 0, s->cut_at = s->config.cut_after, s->pauses = false;
-    }
-    if (wakes) announce(&s->lock, &s->changed);
-    return turn;
+    uint64_t live = 0;
+    if (s->config.cutting) tell_of_cut(s);
+    uint32_t status = sgt_cut(&s->engine, &live);
+    if (status != SGT_OK) return status;
+    sgt_part(&s->engine, &s->part);
+    s->read = 0, s->cut_at = s->config.cut_after, s->pauses = false;
+    return SGT_OK;
 }
 
 /* Makes the cut that the configuration asks for, or has starts wait for it. */
 static void cut_if_due(sgt_shared *s)
 {
     if (entries(s) < s->cut_at) return;
-    sgt_ask ask = {.until = SGT_AT_ONCE};
-    const uint32_t turn = cut_turn(s, &ask);
-    if (turn == SGT_TIMED_OUT && s->config.cut_wait_ns > 0 && !s->pauses) {
+    if (!is_busy(s)) {
+        if (cut(s) != SGT_OK) put_off(s);
+        announce(&s->lock, &s->changed);
+    } else if (s->config.cut_wait_ns > 0 && !s->pauses) {
         s->pauses = true;
         s->pause = in_ns(s->config.cut_wait_ns);
-    } else if (turn != SGT_OK && turn != SGT_TIMED_OUT) {
-        put_off(s);
     }
 }
 
-/* Waits while starts wait for a cut that is due. Whether they do not any more before the deadline. */
-static bool await_pause(sgt_shared *s, struct deadline *until)
+/* Waits while a cut is awaited. Whether it is over before the deadline. */
+static bool await_cut(sgt_shared *s, struct deadline *until)
 {
-    while (s->pauses) {
-        if (!is_busy(s)) {
+    while (s->cutters > 0 || s->pauses) {
+        if (s->pauses && !is_busy(s)) {
             cut_if_due(s);
             continue;
         }
-        const bool is_own = until->at < s->pause;
+        const bool is_own = s->cutters > 0 || until->at < s->pause;
         struct deadline pause = {.at = s->pause};
         if (rest(s, &s->changed, is_own ? until : &pause)) continue;
         until->is_over |= pause.is_over;
-        if (is_own || until->is_over) return !s->pauses;
+        if (is_own || until->is_over) return s->cutters == 0 && !s->pauses;
         if (s->pauses && pause.at >= s->pause) put_off(s);
     }
     return true;
@@ -798,89 +730,116 @@ uint32_t sgt_shared_close(sgt_shared **shared)
     return status;
 }
 
-/* Starts and runs */
+/* Runs */
 
-/* Whether the numbers may be a call: tested before the lock is taken, so that a wrong call never waits. */
-static bool is_call(uint64_t procedure, const int64_t *args, size_t count)
+static bool is_call(struct call *call, uint64_t procedure, const int64_t *args, size_t count)
 {
-    return procedure <= MOST_PROCEDURE && count <= MOST_ARGS && (count == 0 || args);
-}
-
-/* Whether the live transaction is to stay alone. */
-static bool is_alone(sgt_shared *s)
-{
-    if (s->is_alone && lives(s) == 0) s->is_alone = false;
-    return s->is_alone;
+    if (procedure > MOST_PROCEDURE || count > MOST_ARGS || (count > 0 && !args)) return false;
+    call->procedure = (uint32_t)procedure, call->count = (uint32_t)count;
+    for (size_t i = 0; i < count; i++) call->args[i] = args[i];
+    return true;
 }
 
 /*
  * Whether a start has to wait for others: for all that are live, if it is to be alone, and else for one that is to be alone. A thread
  * that has something live does not wait for one that is still to start, which waits for this thread.
  */
-static bool is_held_up(sgt_shared *s, bool alone)
+static bool is_held_up(const sgt_shared *s, bool alone)
 {
-    return alone ? lives(s) > 0 : is_alone(s) || (s->loners > 0 && !has_own(s));
+    return alone ? s->lives > 0 : s->is_alone || (s->loners > 0 && !has_own(s));
 }
 
 /*
  * Whether the next try is made alone: after so many aborts, unless this thread has something else live, which would have to end before.
  */
-static bool is_due_alone(sgt_shared *s, uint64_t aborts, uint32_t most) { return aborts >= most && !has_own(s); }
+static bool is_due_alone(const sgt_shared *s, uint32_t aborts, uint32_t most) { return aborts >= most && !has_own(s); }
 
 /* Waits until a transaction may be started, alone or not. SGT_TIMED_OUT; SGT_SELF_WAIT. */
 static uint32_t await_others(sgt_shared *s, bool alone, struct deadline *until)
 {
     bool in_time = true;
     while (in_time) {
-        if (!await_pause(s, until)) return SGT_TIMED_OUT;
+        if (!await_cut(s, until)) return SGT_TIMED_OUT;
         if (!is_held_up(s, alone)) return SGT_OK;
         if (until->never && has_own(s)) return SGT_SELF_WAIT;
         in_time = rest(s, &s->changed, until);
     }
-    return is_held_up(s, alone) || s->pauses ? SGT_TIMED_OUT : SGT_OK;
+    return is_held_up(s, alone) || s->cutters > 0 || s->pauses ? SGT_TIMED_OUT : SGT_OK;
 }
 
-/* Waits until the desk may be asked for a start, and makes room for its end. */
-static inline uint32_t may_start(sgt_shared *s, bool alone, struct deadline *until)
+/* Waits until a transaction may be started, and makes room for its end. */
+static uint32_t may_start(sgt_shared *s, bool alone, struct deadline *until)
 {
-    uint32_t status = SGT_OK;
     if (alone) s->loners++;
-    if (alone || s->pauses || s->is_alone || s->loners > 0) status = await_others(s, alone, until);
-    if (status == SGT_OK && s->config.keeps_ended && !reserve(&s->queue, MOST_LIVE)) status = SGT_NO_MEMORY;
+    uint32_t status = await_others(s, alone, until);
+    if (status == SGT_OK && s->config.keeps_ended && !reserve(&s->queue, s->lives + 1)) status = SGT_NO_MEMORY;
     if (alone && --s->loners == 0) announce(&s->lock, &s->changed);
     return status;
 }
 
-/* A call of a procedure, under way. */
-struct call {
-    uint64_t procedure;
-    const int64_t *args;
-    size_t count;
-};
-
-/* Makes the turns of a run. The status is that of the last one, or why it may not begin. */
-static uint32_t run(sgt_shared *s, const struct call *it, struct deadline *until, sgt_run_ask *run, sgt_shared_outcome *out)
+/* Quits a transaction, unless it has ended. */
+static void quit(sgt_shared *s, uint32_t tid)
 {
-    static const int64_t none;
-    uint32_t late = SGT_TIMED_OUT;
-    sgt_ask before = {0};
+    sgt_reply reply = {0};
+    if (find(s, tid)) ask(s, sgt_quit, tid, &reply);
+}
+
+/* One try of a run. Where the deadline comes, or memory is refused, its transaction is quit. */
+static uint32_t try_once(sgt_shared *s, const struct call *call, struct deadline *until, sgt_shared_outcome *out)
+{
+    uint32_t tid = NO_TID;
+    uint32_t status = sgt_run(&s->engine, call->procedure, call->args, call->count, &tid, &out->reply);
+    if (status != SGT_OK) return status;
+    if (tid != NO_TID) out->tries++, out->ticket = ticket_of(s, tid);
+    if (out->reply.kind == SGT_FULL) s->most = s->lives;
+    if (out->reply.kind != SGT_WAITS) {
+        answered(s, tid, &out->reply);
+        return SGT_OK;
+    }
+    add(s, tid, call->procedure);
+    status = go_on(s, tid, until, &out->reply, &out->waits);
+    if (status != SGT_OK) quit(s, tid);
+    return status;
+}
+
+/* Whether the reply is of a conflict, so that the call is run anew. */
+static bool is_conflict(const sgt_reply *reply)
+{
+    return (reply->kind == SGT_ABORTED && reply->cause == SGT_BY_CYCLE) || (reply->kind == SGT_OVER && reply->cause == SGT_BY_FALL);
+}
+
+/* Runs it. Each try but the last was aborted by a conflict, or found no room. */
+static uint32_t run(sgt_shared *s, struct run *it, sgt_shared_outcome *out)
+{
+    if (is_late(&it->until)) return SGT_TIMED_OUT;
     for (;;) {
-        uint32_t wakes = 0, status = SGT_OK;
-        if (!run->has_attempt) status = may_start(s, run->tries >= MOST_ABORTS && is_due_alone(s, run->tries, MOST_ABORTS), until);
+        uint32_t status = may_start(s, is_due_alone(s, out->tries, MOST_ABORTS), &it->until);
+        if (status == SGT_OK) status = try_once(s, &it->call, &it->until, out);
         if (status != SGT_OK) return status;
-        const uint64_t told = s->desk.told;
-        const uint32_t turn = sgt_desk_run(&s->engine, &s->desk, run, it->procedure, it->args ? it->args : &none, it->count,
-                                           time_for(&run->ask), &out->reply, &wakes);
-        after_turn(s, told, wakes);
-        if (turn == SGT_OK) out->sequence = sequence_of(s, &out->reply);
-        if (turn == SGT_OK && s->notes > 0) drop_ended(s, run->tid, &out->reply);
-        if (turn == SGT_AGAIN) continue;
-        if (turn != SGT_REST) return turn == SGT_TIMED_OUT ? late : turn;
-        if (run->has_attempt) noted(s, run->attempt, (uint32_t)it->procedure);
-        if (run->ask.reason != SGT_WAITS_CUT && rests_anew(&run->ask, &before)) out->waits++;
-        late = sleep_for(s, &run->ask, until);
+        const bool is_full = out->reply.kind == SGT_FULL;
+        if (!is_full && (!is_conflict(&out->reply) || out->tries == it->tries)) {
+            out->sequence = sequence_of(s, &out->reply);
+            return SGT_OK;
+        }
+        if (out->reply.kind == SGT_OVER) continue; /* one has just ended */
+        out->waits++;
+        status = is_full ? await_room(s, &it->until) : await_end(s, s->ends, &it->until);
+        if (status != SGT_OK) return status;
     }
 }
+
+/* Runs it beside others, so that it may fail after a reply. Then only `tries` and `waits` are written. */
+static uint32_t run_beside(sgt_shared *s, struct run *it, sgt_shared_outcome *outcome)
+{
+    sgt_shared_outcome out = *outcome;
+    const uint32_t status = run(s, it, &out);
+    if (status == SGT_OK) *outcome = out;
+    outcome->tries = out.tries, outcome->waits = out.waits;
+    return status;
+}
+
+/* Whether nobody is live, so that a run never waits. */
+static bool is_quiet(const sgt_shared *s) { return s->lives == 0 && s->committing == 0 && s->cutters == 0 && s->loners == 0; }
 
 uint32_t sgt_shared_run(sgt_shared *shared, uint64_t procedure, const int64_t *args, size_t count, const sgt_run_options *options,
                         sgt_shared_outcome *outcome)
@@ -888,53 +847,44 @@ uint32_t sgt_shared_run(sgt_shared *shared, uint64_t procedure, const int64_t *a
     static const sgt_run_options plain = SGT_RUN_OPTIONS;
     if (!options) options = &plain;
     if (!outcome || outcome->size < sizeof *outcome || options->size < sizeof *options) return SGT_BAD_CALL;
-    const struct call it = {procedure, args, count};
-    struct deadline until = deadline_in(options->wait_ns);
-    sgt_run_ask asked = {.ask = asked_until(&until), .most = options->tries ? options->tries : UINT64_MAX};
+    struct run it;
+    it.tries = options->tries, it.until = deadline_in(options->wait_ns);
     outcome->tries = outcome->waits = 0;
-    if (!is_call(procedure, args, count)) return SGT_BAD_CALL;
+    if (!is_call(&it.call, procedure, args, count)) return SGT_BAD_CALL;
     uint32_t status = enter(shared);
     if (status != SGT_OK) return status;
-    status = run(shared, &it, &until, &asked, outcome);
-    outcome->tries = (uint32_t)asked.tries;
-    if (status == SGT_OK && asked.has_ticket) outcome->ticket = (sgt_ticket){shared->number, asked.part, asked.tid, 0};
-    return leave(shared, status);
+    return leave(shared, is_quiet(shared) ? run(shared, &it, outcome) : run_beside(shared, &it, outcome));
 }
 
-/* Makes the turns of a start, alone or not. */
-static uint32_t start(sgt_shared *s, const struct call *it, bool alone, struct deadline *until, sgt_ask *ask, sgt_ticket *ticket,
-                      sgt_reply *reply, uint32_t *waits)
+/* Steps */
+
+static uint32_t start(sgt_shared *s, const struct call *call, bool alone, struct deadline *until, sgt_ticket *ticket, sgt_reply *reply)
 {
-    static const int64_t none;
-    uint32_t late = SGT_TIMED_OUT;
     for (;;) {
-        uint32_t wakes = 0;
-        const uint32_t status = may_start(s, alone, until);
+        uint32_t status = may_start(s, alone, until);
         if (status != SGT_OK) return status;
-        const uint64_t told = s->desk.told;
-        const uint32_t turn = sgt_desk_start(&s->engine, &s->desk, ask, it->procedure, it->args ? it->args : &none, it->count,
-                                             time_for(ask), reply, &wakes);
-        after_turn(s, told, wakes);
-        if (turn == SGT_OK && reply->kind == SGT_STARTED) {
-            *ticket = ticket_of(s, reply->tid), s->is_alone = alone;
-            noted(s, reply->tid, (uint32_t)it->procedure);
-        }
-        if (turn != SGT_REST) return turn == SGT_TIMED_OUT ? late : turn;
-        if (ask->reason == SGT_WAITS_END) ++*waits;
-        late = sleep_for(s, ask, until);
+        status = sgt_start(&s->engine, call->procedure, call->args, call->count, reply);
+        if (status != SGT_OK) return status;
+        if (reply->kind == SGT_STARTED) add(s, reply->tid, call->procedure), *ticket = ticket_of(s, reply->tid), s->is_alone = alone;
+        if (reply->kind != SGT_FULL) return SGT_OK;
+        s->most = s->lives;
+        status = await_room(s, until);
+        if (status != SGT_OK) return status;
     }
 }
 
 uint32_t sgt_shared_start(sgt_shared *shared, uint64_t procedure, const int64_t *args, size_t count, int64_t wait_ns,
                           sgt_ticket *ticket, sgt_reply *reply)
 {
-    uint32_t waits = 0;
-    if (!ticket || !reply || !is_call(procedure, args, count)) return SGT_BAD_CALL;
-    const struct call it = {procedure, args, count};
+    struct call call;
+    sgt_reply told = {0};
+    if (!ticket || !reply || !is_call(&call, procedure, args, count)) return SGT_BAD_CALL;
     struct deadline until = deadline_in(wait_ns);
-    sgt_ask ask = asked_until(&until);
     uint32_t status = enter(shared);
-    return status == SGT_OK ? leave(shared, start(shared, &it, false, &until, &ask, ticket, reply, &waits)) : status;
+    if (status != SGT_OK) return status;
+    status = start(shared, &call, false, &until, ticket, &told);
+    if (status == SGT_OK) *reply = told;
+    return leave(shared, status);
 }
 
 uint32_t sgt_shared_begin(sgt_shared *shared, int64_t wait_ns, sgt_ticket *ticket, sgt_reply *reply)
@@ -942,37 +892,50 @@ uint32_t sgt_shared_begin(sgt_shared *shared, int64_t wait_ns, sgt_ticket *ticke
     return sgt_shared_start(shared, SGT_EMPTY, 0, 0, wait_ns, ticket, reply);
 }
 
-/* Steps */
-
-static uint32_t make_by(sgt_shared *shared, const sgt_ticket *ticket, const struct asked *it, sgt_reply *reply)
-{
-    const uint32_t status = reply ? enter_for(shared, ticket) : (uint32_t)SGT_BAD_CALL;
-    return status == SGT_OK ? leave(shared, make(shared, ticket, it, reply)) : status;
-}
-
 uint32_t sgt_shared_step(sgt_shared *shared, const sgt_ticket *ticket, sgt_reply *reply)
 {
-    return make_by(shared, ticket, &(struct asked){.kind = SGT_STEP}, reply);
+    uint32_t status = reply ? enter_for(shared, ticket) : (uint32_t)SGT_BAD_CALL;
+    return status == SGT_OK ? leave(shared, ask(shared, sgt_step, ticket->tid, reply)) : status;
+}
+
+/* An access that a caller decides: `asked` is SGT_READ, SGT_WRITE or SGT_REMOVE. */
+struct access {
+    uint32_t asked;
+    uint64_t table;
+    int64_t number, value;
+};
+
+/* Makes an access. */
+static uint32_t make(sgt_shared *s, uint32_t tid, const struct access *it, sgt_reply *reply)
+{
+    uint32_t status = SGT_OK;
+    claim(s, tid);
+    if (it->asked == SGT_READ) status = sgt_read(&s->engine, tid, it->table, it->number, reply);
+    else if (it->asked == SGT_WRITE) status = sgt_write(&s->engine, tid, it->table, it->number, it->value, reply);
+    else status = sgt_remove(&s->engine, tid, it->table, it->number, reply);
+    if (status == SGT_OK) answered(s, tid, reply);
+    return status;
+}
+
+static uint32_t access_by(sgt_shared *shared, const sgt_ticket *ticket, const struct access *it, sgt_reply *reply)
+{
+    uint32_t status = reply ? enter_for(shared, ticket) : (uint32_t)SGT_BAD_CALL;
+    return status == SGT_OK ? leave(shared, make(shared, ticket->tid, it, reply)) : status;
 }
 
 uint32_t sgt_shared_read(sgt_shared *shared, const sgt_ticket *ticket, uint64_t table, int64_t number, sgt_reply *reply)
 {
-    return make_by(shared, ticket, &(struct asked){SGT_READ, table, number, 0}, reply);
+    return access_by(shared, ticket, &(struct access){SGT_READ, table, number, 0}, reply);
 }
 
 uint32_t sgt_shared_write(sgt_shared *shared, const sgt_ticket *ticket, uint64_t table, int64_t number, int64_t value, sgt_reply *reply)
 {
-    return make_by(shared, ticket, &(struct asked){SGT_WRITE, table, number, value}, reply);
+    return access_by(shared, ticket, &(struct access){SGT_WRITE, table, number, value}, reply);
 }
 
 uint32_t sgt_shared_remove(sgt_shared *shared, const sgt_ticket *ticket, uint64_t table, int64_t number, sgt_reply *reply)
 {
-    return make_by(shared, ticket, &(struct asked){SGT_REMOVE, table, number, 0}, reply);
-}
-
-uint32_t sgt_shared_quit(sgt_shared *shared, const sgt_ticket *ticket, sgt_reply *reply)
-{
-    return make_by(shared, ticket, &(struct asked){.kind = SGT_QUIT}, reply);
+    return access_by(shared, ticket, &(struct access){SGT_REMOVE, table, number, 0}, reply);
 }
 
 uint32_t sgt_shared_accesses(sgt_shared *shared, const sgt_ticket *ticket, sgt_access *accesses, size_t room, uint64_t *count)
@@ -984,20 +947,25 @@ uint32_t sgt_shared_accesses(sgt_shared *shared, const sgt_ticket *ticket, sgt_a
         return sgt_accesses(&shared->engine, ticket->tid, accesses, room, count);
     }
     const uint32_t status = enter_for(shared, ticket);
-    if (status != SGT_OK) return status;
-    if (ticket->part != shared->part) return leave(shared, SGT_STALE);
-    return leave(shared, sgt_accesses(&shared->engine, ticket->tid, accesses, room, count));
+    return status == SGT_OK ? leave(shared, sgt_accesses(&shared->engine, ticket->tid, accesses, room, count)) : status;
+}
+
+uint32_t sgt_shared_quit(sgt_shared *shared, const sgt_ticket *ticket, sgt_reply *reply)
+{
+    uint32_t status = reply ? enter_for(shared, ticket) : (uint32_t)SGT_BAD_CALL;
+    return status == SGT_OK ? leave(shared, ask(shared, sgt_quit, ticket->tid, reply)) : status;
 }
 
 uint32_t sgt_shared_abandon(sgt_shared *shared, const sgt_ticket *ticket)
 {
     if (!shared || !ticket || is_in_child(shared) || !is_in_hook(shared)) {
         const uint32_t status = enter_for(shared, ticket);
-        return status == SGT_OK ? leave(shared, abandon(shared, ticket)) : status;
+        if (status == SGT_OK) quit(shared, ticket->tid);
+        return status == SGT_OK ? leave(shared, SGT_OK) : status;
     }
     if (ticket->engine != shared->number) return SGT_MISUSE;
     if (ticket->part != shared->part) return SGT_STALE;
-    struct note *it = find(shared, ticket->tid);
+    struct live *it = find(shared, ticket->tid);
     if (it) it->is_abandoned = shared->abandons = true;
     return SGT_OK;
 }
@@ -1006,8 +974,13 @@ uint32_t sgt_shared_commit(sgt_shared *shared, const sgt_ticket *ticket, int64_t
 {
     struct deadline until = deadline_in(wait_ns);
     uint32_t waits = 0;
-    const uint32_t status = reply ? enter_for(shared, ticket) : (uint32_t)SGT_BAD_CALL;
-    return status == SGT_OK ? leave(shared, commit(shared, ticket, &until, reply, &waits)) : status;
+    sgt_reply told = {0};
+    uint32_t status = reply ? enter_for(shared, ticket) : (uint32_t)SGT_BAD_CALL;
+    if (status != SGT_OK) return status;
+    status = ask(shared, sgt_commit, ticket->tid, &told);
+    if (status == SGT_OK) status = go_on(shared, ticket->tid, &until, &told, &waits);
+    if (status == SGT_OK || status == SGT_TIMED_OUT || status == SGT_SELF_WAIT) *reply = told;
+    return leave(shared, status);
 }
 
 uint32_t sgt_shared_live(sgt_shared *shared, sgt_live *rows, size_t room, uint64_t *count)
@@ -1015,22 +988,15 @@ uint32_t sgt_shared_live(sgt_shared *shared, sgt_live *rows, size_t room, uint64
     uint32_t status = count && (rows || room == 0) ? enter(shared) : (uint32_t)SGT_BAD_CALL;
     if (status != SGT_OK) return status;
     const int64_t at = now();
-    refresh(shared);
-    for (uint32_t i = 0; i < shared->notes && i < room; i++) {
-        const struct note *it = &shared->note[i];
+    for (uint32_t i = 0; i < shared->lives && i < room; i++) {
+        const struct live *it = &shared->live[i];
         rows[i] = (sgt_live){ticket_of(shared, it->tid), at - it->since, it->procedure, it->waits};
     }
-    *count = shared->notes;
+    *count = shared->lives;
     return leave(shared, SGT_OK);
 }
 
 /* Transaction functions */
-
-/* Whether the reply is of a conflict, so that the try is made anew. */
-static bool is_conflict(const sgt_reply *reply)
-{
-    return (reply->kind == SGT_ABORTED && reply->cause == SGT_BY_CYCLE) || (reply->kind == SGT_OVER && reply->cause == SGT_BY_FALL);
-}
 
 /* Whether the transaction is there, as far as its size and its engine say. */
 static bool is_made(const sgt_transaction *t) { return t && t->size >= sizeof *t && t->shared; }
@@ -1057,18 +1023,18 @@ static uint32_t has_ended(const sgt_transaction *t)
 }
 
 /* Makes an access of a transaction, and notes what came of it. */
-static uint32_t access_in(sgt_transaction *t, const struct asked *it)
+static uint32_t access_in(sgt_transaction *t, const struct access *it)
 {
     if (!is_made(t) || t->tries == 0) return SGT_BAD_CALL;
     if (!t->is_live) return has_ended(t);
     sgt_reply reply = {0};
     uint32_t status = enter_for(t->shared, &t->ticket);
+    if (status == SGT_STALE) return end_cut_off(t);
     if (status == SGT_OK) {
-        status = make(t->shared, &t->ticket, it, &reply);
-        if (status == SGT_OK) t->reply = reply, t->ends = t->shared->desk.ended;
+        status = make(t->shared, t->ticket.tid, it, &reply);
+        if (status == SGT_OK) t->reply = reply, t->ends = t->shared->ends;
         leave(t->shared, status);
     }
-    if (status == SGT_STALE) return end_cut_off(t);
     if (status == SGT_OK && (reply.kind == SGT_ABORTED || reply.kind == SGT_OVER)) return end_try(t), has_ended(t);
     if (status == SGT_OK && reply.kind == SGT_BAD_ARGS) status = SGT_BAD_CALL;
     if (status != SGT_OK && t->status == SGT_OK) t->status = status;
@@ -1078,7 +1044,7 @@ static uint32_t access_in(sgt_transaction *t, const struct asked *it)
 uint32_t sgt_transaction_read(sgt_transaction *transaction, uint64_t table, int64_t number, int64_t *value)
 {
     if (!value) return SGT_BAD_CALL;
-    const uint32_t status = access_in(transaction, &(struct asked){SGT_READ, table, number, 0});
+    const uint32_t status = access_in(transaction, &(struct access){SGT_READ, table, number, 0});
     if (status != SGT_OK) return status;
     if (!transaction->reply.found) return SGT_NONE;
     *value = transaction->reply.value;
@@ -1087,22 +1053,29 @@ uint32_t sgt_transaction_read(sgt_transaction *transaction, uint64_t table, int6
 
 uint32_t sgt_transaction_write(sgt_transaction *transaction, uint64_t table, int64_t number, int64_t value)
 {
-    return access_in(transaction, &(struct asked){SGT_WRITE, table, number, value});
+    return access_in(transaction, &(struct access){SGT_WRITE, table, number, value});
 }
 
 uint32_t sgt_transaction_remove(sgt_transaction *transaction, uint64_t table, int64_t number)
 {
-    return access_in(transaction, &(struct asked){SGT_REMOVE, table, number, 0});
+    return access_in(transaction, &(struct access){SGT_REMOVE, table, number, 0});
 }
 
-/* Starts the next try, alone or not: after a cycle, not before one of those that were in the way may have ended. */
+/* Waits, after a cycle, until one of those that were in the way may have ended. */
+static uint32_t await_next(sgt_shared *s, sgt_transaction *t, struct deadline *until)
+{
+    if (t->status != SGT_UNDONE || t->reply.kind != SGT_ABORTED || s->ends != t->ends || s->lives == 0) return SGT_OK;
+    t->waits++;
+    return await_end(s, t->ends, until);
+}
+
+/* Starts the next try, alone or not. */
 static uint32_t start_try(sgt_shared *s, sgt_transaction *t, bool alone, struct deadline *until)
 {
     const struct call call = {.procedure = SGT_EMPTY};
     sgt_reply reply = {0};
-    sgt_ask ask = asked_until(until);
-    if (!alone && t->status == SGT_UNDONE && t->reply.kind == SGT_ABORTED) ask.reason = SGT_WAITS_END, ask.number = t->ends;
-    const uint32_t status = start(s, &call, alone, until, &ask, &t->ticket, &reply, &t->waits);
+    uint32_t status = alone ? (uint32_t)SGT_OK : await_next(s, t, until);
+    if (status == SGT_OK) status = start(s, &call, alone, until, &t->ticket, &reply);
     if (status != SGT_OK) return status;
     t->reply = reply, t->status = SGT_OK, t->sequence = UINT64_MAX;
     t->is_live = reply.kind == SGT_STARTED;
@@ -1142,10 +1115,11 @@ static uint32_t commit_try(sgt_shared *s, sgt_transaction *t, struct deadline *u
 {
     uint32_t status = t->status;
     sgt_reply reply = {0};
-    if (status == SGT_OK) status = commit(s, &t->ticket, until, &reply, &t->waits);
-    if (status != SGT_OK) abandon(s, &t->ticket);
+    if (status == SGT_OK) status = ask(s, sgt_commit, t->ticket.tid, &reply);
+    if (status == SGT_OK) status = go_on(s, t->ticket.tid, until, &reply, &t->waits);
+    if (status != SGT_OK) quit(s, t->ticket.tid);
     else t->reply = reply, t->sequence = sequence_of(s, &reply);
-    t->ends = s->desk.ended;
+    t->ends = s->ends;
     return status;
 }
 
@@ -1154,8 +1128,8 @@ static uint32_t commit_until(sgt_transaction *t, struct deadline *until)
     if (!is_made(t) || t->tries == 0) return SGT_BAD_CALL;
     if (!t->is_live) return t->status;
     uint32_t status = enter_for(t->shared, &t->ticket);
-    if (status == SGT_OK) status = leave(t->shared, commit_try(t->shared, t, until));
     if (status == SGT_STALE) return end_cut_off(t);
+    if (status == SGT_OK) status = leave(t->shared, commit_try(t->shared, t, until));
     if (status == SGT_OK) return end_try(t);
     t->is_live = 0;
     return t->status = status;
@@ -1272,12 +1246,20 @@ uint32_t sgt_shared_transact(sgt_shared *shared, sgt_body body, void *context, c
 uint32_t sgt_shared_cut(sgt_shared *shared, int64_t wait_ns)
 {
     struct deadline until = deadline_in(wait_ns);
-    sgt_ask ask = asked_until(&until);
-    uint32_t late = SGT_TIMED_OUT;
+    bool in_time = true, is_self = false;
     uint32_t status = enter(shared);
     if (status != SGT_OK) return status;
-    while ((status = cut_turn(shared, &ask)) == SGT_REST) late = sleep_for(shared, &ask, &until);
-    return leave(shared, status == SGT_TIMED_OUT ? late : status);
+    const uint64_t part = shared->part;
+    shared->cutters++;
+    while (shared->part == part && is_busy(shared) && in_time && !is_self) {
+        is_self = until.never && has_own(shared);
+        if (!is_self) in_time = rest(shared, &shared->changed, &until);
+    }
+    shared->cutters--;
+    announce(&shared->lock, &shared->changed);
+    if (shared->part == part && is_busy(shared)) status = is_self ? SGT_SELF_WAIT : SGT_TIMED_OUT;
+    else if (shared->part == part) status = cut(shared);
+    return leave(shared, status);
 }
 
 uint32_t sgt_shared_get(sgt_shared *shared, uint64_t table, int64_t number, int64_t *value)
