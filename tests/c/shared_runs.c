@@ -225,7 +225,7 @@ static uint32_t step_on(struct thread *it, const sgt_ticket *ticket, sgt_reply *
         log_reply(it, ticket, "step", reply);
     } while (reply->kind == SGT_LOOKED || reply->kind == SGT_WROTE);
     if (reply->kind == SGT_ENDED && (status = decide(it, ticket, reply)) != SGT_OK) return status;
-    while (reply->kind == SGT_ENDED) {
+    while (reply->kind == SGT_ENDED || reply->kind == SGT_WAITS) {
         status = sgt_shared_commit(shared, ticket, drawn_wait(it), reply);
         if (status == SGT_OK) log_reply(it, ticket, "commit", reply);
         if (status != SGT_TIMED_OUT) return status;
