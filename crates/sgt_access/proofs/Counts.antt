@@ -1,11 +1,11 @@
 -- How many accesses pass a test: after a change of the list, and what it says of whether some do.
-use Rattle.std.proofs.Common.{◌≡◌, ℕ, ◌+◌, ◌<◌, ◌≤◌, suc, Bool, true, false, ◌||◌, ◌&&◌, not, cond, nat_eq, nat_lt, count_by, List, [], ◌∷◌, ◌++◌, length, get_or, filter, swap_remove, arith, refl, sym, ap, ◌∙◌}
+use Rattle.std.proofs.Common.{◌≡◌, ℕ, ◌+◌, ◌<◌, ◌≤◌, zero, suc, Bool, true, false, ◌||◌, ◌&&◌, not, cond, nat_eq, nat_lt, count_by, List, [], ◌∷◌, ◌++◌, length, get_or, filter, swap_remove, arith, refl, sym, ap, ◌∙◌}
 use Rattle.std.specs.List.{list_any, AllWithin}
 use Rattle.std.proofs.lemmas.Bool.{true≢false, lt-ltb, or_from}
 use Rattle.std.proofs.lemmas.List.Sums.{sum_by-cons, sum_by-append, sum_by-swap_remove}
 use Rattle.std.proofs.lemmas.List.{get_or_default}
 use Rattle.sgt_model.specs.AccessList.{ListedAccess, is_listed, forgotten}
-use Rattle.sgt_access.specs.Masks.{StandsFor, IsOneLess}
+use Rattle.sgt_access.specs.Masks.{StandsFor, KeepsOthers, IsOneLess}
 
 -- how many one item is that passes or fails
 abbrev pub bit : Bool → ℕ
@@ -106,11 +106,30 @@ one_taken accesses index a short is p = ap (λ x. count_by p (swap_remove access
 
 -- without the accesses of a transaction
 pub stands_forgotten : (list old new : List ListedAccess) (t : ℕ) → StandsFor list old
-    → ((p : ListedAccess → Bool) → count_by (λ a. p a && not (nat_eq a.by t)) new ≡ count_by (λ a. p a && not (nat_eq a.by t)) old)
-    → AllWithin (λ (a : ListedAccess). nat_eq a.by t ≡ false) new 0 (length new) → StandsFor (forgotten t list) new
+    → KeepsOthers t old new → AllWithin (λ (a : ListedAccess). nat_eq a.by t ≡ false) new 0 (length new) → StandsFor (forgotten t list) new
 stands_forgotten list old new t stands same none p =
     sym (count_kept p (λ a. nat_eq a.by t) new none) ∙ same p ∙ stands (λ a. p a && not (nat_eq a.by t))
     ∙ sym (count_filtered p (λ a. nat_eq a.by t) list)
+
+-- if none is listed, each is of another transaction
+pub or_parts : (a b : Bool) → (a || b) ≡ false → (a ≡ false) × (b ≡ false)
+or_parts true b h = absurd (true≢false h)
+or_parts false b h = (refl, h)
+
+none_within : (t : ℕ) (accesses : List ListedAccess) → is_listed accesses t ≡ false
+    → AllWithin (λ (a : ListedAccess). nat_eq a.by t ≡ false) accesses 0 (length accesses)
+none_within t [] none k d low high = absurd (omega (arith, high))
+none_within t (a ∷ accesses) none zero d low high = (or_parts (nat_eq a.by t) (is_listed accesses t) none).0
+none_within t (a ∷ accesses) none (suc k) d low high =
+    none_within t accesses (or_parts (nat_eq a.by t) (is_listed accesses t) none).1 k d (omega arith) (omega (arith, high))
+
+pub stands_left : (list old new : List ListedAccess) (t : ℕ) → StandsFor list old → KeepsOthers t old new → is_listed new t ≡ false
+    → StandsFor (forgotten t list) new
+stands_left list old new t stands same none = stands_forgotten list old new t stands same (none_within t new none)
+
+-- others are kept by two changes
+pub others_kept : (t : ℕ) (old mid new : List ListedAccess) → KeepsOthers t old mid → KeepsOthers t mid new → KeepsOthers t old new
+others_kept t old mid new first second p = second p ∙ first p
 
 -- none is listed
 pub none_listed : (t : ℕ) (accesses : List ListedAccess) → AllWithin (λ (a : ListedAccess). nat_eq a.by t ≡ false) accesses 0 (length accesses)
@@ -121,7 +140,7 @@ none_listed t (a ∷ accesses) none = or_from (nat_eq a.by t) (is_listed accesse
 
 -- one access of the transaction less does not change how many others there are
 pub others_taken : (old new : List ListedAccess) (a : ListedAccess) (t : ℕ) → a.by ≡ t → nat_eq a.by t ≡ true → IsOneLess a old new
-    → (p : ListedAccess → Bool) → count_by (λ a. p a && not (nat_eq a.by t)) new ≡ count_by (λ a. p a && not (nat_eq a.by t)) old
+    → KeepsOthers t old new
 others_taken old new a t by test less p =
     sym (ap (λ n. count_by (λ a. p a && not (nat_eq a.by t)) new + n) (ap (λ b. bit (p a && not b)) test ∙ none (p a)) ∙ omega arith)
     ∙ less (λ a. p a && not (nat_eq a.by t))

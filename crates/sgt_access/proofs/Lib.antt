@@ -1,3 +1,4 @@
+pub mod Chained
 pub mod Collected
 pub mod Counts
 pub mod Covering

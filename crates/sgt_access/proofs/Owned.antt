@@ -1,7 +1,7 @@
 -- Accesses that are all of one transaction, and what is known of accesses after each change.
-use Rattle.std.proofs.Common.{◌≡◌, ◌≢◌, ℕ, suc, zero, Bool, true, false, ◌||◌, ◌&&◌, not, nat_eq, nat_lt, count_by, List, [], ◌∷◌, ◌++◌, length, Option, Some, None, arith, refl, sym, ap, subst, ◌∙◌, inl, inr}
+use Rattle.std.proofs.Common.{◌≡◌, ◌≢◌, ℕ, suc, zero, Bool, true, false, ◌&&◌, not, nat_eq, nat_lt, count_by, List, [], ◌∷◌, ◌++◌, length, Option, Some, None, arith, refl, sym, ap, subst, ◌∙◌, inl, inr}
 use Rattle.std.specs.List.{list_any, AllWithin}
-use Rattle.std.proofs.lemmas.Bool.{true≢false, eqb-true, eq-eqb, and_parts, not_from_false, false_from_ne_true, both_ways, lt-ltb}
+use Rattle.std.proofs.lemmas.Bool.{eqb-true, eq-eqb, and_parts, not_from_false, false_from_ne_true, both_ways, lt-ltb}
 use Rattle.sgt_model.specs.declared.kind.Kind.{Kind}
 use Rattle.sgt_model.specs.Contents.{Key}
 use Rattle.sgt_model.specs.AccessList.{ListedAccess, is_conflicting, forgotten}
@@ -9,7 +9,7 @@ use Rattle.sgt_cycle.specs.Indices.{is_set}
 use Rattle.sgt_cycle.proofs.Bits.{none_in}
 use Rattle.sgt_access.specs.declared.masks.Masks.{Masks}
 use Rattle.sgt_access.specs.Masks.{StandsFor, Covers, Knows, AreRivalsAt, is_of_other}
-use Rattle.sgt_access.proofs.Counts.{any_counted, stands_forgotten}
+use Rattle.sgt_access.proofs.Counts.{any_counted, or_parts, stands_forgotten}
 use Rattle.sgt_access.proofs.Marks.{any_implied, any_cases}
 
 -- an access of the transaction is of no other
@@ -60,10 +60,6 @@ module _ (t : ℕ) (accesses : List ListedAccess) (owned : list_any (is_of_other
       (λ k d low high. absurd (omega (arith, high)))
 
 -- none is of another transaction
-or_parts : (a b : Bool) → (a || b) ≡ false → (a ≡ false) × (b ≡ false)
-or_parts true b h = absurd (true≢false h)
-or_parts false b h = (refl, h)
-
 owned_apart : (only t : ℕ) (xs : List ListedAccess) → only ≢ t → list_any (is_of_other only) xs ≡ false
     → AllWithin (λ (a : ListedAccess). nat_eq a.by t ≡ false) xs 0 (length xs)
 owned_apart only t [] ne owned k d low high = absurd (omega (arith, high))

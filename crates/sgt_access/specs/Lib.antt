@@ -1,3 +1,4 @@
+pub mod Chains
 pub mod Masks
 pub mod Places
 pub mod WholeLists

@@ -14,6 +14,7 @@
 
 mod access;
 mod accesses;
+mod chains;
 mod conflicts;
 mod known;
 mod masks;

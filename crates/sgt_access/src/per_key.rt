@@ -15,7 +15,8 @@ use std::marker::Model;
 /// - `has_rival` and `rivals` ask the masks. If several keys with accesses share a hash, all accesses are read; likewise for
 ///   the first access of a second transaction.
 /// - `note` adds the access at the end.
-/// - `forget` goes once through the accesses of the live transactions. The last access takes the place of each that leaves.
+/// - `forget` follows the chain of the transaction's accesses. The last access of all takes the place of each that leaves. Only
+///   if another live transaction shares the chain, `forget` goes once through all accesses.
 ///
 /// The order in which accesses were recorded exists for proofs alone.
 #[derive(Drop)]
@@ -29,13 +30,16 @@ impl Model for PerKey {
     ghost use Rattle.std.specs.Prelude.{ℕ, List, ◌-◌};
     ghost use Rattle.std.specs.Vec.{vec_len, vec_capacity};
     ghost use Rattle.sgt_model.specs.AccessList.{ListedAccess};
+    ghost use Rattle.sgt_access.specs.Chains.{Counted};
     ghost use Rattle.sgt_access.specs.Masks.{StandsFor, Knows};
 
     ghost Value = { List ListedAccess × ℕ };
 
     ghost view = { λ l. (l.whole, vec_capacity l.accesses - vec_len l.accesses) };
 
-    ghost invariant = { λ l. StandsFor l.whole l.accesses.items × Knows l.known.only l.known.masks l.accesses.items };
+    ghost invariant = { λ l. StandsFor l.whole l.accesses.items
+        × Knows l.known.only l.known.masks l.accesses.items
+        × Counted l.known.only l.known.chains.counts l.accesses.items };
 }
 
 impl Accesses for PerKey {

@@ -1,102 +1,50 @@
-use Rattle.std.proofs.Common.{rules, ◌≡◌, ◌-◌, ◌<◌, ◌+◌, ℕ, true, false, nat_eq, List, length, get_or, vec_len, arith, sym, subst, ap, ◌∙◌, ⊎_elim}
-use Rattle.std.specs.List.{AllWithin}
-use Rattle.std.proofs.lemmas.Bool.{cases_eq, eqb-true}
-use Rattle.std.proofs.lemmas.List.{get_or_default}
+use Rattle.std.proofs.Common.{rules, ◌≡◌, ◌<◌, ◌^◌, ℕ, true, nat_eq, List, length, sym, subst, ap, ◌∙◌}
+use Rattle.std.proofs.lemmas.Bool.{eqb-true, not-false}
 use Rattle.sgt_model.specs.AccessList.{ListedAccess}
 use Rattle.sgt_access.specs.Masks.{IsOneLess}
-use Rattle.sgt_access.proofs.Counts.{one_taken, others_taken, stands_forgotten, none_listed, same_read}
+use Rattle.sgt_access.proofs.Counts.{one_taken, others_taken, others_kept, same_read}
 use Rattle.sgt_access.proofs.known.take_out.Goals as goal
 
-pub loop-index-preserved-then-eq : goal.loop-index-preserved-then-eq
-loop-index-preserved-then-eq c =
+pub loop-t-preserved : goal.loop-t-preserved
+loop-t-preserved c =
     record {
-      within = let within = c.loop-index.invariant.within in omega (arith, within, long);
-      none = none;
-      others = λ p. others_taken old new x c.args.t (eqb-true x.by c.args.t test) test less p ∙ c.loop-index.invariant.others p;
-      leaving = λ start. c.remove.ensures c.args.t old new (eqb-true x.by c.args.t test) (c.loop-index.invariant.leaving start) less;
+      others = others_kept c.args.t c.args.accesses.now.items old new c.loop-t.invariant.others
+          (others_taken old new x c.args.t (eqb-true x.by c.args.t test) test less);
+      leaving = λ start. c.remove.ensures c.args.t old new (eqb-true x.by c.args.t test) (c.loop-t.invariant.leaving start) less;
+      counted = λ start. c.remove-next.ensures old new x (eqb-true x.by c.args.t test) less (c.loop-t.invariant.counted start);
     }
   where
     x : ListedAccess
     x = c.swap_remove-access.result
 
     old : List ListedAccess
-    old = c.loop-index.accesses.items
+    old = c.loop-t.accesses.items
 
     new : List ListedAccess
     new = c.swap_remove-access.new.self.items
 
     at : ℕ
-    at = c.loop-index.index - 1
-
-    some : 0 < c.loop-index.index
-    some = c.loop-index-test.true
+    at = c.loop-t.index
 
     short : at < length old
-    short = let within = c.loop-index.invariant.within in omega (arith, within, some)
+    short = search rules
 
     same : c.index.result.now ≡ x
     same = same_read old at c.index.result.now x short c.index.ensures c.swap_remove-access.ensures.value
 
     test : nat_eq x.by c.args.t ≡ true
     test = ap (λ (a : ListedAccess). nat_eq a.by c.args.t) (sym same) ∙ ap (λ (a : ListedAccess). nat_eq a.by c.args.t) (sym c.behind-accesses.view_is)
-        ∙ sym c.eq.ensures ∙ c.if-eq.true
+        ∙ not-false (nat_eq c.behind-accesses.inside.by c.args.t) (sym c.ne.ensures ∙ c.if-ne.false)
 
     less : IsOneLess x old new
     less = subst (IsOneLess x old) (sym c.swap_remove-access.ensures.items)
         (one_taken old at x short c.swap_remove-access.ensures.value)
 
-    long : length new + 1 ≡ length old
-    long = search rules
-
-    sized : vec_len c.loop-index.accesses ≡ length old
-    sized = search rules
-
-    none : AllWithin (λ (a : ListedAccess). nat_eq a.by c.args.t ≡ false) new at (length new)
-    none k d low high = ⊎_elim
-        (λ e. subst (λ (a : ListedAccess). nat_eq a.by c.args.t ≡ false)
-        (sym (ap (λ n. get_or new n d) e ∙ c.swap_remove-access.ensures.by_index.0 d (omega (arith, high, long, e, sized))))
-        (c.loop-index.invariant.none (vec_len c.loop-index.accesses - 1) d (omega (arith, high, long, e, some, sized)) (omega (arith, short, sized))))
-        (λ ne. subst (λ (a : ListedAccess). nat_eq a.by c.args.t ≡ false)
-        (sym (c.swap_remove-access.ensures.by_index.1 k d ne (omega (arith, high, long, sized))))
-        (c.loop-index.invariant.none k d (omega (arith, low, ne, some)) (omega (arith, high, long))))
-        (cases_eq k at)
-
-pub loop-index-preserved : goal.loop-index-preserved
-loop-index-preserved c =
-    record {
-      within = let within = c.loop-index.invariant.within in omega (arith, within);
-      none = λ k d low high. ⊎_elim
-          (λ e. subst (λ n. nat_eq (get_or old n d).by c.args.t ≡ false) (sym e)
-          (ap (λ (a : ListedAccess). nat_eq a.by c.args.t) (get_or_default old at d c.index.result.now short ∙ sym c.index.ensures)
-          ∙ ap (λ (a : ListedAccess). nat_eq a.by c.args.t) (sym c.behind-accesses.view_is) ∙ sym c.eq.ensures ∙ c.if-eq.false))
-          (λ ne. c.loop-index.invariant.none k d (omega (arith, low, ne, some)) high)
-          (cases_eq k at);
-      others = c.loop-index.invariant.others;
-      leaving = c.loop-index.invariant.leaving;
-    }
-  where
-    old : List ListedAccess
-    old = c.loop-index.accesses.items
-
-    at : ℕ
-    at = c.loop-index.index - 1
-
-    some : 0 < c.loop-index.index
-    some = c.loop-index-test.true
-
-    short : at < length old
-    short = let within = c.loop-index.invariant.within in omega (arith, within, some)
-
-pub returns-clause-rest : goal.returns-clause-rest
-returns-clause-rest c list stands =
-    let done = c.loop-index-test.false in
-    stands_forgotten list c.args.accesses.now.items c.loop-index.accesses.items c.args.t stands c.loop-index.invariant.others
-    (λ k d low high. c.loop-index.invariant.none k d (omega (arith, done)) high)
-
 pub returns-clause-none : goal.returns-clause-none
-returns-clause-none c =
-    let done = c.loop-index-test.false in
-    none_listed c.args.t c.loop-index.accesses.items (λ k d low high. c.loop-index.invariant.none k d (omega (arith, done)) high)
+returns-clause-none c start =
+    let fits : length c.loop-t.accesses.items < 2 ^ 64 = search rules in
+    c.has_none.ensures c.loop-t-test.false c.loop-t.accesses.items (c.loop-t.invariant.counted start) fits
 
-pub returns-clause-leaving : goal.returns-clause-leaving
-returns-clause-leaving c start = c.loop-index.invariant.leaving start
+pub returns-then-len-index-clause-others : goal.returns-then-len-index-clause-others
+returns-then-len-index-clause-others c = others_kept c.args.t c.args.accesses.now.items c.loop-t.accesses.items
+    c.take_out_each.new.accesses.items c.loop-t.invariant.others c.take_out_each.ensures.others

@@ -1,4 +1,4 @@
-use Rattle.std.proofs.Common.{ℕ, ◌<◌, subst, sym, inl, inr, Ok, Err, arith}
+use Rattle.std.proofs.Common.{◌<◌, subst, sym, inl, inr, Ok, Err, arith}
 use Rattle.sgt_model.specs.Walks.{Member}
 use Rattle.sgt_access.proofs.RisingLists.{IsIndex, search_finds, index_absent, index_rises, member_inserted, member_last, rises_last}
 use Rattle.sgt_access.proofs.rising.add_rising.Goals as goal
