@@ -81,30 +81,36 @@ impl Chains {
         put_last(&mut self.links, chain, index.wrapping_add(CHAINS));
     }
 
-    /// Removes the newest access of t, which had this index. The access that was last has the index now. Returns an index that
-    /// the access before it in the chain may have.
+    /// Removes an access of t, which had this index. The access that was last has the index now.
     #[inline(always)]
-    pub fn remove(&mut self, t: Tid, index: usize, last: usize) -> usize
+    pub fn remove(&mut self, t: Tid, index: usize, last: usize)
         ensures { (accesses rest : List ListedAccess) (access : ListedAccess) → access.by ≡ t
             → IsOneLess access accesses rest → AreCounts self.old.counts accesses → AreCounts self.new.counts rest }
     {
         let chain = t.0 as usize % CHAINS;
         self.counts[chain] = self.counts[chain].wrapping_sub(1);
-        take_out(&mut self.links, index, last)
+        take_out(&mut self.links, index, last);
     }
 
-    /// Makes the chain of a transaction an empty ring, once its accesses have been removed.
+    /// The same, for the newest access of its chain. The chain must be cut once all that are to be removed are. Returns an index
+    /// that the access before it in the chain may have.
     #[inline(always)]
-    pub fn close(&mut self, t: Tid)
+    pub fn remove_newest(&mut self, t: Tid, index: usize, last: usize) -> usize
+        ensures { (accesses rest : List ListedAccess) (access : ListedAccess) → access.by ≡ t
+            → IsOneLess access accesses rest → AreCounts self.old.counts accesses → AreCounts self.new.counts rest }
+    {
+        let chain = t.0 as usize % CHAINS;
+        self.counts[chain] = self.counts[chain].wrapping_sub(1);
+        take_newest(&mut self.links, index, last)
+    }
+
+    /// Makes the access with this index the newest of t's chain; if there is none, the chain is empty.
+    #[inline(always)]
+    pub fn cut(&mut self, t: Tid, index: usize)
         ensures { self.new.counts ≡ self.old.counts }
     {
         let chain = t.0 as usize % CHAINS;
-        if chain < self.links.len() {
-            self.links[chain] = Link {
-                before: chain,
-                after: chain,
-            };
-        }
+        join(&mut self.links, index.wrapping_add(CHAINS), chain);
     }
 }
 
@@ -131,15 +137,31 @@ fn put_last(links: &mut Vec<Link>, chain: usize, own: usize) {
     }
 }
 
-// Removes the link of an access. The link of the last access takes its index, unless it is the last itself. Returns an index that
-// the access before it in the chain may have.
+// Removes the link of an access from its chain. The link of the last access takes its index.
+#[inline(never)]
+fn take_out(links: &mut Vec<Link>, index: usize, last: usize) {
+    let own = index.wrapping_add(CHAINS);
+    if own < links.len() {
+        let link = links[own];
+        join(links, link.before, link.after);
+    }
+    fill(links, index, last);
+}
+
+// The same, without a change of the neighbours. Returns an index that the access before it may have.
 #[inline(always)]
-fn take_out(links: &mut Vec<Link>, index: usize, last: usize) -> usize {
+fn take_newest(links: &mut Vec<Link>, index: usize, last: usize) -> usize {
     let next = before(links.as_slice(), index.wrapping_add(CHAINS));
+    fill(links, index, last);
+    if next == last { index } else { next }
+}
+
+// Moves the link of the last access to this index, unless it is the last itself.
+#[inline(always)]
+fn fill(links: &mut Vec<Link>, index: usize, last: usize) {
     if index != last {
         move_to(links, last.wrapping_add(CHAINS), index.wrapping_add(CHAINS));
     }
-    if next == last { index } else { next }
 }
 
 // Joins the neighbours of a link to another, which takes its place in the chain. The new one is written last: the link that it
@@ -152,6 +174,13 @@ fn move_to(links: &mut Vec<Link>, old: usize, new: usize) {
         join_before(links, link.after, new);
         links[new] = link;
     }
+}
+
+// Makes two links neighbours.
+#[inline(always)]
+fn join(links: &mut Vec<Link>, before: usize, after: usize) {
+    join_after(links, before, after);
+    join_before(links, after, before);
 }
 
 // Sets which link is after this one, if there is such a link.

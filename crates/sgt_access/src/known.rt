@@ -140,7 +140,6 @@ pub fn remove_all(accesses: &mut Vec<Access>, known: &mut Known, t: Tid)
     }
     let places = known.masks.places_of(t);
     take_out(accesses, &mut known.masks, &mut known.chains, t, places);
-    known.chains.close(t);
     known.masks.free(places);
     if accesses.is_empty() {
         known.only = Some(t);
@@ -158,13 +157,15 @@ fn take_out(accesses: &mut Vec<Access>, masks: &mut Masks, chains: &mut Chains, 
     let mut index = chains.newest(t);
     while !chains.has_none(t) {
         if accesses.len() <= index || accesses[index].by != t {
+            chains.cut(t, index);
             return take_out_each(accesses, masks, chains, t, places);
         }
         let access = accesses.swap_remove(index);
         masks.remove(places, access);
-        let next = chains.remove(t, index, accesses.len());
+        let next = chains.remove_newest(t, index, accesses.len());
         index = next;
     }
+    chains.cut(t, index);
 }
 
 // The same, where an access was not found: all are read.

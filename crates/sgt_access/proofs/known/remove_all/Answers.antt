@@ -54,12 +54,11 @@ pub returns-then-is_empty-clause-counted : goal.returns-then-is_empty-clause-cou
 returns-then-is_empty-clause-counted c counted =
     let is : c.args.known.now.only ≡ None = search rules in
     let empty : length c.take_out.new.accesses.items ≡ 0 = search rules in
-    subst (λ n. AreCounts n []) (sym c.close.ensures) (subst (AreCounts c.take_out.new.chains.counts) (none_long _ empty)
-    (c.take_out.ensures.counted (subst (λ o. Counted o c.args.known.now.chains.counts c.args.accesses.now.items) is counted)))
+    subst (AreCounts c.take_out.new.chains.counts) (none_long _ empty)
+    (c.take_out.ensures.counted (subst (λ o. Counted o c.args.known.now.chains.counts c.args.accesses.now.items) is counted))
 
 pub returns-else-is_empty-clause-counted : goal.returns-else-is_empty-clause-counted
 returns-else-is_empty-clause-counted c counted =
     let is : c.args.known.now.only ≡ None = search rules in
-    subst (λ o. Counted o c.close.new.self.counts c.take_out.new.accesses.items) (sym is)
-    (subst (λ n. AreCounts n c.take_out.new.accesses.items) (sym c.close.ensures)
-    (c.take_out.ensures.counted (subst (λ o. Counted o c.args.known.now.chains.counts c.args.accesses.now.items) is counted)))
+    subst (λ o. Counted o c.take_out.new.chains.counts c.take_out.new.accesses.items) (sym is)
+    (c.take_out.ensures.counted (subst (λ o. Counted o c.args.known.now.chains.counts c.args.accesses.now.items) is counted))

@@ -11,7 +11,7 @@ loop-t-preserved c =
       others = others_kept c.args.t c.args.accesses.now.items old new c.loop-t.invariant.others
           (others_taken old new x c.args.t (eqb-true x.by c.args.t test) test less);
       leaving = λ start. c.remove.ensures c.args.t old new (eqb-true x.by c.args.t test) (c.loop-t.invariant.leaving start) less;
-      counted = λ start. c.remove-next.ensures old new x (eqb-true x.by c.args.t test) less (c.loop-t.invariant.counted start);
+      counted = λ start. c.remove_newest-next.ensures old new x (eqb-true x.by c.args.t test) less (c.loop-t.invariant.counted start);
     }
   where
     x : ListedAccess
