@@ -66,6 +66,14 @@ module _ (t : ℕ) where
       higher : (a b : ℕ) → a ≤ b → ordering_index (nat_cmp a t) ≤ ordering_index (nat_cmp b t)
       higher a b le = grind (arith, nat_tests)
 
+  -- an index where it stands is its index
+  pub index_found : (live : List (ℕ × Progress)) (i : ℕ) (x : ℕ × Progress) → Rising (numbers live) → i < length live
+      → x ≡ get_or live i x → x.0 ≡ t → position (has_number t) live ≡ Some i
+  index_found live i x rising below is at =
+      let n = stands live i x rising below (ap (λ (r : ℕ × Progress). r.0) (sym is) ∙ at) in
+      ap (λ b. cond b (Some (position_or_len (has_number t) live)) None)
+      (lt-ltb (position_or_len (has_number t) live) (length live) (omega (arith, n, below))) ∙ ap Some n
+
   -- what the search finds is the index
   pub index_searched : (live : List (ℕ × Progress)) (r : Result ℕ ℕ) → Rising (numbers live) → IsSearchInRange r (length live)
       → IsBinarySearchResult (λ (y : ℕ × Progress). nat_cmp y.0 t) live r → result_ok r ≡ position (has_number t) live

@@ -18,6 +18,7 @@
 mod arguments;
 mod fates;
 mod follow;
+mod guesses;
 mod laws;
 mod leave;
 mod live;

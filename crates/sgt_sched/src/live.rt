@@ -1,9 +1,10 @@
 //! The list of the live transactions.
-ghost use Rattle.std.specs.Prelude.{◌≡◌, ◌≤◌, [], ◌∷◌, ◌++◌, length, Some, OnOk, OnErr, position};
+ghost use Rattle.std.specs.Prelude.{◌≡◌, ◌≤◌, [], ◌∷◌, ◌++◌, length, Some, IfSome, OnOk, OnErr, position};
 ghost use Rattle.sgt_model.specs.Walks.{Rising};
 ghost use Rattle.sgt_sched.specs.LiveList.{numbers, has_number, progress_at, started, with_look, with_store, changed, others_live};
 ghost use Rattle.sgt_sched.specs.SchedulerView.{IsAlong};
 
+use crate::guesses::Guesses;
 use crate::procedure_table::ProcedureTable;
 use crate::running::Running;
 use sgt_model::{Args, NoMemory, Tid, Tids};
@@ -12,7 +13,7 @@ use std::alloc::Global;
 use std::marker::Model;
 
 /// The live transactions with the progress of each, in the order of their starts. A call searches the list at most once:
-/// the result is an index.
+/// the result is an index. Mostly the search begins near it: a transaction moves only towards the front, as others end.
 ///
 /// The place of an ended transaction is kept, and used again by the next one that starts.
 #[derive(Drop)]
@@ -20,6 +21,7 @@ pub struct Live {
     // The live ones, then places to use again.
     running: Vec<Running>,
     count: usize,
+    guesses: Guesses,
     alloc: Global,
 }
 
@@ -47,6 +49,7 @@ impl Live {
         Live {
             running: Vec::new(alloc),
             count: 0,
+            guesses: Guesses::new(),
             alloc,
         }
     }
@@ -78,8 +81,21 @@ impl Live {
         tids
     }
 
-    /// The index of the transaction, if it is live. The list is searched by halves.
+    /// The index of the transaction, if it is live.
+    #[inline(always)]
     pub fn index(&self, t: Tid) -> Option<usize>
+        requires rising { Rising (numbers self.now) }
+        ensures { result ≡ position (has_number t) self.now }
+    {
+        match near(self.live(), t, self.guesses.guess(t)) {
+            Some(index) => Some(index),
+            None => self.search(t),
+        }
+    }
+
+    // The same, without a guess. The list is searched by halves.
+    #[inline(never)]
+    fn search(&self, t: Tid) -> Option<usize>
         requires rising { Rising (numbers self.now) }
         ensures { result ≡ position (has_number t) self.now }
     {
@@ -109,6 +125,7 @@ impl Live {
         ensures ok { OnOk result (self.new ≡ self.old ++ (t, started procedure checked.now args.now) ∷ []) }
         ensures err { OnErr result (self.new ≡ self.old) }
     {
+        self.guesses.note(t, self.count);
         if self.count < self.running.len() {
             self.running[self.count].restart(t, procedure, checked, args);
             self.count += 1;
@@ -121,21 +138,23 @@ impl Live {
 
     /// Continues t, which is live and has this index, after a read that returned this. It allocates nothing.
     #[inline(always)]
-    pub fn look(&mut self, _t: Tid, index: usize, procedures: &ProcedureTable, value: Option<i64>)
-        requires at { position (has_number _t) self.old ≡ Some index }
-        requires along { IsAlong procedures.now (progress_at self.old _t) }
-        ensures { self.new ≡ changed _t (with_look value) self.old }
+    pub fn look(&mut self, t: Tid, index: usize, procedures: &ProcedureTable, value: Option<i64>)
+        requires at { position (has_number t) self.old ≡ Some index }
+        requires along { IsAlong procedures.now (progress_at self.old t) }
+        ensures { self.new ≡ changed t (with_look value) self.old }
     {
+        self.guesses.note(t, index);
         self.running[index].look(procedures, value);
     }
 
     /// Continues t, which is live and has this index, after a write. It allocates nothing.
     #[inline(always)]
-    pub fn store(&mut self, _t: Tid, index: usize, procedures: &ProcedureTable)
-        requires at { position (has_number _t) self.old ≡ Some index }
-        requires along { IsAlong procedures.now (progress_at self.old _t) }
-        ensures { self.new ≡ changed _t with_store self.old }
+    pub fn store(&mut self, t: Tid, index: usize, procedures: &ProcedureTable)
+        requires at { position (has_number t) self.old ≡ Some index }
+        requires along { IsAlong procedures.now (progress_at self.old t) }
+        ensures { self.new ≡ changed t with_store self.old }
     {
+        self.guesses.note(t, index);
         self.running[index].store(procedures);
     }
 
@@ -154,6 +173,24 @@ impl Live {
         }
         self.count -= 1;
     }
+}
+
+// The index of a transaction, if it is this one or near before it.
+#[inline(always)]
+fn near(live: &[Running], t: Tid, guess: u8) -> Option<usize>
+    requires { Rising (numbers live.now) }
+    ensures { IfSome result (λ index. position (has_number t) live.now ≡ Some index) }
+{
+    let mut left = live.len().min(usize::from(guess) + 1);
+    while 0 < left {
+        left -= 1;
+        let running = &live[left];
+        let tid = running.tid;
+        if tid <= t {
+            return if tid == t { Some(left) } else { None };
+        }
+    }
+    None
 }
 
 // Adds a place with a transaction that was just started, as the last.

@@ -1,7 +1,7 @@
 use Rattle.std.proofs.Common.{rules, ◌∙◌}
 use Rattle.std.proofs.lemmas.List.Sorted.{answers_always}
 use Rattle.sgt_sched.proofs.Halves.{index_searched}
-use Rattle.sgt_sched.proofs.live.Live.index.Goals as goal
+use Rattle.sgt_sched.proofs.live.Live.search.Goals as goal
 
 -- the closure gives a transaction's number, and the slice is the list
 pub returns : goal.returns
