@@ -9,7 +9,7 @@ use crate::explainer::Explainer;
 use crate::observer::Unobserved;
 use crate::output::Output;
 use crate::script::run_observed;
-use sgt_input::{Fault, Sink, Source};
+use sgt_input::{DEFAULT_BYTES, Fault, Sink, Source};
 use std::alloc::Global;
 
 /// Runs a script on the program's engine. Writes the replies, and then the committed database.
@@ -38,18 +38,26 @@ pub fn run_script<S: Source, T: Sink>(
 ) -> Result<(), Fault>
     requires reading { S.failures source.old + 1 < 2 ^ 64 }
     requires writing { T.failures sink.old + 1 < 2 ^ 64 }
-    ensures script { IsExact result → IsWhole Replies (S.rest source.old) (T.held sink.old) (T.held sink.new) result }
+    ensures script { IsExact result → IsWhole Replies 16777216 (S.rest source.old) (T.held sink.old) (T.held sink.new) result }
     ensures stops { IsStop result →
-        IsStopped Replies (S.rest source.old) (S.rest source.new) (T.held sink.old) (T.held sink.new) result }
-    ensures part { result ≡ Err Fault.Writing → IsCutOff Replies (S.rest source.old) (T.held sink.old) (T.held sink.new) }
+        IsStopped Replies 16777216 (S.rest source.old) (S.rest source.new) (T.held sink.old) (T.held sink.new) result }
+    ensures part { result ≡ Err Fault.Writing → IsCutOff Replies 16777216 (S.rest source.old) (T.held sink.old) (T.held sink.new) }
     ensures bounded { S.given source.new ≤ S.given source.old + 16777217 }
     ensures reads { CountsReads result (S.failures source.old) (S.failures source.new) }
     ensures writes { CountsWrites result (T.failures sink.old) (T.failures sink.new) }
 {
-    run_observed(alloc, source, sink, Output::Replies, &mut Unobserved)
+    run_observed(
+        alloc,
+        source,
+        sink,
+        Output::Replies,
+        DEFAULT_BYTES,
+        &mut Unobserved,
+    )
 }
 
-/// Runs a script as [`run_script`] does, and writes what the output mode says.
+/// Runs a script of at most so many bytes, up to 4,294,967,296, as [`run_script`] does, and writes what the output mode
+/// says. It reads one byte more at most. Its memory does not grow with its input.
 ///
 /// - `Replies`: what [`run_script`] writes.
 /// - `History`: the run as a history in the notation of Bernstein, Hadzilacos and Goodman (1987), chapter 2. Each
@@ -81,24 +89,26 @@ pub fn run<S: Source, T: Sink, E: Sink>(
     source: &mut S,
     sink: &mut T,
     output: Output,
+    most: usize,
     explanations: Option<&mut E>,
 ) -> Result<(), Fault>
     requires reading { S.failures source.old + 1 < 2 ^ 64 }
     requires writing { T.failures sink.old + 1 < 2 ^ 64 }
+    requires most { most ≤ 4294967296 }
     requires explaining { IfSome explanations (λ errors. E.failures errors.now + 1 < 2 ^ 64) }
-    ensures script { IsExact result → IsWhole output (S.rest source.old) (T.held sink.old) (T.held sink.new) result }
+    ensures script { IsExact result → IsWhole output most (S.rest source.old) (T.held sink.old) (T.held sink.new) result }
     ensures stops { IsStop result →
-        IsStopped output (S.rest source.old) (S.rest source.new) (T.held sink.old) (T.held sink.new) result }
-    ensures part { result ≡ Err Fault.Writing → IsCutOff output (S.rest source.old) (T.held sink.old) (T.held sink.new) }
-    ensures bounded { S.given source.new ≤ S.given source.old + 16777217 }
+        IsStopped output most (S.rest source.old) (S.rest source.new) (T.held sink.old) (T.held sink.new) result }
+    ensures part { result ≡ Err Fault.Writing → IsCutOff output most (S.rest source.old) (T.held sink.old) (T.held sink.new) }
+    ensures bounded { S.given source.new ≤ S.given source.old + (most + 1) }
     ensures reads { CountsReads result (S.failures source.old) (S.failures source.new) }
     ensures writes { CountsWrites result (T.failures sink.old) (T.failures sink.new) }
 {
     let Some(errors) = explanations else {
-        return run_observed(alloc, source, sink, output, &mut Unobserved);
+        return run_observed(alloc, source, sink, output, most, &mut Unobserved);
     };
     let mut explainer = Explainer::new(alloc, errors);
-    let ran = run_observed(alloc, source, sink, output, &mut explainer);
+    let ran = run_observed(alloc, source, sink, output, most, &mut explainer);
     explainer.finish();
     ran
 }
