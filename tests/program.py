@@ -37,6 +37,12 @@ EXPLANATIONS = EXPECTED / "explanations"
 # The most bytes that an input may have.
 LONGEST_INPUT = 16_777_216
 
+# The most bytes that an option can let an input have.
+MOST_BYTES = 4_294_967_296
+
+# What is said of an input that is too long.
+SPLIT = "take more with --most, or split it, and begin the next part with what --records writes of the one before"
+
 OPENING = '{"limits":[4,100],"accounts":[[1,101,500,1000]],"procedures":[]}\n'
 EVENTS = '["start",0,[1]]\n["step",0]\n'
 REPLIES = "started 0\nread 0/1 101\n"
@@ -126,7 +132,8 @@ def refuses_words(sgt):
 
 
 def refuses_numbers(sgt):
-    for option, number, last in (("workers", "0", 16), ("workers", "17", 16), ("tries", "0", 1000), ("tries", "1001", 1000)):
+    for option, number, last in (("workers", "0", 16), ("workers", "17", 16), ("tries", "0", 1000), ("tries", "1001", 1000), ("most", "0", MOST_BYTES),
+                                 ("most", str(MOST_BYTES + 1), MOST_BYTES)):
         text = usage("bad_number").format(option=option, number=number, last=last)
         sgt.expect("bank", f"--{option}", number, given=OPENING, status=2, err=text)
 
@@ -781,6 +788,23 @@ def refuses_a_history_that_is_too_long(sgt):
     sgt.expect("check", given=" " * (most - 4) + "c1c1", status=2, err="line 1: no operation: c1c1\n")
 
 
+def takes_longer_inputs_if_asked(sgt):
+    """Up to the bytes that an option says. A script does not read more than one byte behind them."""
+    event, job = '["step",9]\n', '["job",9,[]]      \n'
+    events, jobs = LONGEST_INPUT // len(event) + 1, LONGEST_INPUT // len(job) + 1
+    script, bank = OPENING + event * events, OPENING + job * jobs
+    refused = "".join(f"{number} refused 1\n" for number in range(jobs))
+    for words, given, replies, out in ((["script"], script, "unknown\n" * (events - 1), "unknown\n" * events + RECORDS), (["bank", "--workers", "1"], bank, "", refused + RECORDS)):
+        size = len(given)
+        sgt.expect(*words, "--most", str(size), given=given, out=out)
+        for limit, option in ((LONGEST_INPUT, []), (size - 1, ["--most", str(size - 1)])):
+            status, wrote, told = sgt.run(*words, *option, given=given)
+            same(f"{words} {option}", (2, f"input too long\nan input has at most {limit} bytes: {SPLIT}\n"), (status, told))
+        same(f"{words}: what was answered", replies, wrote)
+    sgt.expect("script", "--most", str(len(OPENING)), given=OPENING, out=RECORDS)
+    sgt.expect("script", "--most", "1", given=OPENING, status=2, err=f"input too long\nan input has at most 1 bytes: {SPLIT}\n")
+
+
 def says_what_an_operation_looks_like(sgt):
     """In a second line, with its column, and with a hint if it is plain what was meant."""
     form = "an operation is r1[x], w1[x], c1 or a1"
@@ -808,7 +832,7 @@ def says_what_an_operation_looks_like(sgt):
 
 def says_more_of_each_other_error(sgt):
     """In a second line, which comes without an option."""
-    too_long = "an input has at most 16777216 bytes: split it, and begin the next part with what --records writes of the one before"
+    too_long = f"an input has at most 16777216 bytes: {SPLIT}"
     history = "a history has operations: r1[x], w1[x], c1 or a1"
     for words, given, told in (
         (["script"], OPENING + " " * LONGEST_INPUT, "line 2: long line\na line has at most 65536 bytes"),
@@ -1162,6 +1186,7 @@ CASES = [
     refuses_no_operations,
     names_the_fault_of_a_history,
     refuses_a_history_that_is_too_long,
+    takes_longer_inputs_if_asked,
     says_what_an_operation_looks_like,
     says_more_of_each_other_error,
     shows_what_was_typed,

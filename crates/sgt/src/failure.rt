@@ -27,6 +27,8 @@ pub(crate) enum Detail {
     Nothing,
     /// These words.
     Words(&'static str),
+    /// The input has more than so many bytes.
+    TooLong(usize),
     /// These words, about the word at this column, in bytes from 1.
     At(usize, &'static str),
     /// This text.
@@ -38,23 +40,30 @@ impl Display for Detail {
         match self {
             Detail::Nothing => Ok(()),
             Detail::Words(words) => f.write_str(words),
+            Detail::TooLong(most) => write!(
+                f,
+                "an input has at most {most} bytes: take more with --most, or split it, and begin the next part with what --records writes of the one before"
+            ),
             Detail::At(column, words) => write!(f, "column {column}: {words}"),
             Detail::Text(text) => f.write_str(text.as_str()),
         }
     }
 }
 
-/// The failure of a script or a bank that read from this source: from a file, or from standard input.
+/// The failure of a script or a bank that read at most so many bytes from this source: from a file, or from standard
+/// input.
 pub(crate) fn failure_of<R: Files, S: Source>(
     rt: &R,
     alloc: Global,
     command: Command,
     source: &Remembering<S>,
     file: Option<&str>,
+    most: usize,
     fault: Fault,
 ) -> Failure<Fault> {
     let detail = match fault {
         Fault::Reading => unread_detail(rt, file),
+        Fault::TooLong => Detail::TooLong(most),
         _ => match explain(alloc, &fault, command, source) {
             Some(text) => Detail::Text(text),
             None => words_or_nothing(advise(&fault)),

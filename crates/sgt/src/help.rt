@@ -23,7 +23,7 @@ Limits:
   procedures    64 statements, 16 deep; 4 arguments, 16 registers, 8 answers;
                 no loops, no deletes, no scans
   a line        65536 bytes
-  an input      16777216 bytes; a history 268435456
+  an input      16777216 bytes, with --most up to 4294967296; a history 268435456
   a bank        1000000 jobs, 16 workers, 1000 tries for each job
 
 Everything is in memory, nothing is on disk: the data are gone when the program ends."#;
@@ -109,8 +109,8 @@ on standard error, with a second line that explains it:
   line 27: bad line
   expected ["step",transaction], found ["step"]
 
-A line has at most 65536 bytes, the input 16777216. A value or a key is a whole number of at most 15
-digits.
+A line has at most 65536 bytes, the input 16777216, or what --most says. A value or a key is a whole
+number of at most 15 digits.
 In the repository: docs/FORMATS.md has every line and reply, docs/LANGUAGE.md the procedures, and
 examples/ has scripts."#;
 
@@ -148,10 +148,10 @@ If you act on codes, set the third limit to 1. Otherwise a code may rest on a va
 wrote and that was undone later.
 
 All jobs are read before the first one runs, at most 1000000. If a line is bad, it is reported with
-what was expected, and no job runs. A line has at most 65536 bytes, the input 16777216. A value or a
-key is a whole number of at most 15 digits. The first limit, from 1 to 32, must be at least the
-number of workers. The order of two jobs is not fixed. Run serially in commit order, the committed
-jobs give the same answers and the same database.
+what was expected, and no job runs. A line has at most 65536 bytes, the input 16777216, or what
+--most says. A value or a key is a whole number of at most 15 digits. The first limit, from 1 to 32,
+must be at least the number of workers. The order of two jobs is not fixed. Run serially in commit
+order, the committed jobs give the same answers and the same database.
 
 With --explain, standard error says after the report of each job that did not commit at its first
 try how it ended, and which jobs aborted its tries. A summary comes last. All numbers are of jobs:

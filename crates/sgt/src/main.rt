@@ -36,7 +36,7 @@ use progress::Showing;
 use sgt_bank::{Explanations, MOST_TRIES, MOST_WORKERS, run_bank};
 use sgt_check::{CheckFault, run_check};
 use sgt_clients::{Answer, ClientsFault, ClientsOutput, Flaw, Level, Question, run_clients};
-use sgt_input::{Fault, Reader, Writer};
+use sgt_input::{DEFAULT_BYTES, Fault, MOST_BYTES, Reader, Writer};
 use sgt_line_errors::Remembering;
 use sgt_notation::NotationFault;
 use sgt_script::Output;
@@ -105,6 +105,18 @@ fn flag<'a>(alloc: Global, name: &'a str, help: &'a str) -> Arg<'a> {
         .action(ArgAction::SetTrue)
 }
 
+/// How many bytes an input may have by default, as `clap` takes it.
+const MOST: &str = "16777216";
+
+/// The option that says how many bytes an input may have.
+fn most_option<'a>(alloc: Global) -> Arg<'a> {
+    Arg::new(alloc, "most")
+        .long("most")
+        .help("How many bytes the input may have, up to 4294967296")
+        .value_parser(ValueParser::unsigned(1, MOST_BYTES as u64))
+        .default_value(MOST)
+}
+
 /// An option that takes a number from 1 to `most`.
 fn number_option<'a>(
     alloc: Global,
@@ -148,6 +160,7 @@ fn add_run_options<'a>(
     options: &mut Vec<Arg<'a>>,
     helps: [&'a str; 4],
 ) -> Result<(), AllocError> {
+    options.push(most_option(alloc))?;
     for place in 0..RUN_OPTIONS.len() {
         let (name, others) = RUN_OPTIONS[place];
         options.push(run_option(alloc, name, helps[place], others)?)?;
@@ -375,6 +388,16 @@ fn number(options: &ArgMatches<'_>, name: &str, most: u32) -> u32
     options.get_one::<u32>(name).unwrap_or(1).clamp(1, most)
 }
 
+/// How many bytes the input may have. `clap` supplies the default.
+fn most_bytes(options: &ArgMatches<'_>) -> usize
+    ensures { result ≤ 4294967296 }
+{
+    let most = options
+        .get_one::<u64>("most")
+        .unwrap_or(DEFAULT_BYTES as u64);
+    (most as usize).min(MOST_BYTES)
+}
+
 /// Runs a script from the input to standard output.
 fn script<R: Print + Eprint + Files + Clock, I: Read + Drop>(
     rt: &R,
@@ -394,7 +417,8 @@ fn script<R: Print + Eprint + Files + Clock, I: Read + Drop>(
         None
     };
     let output = output_of(options);
-    match sgt_script::run(alloc, &mut source, &mut writer, output, explanations) {
+    let most = most_bytes(options);
+    match sgt_script::run(alloc, &mut source, &mut writer, output, most, explanations) {
         Ok(()) => Ok(()),
         Err(Fault::Writing) if writer.inner.is_unread() => Err(Failure::Unread),
         Err(fault) => {
@@ -405,6 +429,7 @@ fn script<R: Print + Eprint + Files + Clock, I: Read + Drop>(
                 sgt_line_errors::Command::Script,
                 &source,
                 file,
+                most,
                 fault,
             ))
         }
@@ -436,6 +461,7 @@ fn output_of(options: &ArgMatches<'_>) -> Output {
 fn read_bank_options(options: &ArgMatches<'_>, shows_progress: bool) -> sgt_bank::Options
     ensures workers { (1 ≤ result.workers) × (result.workers ≤ 16) }
     ensures tries { (1 ≤ result.tries) × (result.tries ≤ 1000) }
+    ensures most { result.most ≤ 4294967296 }
 {
     let output = if options.get_flag("history") {
         sgt_bank::Output::History
@@ -454,6 +480,7 @@ fn read_bank_options(options: &ArgMatches<'_>, shows_progress: bool) -> sgt_bank
     sgt_bank::Options {
         workers: number(options, "workers", MOST_WORKERS),
         tries: number(options, "tries", MOST_TRIES),
+        most: most_bytes(options),
         output,
         explanations,
         shows_progress,
@@ -482,7 +509,7 @@ fn bank<R: Print + Eprint + Files + Clock + Threads + Wait + Sync, I: Read + Dro
                 workers: chosen.workers,
             };
             let file = options.get_str(FILE);
-            Err(failure_of(rt, alloc, command, &source, file, fault))
+            Err(failure_of(rt, alloc, command, &source, file, chosen.most, fault))
         }
     }
 }
