@@ -69,7 +69,10 @@ class Words:
         self.memo = {}
 
     def crate_of(self, path):
-        return path.split("/")[1] if path.startswith("crates/") else path.split("/")[2] if path.startswith("tools/edits/") and path.count("/") > 2 else ""
+        parts = path.split("/")
+        if parts[0] == "docs":
+            return "docs"
+        return parts[1] if parts[0] == "crates" else parts[2] if path.startswith("tools/edits/") and len(parts) > 3 else ""
 
     def of(self, name, path):
         """The new name of a name without hyphens, as it stands in a file."""
@@ -165,11 +168,17 @@ def renamed_page(text, path, words):
     """A page with the names in its code spans renamed; fenced blocks stay."""
     fenced = False
     lines = []
+
+    def in_span(match):
+        if re.fullmatch(r"`[a-z0-9]+(-[a-z0-9]+)+`", match.group()):
+            return match.group()
+        return re.sub(NAME, lambda m: words.of(m.group(), path), match.group())
+
     for line in text.split("\n"):
         if line.startswith("```"):
             fenced = not fenced
         elif not fenced:
-            line = re.sub(r"`[^`]+`", lambda m: re.sub(NAME, lambda n: words.of(n.group(), path), m.group()), line)
+            line = re.sub(r"`[^`]+`", in_span, line)
         lines.append(line)
     return "\n".join(lines)
 
@@ -356,6 +365,9 @@ def left(words):
         print(f"{word}: {counts['name']} in names, {counts['comment']} in comments, {counts['string']} in strings; {some}")
 
 
+# The pages that name definitions, functions and clauses.
+PAGES = ("ARCHITECTURE", "DECISIONS", "DEFINITIONS", "HEADLINE", "PROOFS")
+
 LISTED = set(
     "told tells tell untold room rooms behind walk walks walked settle settles settled astray misfit misfits putter putters taker takers asked asks ask asking"
     " crew feed touch touched growth growths blank blanks fell falls fallers fall setting settings begins quit quits".split()
@@ -412,7 +424,7 @@ def main(options):
         if ending == ".edit":
             new = renamed_edit(text, path, words)
         elif ending == ".md":
-            new = renamed_page(text, path, words) if path.startswith("docs/") else text
+            new = renamed_page(text, path, words) if Path(path).stem in PAGES else text
         else:
             new = renamed_code(text, ending, path, words)
         there = renamed_path(path, words)
