@@ -72,6 +72,8 @@ class Words:
         parts = path.split("/")
         if parts[0] == "docs":
             return "docs"
+        if parts[0] not in ("crates", "tools") or path.startswith("tools/") and not path.startswith("tools/edits/"):
+            return "outside"
         return parts[1] if parts[0] == "crates" else parts[2] if path.startswith("tools/edits/") and len(parts) > 3 else ""
 
     def of(self, name, path):
@@ -80,8 +82,6 @@ class Words:
             if name in names and fnmatch(path, pattern):
                 return names[name]
         crate = self.crate_of(path)
-        if not path.startswith(("crates/", "tools/edits/", "docs/")):
-            return name
         key = (name, crate)
         if key not in self.memo:
             self.memo[key] = self.made(name, crate)
@@ -89,6 +89,8 @@ class Words:
 
     def made(self, name, crate):
         own = self.crates.get(crate, {})
+        if crate == "outside":
+            return own["names"].get(name) or self.by_parts(name, own["parts"])
         if name in own.get("keep", ()):
             return name
         if name in own.get("names", {}):
@@ -97,7 +99,10 @@ class Words:
             return name
         if name in self.names:
             return self.names[name]
-        parts = {**self.parts, **own.get("parts", {})}
+        return self.by_parts(name, {**self.parts, **own.get("parts", {})})
+
+    @staticmethod
+    def by_parts(name, parts):
         pieces = re.findall(r"[A-Z]+(?![a-z])|[A-Z]?[a-z]+|\d+|_+|.", name)
         alone = len([piece for piece in pieces if piece.strip("_")]) == 1
         made = []
@@ -418,7 +423,7 @@ def main(options):
             print(f"not found: {entry[0]}: {entry[1][:100]}")
 
     # 3: names and files
-    changed = []
+    changed, moved = [], []
     for path, text in texts.items():
         ending = Path(path).suffix
         if ending == ".edit":
@@ -434,12 +439,23 @@ def main(options):
                 return 1
             (ROOT / there).parent.mkdir(parents=True, exist_ok=True)
             subprocess.run(["git", "mv", path, there], cwd=ROOT, check=True)
+            moved.append((path.removeprefix("crates/"), there.removeprefix("crates/")))
         if there != path or new != (ROOT / there).read_text(encoding="utf-8"):
             (ROOT / there).write_text(new, encoding="utf-8")
             changed.append(there)
     for folder in sorted((ROOT / "crates").rglob("*"), reverse=True):
         if folder.is_dir() and "out" not in folder.parts and not any(folder.iterdir()):
             folder.rmdir()
+    for path in tracked():
+        file = ROOT / path
+        if path.startswith("crates/") or not file.is_file() or file.suffix not in ("", ".py", ".md", ".c", ".txt", ".h", ".rs", ".toml"):
+            continue
+        text = new = file.read_text(encoding="utf-8", errors="surrogateescape")
+        for old, there in moved:
+            new = new.replace(old, there)
+        if new != text:
+            file.write_text(new, encoding="utf-8", errors="surrogateescape")
+            changed.append(path)
     print(f"{len(changed)} files changed")
 
     # 4: layout, mutants, lists
