@@ -45,6 +45,15 @@ HYPHENED = re.compile(rf"{NAME}(?:-\w+)+")
 MARKS = {".rt": r"//[/!]?", ".rs": r"//[/!]?", ".antt": "--", ".py": r"\#", ".edit": r"\#"}
 
 
+def ending_of(path):
+    """The language of a file by its ending; a script without one is Python if its first line says so."""
+    ending = Path(path).suffix
+    if not ending and (ROOT / path).is_file():
+        with (ROOT / path).open("rb") as file:
+            ending = ".py" if b"python3" in file.readline() else ""
+    return ending
+
+
 def git(*words):
     return subprocess.run(["git", *words], cwd=ROOT, capture_output=True, text=True, check=True).stdout
 
@@ -159,6 +168,8 @@ def renamed_code(text, ending, path, words, seen=None):
         if match.group("string"):
             if ending == ".rt" and not found.startswith("b"):
                 return re.sub(rf"\{{({NAME})(?=[:}}])", lambda m: "{" + name_in(m.group(1), False), found)
+            if ending == ".py" and found.startswith('"""'):
+                return re.sub(r"`\w+`", in_span, found)
             if ending == ".py" and re.match(r"[rR]?[fF]", found):
                 return re.sub(rf"\{{[^{{}}\n]*\}}", in_span, found)
             return found
@@ -279,6 +290,25 @@ def with_sentences(text, ending, entries, done):
     return "\n".join(lines)
 
 
+def with_docstrings(text, entries, done):
+    """The text of a Python file with sentences of its docstrings replaced; a line break in one is put back where it was."""
+    for entry in entries:
+        pattern = re.compile(r"\s+".join(re.escape(word) for word in entry[1].split()))
+
+        def replaced(match, entry=entry):
+            found, new = match.group(), flat(entry[2])
+            done.add(entry)
+            if "\n" not in found:
+                return new
+            first = found.index("\n")
+            gap = re.match(r"\s+", found[first:]).group()
+            cut = new.rfind(" ", 0, first + 1)
+            return new[:cut] + gap + new[cut + 1:] if cut > 0 else new
+
+        text = re.sub(r'"""(.|\n)*?"""', lambda doc, pattern=pattern, one=replaced: pattern.sub(one, doc.group()), text)
+    return text
+
+
 # Collisions
 
 
@@ -286,7 +316,7 @@ def collisions(texts, words):
     """New names that stand already where an old name becomes them."""
     found = []
     for path, text in texts.items():
-        ending = Path(path).suffix
+        ending = ending_of(path)
         if ending not in LEXERS:
             continue
         seen = Counter()
@@ -302,7 +332,7 @@ def collisions(texts, words):
 
 def meeting_blocks(path, text, words):
     """Of the names that meet in a file, those that meet in one definition, function or contract: paragraphs between empty lines."""
-    ending, met = Path(path).suffix, set()
+    ending, met = ending_of(path), set()
     for block in re.split(r"\n(?=\S)" if ending == ".antt" else r"\n\s*\n", text):
         seen = Counter()
         renamed_code(block, ending, path, words, seen)
@@ -351,7 +381,7 @@ def left(words):
     table = defaultdict(Counter)
     kept = defaultdict(Counter)
     for path in tracked():
-        ending = Path(path).suffix
+        ending = ending_of(path)
         if ending not in LEXERS or not (ROOT / path).is_file():
             continue
         for match in LEXERS[ending].finditer((ROOT / path).read_text(encoding="utf-8")):
@@ -386,7 +416,7 @@ def main(options):
         return 0
     texts = {}
     for path in tracked():
-        if Path(path).suffix in (*LEXERS, ".edit", ".md") and (ROOT / path).is_file():
+        if ending_of(path) in (*LEXERS, ".edit", ".md") and (ROOT / path).is_file():
             texts[path] = words.with_phrases((ROOT / path).read_text(encoding="utf-8"), path)
 
     # 1: names, and whether they collide
@@ -394,9 +424,9 @@ def main(options):
         seen = Counter()
         where = defaultdict(set)
         for path, text in texts.items():
-            if Path(path).suffix in LEXERS:
+            if ending_of(path) in LEXERS:
                 one = Counter()
-                renamed_code(text, Path(path).suffix, path, words, one)
+                renamed_code(text, ending_of(path), path, words, one)
                 for (old, new), count in one.items():
                     if old != new:
                         seen[old, new] += count
@@ -414,10 +444,12 @@ def main(options):
     # 2: sentences
     entries, done = sentences(), set()
     for path in texts:
-        ending = Path(path).suffix
+        ending = ending_of(path)
         own = [entry for entry in entries if fnmatch(path, entry[0])]
         if own and ending != ".md":
             texts[path] = with_sentences(texts[path], ending, own, done)
+            if ending == ".py":
+                texts[path] = with_docstrings(texts[path], own, done)
     for entry in entries:
         if entry not in done:
             print(f"not found: {entry[0]}: {entry[1][:100]}")
@@ -425,7 +457,7 @@ def main(options):
     # 3: names and files
     changed, moved = [], []
     for path, text in texts.items():
-        ending = Path(path).suffix
+        ending = ending_of(path)
         if ending == ".edit":
             new = renamed_edit(text, path, words)
         elif ending == ".md":
