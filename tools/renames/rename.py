@@ -29,6 +29,7 @@ from pathlib import Path
 HERE = Path(__file__).resolve().parent
 ROOT = HERE.parent.parent
 WIDTH = 120
+WIDE = 140
 
 # What each language calls a comment, a string and a name; the first that matches is taken.
 NAME = r"[^\W\d]\w*"
@@ -285,8 +286,9 @@ def with_sentences(text, ending, entries, done):
         rest = (heads[1] if len(heads) > 1 else heads[0])
         rest = rest.group(1) + (rest.group(2) if rest.group(2) not in ("/*", "/**") else " *" if "*" in heads[-1].group(2) else "  ") + " "
         hang = rest + ("  " if re.match(r"(- |\* )", new) else "")
-        made = textwrap.wrap(new + (" */" if closed else ""), WIDTH, initial_indent=lead, subsequent_indent=hang, break_long_words=False, break_on_hyphens=False)
-        lines[first:last + 1] = made if new else []
+        width = WIDTH if ending in (".rt", ".antt", ".edit") else WIDE
+        made = textwrap.wrap(new + ("\0*/" if closed else ""), width, initial_indent=lead, subsequent_indent=hang, break_long_words=False, break_on_hyphens=False)
+        lines[first:last + 1] = [line.replace("\0", " ") for line in made] if new else []
     return "\n".join(lines)
 
 
