@@ -162,10 +162,17 @@ def renamed_code(text, ending, path, words, seen=None):
     def is_fixed(at):
         return any(start <= at < end for start, end in spans) if spans else False
 
+    fence = [False]
+
     def replaced(match):
-        kind, found = match.lastgroup, match.group()
+        found = match.group()
         if match.group("comment"):
-            return re.sub(r"`[^`\n]+`|\[[\w:]+\](?=\()", in_span, found)
+            if re.match(r"//[/!] ?```", found):
+                fence[0] = not fence[0]
+                return found
+            if fence[0] and re.match(r"//[/!]", found):
+                return re.sub(NAME, lambda m: name_in(m.group(), False), found)
+            return re.sub(r"`[^`\n]+`|\]\([\w:]+\)", in_span, found)
         if match.group("string"):
             if ending == ".rt" and not found.startswith("b"):
                 return re.sub(rf"\{{({NAME})(?=[:}}])", lambda m: "{" + name_in(m.group(1), False), found)
