@@ -209,14 +209,15 @@ def renamed_page(text, path, words):
 
 def renamed_edit(text, path, words, seen=None):
     """A mutant: its `file:` lines are paths in the crate, its `old:` and `new:` lines code of that file."""
-    ending, lines = ".rt", []
+    ending, lines, target = ".rt", [], path
     for line in text.split("\n"):
         word, _, rest = line.partition(": ")
         if word == "file":
             ending = Path(rest.strip()).suffix
-            line = "file: " + renamed_path(f"crates/{words.crate_of(path)}/{rest.strip()}", words).split("/", 2)[2]
+            target = f"crates/{words.crate_of(path)}/{rest.strip()}"
+            line = "file: " + renamed_path(target, words).split("/", 2)[2]
         elif word in ("old", "new") and rest:
-            line = f"{word}: " + renamed_code(rest, ending, path, words, seen)
+            line = f"{word}: " + renamed_code(words.with_phrases(rest, target), ending, target, words, seen)
         elif line.startswith("#"):
             line = re.sub(r"`[^`\n]+`", lambda m: re.sub(NAME, lambda n: words.of(n.group(), path), m.group()), line)
         lines.append(line)
