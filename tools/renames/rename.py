@@ -340,6 +340,26 @@ def collisions(texts, words):
     return found
 
 
+def disagreements(texts, words):
+    """Imports of one crate from another whose names become different ones there: a table for one crate that forgets another."""
+    found = set()
+    for path, text in texts.items():
+        if not path.endswith((".rt", ".antt")):
+            continue
+        for match in re.finditer(r"\bRattle\.(sgt\w*)((?:\.\w+)+)(?:\.\{([^}]*)\})?", text):
+            crate, inner, names = match.groups()
+            for name in {*inner.strip(".").split("."), *re.findall(NAME, names or "")}:
+                here, there = words.of(name, path), words.of(name, f"crates/{crate}/src/lib.rt")
+                if here != there:
+                    found.add(f"{path}: {name} of {crate} becomes {here} here, and {there} there")
+        for match in re.finditer(r"\buse (sgt\w*)::([^;]*);", text):
+            for name in re.findall(NAME, match.group(2)):
+                here, there = words.of(name, path), words.of(name, f"crates/{match.group(1)}/src/lib.rt")
+                if here != there:
+                    found.add(f"{path}: {name} of {match.group(1)} becomes {here} here, and {there} there")
+    return sorted(found)
+
+
 def meeting_blocks(path, text, words):
     """Of the names that meet in a file, those that meet in one definition, function or contract: paragraphs between empty lines."""
     ending, met = ending_of(path), set()
@@ -447,7 +467,10 @@ def main(options):
     bad = [(path, new, names, new in meeting_blocks(path, texts[path], words)) for path, new, names in met]
     for path, new, names, close in sorted(bad, key=lambda entry: (not entry[3], entry[1])):
         print(f"collision{' in one definition' if close else ''}: {path}: {', '.join(names)} all become {new}")
-    if "--plan" in options or any(close for *_, close in bad):
+    apart = disagreements(texts, words)
+    for line in apart:
+        print("disagreement: " + line)
+    if "--plan" in options or apart or any(close for *_, close in bad):
         print(f"{len(bad)} collisions, {sum(close for *_, close in bad)} in one definition")
         return 1 if bad else 0
 
