@@ -76,6 +76,7 @@ class Words:
         self.files = table["files"]
         self.together = table["together"]
         self.phrases = table["phrases"]
+        self.mutants = table["mutants"]
         self.memo = {}
 
     def crate_of(self, path):
@@ -376,7 +377,22 @@ def meeting_blocks(path, text, words):
 # After the names
 
 
-def mend_mutants(crates):
+def rename_mutants(words):
+    """The files of mutants by their new names, and these names on the page of proofs and in the list of those that were tried."""
+    renamed = {}
+    for path in [*(ROOT / "crates").glob("*/must-fail/*.edit"), *(ROOT / "tools" / "edits").glob("*/*.edit")]:
+        new = "-".join(words.mutants.get(word, word) for word in path.stem.split("-"))
+        if new != path.stem:
+            renamed[path.stem] = new
+            subprocess.run(["git", "mv", str(path), str(path.with_stem(new))], cwd=ROOT, check=True)
+    page, tried = ROOT / "docs" / "PROOFS.md", ROOT / "tools" / "edits" / "TRIED"
+    page.write_text(re.sub(r"`([a-z0-9-]+)`", lambda m: f"`{renamed.get(m.group(1), m.group(1))}`", page.read_text(encoding="utf-8")), encoding="utf-8")
+    lines = [line.split(" ") for line in tried.read_text(encoding="utf-8").splitlines()]
+    tried.write_text("".join(" ".join([crate, renamed.get(name, name), *rest]) + "\n" for crate, name, *rest in sorted((c, renamed.get(n, n), *r) for c, n, *r in lines)), encoding="utf-8")
+    print(f"{len(renamed)} mutants renamed")
+
+
+def mend_mutants():
     """Mutants whose `old:` text the layout has put on other lines, or wrapped: found again without looking at spaces."""
     open_, mended = [], 0
     edits = [(path, path.parent.parent) for path in sorted((ROOT / "crates").glob("*/must-fail/*.edit"))]
@@ -521,13 +537,14 @@ def main(options):
         if new != text:
             file.write_text(new, encoding="utf-8", errors="surrogateescape")
             changed.append(path)
+    rename_mutants(words)
     print(f"{len(changed)} files changed")
 
     # 4: layout, mutants, lists
     code = [path for path in changed if path.endswith((".rt", ".antt"))]
     for start in range(0, len(code), 200):
         subprocess.run(["rattle", "fmt", "--write", *code[start:start + 200]], cwd=ROOT, check=False)
-    mended, open_ = mend_mutants(ROOT)
+    mended, open_ = mend_mutants()
     print(f"{mended} mutants mended; {len(open_)} to mend by hand")
     for line in open_:
         print("  " + line)
