@@ -79,6 +79,13 @@ class Words:
         self.mutants = table["mutants"]
         self.memo = {}
 
+    def keep_the_kits(self, texts):
+        """Names that are imported from the kit's own modules stay."""
+        for path, text in texts.items():
+            if path.endswith((".rt", ".antt")):
+                for names in re.findall(r"\bRattle\.(?!sgt)\w+(?:\.\w+)*\.\{([^}]*)\}", text):
+                    self.keep |= {name for name in (name.strip() for name in names.split(",")) if re.fullmatch(NAME, name)}
+
     def crate_of(self, path):
         parts = path.split("/")
         if parts[0] == "docs":
@@ -464,6 +471,8 @@ def main(options):
     for path in tracked():
         if ending_of(path) in (*LEXERS, ".edit", ".md") and (ROOT / path).is_file():
             texts[path] = words.with_phrases((ROOT / path).read_text(encoding="utf-8"), path)
+
+    words.keep_the_kits(texts)
 
     # 1: names, and whether they collide
     if "--plan" in options:
