@@ -100,7 +100,8 @@ static void event(struct pair *pair, struct input *input, uint8_t which)
     else {
         plain = sgt_commit(&pair->plain, tid, &one), shared = sgt_shared_commit(pair->shared, &ticket, 0, &other);
         if (plain == SGT_OK && one.kind == SGT_WAITS) {
-            must(shared == SGT_TIMED_OUT && other.kind == 0 && entries(pair) == had + 1, "a commit that waits does not time out");
+            must(shared == SGT_TIMED_OUT && memcmp(&one, &other, sizeof one) == 0, "a commit that waits says otherwise");
+            must(entries(pair) == had + 1, "a commit that waits does not time out");
             return;
         }
     }
