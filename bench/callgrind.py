@@ -23,8 +23,8 @@ def instructions(words, path, statuses=(0,), within=()):
         ran = subprocess.run(valgrind + words, stdin=lines, stdout=nothing, stderr=nothing, check=False)
         if ran.returncode not in statuses:
             raise subprocess.CalledProcessError(ran.returncode, words)
-        with open(profile) as told:
-            return int(SUMMARY.search(told.read())[1])
+        with open(profile) as reported:
+            return int(SUMMARY.search(reported.read())[1])
 
 
 def each(words, opening, whole, count):

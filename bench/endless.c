@@ -123,7 +123,7 @@ static void event(struct run *run, struct slot *slot)
     }
 }
 
-/* Makes events until so many are paid or the history is long, then those that end all transactions, and cuts. */
+/* Makes events until this many payments are made or the history is long, then those that end all transactions, and cuts. */
 static void part(struct run *run, int64_t paid)
 {
     uint64_t entries = 0, live = 0;
@@ -166,7 +166,7 @@ int main(int argc, char **argv)
     const int64_t payments = atoll(argv[1]);
     static struct run run = {.next = 1, .oldest = 1, .drawn = 20190408};
     run.kept = atoll(argv[2]);
-    /* What forgets an id has to meet no payment of it, which is live no longer once so many ids are newer. */
+    /* An id is forgotten once this many ids are newer: then no payment of it is live any more. */
     if (payments < 10 || run.kept < 1000) end(2, "there are at least 10 payments, and 1000 ids are kept");
     run.places = run.kept + 2 * LIVE;
     run.is_remembered = calloc((size_t)run.places, sizeof *run.is_remembered);

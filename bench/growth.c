@@ -3,9 +3,9 @@
  *
  *     growth LOAD COUNT [mixed]
  *
- * `open` opens an engine with so many accounts, `open_with` and `put` with so many rows: by key, or at random, the same each time.
- * The others begin with so many rows: `pages` reads them by pages, `pages_later` after a commit, `records` counts them and `cut` cuts
- * an empty history, ten times each; `cut_later` cuts after 100 commits, and `cut_removed` after as many removals.
+ * `open` opens an engine with COUNT accounts, `open_with` and `put` with COUNT rows: by key, or at random, the same each time. The others
+ * begin with COUNT rows: `pages` reads them by pages, `pages_later` after a commit, `records` counts them and `cut` cuts an empty history,
+ * ten times each; `cut_later` cuts after 100 commits, and `cut_removed` after as many removals.
  */
 #include <inttypes.h>
 #include <stdio.h>
@@ -52,7 +52,7 @@ static sgt_row *rows_of(const int64_t *number, int64_t count)
     return rows;
 }
 
-/* Opens an engine with so many accounts. */
+/* Opens an engine with this many accounts. */
 static void open_accounts(sgt_engine *engine, const int64_t *number, int64_t count)
 {
     static sgt_fault fault;
@@ -65,7 +65,7 @@ static void open_accounts(sgt_engine *engine, const int64_t *number, int64_t cou
     check(sgt_open(engine, text, (size_t)(end - text), &fault), "sgt_open");
 }
 
-/* Reads all rows by pages, each from behind the last row of the one before. */
+/* Reads all rows by pages, each from the row that follows the last one of the page before. */
 static void read_pages(sgt_engine *engine, int64_t wanted)
 {
     static sgt_row page[PAGE];

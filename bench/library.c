@@ -4,9 +4,9 @@
  *     library EVENTS LIVE ACCOUNTS
  *     library TRANSACTIONS 1 ACCOUNTS ACCESSES
  *
- * So many transactions are live at once, and make their events in turn. Which procedure comes next, and on which accounts, is drawn
- * by a generator with a fixed seed. It tells the nanoseconds of processor time for each event, and how many were answered by a commit.
- * With a fourth number, transactions run one after another, and their caller decides so many accesses of each: reads and writes in turn.
+ * LIVE transactions are live at once, and make their events in turn. Which procedure comes next, and on which accounts, is drawn by a
+ * generator with a fixed seed. It prints the nanoseconds of processor time for each event, and how many were answered by a commit. With a
+ * fourth number, transactions run one after another, and their caller decides ACCESSES accesses of each: reads and writes in turn.
  */
 #include <inttypes.h>
 #include <stdio.h>

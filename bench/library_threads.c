@@ -3,10 +3,10 @@
  *
  *     library_threads WAY THREADS CALLS [ACCOUNTS]
  *
- * So many calls of SmallBank's procedures, over 4 accounts or as many as are given, are made by so many threads. WAY is `alone` (sgt_run
- * on an engine without a lock, by one thread), `run` (sgt_shared_run) or `steps` (each event a call, in a shared engine; what aborts is
- * started again). It prints how many calls were carried out each second, the nanoseconds of processor time for each, and how many
- * attempts of `run` were aborted for each 1,000 calls.
+ * THREADS threads make CALLS calls of SmallBank's procedures, over 4 accounts or as many as are given. WAY is `alone` (sgt_run on an engine
+ * without a lock, by one thread), `run` (sgt_shared_run) or `steps` (each event a call, in a shared engine; what aborts is started again).
+ * It prints how many calls were carried out each second, the nanoseconds of processor time for each, and how many attempts of `run` were
+ * aborted for each 1,000 calls.
  */
 #include <pthread.h>
 #include <stdio.h>

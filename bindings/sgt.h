@@ -118,7 +118,7 @@ enum sgt_kind {
     SGT_REFUSED = 15       /* its procedure raised `code`: it is aborted at its commit, and those of `fell` in cascade */
 };
 
-/* How a transaction ended. SGT_ABORTED has a cycle, a code or a quit; SGT_OVER has any of these. */
+/* How a transaction ended. SGT_ABORTED has a cycle, a code or the caller's request; SGT_OVER has any of these. */
 enum sgt_cause {
     SGT_BY_COMMIT = 0,
     SGT_BY_CYCLE = 1, /* its access would close a cycle of conflicts: the first `walked` of `walk`, itself first */
@@ -301,7 +301,7 @@ uint32_t sgt_procedure(sgt_engine *engine, const char *text, size_t length, uint
 
 /*
  * The text of the procedure of a number: JSON that sgt_procedure reads as this procedure, without a zero byte after it. So a
- * journal of calls can be kept with what its numbers mean. If it fits into `room` bytes, it is written whole, and else not at
+ * journal of calls can be kept with what its numbers mean. If it fits into `capacity` bytes, it is written whole, and else not at
  * all. Its length is written to `length` in both cases. It has no spaces, and need not be the text that was passed. The call
  * allocates memory meanwhile.
  *
@@ -311,7 +311,7 @@ uint32_t sgt_procedure(sgt_engine *engine, const char *text, size_t length, uint
  *   - SGT_NONE: no procedure has this number.
  *   - SGT_NO_MEMORY.
  */
-uint32_t sgt_procedure_text(const sgt_engine *engine, uint64_t number, char *text, size_t room, uint64_t *length);
+uint32_t sgt_procedure_text(const sgt_engine *engine, uint64_t number, char *text, size_t capacity, uint64_t *length);
 
 /* Closes an engine, and frees all its memory. A closed engine stays closed, and a busy one is unchanged. */
 void sgt_close(sgt_engine *engine);
@@ -351,10 +351,10 @@ uint32_t sgt_quit(sgt_engine *engine, uint32_t tid, sgt_reply *reply);
  *     sgt_write(&engine, tid, 2, 101, reply.value - 40, &reply);   // SGT_WROTE
  *     sgt_commit(&engine, tid, &reply);                  // SGT_COMMITTED, with no answers; or SGT_WAITS: call it again later
  *
- * It is proved that these transactions are serializable together with those of stored procedures: running the committed ones one
- * after another, in commit order, each caller deciding as it did, gives each read the same value and ends in the committed
- * database. A transaction that read from an aborted one is aborted in cascade. So a caller acts on what it was told outside the
- * engine only after SGT_COMMITTED.
+ * It is proved that these transactions are serializable together with those of stored procedures: running the committed ones one after
+ * another, in commit order, each caller deciding as it did, gives each read the same value and ends in the committed database. A
+ * transaction that read from an aborted one is aborted in cascade. So a caller acts outside the engine on what it has read only after
+ * SGT_COMMITTED.
  *
  * With SGT_OK the reply to sgt_read, sgt_write and sgt_remove is one of these:
  *
@@ -404,18 +404,18 @@ uint32_t sgt_run(sgt_engine *engine, uint64_t procedure, const int64_t *args, si
 /*
  * Runs `count` calls one after another, each as sgt_run does: for batches, and to repeat what sgt_calls returned. Only
  * `procedure`, `args`, `arg` and `accesses` of a call count. The outcome of each call is written at its index in `outcomes`, whose
- * capacity is `room`. The number of calls that ran is written to `done`. A call also counts as run if its start is refused,
+ * capacity is `capacity`. The number of calls that ran is written to `done`. A call also counts as run if its start is refused,
  * or if its transaction is aborted or has to wait: its outcome says so, and the next call follows.
  *
  * If the result is neither SGT_OK nor SGT_NO_MEMORY, outcomes and done are unchanged:
  *
- *   - SGT_BAD_CALL, tested first: a call has over 4 arguments or a procedure over 65535, its `accesses` are not 0, or `room` is
+ *   - SGT_BAD_CALL, tested first: a call has over 4 arguments or a procedure over 65535, its `accesses` are not 0, or `capacity` is
  *     less than `count`. Such accesses are the caller's to make again: see sgt_accesses.
  *   - SGT_CLOSED.
  *   - SGT_NO_MEMORY: the calls before number `done`, counted from 0, ran. Of that call nothing has changed, or its transaction
  *     was started and is aborted.
  */
-uint32_t sgt_run_many(sgt_engine *engine, const sgt_call *calls, size_t count, sgt_outcome *outcomes, size_t room, uint64_t *done);
+uint32_t sgt_run_many(sgt_engine *engine, const sgt_call *calls, size_t count, sgt_outcome *outcomes, size_t capacity, uint64_t *done);
 
 /*
  * The committed value of a record: that of the last committed transaction that wrote it, else the initial one. If the result
@@ -429,7 +429,7 @@ uint32_t sgt_get(const sgt_engine *engine, uint64_t table, int64_t number, int64
 
 /*
  * The committed database from a record on, by table and then by number; from table 0, number SGT_LEAST on it is all of it.
- * The first rows are written to `rows`, whose capacity is `room`. The number of all rows from there, which may be more, is
+ * The first rows are written to `rows`, whose capacity is `capacity`. The number of all rows from there, which may be more, is
  * written to `count`.
  *
  * Read a large database by pages. The first call after an event scans all records, and allocates memory for the rows. The
@@ -442,7 +442,7 @@ uint32_t sgt_get(const sgt_engine *engine, uint64_t table, int64_t number, int64
  *   - SGT_CLOSED.
  *   - SGT_NO_MEMORY.
  */
-uint32_t sgt_rows(const sgt_engine *engine, uint64_t table, int64_t number, sgt_row *rows, size_t room, uint64_t *count);
+uint32_t sgt_rows(const sgt_engine *engine, uint64_t table, int64_t number, sgt_row *rows, size_t capacity, uint64_t *count);
 
 /*
  * How many records the committed database has: as many as sgt_rows returns from the first on. The call costs as much as one of
@@ -465,8 +465,7 @@ uint32_t sgt_entries(const sgt_engine *engine, uint64_t *count);
  * The entry at a position of the history, counted from 0, oldest first. The event is written to `event`, and its reply to
  * `reply`. If the result is not SGT_OK, both are unchanged:
  *
- *   - SGT_CLOSED.
- *   - SGT_NONE: there are not so many entries.
+ * - SGT_CLOSED. - SGT_NONE: there are fewer entries.
  */
 uint32_t sgt_entry(const sgt_engine *engine, uint64_t place, sgt_event *event, sgt_reply *reply);
 
@@ -480,7 +479,7 @@ uint32_t sgt_entry(const sgt_engine *engine, uint64_t place, sgt_event *event, s
  *   - a call with accesses is started by sgt_start, with SGT_EMPTY or another procedure, and stepped to its end; then its
  *     accesses, which sgt_accesses returns, are made again by sgt_read, sgt_write and sgt_remove; then it is committed.
  *
- * The history is read from position `from` on. The first calls are written to `calls`, whose capacity is `room`, and their
+ * The history is read from position `from` on. The first calls are written to `calls`, whose capacity is `capacity`, and their
  * number to `count`. The position to continue from is written to `next`: pass it as `from` the next time. When `next` is what
  * sgt_entries returns, there are no more calls. After a cut positions begin at 0 again.
  *
@@ -493,19 +492,19 @@ uint32_t sgt_entry(const sgt_engine *engine, uint64_t place, sgt_event *event, s
  *   - SGT_CLOSED.
  *   - SGT_NONE: `from` is more than the number of entries.
  */
-uint32_t sgt_calls(const sgt_engine *engine, uint64_t from, sgt_call *calls, size_t room, uint64_t *count, uint64_t *next);
+uint32_t sgt_calls(const sgt_engine *engine, uint64_t from, sgt_call *calls, size_t capacity, uint64_t *count, uint64_t *next);
 
 /*
  * The accesses on which the caller of the transaction `tid` decided, in the order in which they were made, each with the value that
  * it read or wrote. Accesses of its stored procedure are not among them, nor those that were not made. The transaction may be
  * live or have ended. A transaction that was not started has none.
  *
- * The first accesses are written to `accesses`, whose capacity is `room`. The number of all, which may be more, is written to
+ * The first accesses are written to `accesses`, whose capacity is `capacity`. The number of all, which may be more, is written to
  * `count`: for a call of sgt_calls it is `accesses`. The cost grows with the entries back to the transaction's start.
  *
  * SGT_CLOSED. If the result is not SGT_OK, accesses and count are unchanged.
  */
-uint32_t sgt_accesses(const sgt_engine *engine, uint32_t tid, sgt_access *accesses, size_t room, uint64_t *count);
+uint32_t sgt_accesses(const sgt_engine *engine, uint32_t tid, sgt_access *accesses, size_t capacity, uint64_t *count);
 
 /*
  * Allocates memory for `entries` more entries, of 40 bytes each, so that the history is not moved until then. The lists of
@@ -541,15 +540,15 @@ uint32_t sgt_part(const sgt_engine *engine, uint64_t *part);
 
 /*
  * The text of a reply: the line that `sgt script` writes for it, without its end and without a zero byte after it. If it fits
- * into `room` bytes, it is written whole, and else not at all. Its length is written to `length` in both cases. So call it
- * with a `room` of 0 first, or try 1024 bytes, in which every reply fits. The call allocates memory meanwhile.
+ * into `capacity` bytes, it is written whole, and else not at all. Its length is written to `length` in both cases. So call it
+ * with a `capacity` of 0 first, or try 1024 bytes, in which every reply fits. The call allocates memory meanwhile.
  *
  * If the result is not SGT_OK, text and length are unchanged:
  *
  *   - SGT_BAD_CALL: the fields say no reply. No call of this library fills them so.
  *   - SGT_NO_MEMORY.
  */
-uint32_t sgt_reply_text(const sgt_reply *reply, char *text, size_t room, uint64_t *length);
+uint32_t sgt_reply_text(const sgt_reply *reply, char *text, size_t capacity, uint64_t *length);
 
 /*
  * The text of a fault, in the same way: what the program reports after `line 1: `. The text of SGT_PROC_SHAPE holds all
@@ -560,7 +559,7 @@ uint32_t sgt_reply_text(const sgt_reply *reply, char *text, size_t room, uint64_
  *   - SGT_BAD_CALL: `kind` is not that of a fault.
  *   - SGT_NO_MEMORY.
  */
-uint32_t sgt_fault_text(const sgt_fault *fault, char *text, size_t room, uint64_t *length);
+uint32_t sgt_fault_text(const sgt_fault *fault, char *text, size_t capacity, uint64_t *length);
 
 /*
  * Why an opening was refused, in one line for a person: where its first error is, what was expected there and what was found.
@@ -575,10 +574,10 @@ uint32_t sgt_fault_text(const sgt_fault *fault, char *text, size_t room, uint64_
  *   - SGT_NONE: there is nothing to explain, as the opening has no fault.
  *   - SGT_NO_MEMORY.
  */
-uint32_t sgt_explain_opening(const char *opening, size_t length, char *text, size_t room, uint64_t *written);
+uint32_t sgt_explain_opening(const char *opening, size_t length, char *text, size_t capacity, uint64_t *written);
 
 /* The same of a text that sgt_procedure refused. `number` is the number that the text names: pass `procedure` of the fault. */
-uint32_t sgt_explain_procedure(uint64_t number, const char *procedure, size_t length, char *text, size_t room,
+uint32_t sgt_explain_procedure(uint64_t number, const char *procedure, size_t length, char *text, size_t capacity,
                                uint64_t *written);
 
 /*

@@ -23,7 +23,7 @@ import time
 from collections import Counter
 
 sys.dont_write_bytecode = True
-from helpers.cases import C_SOURCES, TESTS, Differs, same, tell  # noqa: E402
+from helpers.cases import C_SOURCES, TESTS, Differs, same, run_cases  # noqa: E402
 from helpers.library import BINDINGS, C_FLAGS, CPP_FLAGS, OUT, SANITIZERS, WRAPS, built, can, run  # noqa: E402
 from helpers.package import SOON, Interrupted, elsewhere, interrupted, interrupted_beside, interrupts, module, refusal, what  # noqa: E402
 
@@ -53,43 +53,43 @@ def declared():
     return {line.split("(")[0].split()[-1].lstrip("*") for line in lines if line.startswith(heads)}
 
 
-def runs_installed(room, folder, lib, flags):
+def runs_installed(scratch, folder, lib, flags):
     """Builds a program with these flags, and runs it with the library of the folder."""
-    program = room / "installed"
+    program = scratch / "installed"
     run(["cc", "-std=c11", "-o", program, BINDINGS / "c" / "threads.c", *flags])
     same("the money", MONEY, run([program], env={"LD_LIBRARY_PATH": str(folder / lib)}))
 
 
-def installs(room):
+def installs(scratch):
     """Installs under a relative prefix, with DESTDIR, and with another LIBDIR."""
-    run([BINDINGS / "build", "install", "near/prefix"], seconds=BUILD_SECONDS, cwd=room)
-    prefix = room / "near" / "prefix"
+    run([BINDINGS / "build", "install", "near/prefix"], seconds=BUILD_SECONDS, cwd=scratch)
+    prefix = scratch / "near" / "prefix"
     same("the prefix of sgt.pc", f"prefix={prefix}", (prefix / "lib" / "pkgconfig" / "sgt.pc").read_text().splitlines()[0])
-    runs_installed(room, prefix, "lib", [f"-I{prefix / 'include'}", f"-L{prefix / 'lib'}", "-lsgt", "-pthread"])
-    staged = dict(os.environ, DESTDIR=str(room / "stage"), LIBDIR="/opt/sgt/lib64", CC="cc", AR="ar")
+    runs_installed(scratch, prefix, "lib", [f"-I{prefix / 'include'}", f"-L{prefix / 'lib'}", "-lsgt", "-pthread"])
+    staged = dict(os.environ, DESTDIR=str(scratch / "stage"), LIBDIR="/opt/sgt/lib64", CC="cc", AR="ar")
     run([BINDINGS / "build", "install", "/opt/sgt"], env=staged)
-    stage = room / "stage" / "opt" / "sgt"
+    stage = scratch / "stage" / "opt" / "sgt"
     text = (stage / "lib64" / "pkgconfig" / "sgt.pc").read_text()
     same("the folder of libraries of sgt.pc", True, "libdir=/opt/sgt/lib64\n" in text and "prefix=/opt/sgt\n" in text)
     same("the headers", ["sgt.h", "sgt.hpp", "sgt_shared.h"], sorted(path.name for path in (stage / "include").iterdir()))
-    runs_installed(room, stage, "lib64", [f"-I{stage / 'include'}", f"-L{stage / 'lib64'}", "-lsgt", "-pthread"])
+    runs_installed(scratch, stage, "lib64", [f"-I{stage / 'include'}", f"-L{stage / 'lib64'}", "-lsgt", "-pthread"])
 
 
-def is_found_by_pkg_config(room):
+def is_found_by_pkg_config(scratch):
     if not shutil.which("pkg-config"):
         return "left out: no pkg-config here"
-    prefix = room / "near" / "prefix"
+    prefix = scratch / "near" / "prefix"
     env = dict(os.environ, PKG_CONFIG_PATH=str(prefix / "lib" / "pkgconfig"))
     flags = run(["pkg-config", "--cflags", "--libs", "sgt"], env=env).split()
     same("the version", declared_version(), run(["pkg-config", "--modversion", "sgt"], env=env).strip())
-    runs_installed(room, prefix, "lib", [*flags, "-pthread"])
+    runs_installed(scratch, prefix, "lib", [*flags, "-pthread"])
     return None
 
 
-def is_found_by_cmake(room):
+def is_found_by_cmake(scratch):
     if not shutil.which("cmake"):
         return "left out: no cmake here"
-    folder = room / "cmake"
+    folder = scratch / "cmake"
     folder.mkdir()
     (folder / "CMakeLists.txt").write_text(
         "cmake_minimum_required(VERSION 3.10)\nproject(bank C)\nset(CMAKE_C_STANDARD 11)\n"
@@ -97,7 +97,7 @@ def is_found_by_cmake(room):
         f"foreach(kind sgt static)\nadd_executable(bank_${{kind}} {BINDINGS / 'c' / 'threads.c'})\n"
         "target_link_libraries(bank_${kind} sgt::${kind} Threads::Threads)\nendforeach()\n"
     )
-    run(["cmake", "-S", folder, "-B", folder / "build", f"-DCMAKE_PREFIX_PATH={room / 'near' / 'prefix'}"])
+    run(["cmake", "-S", folder, "-B", folder / "build", f"-DCMAKE_PREFIX_PATH={scratch / 'near' / 'prefix'}"])
     run(["cmake", "--build", folder / "build"])
     for kind in ("sgt", "static"):
         same("the money", MONEY, run([folder / "build" / f"bank_{kind}"]))
@@ -119,117 +119,117 @@ def has_one_version(_):
         same(f"the version of {source}", True, line.format(declared_version()) in lines)
 
 
-def tells_the_story_in_c(room):
-    same("the story", STORY, run([built(room, "cc", C_FLAGS, BINDINGS / "c" / "bank.c")]))
+def reports_the_story_in_c(scratch):
+    same("the story", STORY, run([built(scratch, "cc", C_FLAGS, BINDINGS / "c" / "bank.c")]))
 
 
-def transfers_side_by_side(room):
-    same("the transfers", TRANSFERS, run([built(room, "cc", C_FLAGS, BINDINGS / "c" / "transfers.c")]))
+def transfers_side_by_side(scratch):
+    same("the transfers", TRANSFERS, run([built(scratch, "cc", C_FLAGS, BINDINGS / "c" / "transfers.c")]))
 
 
-def counts_the_money_of_eight_threads(room):
-    same("the money", MONEY, run([built(room, "cc", C_FLAGS, BINDINGS / "c" / "threads.c")]))
+def counts_the_money_of_eight_threads(scratch):
+    same("the money", MONEY, run([built(scratch, "cc", C_FLAGS, BINDINGS / "c" / "threads.c")]))
 
 
-def tells_the_status_of_each_call(room):
-    told = run([built(room, "cc", C_FLAGS, C_SOURCES / "calls.c")])
-    count = told.split()[0]
-    same("what is told", f"{count} checks, 0 failed\n", told)
+def reports_the_status_of_each_call(scratch):
+    reported = run([built(scratch, "cc", C_FLAGS, C_SOURCES / "calls.c")])
+    count = reported.split()[0]
+    same("what is told", f"{count} checks, 0 failed\n", reported)
     return f"{count} checks"
 
 
-def tells_what_callers_decide(room):
-    told = run([built(room, "cc", C_FLAGS, C_SOURCES / "own_access.c")])
-    count = told.split()[0]
-    same("what is told", f"{count} checks, 0 failed\n", told)
+def reports_what_callers_decide(scratch):
+    reported = run([built(scratch, "cc", C_FLAGS, C_SOURCES / "own_access.c")])
+    count = reported.split()[0]
+    same("what is told", f"{count} checks, 0 failed\n", reported)
     return f"{count} checks"
 
 
-def goes_on_where_each_allocation_is_refused(room):
-    told = run([built(room, "cc", C_FLAGS, BINDINGS / "c" / "refused.c", WRAPS)])
-    count = int(told.split()[2])
-    same("what is told", f"{count - 2} of {count} allocations were told as refused, 2 done without\n", told)
+def goes_on_where_each_allocation_is_refused(scratch):
+    reported = run([built(scratch, "cc", C_FLAGS, BINDINGS / "c" / "refused.c", WRAPS)])
+    count = int(reported.split()[2])
+    same("what is told", f"{count - 2} of {count} allocations were told as refused, 2 done without\n", reported)
     return f"{count} allocations"
 
 
-def is_clean_under_sanitizers(room):
-    if not can(room, "cc", SANITIZERS):
+def is_clean_under_sanitizers(scratch):
+    if not can(scratch, "cc", SANITIZERS):
         return "left out: cc has no sanitizers here"
     c = BINDINGS / "c"
     plain = (c / "bank.c", c / "transfers.c", c / "threads.c", C_SOURCES / "calls.c", C_SOURCES / "own_access.c")
     for source, extra in ((c / "refused.c", WRAPS), *((source, []) for source in plain)):
-        run([built(room, "cc", C_FLAGS, source, SANITIZERS + extra)])
+        run([built(scratch, "cc", C_FLAGS, source, SANITIZERS + extra)])
     return None
 
 
-def tells_the_story_in_cpp(room):
+def reports_the_story_in_cpp(scratch):
     if not shutil.which("c++"):
         return "left out: no c++ here"
     cpp = BINDINGS / "cpp"
-    same("the story", STORY, run([built(room, "c++", CPP_FLAGS, cpp / "bank.cpp")]))
-    same("the money", LEFT, run([built(room, "c++", CPP_FLAGS, cpp / "threads.cpp")]))
+    same("the story", STORY, run([built(scratch, "c++", CPP_FLAGS, cpp / "bank.cpp")]))
+    same("the money", LEFT, run([built(scratch, "c++", CPP_FLAGS, cpp / "threads.cpp")]))
     return None
 
 
-def tells_the_story_in_rust(room):
+def reports_the_story_in_rust(scratch):
     if not shutil.which("rustc"):
         return "left out: no rustc here"
-    rust, find = BINDINGS / "rust", ["-L", f"native={OUT}", "-L", room]
+    rust, find = BINDINGS / "rust", ["-L", f"native={OUT}", "-L", scratch]
     words = ["rustc", "--edition", "2021", "-O", "-D", "warnings"]
-    lib = [*words, "--crate-type", "lib", "--out-dir", room]
+    lib = [*words, "--crate-type", "lib", "--out-dir", scratch]
     run([*lib, "--crate-name", "sgt_sys", *find, "-l", "static=sgt", rust / "sgt-sys" / "src" / "lib.rs"])
     run([*lib, "--crate-name", "sgt", *find, "--extern", "sgt_sys", rust / "src" / "lib.rs"])
     for example, wanted in (("bank", STORY), ("threads", LEFT)):
-        program = room / f"{example}_rust"
+        program = scratch / f"{example}_rust"
         run([*words, *find, "--extern", "sgt", "-o", program, rust / "examples" / f"{example}.rs"])
         same(f"what {example} tells", wanted, run([program]))
-    program = room / "hazards_rust"
+    program = scratch / "hazards_rust"
     run([*words, *find, "--extern", "sgt", "-o", program, C_SOURCES / "shared_hazards.rs"])
     same("what becomes of a hook that panics", "all held\n", run([program]))
     return None
 
 
-def tells_the_story_by_cargo(room):
+def reports_the_story_by_cargo(scratch):
     if not shutil.which("cargo"):
         return "left out: no cargo here"
-    folder = room / "lib"
+    folder = scratch / "lib"
     folder.mkdir()
     shutil.copy(OUT / "libsgt.a", folder)
-    env = dict(os.environ, CARGO_TARGET_DIR=str(room / "target"), SGT_LIB_DIR=str(folder))
+    env = dict(os.environ, CARGO_TARGET_DIR=str(scratch / "target"), SGT_LIB_DIR=str(folder))
     words = ["cargo", "run", "--offline", "--quiet", "--example"]
     same("the story", STORY, run([*words, "bank"], env=env, cwd=BINDINGS / "rust"))
     same("the money", LEFT, run([*words, "threads"], env=env, cwd=BINDINGS / "rust"))
     os.utime(folder / "libsgt.a", (time.time() + 5, time.time() + 5))  # a library that has changed is linked anew
-    told = run(["cargo", "build", "--offline", "--verbose", "--example", "bank"], env=env, cwd=BINDINGS / "rust", also_errors=True)
-    same("that a changed library is seen", True, "Dirty sgt-sys" in told)
+    reported = run(["cargo", "build", "--offline", "--verbose", "--example", "bank"], env=env, cwd=BINDINGS / "rust", also_errors=True)
+    same("that a changed library is seen", True, "Dirty sgt-sys" in reported)
     return None
 
 
-def tells_the_story_in_python(_):
+def reports_the_story_in_python(_):
     env = dict(os.environ, PYTHONDONTWRITEBYTECODE="1")
     same("the story", STORY, run([sys.executable, BINDINGS / "python" / "bank.py"], env=env))
     same("the money", LEFT, run([sys.executable, BINDINGS / "python" / "threads.py"], env=env))
 
 
-def takes_the_library_that_is_named(room):
+def takes_the_library_that_is_named(scratch):
     """A package without a library beside it takes the one that SGT_LIBRARY names, or that of the folder which it names."""
-    shutil.copytree(BINDINGS / "python" / "sgt", room / "alone" / "sgt", ignore=shutil.ignore_patterns("*.so", "__pycache__"))
+    shutil.copytree(BINDINGS / "python" / "sgt", scratch / "alone" / "sgt", ignore=shutil.ignore_patterns("*.so", "__pycache__"))
     for named in (OUT, f"{OUT}/", OUT / "libsgt.so"):
-        env = dict(os.environ, PYTHONPATH=str(room / "alone"), PYTHONDONTWRITEBYTECODE="1", SGT_LIBRARY=str(named))
-        told = run([sys.executable, "-c", "import sgt; print(sgt.version())"], env=env)
-        same(f"the version of {named}", f"{declared_version()}\n", told)
+        env = dict(os.environ, PYTHONPATH=str(scratch / "alone"), PYTHONDONTWRITEBYTECODE="1", SGT_LIBRARY=str(named))
+        reported = run([sys.executable, "-c", "import sgt; print(sgt.version())"], env=env)
+        same(f"the version of {named}", f"{declared_version()}\n", reported)
 
 
-def is_a_wheel(room):
+def is_a_wheel(scratch):
     """A wheel that is unpacked elsewhere finds the library that it contains."""
-    run([BINDINGS / "build", "wheel", room / "wheels"])
-    wheel = next((room / "wheels").glob("*.whl"))
+    run([BINDINGS / "build", "wheel", scratch / "wheels"])
+    wheel = next((scratch / "wheels").glob("*.whl"))
     same("its name", f"sgt-{declared_version()}-py3-none-", wheel.name[: len(f"sgt-{declared_version()}-py3-none-")])
-    shutil.unpack_archive(wheel, room / "site", "zip")
-    shutil.copy(BINDINGS / "python" / "threads.py", room / "site")
+    shutil.unpack_archive(wheel, scratch / "site", "zip")
+    shutil.copy(BINDINGS / "python" / "threads.py", scratch / "site")
     env = {name: value for name, value in os.environ.items() if name != "SGT_LIBRARY"}
-    same("the money", LEFT, run([sys.executable, room / "site" / "threads.py"], env=env, cwd=room))
-    same("what says that it is typed", True, (room / "site" / "sgt" / "py.typed").exists())
+    same("the money", LEFT, run([sys.executable, scratch / "site" / "threads.py"], env=env, cwd=scratch))
+    same("what says that it is typed", True, (scratch / "site" / "sgt" / "py.typed").exists())
 
 
 def programs_of(language, mark):
@@ -238,23 +238,23 @@ def programs_of(language, mark):
     return [block.split("```")[0] for block in blocks if mark in block.split("```")[0]]
 
 
-def runs_the_programs_of_its_page(room):
+def runs_the_programs_of_its_page(scratch):
     """Builds and runs the programs as a reader copies them, without warnings."""
-    told = []
+    reported = []
     for number, text in enumerate(programs_of("c", "int main(void)")):
-        source = room / f"page{number}.c"
+        source = scratch / f"page{number}.c"
         source.write_text(text)
-        told.append(run([built(room, "cc", C_FLAGS, source)]))
+        reported.append(run([built(scratch, "cc", C_FLAGS, source)]))
     env = dict(os.environ, PYTHONPATH=str(BINDINGS / "python"), PYTHONDONTWRITEBYTECODE="1")
-    told += [run([sys.executable, "-W", "error", "-c", text], env=env) for text in programs_of("python", "with ")]
-    same("what the programs tell", ["80000\n", "paid 30\n", "1500\n", "80000\n", "paid 30\n", "COMMITTED 1500\n"], told)
-    if not shutil.which("rustc") or not (room / "libsgt.rlib").exists():
+    reported += [run([sys.executable, "-W", "error", "-c", text], env=env) for text in programs_of("python", "with ")]
+    same("what the programs tell", ["80000\n", "paid 30\n", "1500\n", "80000\n", "paid 30\n", "COMMITTED 1500\n"], reported)
+    if not shutil.which("rustc") or not (scratch / "libsgt.rlib").exists():
         return "but for those in Rust: no rustc here"
-    program = room / "page_rust"
-    words = ["rustc", "--edition", "2021", "-D", "warnings", "-L", f"native={OUT}", "-L", room, "--extern", "sgt", "-o", program]
+    program = scratch / "page_rust"
+    words = ["rustc", "--edition", "2021", "-D", "warnings", "-L", f"native={OUT}", "-L", scratch, "--extern", "sgt", "-o", program]
     for text in programs_of("rust", "fn main()"):
-        (room / "page.rs").write_text(text)
-        run([*words, room / "page.rs"])
+        (scratch / "page.rs").write_text(text)
+        run([*words, scratch / "page.rs"])
         same("what the program in Rust tells", "80000\n", run([program]))
     return None
 
@@ -292,7 +292,7 @@ def gives_each_reply_and_fault_its_text(_):
     ]
     for reply, text in texts:
         same(f"the text of {reply}", text, reply.text())
-    misfits = [
+    shape_errors = [
         Reply(0),
         Reply(16),
         Reply(Kind.OVER, cause=5),
@@ -302,7 +302,7 @@ def gives_each_reply_and_fault_its_text(_):
         Reply(Kind.ABORTED, cause=Cause.CODE, code=65_536),
         Reply(Kind.REFUSED, code=65_536),
     ]
-    for reply in misfits:
+    for reply in shape_errors:
         same(f"the text of {reply}", "refused", refusal(reply.text))
     faults = [
         ({"limits": (8, 100, 2)}, "bad limits", '"limits": the third number is 2, and has to be from 0 to 1'),
@@ -343,7 +343,7 @@ def gives_each_reply_and_fault_its_text(_):
         raise Differs("no fault was told of limits alone")
 
 
-def tells_why_nothing_is_added(_):
+def reports_why_nothing_is_added(_):
     sgt = module()
 
     procedures = [
@@ -644,8 +644,8 @@ def reply_to_quit_commit(sgt, seconds):
         reader = bank.transaction(0, 1)
         while reader.step().kind is not sgt.Kind.ENDED:
             pass
-        told = []
-        waiting = threading.Thread(target=lambda: told.append(what(sgt.Stale, reader.commit, "stale")))
+        reported = []
+        waiting = threading.Thread(target=lambda: reported.append(what(sgt.Stale, reader.commit, "stale")))
         waiting.start()
         while not any(live.waits for live in bank.live()):
             time.sleep(0.001)
@@ -653,7 +653,7 @@ def reply_to_quit_commit(sgt, seconds):
         bank.quit(reader.ticket)
         writer.quit()
         waiting.join()
-        return told[0] if told[0] == "stale" else told[0].kind
+        return reported[0] if reported[0] == "stale" else reported[0].kind
 
 
 def raises_what_a_hook_raises(_):
@@ -686,31 +686,31 @@ def raises_what_a_hook_raises(_):
         same("a drain of an engine that stores none", "refused", refusal(lambda: bank.drain(timeout=0)))
 
 
-def refuses_another_version(room):
+def refuses_another_version(scratch):
     """Each binding compares the version of the library with its own."""
-    source = room / "version.c"
+    source = scratch / "version.c"
     source.write_text('const char *sgt_version(void) { return "0.99.0"; }\n')
-    run(["cc", "-shared", "-fPIC", "-o", room / "version.so", source])
-    env = dict(os.environ, PYTHONPATH=str(BINDINGS / "python"), PYTHONDONTWRITEBYTECODE="1", SGT_LIBRARY=str(room / "version.so"))
-    told = run([sys.executable, "-c", "try:\n import sgt\nexcept ImportError as why:\n print(why)"], env=env)
-    same("what Python tells", True, "0.99.0" in told and declared_version() in told)
+    run(["cc", "-shared", "-fPIC", "-o", scratch / "version.so", source])
+    env = dict(os.environ, PYTHONPATH=str(BINDINGS / "python"), PYTHONDONTWRITEBYTECODE="1", SGT_LIBRARY=str(scratch / "version.so"))
+    reported = run([sys.executable, "-c", "try:\n import sgt\nexcept ImportError as why:\n print(why)"], env=env)
+    same("what Python tells", True, "0.99.0" in reported and declared_version() in reported)
     if not shutil.which("c++"):
         return "but in C++: no c++ here"
-    headers = room / "headers"
+    headers = scratch / "headers"
     headers.mkdir()
     for header in ("sgt.h", "c/sgt_shared.h", "cpp/sgt.hpp"):
         shutil.copy(BINDINGS / header, headers)
     major, minor, patch = declared_version().split(".")
     text = (BINDINGS / "sgt.h").read_text()
     (headers / "sgt.h").write_text(text.replace(f"#define SGT_VERSION_PATCH {patch}", f"#define SGT_VERSION_PATCH {int(patch) + 1}"))
-    source = room / "version.cpp"
+    source = scratch / "version.cpp"
     source.write_text(
         '#include <iostream>\n#include "sgt.hpp"\nint main()\n{\n    try {\n        sgt::SharedEngine bank("");\n'
         "    } catch (const std::runtime_error &why) {\n        std::cout << why.what();\n    }\n}\n"
     )
     flags = [flag for flag in CPP_FLAGS if not flag.startswith("-I")]
-    told = run([built(room, "c++", [*flags, f"-I{headers}"], source)])
-    same("what C++ tells", True, f"the library of {declared_version()}" in told)
+    reported = run([built(scratch, "c++", [*flags, f"-I{headers}"], source)])
+    same("what C++ tells", True, f"the library of {declared_version()}" in reported)
     return None
 
 
@@ -731,22 +731,22 @@ CASES = [
     installs,
     is_found_by_pkg_config,
     is_found_by_cmake,
-    tells_the_story_in_c,
+    reports_the_story_in_c,
     transfers_side_by_side,
     counts_the_money_of_eight_threads,
-    tells_the_status_of_each_call,
-    tells_what_callers_decide,
+    reports_the_status_of_each_call,
+    reports_what_callers_decide,
     goes_on_where_each_allocation_is_refused,
     is_clean_under_sanitizers,
-    tells_the_story_in_cpp,
-    tells_the_story_in_rust,
-    tells_the_story_by_cargo,
-    tells_the_story_in_python,
+    reports_the_story_in_cpp,
+    reports_the_story_in_rust,
+    reports_the_story_by_cargo,
+    reports_the_story_in_python,
     takes_the_library_that_is_named,
     is_a_wheel,
     runs_the_programs_of_its_page,
     gives_each_reply_and_fault_its_text,
-    tells_why_nothing_is_added,
+    reports_why_nothing_is_added,
     takes_no_number_for_another_transactions,
     keeps_an_engine_whole,
     puts_a_million_rows_soon,
@@ -770,8 +770,8 @@ def main():
         print(f"left out: no {', '.join(missing)} here")
         print("0 passed, 0 failed")
         return 0
-    with tempfile.TemporaryDirectory() as room:
-        return tell(CASES, pathlib.Path(room), of="library")
+    with tempfile.TemporaryDirectory() as scratch:
+        return run_cases(CASES, pathlib.Path(scratch), of="library")
 
 
 if __name__ == "__main__":

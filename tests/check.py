@@ -19,15 +19,15 @@ from concurrent.futures import ProcessPoolExecutor
 from itertools import chain, islice
 
 sys.dont_write_bytecode = True
-from helpers.cases import SECONDS, Differs, same, tell  # noqa: E402
+from helpers.cases import SECONDS, Differs, same, run_cases  # noqa: E402
 from helpers.textbook import ACCESSES, ENDS, History, LongHistory, Operation, equivalent_orders  # noqa: E402
 
-# All histories of so many transactions, items, accesses of each transaction and operations at most.
+# All histories of at most this many transactions, items, accesses of each transaction and operations.
 FEW = ((2, 2, 2, 6), (3, 2, 1, 6), (3, 2, 4, 4))
 # How many longer ones are drawn, and of how many operations at most before the last commits.
 DRAWN, LONGEST_DRAWN = 8_000, 16
 NAMES = "xyz"
-# The long ones: each transaction has ten operations, an item about a hundred, and so many transactions are live at a time.
+# The long ones: each transaction has ten operations, an item about a hundred, and this many transactions are live at a time.
 LONG, LIVE = 1_000_000, 50
 SHARES = 16
 
@@ -103,8 +103,8 @@ class Report:
             if not self.history.is_edge_by(i, j):
                 raise Differs(f"no edge by {self.placed(i)} {self.placed(j)}: {line!r}")
             walk.append((self.history.operations[i].transaction, self.history.operations[j].transaction))
-        told = (f" {one} {other} by {self.placed(i)} {self.placed(j)}" for (one, other), (i, j) in zip(walk, edges))
-        same("cycle", "serializable no:" + ",".join(told) + "\n", line)
+        reported = (f" {one} {other} by {self.placed(i)} {self.placed(j)}" for (one, other), (i, j) in zip(walk, edges))
+        same("cycle", "serializable no:" + ",".join(reported) + "\n", line)
         froms, tos = [one for one, _ in walk], [other for _, other in walk]
         same("ends of the cycle's edges", froms[1:] + froms[:1], tos)
         if not walk or len(set(froms)) < len(froms):
@@ -115,8 +115,8 @@ class Report:
         first = self.firsts[breaks.__name__]
         if first is None:
             return same("class", f"{name} yes\n", line)
-        told = {int(it) - 1 for it in re.findall(r"\((\d+)\)", line)} | {self.history.source(first)}
-        witnesses = [it for it in told if it is not None and 0 <= it < first and breaks(it, first)]
+        reported = {int(it) - 1 for it in re.findall(r"\((\d+)\)", line)} | {self.history.source(first)}
+        witnesses = [it for it in reported if it is not None and 0 <= it < first and breaks(it, first)]
         if line not in [f"{name} no: {why(self, it, first)}\n" for it in witnesses]:
             raise Differs(f"{self.placed(first)} is the first that breaks it, and none of {witnesses} is told so: {line!r}")
 
@@ -157,7 +157,7 @@ LINES = {
 def all_histories(transactions, items, accesses, operations):
     """Those of at most so many, and at least one operation: a transaction or an item is new only as the next one."""
 
-    def behind(before, left, used, ended):
+    def following(before, left, used, ended):
         if before:
             yield before
         if len(before) == operations:
@@ -167,16 +167,16 @@ def all_histories(transactions, items, accesses, operations):
                 continue
             more = left if transaction in left else {**left, transaction: accesses}
             for kind in ENDS:
-                yield from behind([*before, Operation(kind, transaction)], more, used, ended | {transaction})
+                yield from following([*before, Operation(kind, transaction)], more, used, ended | {transaction})
             if not more[transaction]:
                 continue
             fewer = {**more, transaction: more[transaction] - 1}
             for item in range(min(used + 1, items)):
                 for kind in ACCESSES:
                     done = [*before, Operation(kind, transaction, NAMES[item])]
-                    yield from behind(done, fewer, max(used, item + 1), ended)
+                    yield from following(done, fewer, max(used, item + 1), ended)
 
-    return behind([], {}, 0, frozenset())
+    return following([], {}, 0, frozenset())
 
 
 def drawn_history(draw):
@@ -327,17 +327,17 @@ def rigorous_report(report):
 # Cases. All are begun at first, so that several programs run at once.
 
 
-def told_of(begun):
+def reported_of(begun):
     count, cyclic = map(sum, zip(*(it.result() for it in begun)))
     return f"{count:,} histories, {cyclic:,} of them not serializable"
 
 
 def compares_all_short_histories(begun):
-    return told_of(begun["all"])
+    return reported_of(begun["all"])
 
 
 def compares_drawn_histories(begun):
-    return told_of(begun["drawn"])
+    return reported_of(begun["drawn"])
 
 
 def compares_a_million_operations_with_locks(begun):
@@ -373,7 +373,7 @@ def main(arguments):
             "all": [pool.submit(compare_all, program, share) for share in range(SHARES)],
             "drawn": [pool.submit(compare_drawn, program, share) for share in range(SHARES)],
         }
-        return tell(CASES, begun, of="check")
+        return run_cases(CASES, begun, of="check")
 
 
 if __name__ == "__main__":

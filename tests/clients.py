@@ -23,7 +23,7 @@ from concurrent.futures import ThreadPoolExecutor
 sys.dont_write_bytecode = True
 from helpers.appends import (  # noqa: E402
     COMMITTED, Transaction, all_small, drawn, entries_of, keeps_time, lines_of, precedences, serial_orders, shortest_cycle)
-from helpers.cases import SECONDS, TESTS, Differs, same, tell  # noqa: E402
+from helpers.cases import SECONDS, TESTS, Differs, same, run_cases  # noqa: E402
 from helpers.levels import drawn_split, is_committed_run, is_read_committed, is_snapshot_isolated, is_snapshot_run, may_stay_open  # noqa: E402
 from pictures import Drawing  # noqa: E402
 
@@ -47,7 +47,7 @@ READ = rf"{PLACED} read key (\S+) as \[([0-9 ]*)\]"
 UNSEEN = rf"read key (\S+) at the end: it would show the order of (\d+) of {PLACED} and (\d+) of {PLACED}"
 
 
-class Told:
+class Reported:
     """What a report says of a history, tested by what was observed."""
 
     def __init__(self, history, spans, strict):
@@ -61,9 +61,9 @@ class Told:
         head = "strictly serializable" if self.strict else "serializable"
         if orders:
             same("status", 0, status)
-            told = tuple(int(it[1:]) - 1 for it in lines[1].removeprefix(f"{head} yes:").split() if it != "none")
-            same("line", f"{head} yes:" + "".join(f" t{it + 1}" for it in told) + ("" if told else " none"), lines[1])
-            if told not in orders or len(lines) != 2:
+            reported = tuple(int(it[1:]) - 1 for it in lines[1].removeprefix(f"{head} yes:").split() if it != "none")
+            same("line", f"{head} yes:" + "".join(f" t{it + 1}" for it in reported) + ("" if reported else " none"), lines[1])
+            if reported not in orders or len(lines) != 2:
                 raise Differs(f"no such order: {text!r}")
             return
         same("status", 1, status)
@@ -94,7 +94,7 @@ class Told:
             raise Differs(f"{steps} steps, and the shortest cycle has {shortest}")
 
     def compare_reads(self):
-        """A cycle is told only where of two reads of a key one is always a prefix of the other."""
+        """A cycle is reported only if, of two reads of a key, one is always a prefix of the other."""
         longest = {}
         for one in self.history:
             for _, key, seen in (it for it in one.operations if it[0] == "r" and one.status == COMMITTED):
@@ -121,14 +121,14 @@ class Told:
         reader, values = int(reader) - 1, list(map(int, seen.split()))
         if not self.reads(reader, key, seen):
             return False
-        if told := re.fullmatch(r"with (\d+), which t(\d+) appended", rest):
-            value, by = int(told[1]), int(told[2]) - 1
+        if reported := re.fullmatch(r"with (\d+), which t(\d+) appended", rest):
+            value, by = int(reported[1]), int(reported[2]) - 1
             return reader == other and by == one and value in values and self.appends(one, key, value)
-        if told := re.fullmatch(r"without (\d+), which t(\d+) appended", rest):
-            value, by = int(told[1]), int(told[2]) - 1
+        if reported := re.fullmatch(r"without (\d+), which t(\d+) appended", rest):
+            value, by = int(reported[1]), int(reported[2]) - 1
             return reader == one and by == other and value not in values and self.appends(other, key, value)
-        if told := re.fullmatch(r"with (\d+) of t(\d+) and without (\d+) of t(\d+)", rest):
-            first, by, second, then = map(int, told.groups())
+        if reported := re.fullmatch(r"with (\d+) of t(\d+) and without (\d+) of t(\d+)", rest):
+            first, by, second, then = map(int, reported.groups())
             return (by - 1, then - 1) == (one, other) and self.appends(one, key, first) and self.appends(other, key, second) \
                 and first in values and second not in values
         first, by, second, then = map(int, re.fullmatch(r"with (\d+) of t(\d+) before (\d+) of t(\d+)", rest).groups())
@@ -147,27 +147,27 @@ class Told:
     def name_of_fault(self, reader, key, values, rest):
         """The name of a fault of a read, or None if there is no such fault."""
         own = [it[2] for it in self.history[reader].operations if it[0] == "append" and it[1] == int(key)]
-        if told := re.fullmatch(r"but no transaction that may have committed appends (\d+)", rest):
-            written = any(self.appends(it, key, told[1]) for it in range(len(self.history)))
-            return "unwritten" if int(told[1]) in values and not written else None
-        if told := re.fullmatch(rf"with (\d+) of {PLACED}, which aborted", rest):
-            aborted = self.history[int(told[2]) - 1].status == "fail" and self.appends(int(told[2]) - 1, key, told[1])
-            return "G1a" if int(told[1]) in values and aborted else None
-        if told := re.fullmatch(r"with a value twice: (\d+)", rest):
-            return "duplicate-elements" if values.count(int(told[1])) > 1 else None
-        if told := re.fullmatch(rf"with (\d+), which t{reader + 1} appended only later", rest):
-            return "internal" if int(told[1]) in values and int(told[1]) in own else None
+        if reported := re.fullmatch(r"but no transaction that may have committed appends (\d+)", rest):
+            written = any(self.appends(it, key, reported[1]) for it in range(len(self.history)))
+            return "unwritten" if int(reported[1]) in values and not written else None
+        if reported := re.fullmatch(rf"with (\d+) of {PLACED}, which aborted", rest):
+            aborted = self.history[int(reported[2]) - 1].status == "fail" and self.appends(int(reported[2]) - 1, key, reported[1])
+            return "G1a" if int(reported[1]) in values and aborted else None
+        if reported := re.fullmatch(r"with a value twice: (\d+)", rest):
+            return "duplicate-elements" if values.count(int(reported[1])) > 1 else None
+        if reported := re.fullmatch(rf"with (\d+), which t{reader + 1} appended only later", rest):
+            return "internal" if int(reported[1]) in values and int(reported[1]) in own else None
         if rest == f"which does not end with what t{reader + 1} had appended":
             return "internal" if own else None
         return "incompatible-order" if self.is_other_order(key, values, rest) else None
 
     def is_other_order(self, key, values, rest):
         """Whether another read saw another order, or the transaction that appended two of the values, of which none is there twice."""
-        if told := re.fullmatch(f"but {READ}", rest):
-            other = list(map(int, told[3].split()))
-            return told[2] == key and self.reads(int(told[1]) - 1, key, told[3]) and other[:len(values)] != values[:len(other)]
-        told = re.fullmatch(rf"with (\d+) before (\d+), but {PLACED} appended \2 first", rest)
-        later, first, by = int(told[1]), int(told[2]), int(told[3]) - 1
+        if reported := re.fullmatch(f"but {READ}", rest):
+            other = list(map(int, reported[3].split()))
+            return reported[2] == key and self.reads(int(reported[1]) - 1, key, reported[3]) and other[:len(values)] != values[:len(other)]
+        reported = re.fullmatch(rf"with (\d+) before (\d+), but {PLACED} appended \2 first", rest)
+        later, first, by = int(reported[1]), int(reported[2]), int(reported[3]) - 1
         mine = [it[2] for it in self.history[by].operations if it[0] == "append" and it[1] == int(key)]
         return mine.index(first) < mine.index(later) and values.index(later) < values.index(first) and len(set(values)) == len(values)
 
@@ -198,7 +198,7 @@ def compare(program, draw, history, strict):
     try:
         status, text, errors = check(program, given, *(["--strict"] if strict else []))
         same("standard error", "", errors)
-        Told(history, spans, strict).compare(status, text, orders)
+        Reported(history, spans, strict).compare(status, text, orders)
     except (Differs, ValueError, AttributeError) as why:
         raise Differs(f"{why}\n{given}") from None
     return bool(orders)
@@ -225,14 +225,14 @@ def compare_levels(program, draw, history):
     try:
         status, text, errors = check(program, given, "--json", "--level", level, *options)
         same("standard error", "", errors)
-        told = json.loads(text)
-        found = {it: told["levels"][it]["holds"] for it in told["levels"]}
+        reported = json.loads(text)
+        found = {it: reported["levels"][it]["holds"] for it in reported["levels"]}
         same("levels", LEVELS[:3 + len(options)], list(found))
         same("status", STATUS[found[level]], status)
         compare_answers(found, history, spans)
-        Evidence(history, spans, bool(options)).compare(told["levels"])
+        Evidence(history, spans, bool(options)).compare(reported["levels"])
         strongest = [it for it in found if found[it] == "yes"][-1:]
-        same("strongest", (strongest or [None])[0], told["strongest"])
+        same("strongest", (strongest or [None])[0], reported["strongest"])
         line = f"strongest level: {(strongest or ['none'])[0].replace('-', ' ')}"
         same("report", True, line in check(program, given, *options)[1].splitlines())
     except (Differs, ValueError, AttributeError, KeyError) as why:
@@ -251,7 +251,7 @@ def compare_answers(found, history, spans):
             same(level, "yes" if holds[level] else "no", answer)
 
 
-class Evidence(Told):
+class Evidence(Reported):
     """The evidence of each level in the object of JSON, tested by what was observed."""
 
     def compare(self, levels):
@@ -303,8 +303,8 @@ class Evidence(Told):
 
 def compare_all_levels(program, histories):
     with ThreadPoolExecutor(os.cpu_count()) as pool:
-        told = list(pool.map(lambda it: compare_levels(program, random.Random(it[0]), it[1]), enumerate(histories)))
-    return f"{len(told):,} histories: " + ", ".join(f"{told.count(it):,} {it}" for it in [*LEVELS[::-1], "none", "undecided"])
+        reported = list(pool.map(lambda it: compare_levels(program, random.Random(it[0]), it[1]), enumerate(histories)))
+    return f"{len(reported):,} histories: " + ", ".join(f"{reported.count(it):,} {it}" for it in [*LEVELS[::-1], "none", "undecided"])
 
 
 # Cases
@@ -427,10 +427,10 @@ def names_anomalies(program):
     for name, history in NAMED.items():
         entries, spans = entries_of(random.Random(1), history)
         status, text, _ = check(program, lines_of(entries))
-        Told(history, spans, False).compare(status, text, set(serial_orders(history)))
+        Reported(history, spans, False).compare(status, text, set(serial_orders(history)))
         same("verdict", f"serializable no: {name}", text.splitlines()[1])
-        told = json.loads(check(program, lines_of(entries), "--json")[1])
-        same("name", (False, name), (told["serializable"], told["anomaly"]))
+        reported = json.loads(check(program, lines_of(entries), "--json")[1])
+        same("name", (False, name), (reported["serializable"], reported["anomaly"]))
 
 
 def in_turn(history):
@@ -544,8 +544,8 @@ def takes_processes_of_any_name(program):
         renamed = [it | {"process": name.format(*[it["process"]] * 100)} for it in entries]
         same(f"process {name}", wanted, check(program, lines_of(renamed)))
     began = entries[0] | {"process": 7}
-    told = "line 2, entry 2: process 7 has invoked another transaction, and has not ended it\n"
-    same("7 and its text", (2, "", told), check(program, lines_of([began, began | {"process": "7"}])))
+    reported = "line 2, entry 2: process 7 has invoked another transaction, and has not ended it\n"
+    same("7 and its text", (2, "", reported), check(program, lines_of([began, began | {"process": "7"}])))
 
 
 def takes_keys_of_any_name(program):
@@ -567,12 +567,12 @@ def skips_what_is_no_transaction(program):
     other = '{"f":5}\n'
     entries, _ = entries_of(random.Random(1), NAMED["G2-item"])
     status, text, errors = check(program, "".join(lines_of([it]) for it in entries))
-    for given, told in ((nemesis, "1 entry skipped: no transaction"), (nemesis + other, "2 entries skipped: no transactions")):
+    for given, reported in ((nemesis, "1 entry skipped: no transaction"), (nemesis + other, "2 entries skipped: no transactions")):
         lines = text.splitlines()
-        wanted = "\n".join([lines[0], told, *lines[1:]]) + "\n"
+        wanted = "\n".join([lines[0], reported, *lines[1:]]) + "\n"
         same("report", (status, wanted, errors), check(program, lines_of(entries) + given))
-        told = json.loads(check(program, lines_of(entries) + given, "--json")[1])
-        same("skipped", given.count("\n"), told["skipped"])
+        reported = json.loads(check(program, lines_of(entries) + given, "--json")[1])
+        same("skipped", given.count("\n"), reported["skipped"])
         same("alone", (2, "", "no operations\n"), check(program, given))
     same("none", False, "skipped" in json.loads(check(program, lines_of(entries), "--json")[1]))
     entries[0].pop("f")
@@ -597,8 +597,8 @@ def refuses_an_end_of_other_operations(program):
         began = next(it for it in range(place, -1, -1) if entries[it]["process"] == entries[place]["process"] and it < place)
         value = entries[place]["value"] = [list(it) for it in entries[place]["value"]]
         spoil_operations(draw, value)
-        told = f"the operations are not those of the invocation, line {began + 1}, entry {began + 1}"
-        same("fault", (2, "", f"line {place + 1}, entry {place + 1}: {told}\n"), check(program, lines_of(entries)))
+        reported = f"the operations are not those of the invocation, line {began + 1}, entry {began + 1}"
+        same("fault", (2, "", f"line {place + 1}, entry {place + 1}: {reported}\n"), check(program, lines_of(entries)))
         count += 1
     return f"{count} histories"
 
@@ -616,15 +616,15 @@ def spoil_operations(draw, value):
 
 
 def keeps_time_only_with_invocations(program):
-    told = "no invocations: without them it is unknown when transactions began, which --strict needs\n"
-    same("ends alone", (2, "", told), check(program, GOOD, "--strict"))
+    reported = "no invocations: without them it is unknown when transactions began, which --strict needs\n"
+    same("ends alone", (2, "", reported), check(program, GOOD, "--strict"))
     began = '{"type":"invoke","process":"c","f":"txn","value":[["r",1,null]]}\n'
     same("with an invocation", 0, check(program, GOOD + began, "--strict")[0])
 
 
 GOOD = '{"type":"ok","process":0,"f":"txn","value":[["append",1,1]]}\n'
 
-# Faulty inputs, with what is told of them.
+# Faulty inputs, with what is reported for them.
 IS_TEXT = "; text like r1[x] is read without --model list-append"
 NO_EDN = re.compile(r"line 2, entry 2: no JSON from column \d+ on")
 EDN = "{:type :ok, :process 0, :f :txn, :value [[:append 1 1]]}\n"
@@ -685,7 +685,7 @@ FAULTS = {
 }
 
 
-def tells_faults(program):
+def reports_faults(program):
     for given, wanted in FAULTS.items():
         status, text, errors = check(program, given.encode("latin-1"))
         if wanted is None:
@@ -766,7 +766,7 @@ def draws_its_witness(program):
 
 def recorded_ones(program):
     """What was recorded of databases, with its report, and with its picture where one is stored."""
-    told = []
+    reported = []
     for path in sorted(CLIENTS.glob("*.json")):
         status, text, errors = check(program, path.read_bytes())
         same(f"fault of {path.name}", "", errors)
@@ -774,8 +774,8 @@ def recorded_ones(program):
         if path.with_suffix(".svg").exists():
             drawn_now = check(program, path.read_bytes(), "--timeline")
             same(f"picture of {path.name}", (status, path.with_suffix(".svg").read_text(), ""), drawn_now)
-        told.append(f"{path.stem} {status}")
-    return ", ".join(told)
+        reported.append(f"{path.stem} {status}")
+    return ", ".join(reported)
 
 
 # The databases of Debian's packages: their recorders, and a program of the server.
@@ -784,26 +784,26 @@ DATABASES = {"postgres.py": "/usr/lib/postgresql/*/bin/initdb", "mariadb.py": "/
 
 def records_databases(program):
     """What is recorded anew of each database that is here, at its level SERIALIZABLE, is serializable."""
-    told = []
+    reported = []
     for name, server in DATABASES.items():
         if not glob.glob(server):
-            told.append(f"{name} left out, {server} is missing")
+            reported.append(f"{name} left out, {server} is missing")
             continue
         words = [CLIENTS / name, "--temporary", "--level", "serializable", "--transactions", "60"]
         ran = subprocess.run(words, capture_output=True, timeout=10 * SECONDS, check=False)
         same(f"status of {name}", (0, b""), (ran.returncode, ran.stderr))
         status, text, errors = check(program, ran.stdout)
         same(f"report on {name}", (0, "", True), (status, errors, text.splitlines()[1].startswith("serializable yes: t")))
-        told.append(f"{name} serializable")
-    return ", ".join(told)
+        reported.append(f"{name} serializable")
+    return ", ".join(reported)
 
 
 CASES = [on_all_small_histories, on_drawn_histories, on_drawn_histories_strictly, levels_of_all_small_histories, levels_of_drawn_histories,
          names_the_strongest_level, names_the_read_that_decides, keeps_the_order_of_begins, names_anomalies, names_the_operations,
          shows_values_of_a_long_read, ends_on_long_ones, reads_each_form, reads_edn,
          takes_null_for_the_empty_list, takes_processes_of_any_name, takes_keys_of_any_name, skips_what_is_no_transaction, refuses_nothing,
-         refuses_an_end_of_other_operations, keeps_time_only_with_invocations, tells_faults, survives_hostile_bytes, needs_its_model, hints_at_its_model, draws_its_witness, recorded_ones,
+         refuses_an_end_of_other_operations, keeps_time_only_with_invocations, reports_faults, survives_hostile_bytes, needs_its_model, hints_at_its_model, draws_its_witness, recorded_ones,
          records_databases]
 
 if __name__ == "__main__":
-    sys.exit(tell(CASES, sys.argv[1], of="clients"))
+    sys.exit(run_cases(CASES, sys.argv[1], of="clients"))

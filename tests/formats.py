@@ -15,7 +15,7 @@ import tempfile
 import threading
 
 sys.dont_write_bytecode = True
-from helpers.cases import SECONDS, Differs, first_line, same, tell  # noqa: E402
+from helpers.cases import SECONDS, Differs, first_line, same, run_cases  # noqa: E402
 
 # The most bytes of a line, and of an input.
 LONGEST_LINE = 65_536
@@ -259,7 +259,7 @@ def reads_either_spelling(sgt):
     are_answered(sgt, opening("[8,100]", procedures=TWO_ARGUMENTS), SPELLINGS)
 
 
-def takes_no_blank_inside_a_number(sgt):
+def takes_no_space_inside_a_number(sgt):
     for line in NO_SPELLINGS.split("\n")[1:-1]:
         same(line, (2, "", "line 2: not JSON\n"), sgt.fault("script", given=f"{opening()}\n{line}\n"))
         job = line.replace("step", "job").replace("start", "job")
@@ -350,15 +350,15 @@ def key_of(row):
     return int(table), int(number)
 
 
-def puts_records_behind_the_opening(sgt):
+def puts_records_after_the_opening(sgt):
     first = opening(accounts="[[1,101,500,1000]]")
     accounts = ["0/1 101", "1/101 500", "2/101 1000"]
     table = rows(PUT_RECORDS)
     for row, line in table:
-        wanted = "".join(f"{told}\n" for told in sorted([*accounts, row], key=key_of))
+        wanted = "".join(f"{reported}\n" for reported in sorted([*accounts, row], key=key_of))
         same(line, (0, wanted, ""), sgt.run("script", given=f"{first}\n{line}\n"))
         same(line, (0, wanted, ""), sgt.run("bank", "--workers", "1", given=f"{first}\n{line}"))
-    wanted = "".join(f"{told}\n" for told in sorted([*accounts, *(row for row, _ in table)], key=key_of))
+    wanted = "".join(f"{reported}\n" for reported in sorted([*accounts, *(row for row, _ in table)], key=key_of))
     lines = "".join(f"{line}\n" for _, line in table)
     same("all", (0, wanted, ""), sgt.run("script", given=f"{first}\n{lines}"))
 
@@ -389,7 +389,7 @@ def tests_line_1_before_the_records(sgt):
     same("a long line", (2, "", "line 2: long line\n"), sgt.fault("script", given=opening() + '\n["record",8,1,1' + " " * LONGEST_LINE + "]\n"))
 
 
-def numbers_lines_and_jobs_behind_records(sgt):
+def numbers_lines_and_jobs_after_records(sgt):
     first = opening("[2,2]", procedures="[0,[]]") + "\n" + "".join(f'["record",3,{number},0]\n' for number in range(3))
     database = "".join(f"3/{number} 0\n" for number in range(3))
     same("an event", (2, "started 0\n", "line 6: bad line\n"), sgt.fault("script", given=f'{first}["start",5,[]]\n[]\n'))
@@ -397,7 +397,7 @@ def numbers_lines_and_jobs_behind_records(sgt):
     same("explained", (0, "started 0\n" + database, "1 transaction is live at the end: 0\n"), sgt.run("script", "--explain", given=first + '["start",5,[]]\n'))
 
 
-def puts_as_many_records_as_an_input_has_room_for(sgt):
+def puts_as_many_records_as_an_input_can_hold(sgt):
     """In the order of their keys; and some of them with half after the other half, and against that order."""
     many, few = 600_000, 2_000
     for numbers in (range(many), [*range(1, few, 2), *range(0, few, 2)], range(few, 0, -1)):
@@ -410,7 +410,7 @@ def puts_as_many_records_as_an_input_has_room_for(sgt):
         same(f"{len(lines)} bytes of records of a bank", (0, "", True), (status, err, out == records))
 
 
-def asks_for_a_million_jobs_behind_records(sgt):
+def asks_for_a_million_jobs_after_records(sgt):
     given = opening("[1,1]") + '\n["record",3,1,1]\n["record",3,2,1]\n' + '["job",9,[]]\n' * 1_000_000
     status, out, err = sgt.run("bank", "--workers", "1", given=given)
     same("a million", (0, "", "999999 refused 1\n3/1 1\n3/2 1\n"), (status, err, out[-32:][out[-32:].index("999999") :]))
@@ -480,7 +480,7 @@ def refuses_accounts(sgt):
     are_refused(sgt, ACCOUNTS)
 
 
-def tells_the_first_fault(sgt):
+def reports_the_first_fault(sgt):
     are_refused(sgt, FIRST_FAULT)
 
 
@@ -541,7 +541,7 @@ DEEP_BLOCKS = """
 shape 1 1 3 2 2 0: [0,[["ask",1],["if",["less",0,1],[],[["ask",1],["ask",1],["if",["most",0,1],[["jump",1]],[]]]]]]
 """
 
-FIRST_MISFIT = """
+FIRST_SHAPE_ERROR = """
 shape 0: [300,5]
 shape 1 0: [0,[["look",256,0,0]]]
 shape 1 0 2: [0,[["look",0,256,"x",65536]]]
@@ -627,15 +627,15 @@ def say(sgt, table):
         says(sgt, text, wanted)
 
 
-def tells_the_place_of_a_misfit(sgt):
+def reports_the_place_of_a_shape_error(sgt):
     say(sgt, PLACES)
 
 
-def tells_a_list_of_no_row(sgt):
+def reports_a_list_of_no_row(sgt):
     say(sgt, NO_ROW)
 
 
-def tells_a_thing_of_another_kind(sgt):
+def reports_a_thing_of_another_kind(sgt):
     say(sgt, OTHER_KINDS)
 
 
@@ -643,11 +643,11 @@ def finds_an_unknown_word_in_deep_blocks(sgt):
     say(sgt, DEEP_BLOCKS)
 
 
-def tells_the_first_misfit(sgt):
-    say(sgt, FIRST_MISFIT)
+def reports_the_first_shape_error(sgt):
+    say(sgt, FIRST_SHAPE_ERROR)
 
 
-def tells_numbers_past_their_ranges(sgt):
+def reports_numbers_past_their_ranges(sgt):
     say(sgt, PAST_RANGES)
 
 
@@ -655,7 +655,7 @@ def reads_numbers_up_to_the_ends_of_their_ranges(sgt):
     say(sgt, ENDS_OF_RANGES)
 
 
-def tells_the_longest_place(sgt):
+def reports_the_longest_place(sgt):
     """As deep as a line may be, with five lists and objects round the sums."""
     for sums, wanted in ((122, f"procedure 5 shape 1 0 1{' 2' * 61}{' 1' * 61}"), (123, "not JSON")):
         value = "null"
@@ -669,20 +669,20 @@ def wants_a_register_set_on_each_way(sgt):
     say(sgt, EACH_WAY)
 
 
-def tells_the_least_flaw(sgt):
+def reports_the_least_flaw(sgt):
     say(sgt, FLAWS)
 
 
-def around(before, text, behind, times):
-    return before * times + text + behind * times
+def around(before, text, following, times):
+    return before * times + text + following * times
 
 
 def takes_procedures_up_to_their_sizes(sgt):
     depths = [
         ("[0,[", '["if",["less",0,1],[', '["let",0,1]', "],[]]", "]]"),
         *(
-            ('[0,[["answer",', before, "1", behind, "]]]")
-            for before, behind in (('["sum",0,', "]"), ('["diff",', ",0]"), ('["product",0,', "]"), ('["quotient",', ",1]"))
+            ('[0,[["answer",', before, "1", following, "]]]")
+            for before, following in (('["sum",0,', "]"), ('["diff",', ",0]"), ('["product",0,', "]"), ('["quotient",', ",1]"))
         ),
     ]
     sizes = [
@@ -690,12 +690,12 @@ def takes_procedures_up_to_their_sizes(sgt):
         (7, "7", "[0,[", '["answer",1],', '["answer",1]', "", "]]"),
         *((15, "6", *parts) for parts in depths),
     ]
-    for times, flaw, front, before, text, behind, end in sizes:
-        says(sgt, front + around(before, text, behind, times) + end, "no flaw")
-        says(sgt, front + around(before, text, behind, times + 1) + end, f"flaw {flaw}")
+    for times, flaw, front, before, text, following, end in sizes:
+        says(sgt, front + around(before, text, following, times) + end, "no flaw")
+        says(sgt, front + around(before, text, following, times + 1) + end, f"flaw {flaw}")
 
 
-def takes_blanks_and_escapes(sgt):
+def takes_spaces_and_escapes(sgt):
     given = opening(procedures=r' [ 0 , [ [ "a\u0073k" , 1 ] ] ] ')
     are_answered(sgt, given, 'started 0: ["start",5,[]]\naborted asked 1 fell none: ["step",0]')
 
@@ -842,31 +842,31 @@ EXPLAINED_TEXTS = (
 )
 
 
-def tells_more(sgt, command, given, fault, more):
+def reports_more(sgt, command, given, fault, more):
     """A second line says more of an error, also with the option that explains aborts, where lines of refused events come before it."""
-    status, out, told = sgt.run(*command, given=given)
-    same(f"{given!r:.200}", (2, fault + more), (status, told))
-    *came, told = sgt.run(*command, "--explain", given=given)
-    told = "".join(line for line in told.splitlines(True) if ": no transaction has started with the number " not in line)
-    same(f"{given!r:.200}: with --explain", (2, out, fault + more), (*came, told))
+    status, out, reported = sgt.run(*command, given=given)
+    same(f"{given!r:.200}", (2, fault + more), (status, reported))
+    *came, reported = sgt.run(*command, "--explain", given=given)
+    reported = "".join(line for line in reported.splitlines(True) if ": no transaction has started with the number " not in line)
+    same(f"{given!r:.200}: with --explain", (2, out, fault + more), (*came, reported))
 
 
 def explains_openings(sgt):
     for line, fault, more in EXPLAINED_OPENINGS:
         for command in (["script"], ["bank", "--workers", "1"]):
-            tells_more(sgt, command, f"{line}\n", f"line 1: {fault}\n", f"{more}\n")
+            reports_more(sgt, command, f"{line}\n", f"line 1: {fault}\n", f"{more}\n")
 
 
 def explains_too_few_for_the_workers(sgt):
-    tells_more(sgt, ["bank"], opening("[3,1]"), "line 1: bad limits\n", '"limits": the first number is 3, and the workers are 4: more than transactions may be live; take fewer with --workers\n')
+    reports_more(sgt, ["bank"], opening("[3,1]"), "line 1: bad limits\n", '"limits": the first number is 3, and the workers are 4: more than transactions may be live; take fewer with --workers\n')
 
 
 def explains_procedures(sgt):
     for procedure, fault, more in EXPLAINED_PROCEDURES:
         given = opening(procedures=procedure)
-        tells_more(sgt, ["script"], given, f"line 1: procedure 5 {fault}\n", f"procedure 5, {more}\n")
+        reports_more(sgt, ["script"], given, f"line 1: procedure 5 {fault}\n", f"procedure 5, {more}\n")
     given = opening(procedures='[0,[]],[0,[["jump"]]]')
-    tells_more(sgt, ["bank"], given.replace("[1,1]", "[4,1]"), "line 1: procedure 6 shape 1 0\n", 'procedure 6, at 1 0: unknown word "jump"\n')
+    reports_more(sgt, ["bank"], given.replace("[1,1]", "[4,1]"), "line 1: procedure 6 shape 1 0\n", 'procedure 6, at 1 0: unknown word "jump"\n')
 
 
 def explains_procedures_past_their_sizes(sgt):
@@ -883,17 +883,17 @@ def explains_procedures_past_their_sizes(sgt):
         ([branches] * 5, 7, "at 1 4 2 0: a path has answer 9 here, and at most 8 may be"),
     ):
         given = opening(procedures=f"[0,[{','.join(statements)}]]")
-        tells_more(sgt, ["script"], given, f"line 1: procedure 5 flaw {fault}\n", f"procedure 5, {more}\n")
+        reports_more(sgt, ["script"], given, f"line 1: procedure 5 flaw {fault}\n", f"procedure 5, {more}\n")
 
 
-def explains_the_place_of_each_misfit_and_flaw(sgt):
+def explains_the_place_of_each_shape_error_and_flaw(sgt):
     """A second line comes of each of the tables above, and names the position of a shape error."""
-    for table in (PLACES, NO_ROW, OTHER_KINDS, DEEP_BLOCKS, FIRST_MISFIT, PAST_RANGES, ENDS_OF_RANGES, EACH_WAY, FLAWS):
+    for table in (PLACES, NO_ROW, OTHER_KINDS, DEEP_BLOCKS, FIRST_SHAPE_ERROR, PAST_RANGES, ENDS_OF_RANGES, EACH_WAY, FLAWS):
         for wanted, text in rows(table):
             if wanted == "no flaw":
                 continue
-            _, _, told = sgt.run("script", "--explain", given=opening(procedures=text))
-            first, second = told.splitlines()
+            _, _, reported = sgt.run("script", "--explain", given=opening(procedures=text))
+            first, second = reported.splitlines()
             place = wanted.removeprefix("shape ") if wanted.startswith("shape") else ""
             same(text, f"line 1: procedure 5 {wanted}", first)
             same(text, f"procedure 5, at {place}", second[: len(f"procedure 5, at {place}")])
@@ -903,7 +903,7 @@ def explains_lines(sgt):
     for command, table in (("script", EXPLAINED_EVENTS), ("bank", EXPLAINED_JOBS), ("script", EXPLAINED_TEXTS)):
         for line, more in table:
             given = f"{opening('[4,9]')}\n{line}\n"
-            tells_more(sgt, [command], given, "line 2: bad line\n", f"{more}\n")
+            reports_more(sgt, [command], given, "line 2: bad line\n", f"{more}\n")
 
 
 def explains_records(sgt):
@@ -911,10 +911,10 @@ def explains_records(sgt):
     for table, fault in ((EXPLAINED_RECORDS, "bad record"), (EXPLAINED_NO_RECORDS, "bad line")):
         for line, more in table:
             for command in ("script", "bank"):
-                tells_more(sgt, [command], f"{first}{line}\n", f"line 3: {fault}\n", f"{more}\n")
+                reports_more(sgt, [command], f"{first}{line}\n", f"line 3: {fault}\n", f"{more}\n")
 
 
-def explains_records_behind_others(sgt):
+def explains_records_after_others(sgt):
     """Also where the record itself could not be put; a line of another form is explained by its form."""
     for command, before, what in (("script", '["start",0,[1]]', "event or cut"), ("script", '["cut"]', "event or cut"), ("bank", '["job",0,[1]]', "job")):
         for line, more in (
@@ -923,7 +923,7 @@ def explains_records_behind_others(sgt):
             ('["record",3]', 'expected ["record",table,number,value], found ["record",3]'),
         ):
             given = f"{opening('[4,9]')}\n{before}\n{line}\n"
-            tells_more(sgt, [command], given, "line 3: bad line\n", f"{more}\n")
+            reports_more(sgt, [command], given, "line 3: bad line\n", f"{more}\n")
 
 
 def explains_lines_of_no_json(sgt):
@@ -940,26 +940,26 @@ def explains_lines_of_no_json(sgt):
     ):
         for command, before in (("script", b'["step",0]\n' * 3), ("bank", b'["job",0,[]]\n' * 3)):
             given = opening("[4,9]").encode() + b"\n" + before + line + b"\n" + before
-            tells_more(sgt, [command], given, "line 5: not JSON\n", f"{more}\n")
+            reports_more(sgt, [command], given, "line 5: not JSON\n", f"{more}\n")
 
 
 def explains_no_opening_and_a_long_line(sgt):
     long = opening("[4,9]") + "\n" + "x" * (LONGEST_LINE + 1)
     for command in (["script"], ["bank"]):
-        tells_more(sgt, command, "", "line 1: no opening\n", "the input is empty\n")
-        tells_more(sgt, command, long, "line 2: long line\n", "a line has at most 65536 bytes\n")
+        reports_more(sgt, command, "", "line 1: no opening\n", "the input is empty\n")
+        reports_more(sgt, command, long, "line 2: long line\n", "a line has at most 65536 bytes\n")
 
 
 def says_how_to_go_on_from_what_is_too_long(sgt):
     part = "split it, and begin the next part with what --records writes of the one before"
-    tells_more(sgt, ["script"], opening() + "\n" + '["step",0]\n' * 1_600_000, "input too long\n", f"an input has at most 16777216 bytes: {part}\n")
-    tells_more(sgt, ["bank"], opening("[4,9]") + "\n" + '["job",0,[]]\n' * 1_000_001, "too many jobs\n", f"a bank has at most 1000000 jobs: {part}\n")
+    reports_more(sgt, ["script"], opening() + "\n" + '["step",0]\n' * 1_600_000, "input too long\n", f"an input has at most 16777216 bytes: {part}\n")
+    reports_more(sgt, ["bank"], opening("[4,9]") + "\n" + '["job",0,[]]\n' * 1_000_001, "too many jobs\n", f"a bank has at most 1000000 jobs: {part}\n")
 
 
-def explains_a_line_far_behind(sgt):
+def explains_a_distant_line(sgt):
     """Of an input that is almost as long as one may be."""
     given = opening() + "\n" + '["step",0]\n' * 1_500_000 + '["step"]\n'
-    tells_more(sgt, ["script"], given, "line 1500002: bad line\n", 'expected ["step",transaction], found ["step"]\n')
+    reports_more(sgt, ["script"], given, "line 1500002: bad line\n", 'expected ["step",transaction], found ["step"]\n')
 
 
 # Arithmetic
@@ -968,7 +968,7 @@ PRODUCT = '[2,[["answer",["product",["arg",0],["arg",1]]]]]'
 
 QUOTIENT = '[2,[["answer",["quotient",["arg",0],["arg",1]]]]]'
 
-# It answers the fee of so many cents at so many percent, and what is left of the cents.
+# It answers the fee of a number of cents at a number of percent, and what is left of the cents.
 FEE = (
     '[2,[["let",0,["quotient",["product",["arg",0],["arg",1]],100]],'
     '["answer",["reg",0]],["answer",["diff",["arg",0],["reg",0]]]]]'
@@ -1153,8 +1153,8 @@ def replies(sgt, procedure, args, records, wanted):
     status, out, err = sgt.run("script", given=given)
     same(f"{args}: standard error and status", ("", 0), (err, status))
     stored = [f"wrote {record}" for record in records]
-    told = ["started 0", *stored, "committed none", "started 1", *wanted]
-    same(f"{args}: replies", told, out.splitlines()[: len(told)])
+    reported = ["started 0", *stored, "committed none", "started 1", *wanted]
+    same(f"{args}: replies", reported, out.splitlines()[: len(reported)])
 
 
 def reply(sgt, procedure, table):
@@ -1186,17 +1186,17 @@ def removes_a_record(sgt):
     reply(sgt, GONE_AT, REMOVED_KEYS)
 
 
-def removed_records_are_not_told(sgt):
+def removed_records_are_not_reported(sgt):
     """Neither at the end, nor after a cut, nor of one that was undone."""
     records = '["record",3,7,1]\n["record",3,8,2]\n["record",3,9,3]\n'
     events = '["start",5,[8,0]]\n["step",0]\n["start",5,[9,0]]\n["step",1]\n["quit",1]\n["commit",0]\n'
-    told = "started 0\nremoved 3/8\nstarted 1\nremoved 3/9\naborted quit fell none\ncommitted none\n"
+    reported = "started 0\nremoved 3/8\nstarted 1\nremoved 3/9\naborted quit fell none\ncommitted none\n"
     left = "3/7 1\n3/9 3\n"
     given = opening("[2,9]", procedures=GONE_AT) + "\n" + records + events
-    same("at the end", (0, told + left, ""), sgt.run("script", given=given))
-    same("after a cut", (0, told + "cut 6\n" + left, ""), sgt.run("script", given=given + '["cut"]\n'))
+    same("at the end", (0, reported + left, ""), sgt.run("script", given=given))
+    same("after a cut", (0, reported + "cut 6\n" + left, ""), sgt.run("script", given=given + '["cut"]\n'))
     again = '["cut"]\n["begin"]\n["read",0,3,8]\n["commit",0]\n'
-    same("in the next part", (0, told + "cut 6\nstarted 0\nread 3/8 none\ncommitted none\n" + left, ""), sgt.run("script", given=given + again))
+    same("in the next part", (0, reported + "cut 6\nstarted 0\nread 3/8 none\ncommitted none\n" + left, ""), sgt.run("script", given=given + again))
     jobs = opening("[1,9]", procedures=GONE_AT) + "\n" + records + '["job",5,[8,0]]\n["job",5,[9,1]]\n'
     same("of a bank", (0, "0 committed none\n1 committed none\n" + "3/7 1\n3/9 3\n", ""), sgt.run("bank", "--workers", "1", given=jobs))
 
@@ -1318,7 +1318,7 @@ def takes_an_input_of_the_greatest_length(sgt):
     same("at the limit", (0, 256 * UNKNOWN, "", LONGEST_INPUT), came)
 
 
-def reads_one_byte_behind_the_limit(sgt):
+def reads_one_byte_beyond_the_limit(sgt):
     for more in (1, 2, 10_000_000):
         came = read_of(sgt, lines_of(LONGEST_LINE - 1, LONGEST_INPUT + more))
         same(f"{more} bytes more", (2, 255 * UNKNOWN, "input too long\n", LONGEST_INPUT + 1), first_line(came))
@@ -1369,10 +1369,10 @@ def writes_each_reply_before_it_reads_on(sgt):
     clock = threading.Timer(SECONDS, process.kill)
     clock.start()
     try:
-        for piece, told in TURNS:
+        for piece, reported in TURNS:
             process.stdin.write(piece.encode())
             process.stdin.flush()
-            for line in told.splitlines(True):
+            for line in reported.splitlines(True):
                 same(f"the reply to {piece}", line, process.stdout.readline().decode())
         out, err = process.communicate()
     finally:
@@ -1386,50 +1386,50 @@ CASES = [
     reads_events,
     reads_accesses_of_callers,
     reads_either_spelling,
-    takes_no_blank_inside_a_number,
+    takes_no_space_inside_a_number,
     reads_starts,
     refuses_lines_of_no_event,
     refuses_lines_of_no_json,
     reads_jobs,
     numbers_procedures_as_they_stand_in_the_opening,
     numbers_transactions_by_their_starts,
-    puts_records_behind_the_opening,
+    puts_records_after_the_opening,
     puts_no_bad_record,
     ends_the_records_at_any_other_line,
     tests_line_1_before_the_records,
-    numbers_lines_and_jobs_behind_records,
-    puts_as_many_records_as_an_input_has_room_for,
-    asks_for_a_million_jobs_behind_records,
+    numbers_lines_and_jobs_after_records,
+    puts_as_many_records_as_an_input_can_hold,
+    asks_for_a_million_jobs_after_records,
     refuses_openings_of_no_shape,
     tests_limits_before_accounts_and_procedures,
     takes_limits_up_to_their_ends,
     refuses_accounts,
-    tells_the_first_fault,
+    reports_the_first_fault,
     refuses_procedures,
-    tells_the_place_of_a_misfit,
-    tells_a_list_of_no_row,
-    tells_a_thing_of_another_kind,
+    reports_the_place_of_a_shape_error,
+    reports_a_list_of_no_row,
+    reports_a_thing_of_another_kind,
     finds_an_unknown_word_in_deep_blocks,
-    tells_the_first_misfit,
-    tells_numbers_past_their_ranges,
+    reports_the_first_shape_error,
+    reports_numbers_past_their_ranges,
     reads_numbers_up_to_the_ends_of_their_ranges,
-    tells_the_longest_place,
+    reports_the_longest_place,
     wants_a_register_set_on_each_way,
-    tells_the_least_flaw,
+    reports_the_least_flaw,
     takes_procedures_up_to_their_sizes,
-    takes_blanks_and_escapes,
+    takes_spaces_and_escapes,
     explains_openings,
     explains_too_few_for_the_workers,
     explains_procedures,
     explains_procedures_past_their_sizes,
-    explains_the_place_of_each_misfit_and_flaw,
+    explains_the_place_of_each_shape_error_and_flaw,
     explains_lines,
     explains_records,
-    explains_records_behind_others,
+    explains_records_after_others,
     explains_lines_of_no_json,
     explains_no_opening_and_a_long_line,
     says_how_to_go_on_from_what_is_too_long,
-    explains_a_line_far_behind,
+    explains_a_distant_line,
     gives_products_or_asks_1000,
     gives_quotients_towards_zero_or_asks_1000,
     gives_fees,
@@ -1438,7 +1438,7 @@ CASES = [
     uses_a_key_once,
     lets_finds_follow_one_another,
     removes_a_record,
-    removed_records_are_not_told,
+    removed_records_are_not_reported,
     enters_and_leaves_branches,
     ends_by_a_code,
     leaves_the_deepest_branch_step_by_step,
@@ -1448,7 +1448,7 @@ CASES = [
     takes_lines_of_the_greatest_length,
     names_a_long_line,
     takes_an_input_of_the_greatest_length,
-    reads_one_byte_behind_the_limit,
+    reads_one_byte_beyond_the_limit,
     ends_on_an_input_that_never_ends,
     writes_each_reply_before_it_reads_on,
 ]
@@ -1457,7 +1457,7 @@ CASES = [
 def main():
     if len(sys.argv) != 2:
         sys.exit(__doc__)
-    return tell(CASES, Program(sys.argv[1]))
+    return run_cases(CASES, Program(sys.argv[1]))
 
 
 if __name__ == "__main__":

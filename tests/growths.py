@@ -10,7 +10,7 @@ history. `c/failing.c` makes allocations fail. Each case is reported, and the la
 import sys
 
 sys.dont_write_bytecode = True
-from helpers.cases import FOREVER, TESTS, Differs, same, tell_failing  # noqa: E402
+from helpers.cases import FOREVER, TESTS, Differs, same, run_failing_cases  # noqa: E402
 
 CRATE = TESTS.parent / "crates" / "sgt_engine_runs"
 RUNS = (CRATE / "stdout").read_text().splitlines(True)
@@ -25,7 +25,7 @@ REFUSED = ["refused: history as before\n", "refused: committed values and who is
 # The cut after the row; a cut while a new transaction is live; and one after that is aborted.
 STILL_LIVE = [line.replace("refused", "still live") for line in REFUSED]
 CUT_ROW = [f"cut {len(REPLIES)}: history as before\n"]
-BEHIND = ["started 0\n", *STILL_LIVE, "aborted quit fell none\n", "cut 2: history as before\n"]
+FOLLOWING = ["started 0\n", *STILL_LIVE, "aborted quit fell none\n", "cut 2: history as before\n"]
 
 # Before the first event there is no engine.
 NO_ENGINE = (0, "no memory\n", "")
@@ -54,10 +54,10 @@ def sweep(program, word, last, wanted):
         if came == WHOLE:
             done_without += 1
             continue
-        told = came[1].splitlines(True)
-        if REFUSED[0] not in told:
+        reported = came[1].splitlines(True)
+        if REFUSED[0] not in reported:
             raise Differs(f"growth {number}: came {came!r:.400}")
-        replies = told[: told.index(REFUSED[0])]
+        replies = reported[: reported.index(REFUSED[0])]
         same(f"growth {number}", (0, "".join(replies + REFUSED + wanted(replies)), ""), came)
         same(f"growth {number}", REPLIES[: len(replies)], replies)
     if not refused:
@@ -65,7 +65,7 @@ def sweep(program, word, last, wanted):
     return f"{refused} growths refused; {done_without} done without"
 
 
-def goes_on_where_a_growth_was_refused_once(program):
+def goes_on_where_an_allocation_failed_once(program):
     """The history and the committed values are as before, and all later replies are those of the row."""
     return sweep(program, "again", lambda number: number, lambda replies: ROW[len(replies) :])
 
@@ -99,9 +99,9 @@ def quits_ask_for_no_memory(program):
     return f"{refused} growths refused"
 
 
-def leaves_the_engine_as_it_was_where_a_growth_of_a_cut_was_refused(program):
+def leaves_the_engine_as_it_was_where_an_allocation_of_a_cut_failed(program):
     """The history, the committed values and the live transactions are as before. Repeated, the cut succeeds, and numbers restart at 0."""
-    whole = REPLIES + CUT_ROW + BEHIND
+    whole = REPLIES + CUT_ROW + FOLLOWING
     same("with all memory", (0, "".join(whole + END), ""), program.run("cut"))
     once = forever = 0
     for number in range(1, program.allocations("cut") + 1):
@@ -120,14 +120,14 @@ def leaves_the_engine_as_it_was_where_a_growth_of_a_cut_was_refused(program):
 
 
 CASES = [
-    goes_on_where_a_growth_was_refused_once,
+    goes_on_where_an_allocation_failed_once,
     quits_from_the_oldest_on_where_all_memory_is_refused,
     quits_from_the_newest_on_where_all_memory_is_refused,
     quits_ask_for_no_memory,
-    leaves_the_engine_as_it_was_where_a_growth_of_a_cut_was_refused,
+    leaves_the_engine_as_it_was_where_an_allocation_of_a_cut_failed,
 ]
 
 if __name__ == "__main__":
     if len(sys.argv) != 2:
         sys.exit(__doc__)
-    sys.exit(tell_failing(CASES, sys.argv[1], of="sgt_engine_runs"))
+    sys.exit(run_failing_cases(CASES, sys.argv[1], of="sgt_engine_runs"))

@@ -10,7 +10,7 @@ in `tests/program.py`, and the last line counts them.
 import sys
 
 sys.dont_write_bytecode = True
-from helpers.cases import FOREVER, Differs, first_line, same, tell_failing  # noqa: E402
+from helpers.cases import FOREVER, Differs, first_line, same, run_failing_cases  # noqa: E402
 
 # The most bytes of a line, and of an input.
 LONGEST_LINE = 65_536
@@ -49,7 +49,7 @@ BANK = ("bank", "--workers", "1")
 DONE_WITHOUT = 3
 
 
-def refused_growths(sgt, script, replies):
+def failed_allocations(sgt, script, replies):
     """One allocation fails, or all from one on: what was written is the replies to the first lines, and no database."""
     starts = {"".join(replies.splitlines(True)[:n]) for n in range(len(replies.splitlines()) + 1)}
     count = sgt.allocations("script", given=script)
@@ -60,20 +60,20 @@ def refused_growths(sgt, script, replies):
             if came == (0, replies + LEFT, "") and number == last:
                 done_without += 1
                 continue
-            status, out, told = came
-            same(f"allocations {number} to {last}", (2, "no memory\n"), (status, told))
+            status, out, reported = came
+            same(f"allocations {number} to {last}", (2, "no memory\n"), (status, reported))
             if out not in starts:
                 raise Differs(f"allocations {number} to {last}: came {out!r:.400}")
     same("allocations that it does without", DONE_WITHOUT, done_without)
     return f"{count} growths refused, one and all from there on; {done_without} done without"
 
 
-def refuses_each_growth_of_a_script(sgt):
-    return refused_growths(sgt, SCRIPT, REPLIES)
+def fails_each_allocation_of_a_script(sgt):
+    return failed_allocations(sgt, SCRIPT, REPLIES)
 
 
-def refuses_each_growth_of_a_script_with_cuts(sgt):
-    return refused_growths(sgt, CUT_SCRIPT, CUT_REPLIES)
+def fails_each_allocation_of_a_script_with_cuts(sgt):
+    return failed_allocations(sgt, CUT_SCRIPT, CUT_REPLIES)
 
 
 FLAWED = OPENING.replace("[]}", '[[1,[["let",0,["arg",1]]]]]}')
@@ -87,25 +87,25 @@ FAULTY = (
 )
 
 
-def refuses_each_growth_of_what_is_told_of_a_fault(sgt):
+def fails_each_allocation_of_an_explanation(sgt):
     """It is left out where there is no memory for it. Else a run ends as it does with memory, or with no memory."""
     counts = {"left out": 0, "told": 0, "no memory": 0}
     for words, given, replies, fault, more in FAULTY:
         same(f"{words}", (2, replies, fault + more), sgt.run(*words, given=given))
         for number in range(1, sgt.allocations(*words, given=given) + 1):
             for last in (number, FOREVER):
-                status, out, told = sgt.run(*words, given=given, refuse_first=number, refuse_last=last)
+                status, out, reported = sgt.run(*words, given=given, refuse_first=number, refuse_last=last)
                 what = f"{words}, allocations {number} to {last}"
                 same(f"{what}: status", 2, status)
-                if told == "no memory\n":
+                if reported == "no memory\n":
                     same(f"{what}: standard output", replies[: len(out)], out)
                     counts["no memory"] += 1
                     continue
                 same(f"{what}: standard output", replies, out)
-                same(f"{what}: the fault", fault, told[: len(fault)])
-                if told[len(fault) :] not in ("", more):
-                    raise Differs(f"{what}: came {told!r:.400}")
-                counts["told" if told[len(fault) :] else "left out"] += 1
+                same(f"{what}: the fault", fault, reported[: len(fault)])
+                if reported[len(fault) :] not in ("", more):
+                    raise Differs(f"{what}: came {reported!r:.400}")
+                counts["told" if reported[len(fault) :] else "left out"] += 1
     if not counts["left out"]:
         raise Differs("nothing was left out")
     return ", ".join(f"{count} {what}" for what, count in counts.items())
@@ -208,9 +208,9 @@ def takes_an_input_up_to_its_limit(sgt):
 
 
 CASES = [
-    refuses_each_growth_of_a_script,
-    refuses_each_growth_of_a_script_with_cuts,
-    refuses_each_growth_of_what_is_told_of_a_fault,
+    fails_each_allocation_of_a_script,
+    fails_each_allocation_of_a_script_with_cuts,
+    fails_each_allocation_of_an_explanation,
     writes_up_to_a_failure,
     writes_byte_by_byte,
     answers_whole_lines_up_to_a_failed_read,
@@ -224,7 +224,7 @@ CASES = [
 def main():
     if len(sys.argv) != 2:
         sys.exit(__doc__)
-    return tell_failing(CASES, sys.argv[1])
+    return run_failing_cases(CASES, sys.argv[1])
 
 
 if __name__ == "__main__":

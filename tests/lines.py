@@ -19,7 +19,7 @@ import sys
 from collections import Counter
 
 sys.dont_write_bytecode = True
-from helpers.cases import Differs, same, tell  # noqa: E402
+from helpers.cases import Differs, same, run_cases  # noqa: E402
 
 SEED, LINES, LINES_OF_A_RUN = 1, 1_000_000, 20_000
 
@@ -162,8 +162,8 @@ ACCOUNTS = '"accounts":[[1,101,500,1000],[2,102,0,200]]'
 
 
 class Place:
-    """A line 1 and events after it, and the next replies: to a valid start, and to the step, commit and quit of each transaction, by
-    its number. They were written by hand from the formats, for a few calls of SmallBank's procedures and of line 1's. `written` is what reads
+    """A line 1 and events after it, and the next replies: to a valid start, and to the step, commit and abort of each transaction,
+    by its number. They were written by hand from the formats, for a few calls of SmallBank's procedures and of line 1's. `written` is what reads
     find of records that have been written; `closing` has the writes that would close a cycle, by transaction and record, and their
     replies."""
 
@@ -327,7 +327,7 @@ UNITS = [
     *("\u00e4".encode(), "\u20ac".encode(), "\U0001f600".encode(), b"\x7f"),
 ]
 SCALARS = (b"true", b"false", b"null", b"[]", b"{}", b"0", b'""', b"[ ]", b"nul", b"True")
-BLANKS = (b" ", b"\t", b"\r", b"  ", b" \r\t")
+SPACES = (b" ", b"\t", b"\r", b"  ", b" \r\t")
 
 
 class Draws:
@@ -351,12 +351,12 @@ class Draws:
         byte = self.below(256)
         return 32 if byte == 10 else byte
 
-    def blanks(self):
-        return self.pick(BLANKS) if self.once_in(16) else b""
+    def spaces(self):
+        return self.pick(SPACES) if self.once_in(16) else b""
 
     def comma(self):
         """Each third one has the space after it that Python's `json.dumps` writes, and none before it."""
-        return b", " if self.once_in(3) else self.blanks() + b"," + self.blanks()
+        return b", " if self.once_in(3) else self.spaces() + b"," + self.spaces()
 
     def digits(self, count):
         """So many digits, of which now and then all are alike."""
@@ -376,9 +376,9 @@ class Draws:
         if self.once_in(4):
             return self.number()
         sign = b"-" if self.once_in(3) else b""
-        behind = b"." + self.digits(self.length()) if self.once_in(3) else b""
+        following = b"." + self.digits(self.length()) if self.once_in(3) else b""
         exponent = self.pick((b"e", b"E", b"e+", b"e-")) + self.digits(self.below(4)) if self.once_in(3) else b""
-        return sign + self.digits(self.length()) + behind + exponent
+        return sign + self.digits(self.length()) + following + exponent
 
     def word(self, word):
         """In its quotes. Now and then a letter is escaped."""
@@ -398,7 +398,7 @@ class Draws:
 
     def arguments(self):
         """A list of at most five numbers."""
-        return b"[" + b",".join(self.blanks() + self.number() + self.blanks() for _ in range(self.below(6))) + b"]"
+        return b"[" + b",".join(self.spaces() + self.number() + self.spaces() for _ in range(self.below(6))) + b"]"
 
     def item(self):
         return self.pick((lambda: self.word(b"start"), self.arguments, self.number, self.number))()
@@ -406,7 +406,7 @@ class Draws:
     def event(self):
         """An event, or a list that is nearly one."""
         name = self.pick((b"start", b"start", b"step", b"step", b"commit", b"quit", b"begin", b"read", b"write", b"remove", b"job", b""))
-        line = self.blanks() + b"[" + self.word(name)
+        line = self.spaces() + b"[" + self.word(name)
         if self.once_in(4):
             for _ in range(self.below(4)):
                 line += self.comma() + self.item()
@@ -420,7 +420,7 @@ class Draws:
                 line += self.comma() + (self.pick((b"1", b"101", b"102")) if self.once_in(2) else self.number())
             if name == b"write":
                 line += self.comma() + self.number()
-        return line + b"]" + self.blanks()
+        return line + b"]" + self.spaces()
 
     def opening(self):
         return OPENING
@@ -429,16 +429,16 @@ class Draws:
         """A record line, mostly in the ranges."""
         table = self.number() if self.once_in(4) else b"%d" % self.below(8)
         number = self.long_number() if self.once_in(4) else b"%d" % (100 + self.below(4))
-        return b"[" + self.comma().join((self.word(b"record"), table, number, self.number())) + b"]" + self.blanks()
+        return b"[" + self.comma().join((self.word(b"record"), table, number, self.number())) + b"]" + self.spaces()
 
     def scalar(self):
         kind = self.below(4)
         if kind == 0:
             return self.number()
-        return self.escaped_text() if kind == 1 else self.pick(SCALARS) + self.blanks()
+        return self.escaped_text() if kind == 1 else self.pick(SCALARS) + self.spaces()
 
     def key(self):
-        return self.word(b"a") + self.blanks() + b":" + self.blanks()
+        return self.word(b"a") + self.spaces() + b":" + self.spaces()
 
     def open(self, closing):
         """Begins a list or an object. After it a value has to come."""
@@ -460,7 +460,7 @@ class Draws:
                 line += closing.pop()
             if not closing:
                 return line
-            line += b"," + self.blanks() + (self.key() if closing[-1] == b"}" else b"")
+            line += b"," + self.spaces() + (self.key() if closing[-1] == b"}" else b"")
         return line + self.scalar() + b"".join(reversed(closing))
 
     def nesting(self):
@@ -513,7 +513,7 @@ class Draws:
                 return name, self.change(line) if is_changed else line
         raise AssertionError(drawn)
 
-    # So many of a thousand are drawn as one of these kinds or of those before it.
+    # How many of a thousand are drawn as one of these kinds or of those before it.
     KINDS = (
         (200, "events", event, False),
         (450, "mutated events", event, True),
@@ -546,9 +546,9 @@ def run(program, scripts):
     given = b"".join(len(script).to_bytes(4, "big") + script for script in scripts)
     ran = subprocess.run([program, "scripts"], input=given, capture_output=True, timeout=600, check=False)
     same("status and standard error", (0, b""), (ran.returncode, ran.stderr))
-    told = re.findall(r"(.*?= .*?\n)", ran.stdout.decode(), re.S)
-    same("how many were told", len(scripts), len(told))
-    return told
+    reported = re.findall(r"(.*?= .*?\n)", ran.stdout.decode(), re.S)
+    same("how many were told", len(scripts), len(reported))
+    return reported
 
 
 def answers_hostile_lines_as_another_reader_does(program):
@@ -569,9 +569,9 @@ def answers_hostile_lines_as_another_reader_does(program):
                 raise Differs(f"{script!r:.2000}: wanted {one!r:.400}, came {other!r:.400}")
     same("the replies", REPLIES | {"", "read", "wrote", "removed"}, set(replies))
     for what in ("event", "record", "bad record", "bad line", "not JSON", "long line", "no line"):
-        told = [(name, count) for (name, other), count in kinds.items() if other == what]
-        print(f"{what}: " + ", ".join(f"{count} {name}" for name, count in sorted(told)))
-        same(f"whether a line is {what}", True, bool(told))
+        reported = [(name, count) for (name, other), count in kinds.items() if other == what]
+        print(f"{what}: " + ", ".join(f"{count} {name}" for name, count in sorted(reported)))
+        same(f"whether a line is {what}", True, bool(reported))
     return f"{LINES} lines, {sum(replies.values()) - replies['']} of them events, {len(replies) - 1} replies"
 
 
@@ -581,7 +581,7 @@ CASES = [answers_hostile_lines_as_another_reader_does]
 def main():
     if len(sys.argv) != 2:
         sys.exit(__doc__)
-    return tell(CASES, os.path.abspath(sys.argv[1]), of="sgt_bank_runs")
+    return run_cases(CASES, os.path.abspath(sys.argv[1]), of="sgt_bank_runs")
 
 
 if __name__ == "__main__":

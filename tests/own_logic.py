@@ -18,7 +18,7 @@ import threading
 import time
 
 sys.dont_write_bytecode = True
-from helpers.cases import C_SOURCES, TESTS, Differs, same, tell  # noqa: E402
+from helpers.cases import C_SOURCES, TESTS, Differs, same, run_cases  # noqa: E402
 from helpers.library import (  # noqa: E402
     BINDINGS,
     C_FLAGS,
@@ -42,13 +42,13 @@ DOCTORS = "Bo, off call after Ada: nobody else is on call\nsomebody is on call i
 # C
 
 
-def all_held(told):
+def all_held(reported):
     """How many checks a program made, all of which held."""
-    same("what is told", f"{told.split()[0]} checks, 0 failed\n", told)
+    same("what is told", f"{reported.split()[0]} checks, 0 failed\n", reported)
 
 
-def tells_the_status_of_each_call(room):
-    all_held(run([built(room, "cc", C_FLAGS, C_SOURCES / "shared_own.c")]))
+def reports_the_status_of_each_call(scratch):
+    all_held(run([built(scratch, "cc", C_FLAGS, C_SOURCES / "shared_own.c")]))
 
 
 def transacts(program, calls, seed, wanted=()):
@@ -58,70 +58,70 @@ def transacts(program, calls, seed, wanted=()):
     return ", ".join(f"{name} {count}" for name, count in counts.items())
 
 
-def threads_share_three_records(room):
-    program = built(room, "cc", C_FLAGS, C_SOURCES / "shared_transact.c")
+def threads_share_three_records(scratch):
+    program = built(scratch, "cc", C_FLAGS, C_SOURCES / "shared_transact.c")
     return transacts(program, CALLS, 1, ("committed", "quit", "tried again", "alone"))
 
 
-def sanitized(room, flags):
+def sanitized(scratch, flags):
     """The same under a sanitizer, which also sees the code of the shared engine."""
-    compiler = next((name for name in ("cc", "clang", "clang-14") if shutil.which(name) and can(room, name, flags)), None)
+    compiler = next((name for name in ("cc", "clang", "clang-14") if shutil.which(name) and can(scratch, name, flags)), None)
     if not compiler:
         return f"left out: no compiler here has {flags[1]}"
-    all_held(run([built(room, compiler, C_FLAGS, C_SOURCES / "shared_own.c", flags, [SHARED])]))
-    told = transacts(built(room, compiler, C_FLAGS, C_SOURCES / "shared_transact.c", flags, [SHARED]), SANITIZED_CALLS, 2)
+    all_held(run([built(scratch, compiler, C_FLAGS, C_SOURCES / "shared_own.c", flags, [SHARED])]))
+    reported = transacts(built(scratch, compiler, C_FLAGS, C_SOURCES / "shared_transact.c", flags, [SHARED]), SANITIZED_CALLS, 2)
     if compiler == "cc" and shutil.which("c++"):
-        shared = compiled(room, "cc", C_FLAGS, SHARED, flags)
-        all_held(run([built(room, "c++", CPP_FLAGS, C_SOURCES / "shared_own.cpp", flags, [shared])]))
-    return f"{compiler}: {told}"
+        shared = compiled(scratch, "cc", C_FLAGS, SHARED, flags)
+        all_held(run([built(scratch, "c++", CPP_FLAGS, C_SOURCES / "shared_own.cpp", flags, [shared])]))
+    return f"{compiler}: {reported}"
 
 
-def threads_do_not_race(room):
-    return sanitized(room, THREAD_SANITIZER)
+def threads_do_not_race(scratch):
+    return sanitized(scratch, THREAD_SANITIZER)
 
 
-def threads_stay_within_their_memory(room):
-    return sanitized(room, SANITIZERS)
+def threads_stay_within_their_memory(scratch):
+    return sanitized(scratch, SANITIZERS)
 
 
 # C++ and Rust
 
 
-def commits_quits_and_throws_in_cpp(room):
+def commits_quits_and_throws_in_cpp(scratch):
     if not shutil.which("c++"):
         return "left out: no c++ here"
-    all_held(run([built(room, "c++", CPP_FLAGS, C_SOURCES / "shared_own.cpp")]))
+    all_held(run([built(scratch, "c++", CPP_FLAGS, C_SOURCES / "shared_own.cpp")]))
     return None
 
 
-def rust_program(room, source):
+def rust_program(scratch, source):
     """Builds a program in Rust with the crates of the library."""
-    rust, find = BINDINGS / "rust", ["-L", f"native={OUT}", "-L", room]
+    rust, find = BINDINGS / "rust", ["-L", f"native={OUT}", "-L", scratch]
     words = ["rustc", "--edition", "2021", "-O", "-D", "warnings"]
-    if not (room / "libsgt.rlib").exists():
-        lib = [*words, "--crate-type", "lib", "--out-dir", room]
+    if not (scratch / "libsgt.rlib").exists():
+        lib = [*words, "--crate-type", "lib", "--out-dir", scratch]
         run([*lib, "--crate-name", "sgt_sys", *find, "-l", "static=sgt", rust / "sgt-sys" / "src" / "lib.rs"])
         run([*lib, "--crate-name", "sgt", *find, "--extern", "sgt_sys", rust / "src" / "lib.rs"])
-    program = room / f"{source.stem}_rust"
+    program = scratch / f"{source.stem}_rust"
     run([*words, *find, "--extern", "sgt", "-o", program, source])
     return program
 
 
-def commits_quits_and_panics_in_rust(room):
+def commits_quits_and_panics_in_rust(scratch):
     if not shutil.which("rustc"):
         return "left out: no rustc here"
-    same("what is told", "all held\n", run([rust_program(room, C_SOURCES / "shared_own.rs")]))
+    same("what is told", "all held\n", run([rust_program(scratch, C_SOURCES / "shared_own.rs")]))
     return None
 
 
-def keeps_a_store_of_ones_own(room):
+def keeps_a_store_of_ones_own(scratch):
     """The example, in Python and in Rust, some times."""
     env = dict(os.environ, PYTHONPATH=str(BINDINGS / "python"), PYTHONDONTWRITEBYTECODE="1")
     for _ in range(3):
         same("what it tells in Python", DOCTORS, run([sys.executable, "-W", "error", STORE / "doctors.py"], env=env))
     if not shutil.which("rustc"):
         return "but for that in Rust: no rustc here"
-    program = rust_program(room, STORE / "doctors.rs")
+    program = rust_program(scratch, STORE / "doctors.rs")
     for _ in range(3):
         same("what it tells in Rust", DOCTORS, run([program]))
     return None
@@ -239,8 +239,8 @@ def caught(error, call):
     raise Differs(f"no {error.__name__}")
 
 
-def tells_a_use_after_the_end_in_python(_):
-    """A body must not commit its transaction. After a commit or a quit, each access says that the transaction has ended."""
+def reports_a_use_after_the_end_in_python(_):
+    """A body must not commit its transaction. After a commit or an abort, each access says that the transaction has ended."""
     sgt = module()
     with bank_of(sgt) as bank:
 
@@ -302,8 +302,8 @@ def keeps_the_exception_of_a_block_in_python(_):
     bank = bank_of(sgt)
     writer = bank.transaction()
     writer.write(TABLE, 101, 11)
-    told = []
-    worker = threading.Thread(target=lambda: told.append(bank.transact(lambda t: t.read(TABLE, 101))))
+    reported = []
+    worker = threading.Thread(target=lambda: reported.append(bank.transact(lambda t: t.read(TABLE, 101))))
     worker.start()
     while not any(live.waits for live in bank.live()):
         time.sleep(0.001)
@@ -315,7 +315,7 @@ def keeps_the_exception_of_a_block_in_python(_):
     same("the engine", 10, bank.get(TABLE, 101))
     writer.quit()
     worker.join()
-    same("what the thread read", [10], told)
+    same("what the thread read", [10], reported)
     same("an exception when nobody waits", "raised", what(KeyError, lambda: leaves(bank, KeyError()), "raised"))
     same("the engine", "closed", what(sgt.Closed, lambda: bank.get(TABLE, 101), "closed"))
 
@@ -402,13 +402,13 @@ def runs_alone_at_last_in_python(_):
 def times_out_alone(sgt, bank):
     """A try that is to be alone at once, while another thread has something live."""
     first = elsewhere(bank.transaction)
-    told = what(sgt.TimedOut, lambda: bank.transact(lambda t: None, timeout=0.01, tries=0), "timed out")
+    reported = what(sgt.TimedOut, lambda: bank.transact(lambda t: None, timeout=0.01, tries=0), "timed out")
     first.quit()
     same("the next one", 10, bank.transact(lambda t: t.read(TABLE, 101) and 10, tries=0))
-    return told
+    return reported
 
 
-def is_told_of_commits_in_python(_):
+def is_called_for_commits_in_python(_):
     """The hook is called for each commit, may not call the engine, and what it raises is raised by the call."""
     sgt = module()
     heard = []
@@ -576,7 +576,7 @@ def threads_share_three_records_in_python(_):
 
 
 CASES = [
-    tells_the_status_of_each_call,
+    reports_the_status_of_each_call,
     threads_share_three_records,
     threads_do_not_race,
     threads_stay_within_their_memory,
@@ -585,13 +585,13 @@ CASES = [
     reads_writes_and_removes_in_python,
     answers_single_calls_in_python,
     says_why_in_python,
-    tells_a_use_after_the_end_in_python,
+    reports_a_use_after_the_end_in_python,
     refuses_bodies_that_are_not_run_in_python,
     keeps_the_exception_of_a_block_in_python,
     keeps_a_journal_of_ones_own_in_python,
     tries_again_in_python,
     runs_alone_at_last_in_python,
-    is_told_of_commits_in_python,
+    is_called_for_commits_in_python,
     ends_at_a_signal_in_python,
     leaves_nothing_live_at_signals,
     stops_at_ctrl_c,
@@ -612,8 +612,8 @@ def main():
         print("FAILED: no library: bindings/build makes it")
         print(f"0 passed, {len(CASES)} failed")
         return 1
-    with tempfile.TemporaryDirectory() as room:
-        return tell(CASES, pathlib.Path(room), of="own logic")
+    with tempfile.TemporaryDirectory() as scratch:
+        return run_cases(CASES, pathlib.Path(scratch), of="own logic")
 
 
 if __name__ == "__main__":

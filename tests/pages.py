@@ -18,7 +18,7 @@ from functools import cache
 from pathlib import Path
 
 sys.dont_write_bytecode = True
-from helpers.cases import TESTS, Differs, same, tell  # noqa: E402
+from helpers.cases import TESTS, Differs, same, run_cases  # noqa: E402
 
 TOP = TESTS.parent
 sys.path.insert(0, str(TOP / "tools"))
@@ -392,7 +392,7 @@ LIMITS = [
     ("sgt_input/src/lines.rt", "LONGEST_INPUT", "README.md", "| {} bytes"),
     ("sgt_input/src/lines.rt", "LONGEST_INPUT", "docs/FORMATS.md", "bank | {} bytes"),
     ("sgt_check/src/input.rt", "LONGEST_INPUT", "docs/FORMATS.md", "at most {} bytes"),
-    ("sgt_dispatch/src/feed.rt", "MOST_JOBS", "docs/FORMATS.md", "jobs of a bank | {}"),
+    ("sgt_dispatch/src/queue.rt", "MOST_JOBS", "docs/FORMATS.md", "jobs of a bank | {}"),
     ("sgt_workers/src/bank.rt", "MOST_WORKERS", "docs/FORMATS.md", "W is from 1 to {}"),
     ("sgt_workers/src/bank.rt", "MOST_TRIES", "docs/FORMATS.md", "from 1 to {} (default 100)"),
     ("sgt_notation/src/spelled.rt", "LONGEST_ITEM", "docs/FORMATS.md", "1 to {} bytes"),
@@ -687,7 +687,7 @@ def main(path):
     have_the_positions_that_the_program_gives,
         use_the_words_of_the_field,
     ]
-    return tell(cases, os.path.abspath(path), of="pages")
+    return run_cases(cases, os.path.abspath(path), of="pages")
 
 
 if __name__ == "__main__":

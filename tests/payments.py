@@ -32,7 +32,7 @@ import threading
 import time
 
 sys.dont_write_bytecode = True
-from helpers.cases import C_SOURCES, TESTS, Differs, same, tell  # noqa: E402
+from helpers.cases import C_SOURCES, TESTS, Differs, same, run_cases  # noqa: E402
 from helpers.machines import Etcd, Hosts, Postgres, Redis, free_ports, running, wait_until  # noqa: E402
 
 PAYMENTS = TESTS.parent / "examples" / "payments"
@@ -121,7 +121,7 @@ class Server:
 
 
 @contextlib.contextmanager
-def room():
+def scratch():
     with tempfile.TemporaryDirectory(prefix="payments-") as folder:
         yield pathlib.Path(folder)
 
@@ -164,7 +164,7 @@ def tables(rows):
 
 def recovered(folder):
     """The number of the last call, and the records by table, as a start recovers them from a copy of the journal. And what was cut off."""
-    with room() as aside:
+    with scratch() as aside:
         shutil.copytree(folder, aside / "copy", symlinks=True, ignore=shutil.ignore_patterns("admin"))
         journal = FileJournal(aside / "copy")
         bank = bank_of(aside / "copy", journal)
@@ -185,7 +185,7 @@ def as_lines(number, seq, calls):
 
 def replies():
     """Each reply that a client can get."""
-    with room() as folder, Server("serve", folder / "j", "--accounts", 3, "--cents", 2_000_000) as server:
+    with scratch() as folder, Server("serve", folder / "j", "--accounts", 3, "--cents", 2_000_000) as server:
         day, much = "the payer has reached the limit of the day", "the payer does not have that much"
         wanted = [
             (pay(17, 1, 2, 250), {"id": 17, "paid": True, "from_has": 1_999_748, "to_has": 2_000_250}),
@@ -247,7 +247,7 @@ def replies():
 
 def administration():
     """What only administrators may ask: at a socket that nobody else may open, and not at the port."""
-    with room() as folder:
+    with scratch() as folder:
         admin, words = folder / "j" / "admin", ("serve", folder / "j", "--accounts", 3)
         with Server(*words) as server:
             at_port = server.ask(*[{word: True} for word in ("rows", "health", "figures", "promote")])
@@ -271,7 +271,7 @@ def administration():
 
 def holds():
     """Two-phase payments, refunds and notes: each the first time and again, whether it is allowed or not; and the money is all there."""
-    with room() as folder, Server("serve", folder / "j", "--accounts", 4) as server:
+    with scratch() as folder, Server("serve", folder / "j", "--accounts", 4) as server:
 
         def hold(number, payer, payee, amount):
             return {"hold": number, "from": payer, "to": payee, "amount": amount}
@@ -336,7 +336,7 @@ def holds():
 def statements():
     """The payments of each account, newest first, by pages; no refused one."""
     draw, own = random.Random(14), {account: [] for account in range(1, 5)}
-    with room() as folder, Server("serve", folder / "j", "--accounts", 5) as server:
+    with scratch() as folder, Server("serve", folder / "j", "--accounts", 5) as server:
         for number in draw.sample(range(1, 10**15), 60):
             payer, payee = draw.sample(range(1, 5), 2)
             (reply,) = server.ask(pay(number, payer, payee, draw.choice((1, 10, 10**6))))
@@ -362,7 +362,7 @@ def statements():
 def forgotten():
     """An id is forgotten DAYS days later, some with each payment, but not one that is held. Then it can be paid again."""
     days, paid = 90, 20
-    with room() as folder, Server("serve", folder / "j", "--accounts", 4) as server:
+    with scratch() as folder, Server("serve", folder / "j", "--accounts", 4) as server:
         admin = folder / "j" / "admin"
         records = ask(admin, "rows")["records"]
         held = {"hold": 99, "from": 1, "to": 2, "amount": 100}
@@ -387,7 +387,7 @@ def forgotten():
 
 def lists():
     """A line may be a list of requests, which is answered by a list, in order; each request is a transaction of its own."""
-    with room() as folder, Server("serve", folder / "j", "--accounts", 3) as server:
+    with scratch() as folder, Server("serve", folder / "j", "--accounts", 3) as server:
         request, has = {"balance": 1}, {"balance": 1, "has": 100_000}
         error = server.ask(b"x")[0]
         paid = {"id": 1, "paid": True, "from_has": 99_995, "to_has": 100_005}
@@ -406,7 +406,7 @@ def lists():
 def tokens():
     """With tokens a client may ask for what its token has a right to, and without one for nothing. Administrators need none."""
     rights = {"shop": {"pay": [[1, 2]], "read": [[0, 3]]}, "clerk": {"read": [[3, 3]]}}
-    with room() as folder:
+    with scratch() as folder:
         file, own = folder / "tokens", {hashlib.sha256(token.encode()).hexdigest(): right for token, right in rights.items()}
         file.write_text(json.dumps(own))
         with Server("serve", folder / "j", "--accounts", 5, "--tokens", file) as server:
@@ -459,7 +459,7 @@ def tls():
             replies = client.makefile()
             return [json.loads(replies.readline()) for _ in requests]
 
-    with room() as folder:
+    with scratch() as folder:
         certificates(folder)
         with Server("serve", folder / "j", "--accounts", 3, "--cents", 9_000, "--tls", folder) as server, server.connect() as slow:
             slow.sendall(b"\x16\x03")  # the beginning of a greeting
@@ -487,7 +487,7 @@ def tls():
 
 def second_server():
     """A second server at a port ends and says so, also if both start at the same time. Clients come to each front of the one that serves."""
-    with room() as folder:
+    with scratch() as folder:
         (port,) = free_ports(1)
         with Server("serve", folder / "0", port=port) as server, contextlib.ExitStack() as clients:
             fronts = server.fronts()[:FRONTS]
@@ -511,7 +511,7 @@ def second_server():
 
 
 class Load:
-    """Clients that pay in a closed loop, each on a connection of its own, and what they were told."""
+    """Clients that pay in a closed loop, each on a connection of its own, and the replies that they got."""
 
     def __init__(self, draw):
         self.draw, self.ids = draw, 0
@@ -594,10 +594,10 @@ class Load:
             same(f"what payment {number} was answered before", None, self.acknowledged.get(number))
             return
         same(f"whether payment {number} was refused before", False, number in self.refused)
-        told = reply["from_has"], reply["to_has"]
+        reported = reply["from_has"], reply["to_has"]
         self.again += number in self.acknowledged
-        same(f"the answer to payment {number}", self.acknowledged.get(number, told), told)
-        self.acknowledged[number] = told
+        same(f"the answer to payment {number}", self.acknowledged.get(number, reported), reported)
+        self.acknowledged[number] = reported
 
     def judge(self, seq, found, opened=ACCOUNTS * CENTS):
         """Each acknowledged payment is there once, as it was asked and answered; no refused one is; and no money is lost."""
@@ -618,7 +618,7 @@ class Load:
                 wanted[account] += change
         same("the balances", wanted, balance)
         same("the sum of all balances", opened, sum(balance.values()))
-        lost = [number for number, told in self.acknowledged.items() if (from_has.get(number), to_has.get(number)) != told]
+        lost = [number for number, reported in self.acknowledged.items() if (from_has.get(number), to_has.get(number)) != reported]
         same("acknowledged payments that are not there", [], lost)
         same("refused payments that are not there as refused", set(), self.refused - refused)
 
@@ -657,7 +657,7 @@ def crashes(rounds, seed):
     """Kills the server under load, again and again."""
     draw = random.Random(seed)
     load, torn, early = Load(draw), 0, 0
-    with room() as folder:
+    with scratch() as folder:
         notes, journal = folder / "synced", folder / "j"
         words = ("serve", journal, "--accounts", ACCOUNTS, "--cents", CENTS, "--keep")
         noting = adjusted(NOTE_FSYNC=notes, CUT_AFTER=20_000)
@@ -704,7 +704,7 @@ def a_journal(folder):
 
 def torn_tails():
     """A journal that is cut at each byte of its last batch recovers all before it."""
-    with room() as folder:
+    with scratch() as folder:
         calls, data = a_journal(folder / "j")
         whole = data[: data.rindex(b"\n\n") + 1]  # without the mark that the end made
         last = whole.rindex(b"\n\n") + 1
@@ -730,7 +730,7 @@ def torn_tails():
 def damaged_tails():
     """A start says what a tail may have held, and keeps it: at least the batches that it did hold, but of the beginning of a line none."""
     lost = []
-    with room() as folder:
+    with scratch() as folder:
         calls, data = a_journal(folder / "j")
         whole = data[: data.rindex(b"\n\n") + 1]  # the last seven batches have a call each, and the last one is call 11
         calls.write_bytes(whole[:-20])
@@ -742,8 +742,8 @@ def damaged_tails():
             with Server("serve", folder / "j") as server:
                 said = "".join(server.said)
             lost.append(11 - server.seq)
-            told = r"if power was lost, .*; else damage to at most (\d+) that were safe. Kept in (.*)\n"
-            found = re.fullmatch(rf"cut off (\d+) bytes after batch \d+: {told}", said)
+            reported = r"if power was lost, .*; else damage to at most (\d+) that were safe. Kept in (.*)\n"
+            found = re.fullmatch(rf"cut off (\d+) bytes after batch \d+: {reported}", said)
             if not found or int(found[2]) < lost[-1]:
                 raise Differs(f"of {size} bytes that held {lost[-1]} batches it says {said}")
             same("what is kept", (whole[:-size] + bytes(size))[-int(found[1]) :], pathlib.Path(found[3]).read_bytes())
@@ -753,7 +753,7 @@ def damaged_tails():
 def damage():
     """A journal with a flipped bit is refused, and its place is named, unless it is the last mark, which loses nothing."""
     draw, refused = random.Random(5), 0
-    with room() as folder:
+    with scratch() as folder:
         calls, data = a_journal(folder / "j")
         mark = data.rindex(b"\n\n") + 1
         wanted = recovered(folder / "j")[:2]
@@ -815,7 +815,7 @@ def error_at_end(server):
 def full_disk():
     """A journal that can't grow ends the server, and what was acknowledged is there."""
     load = Load(random.Random(7))
-    with room() as folder:
+    with scratch() as folder:
         words = ("serve", folder / "j", "--accounts", ACCOUNTS, "--cents", CENTS)
         with Server(*words, before=lambda: resource.setrlimit(resource.RLIMIT_FSIZE, (20_000, 20_000))) as server:
             error = ends_at_once(server, load)
@@ -831,7 +831,7 @@ def full_disk():
 def failing_fsync():
     """An fsync that fails ends the server before it acknowledges, and it is not tried again."""
     load = Load(random.Random(8))
-    with room() as folder:
+    with scratch() as folder:
         preload = preloaded(folder, "failing_fsync")
         words = ("serve", folder / "j", "--accounts", ACCOUNTS, "--cents", CENTS)
         for fails_after in (10, 40):
@@ -846,7 +846,7 @@ def failing_fsync():
 def large_snapshots():
     """A snapshot that is written in many parts, as one of over 2 GB is."""
     load = Load(random.Random(13))
-    with room() as folder:
+    with scratch() as folder:
         words = ("serve", folder / "j", "--accounts", ACCOUNTS, "--cents", CENTS, "--keep")
         small = adjusted(CUT_AFTER=4000, SHORT_WRITE=1000, **preloaded(folder, "short_write"))
         with Server(*words, **small) as server:
@@ -868,7 +868,7 @@ def failed_snapshot():
         begin = len(paid) + 1
         paid.extend(server.ask(*[pay(number, number % 100 + 1, number % 100 + 2, 1) for number in range(begin, begin + count)]))
 
-    with room() as folder:
+    with scratch() as folder:
         admin = folder / "j" / "admin"
         with Server("serve", folder / "j", "--accounts", 1000, "--cents", CENTS, **adjusted(CUT_AFTER=2000)) as server:
             limits = resource.prlimit(server.process.pid, resource.RLIMIT_FSIZE, (40_000, resource.RLIM_INFINITY))
@@ -892,7 +892,7 @@ def failed_snapshot():
 def deputies():
     """While a server cuts its history and stores a snapshot, a deputy serves, and what it has run is there when it has handed over."""
     load = Load(random.Random(15))
-    with room() as folder:
+    with scratch() as folder:
         admin, waits = folder / "j" / "admin", folder / "waits"
         waits.touch()
         words = ("serve", folder / "j", "--accounts", ACCOUNTS, "--cents", CENTS)
@@ -929,7 +929,7 @@ def deputies():
 
 def begun_snapshots():
     """What is left of a snapshot in which the server was killed is removed by the next start, and nothing else is."""
-    with room() as folder:
+    with scratch() as folder:
         a_journal(folder / "j")
         for number in (3, 5):
             (folder / "j" / f"{number:015}.new").write_bytes(b"12345678 [")
@@ -941,7 +941,7 @@ def begun_snapshots():
 
 def newest_file_gone():
     """A start whose newest file is gone is refused, whether an older one is there or none."""
-    with room() as folder:
+    with scratch() as folder:
         for cut_after in (100, 10**6):
             journal = folder / f"j{cut_after}"
             with Server("serve", journal, "--accounts", 3, "--keep", **adjusted(CUT_AFTER=cut_after)) as server:
@@ -962,7 +962,7 @@ def newest_file_gone():
 
 def jumping_clock():
     """The day goes on by one at a time; a clock that jumps changes nothing until an operator says the day, forwards or back."""
-    with room() as folder:
+    with scratch() as folder:
         admin, words = folder / "j" / "admin", ("serve", folder / "j", "--accounts", 3, "--cents", 9_000_000)
         skewed = adjusted(DAYS_AHEAD=folder / "ahead")
         set_clock(folder, 0)
@@ -1026,7 +1026,7 @@ def payments_in(folder):
 
 def other_procedures():
     """A start with other procedures than those of the journal is refused. With --new-procedures it recovers by the old ones, and goes on with its own."""
-    with room() as folder:
+    with scratch() as folder:
         procedures = folder / "procedures"
         shutil.copytree(PAYMENTS / "procedures", procedures)
         words = ("serve", folder / "j", "--accounts", 3, "--keep")
@@ -1071,7 +1071,7 @@ def bad_procedures():
         ({"request": ["gift"], "refused": {"one": "x"}, "procedure": [1, [look]]}, "ValueError"),
         ({"request": ["balance"], "procedure": [1, [look]]}, "balance.json has the same keys in its request"),
     ]
-    with room() as folder:
+    with scratch() as folder:
         shutil.copytree(PAYMENTS / "procedures", folder / "procedures")
         for text, wanted in files:
             (folder / "procedures" / "gift.json").write_text(text if isinstance(text, str) else json.dumps(text))
@@ -1092,7 +1092,7 @@ def forged(data, amount):
 
 def forged_journal():
     """A call that was changed, with a checksum that fits, is found by `verify`, but for the calls after the last snapshot by the server alone."""
-    with room() as folder:
+    with scratch() as folder:
         calls, data = a_journal(folder / "j")
         with Server("serve", folder / "j") as server:
             same("verify", 0, run("verify", folder / "j")[0])
@@ -1115,7 +1115,7 @@ def killed_fronts():
     """A front process that is killed ends the server, and with it the others. Nothing that was acknowledged is lost, and the port is free."""
     draw, port = random.Random(11), 0
     load = Load(draw)
-    with room() as folder:
+    with scratch() as folder:
         words = ("serve", folder / "j", "--accounts", ACCOUNTS, "--cents", CENTS)
         for number in range(6):
             with Server(*words, port=port) as server:
@@ -1139,7 +1139,7 @@ def killed_fronts():
 def vanished_clients():
     """Clients whose machines vanish, so that an accept, a receive or a send times out, end nothing."""
     load = Load(random.Random(12))
-    with room() as folder:
+    with scratch() as folder:
         words = ("serve", folder / "j", "--accounts", ACCOUNTS, "--cents", CENTS)
         with Server(*words, env={**preloaded(folder, "vanishing"), "VANISH_ONE_IN": "50"}) as server:
             for _ in range(4):
@@ -1170,7 +1170,7 @@ def idle_clients():
     def few_files():
         resource.setrlimit(resource.RLIMIT_NOFILE, (files, files))
 
-    with room() as folder, contextlib.ExitStack() as clients:
+    with scratch() as folder, contextlib.ExitStack() as clients:
         server = clients.enter_context(Server("serve", folder / "j", "--accounts", 3, "--idle", 1, before=few_files))
         idle = [clients.enter_context(server.connect()) for _ in range(most + 100)]
         last = idle.pop()
@@ -1203,7 +1203,7 @@ sys.stdout.buffer.write(b"%d " % chain.bank.seq + chain.bank.rows())
 """
 
 
-def rows_behind(journal, folder):
+def rows_after(journal, folder):
     """The number of the last call, and the records by table, as a follower with this folder recovers them."""
     ran = subprocess.run([journal.python, "-c", RECOVERS, PAYMENTS, journal.address, folder], capture_output=True, timeout=SECONDS, check=False)
     if ran.returncode:
@@ -1260,7 +1260,7 @@ class Group:
         for server in self.servers:
             server.process.kill()
         for number in range(3):
-            load.judge(*rows_behind(self.journal, self.folder / f"{number}"))
+            load.judge(*rows_after(self.journal, self.folder / f"{number}"))
 
 
 def follower_answers(group, load):
@@ -1269,13 +1269,13 @@ def follower_answers(group, load):
 
     def has_it():
         primary = group.primary()
-        (told,) = group.servers[primary].ask({"balance": 1})
+        (reported,) = group.servers[primary].ask({"balance": 1})
         came, refused = group.servers[(primary + 1) % 3].ask({"balance": 1}, payment)
-        if None in (told, came, refused) or "seconds_old" in told or "seconds_old" not in came or "seconds_old" not in refused:
+        if None in (reported, came, refused) or "seconds_old" in reported or "seconds_old" not in came or "seconds_old" not in refused:
             return False
         if not 0 <= came["seconds_old"] < SECONDS or refused.get("error") != "this server follows another one":
             raise Differs(f"a follower replies {came} and {refused}")
-        return came["has"] == told["has"]
+        return came["has"] == reported["has"]
 
     wait_until(has_it, "a follower that has what the primary has")
 
@@ -1285,7 +1285,7 @@ def failover(kind):
     if why := kind.missing():
         return f"left out: {why}"
     load = Load(random.Random(9))
-    with room() as folder, running(kind, folder) as journal, contextlib.ExitStack() as stack:
+    with scratch() as folder, running(kind, folder) as journal, contextlib.ExitStack() as stack:
         group = Group(journal, folder, stack)
         for event in (kill_primary, stop_primary, journal_away):
             primary = group.primary()
@@ -1322,7 +1322,7 @@ def takes_a_copy(group):
         return ". On so slow a machine no batch was deleted"
     shutil.copy(max(old.glob("*.snapshot")), new)
     with Server(*words, python=journal.python, **adjusted(**NEVER)) as server:
-        same("the last call", rows_behind(journal, old)[0], server.seq)
+        same("the last call", rows_after(journal, old)[0], server.seq)
         same("the status", 0, server.end()[0])
     return ""
 
@@ -1331,7 +1331,7 @@ def ended_while_away():
     """SIGTERM ends servers while etcd is away: a primary whose clients wait, and a follower."""
     if why := Etcd.missing():
         return f"left out: {why}"
-    with room() as folder, running(Etcd, folder) as etcd, contextlib.ExitStack() as stack:
+    with scratch() as folder, running(Etcd, folder) as etcd, contextlib.ExitStack() as stack:
         group = Group(etcd, folder, stack, LEASE=SECONDS)  # so that the primary stays it
         primary = group.primary()
         shutil.copytree(PAYMENTS / "procedures", folder / "other")
@@ -1402,7 +1402,7 @@ def nodes_die(rounds, seed):
     load, kinds = Load(draw), [(which, is_killed) for which in (0, 1, 2, "the leader", "two nodes", "the primary") for is_killed in (True, False)]
     while len(events) < rounds:
         events += draw.sample(kinds, len(kinds))
-    with room() as folder, running(Etcd, folder) as etcd, contextlib.ExitStack() as stack:
+    with scratch() as folder, running(Etcd, folder) as etcd, contextlib.ExitStack() as stack:
         group = Group(etcd, folder, stack)
         for which, is_killed in events[:rounds]:
             primary = group.primary()
@@ -1452,7 +1452,7 @@ def partitions():
     """Three hosts with the commands of the page. The host of the primary is cut off, in turns: another one leads, and the old one is silent."""
     if why := Hosts.missing():
         return f"left out: {why}"
-    with room() as folder, running(Hosts, folder) as hosts:
+    with scratch() as folder, running(Hosts, folder) as hosts:
         for name in hosts.names:
             hosts.start(name, on_host(name, folder))
 
@@ -1540,7 +1540,7 @@ class Partitions:
 def between_partitions():
     """Payments between two servers that are killed at random, by clients that die on the way: money is conserved, and nothing paid twice."""
     draw, kills, replies = random.Random(21), 12, {}
-    with room() as folder, contextlib.ExitStack() as stack:
+    with scratch() as folder, contextlib.ExitStack() as stack:
         bank = Partitions(folder, stack)
         everyone = [account for number in range(2) for account in bank.accounts(number)]
         wanted = []
@@ -1598,7 +1598,7 @@ def forgetful_redis():
     if why := Redis.missing():
         return f"left out: {why}"
     for options in (("--appendonly", "yes"), ("--appendfsync", "always"), ("--appendonly", "yes", "--appendfsync", "no")):
-        with room() as folder, running(Redis, folder, *options) as journal:
+        with scratch() as folder, running(Redis, folder, *options) as journal:
             wanted = "payments: Redis: it must run with appendonly yes and appendfsync always\n"
             came = run("serve", folder / "j", "--journal", journal.address, python=journal.python)
             same(f"a start on Redis with {options}", (1, "", wanted), came)
@@ -1608,7 +1608,7 @@ def forgetful_postgresql():
     """A PostgreSQL without fsync is refused."""
     if why := Postgres.missing():
         return f"left out: {why}"
-    with room() as folder, running(Postgres, folder, "-c fsync=off") as journal:
+    with scratch() as folder, running(Postgres, folder, "-c fsync=off") as journal:
         wanted = "payments: PostgreSQL: it must run with fsync on\n"
         same("a start", (1, "", wanted), run("serve", folder / "j", "--journal", journal.address, python=journal.python))
 
@@ -1617,7 +1617,7 @@ def redis_replicas():
     """Where a replica is asked for, nothing is acknowledged before there is one."""
     if why := Redis.missing():
         return f"left out: {why}"
-    with room() as folder, running(Redis, folder) as journal, contextlib.ExitStack() as stack:
+    with scratch() as folder, running(Redis, folder) as journal, contextlib.ExitStack() as stack:
         (folder / "replica").mkdir()
         begun = []
 
@@ -1670,7 +1670,7 @@ def main():
     cases += [jumping_clock, other_procedures, bad_procedures]
     cases += [killed_fronts, vanished_clients, idle_clients]
     cases += [over_etcd, dying_nodes, ended_while_away, partitions, over_redis, forgetful_redis, redis_replicas, over_postgresql, forgetful_postgresql, crash_test]
-    return tell([case for case in cases if not names or case.__name__ in names], of="payments")
+    return run_cases([case for case in cases if not names or case.__name__ in names], of="payments")
 
 
 if __name__ == "__main__":

@@ -15,7 +15,7 @@ import time
 import xml.etree.ElementTree as ElementTree
 
 sys.dont_write_bytecode = True
-from helpers.cases import TESTS, Differs, same, tell  # noqa: E402
+from helpers.cases import TESTS, Differs, same, run_cases  # noqa: E402
 from program import Program  # noqa: E402
 
 HISTORIES = TESTS.parent / "examples" / "histories"
@@ -109,11 +109,11 @@ def highlights(report, operations):
     for line in lines[2:]:
         if " no: " not in line:
             continue
-        told = places(line)
+        reported = places(line)
         if line.startswith("avoids cascading aborts"):
-            violations |= {(write, read) for write, read, _ in reads_from(operations) if read == told[0]}
+            violations |= {(write, read) for write, read, _ in reads_from(operations) if read == reported[0]}
         else:
-            violations.add(tuple(sorted(told[:2])))
+            violations.add(tuple(sorted(reported[:2])))
     return cycle, sorted(violations)
 
 
@@ -175,10 +175,10 @@ def drawn_history(dice, transactions, most, items, ends="ca"):
 
 def picture_of(sgt, operations, *words, status=None):
     given = " ".join(map(word, operations)) + "\n"
-    ended, report, told = sgt.run("check", given=given)
-    drawn, text, told_too = sgt.run("check", "--timeline", *words, given=given)
+    ended, report, reported = sgt.run("check", given=given)
+    drawn, text, reported_too = sgt.run("check", "--timeline", *words, given=given)
     same("status", status if status is not None else ended, drawn)
-    same("standard error", "", told + told_too)
+    same("standard error", "", reported + reported_too)
     return report, text
 
 
@@ -212,8 +212,8 @@ def draws_drawn_histories(sgt):
 
 def draws_no_empty_history(sgt):
     for given in ("", "# nothing\n"):
-        told = sgt.run("check", "--timeline", given=given)
-        same("status, output and error", (2, "", "no operations\na history has operations: r1[x], w1[x], c1 or a1\n"), told)
+        reported = sgt.run("check", "--timeline", given=given)
+        same("status, output and error", (2, "", "no operations\na history has operations: r1[x], w1[x], c1 or a1\n"), reported)
 
 
 def draws_the_widest(sgt):
@@ -303,16 +303,16 @@ def refuses_what_is_no_history(sgt):
 
 
 def stands_beside_no_graph(sgt):
-    status, text, told = sgt.run("check", "--timeline", "--graph", given="")
+    status, text, reported = sgt.run("check", "--timeline", "--graph", given="")
     same("status", 2, status)
     same("standard output", "", text)
-    same("told", True, "cannot be used with" in told)
+    same("told", True, "cannot be used with" in reported)
 
 
 def needs_a_picture(sgt):
     for words in (["--all"], ["--graph", "--all"]):
-        status, text, told = sgt.run("check", *words, given="c1")
-        same(f"{words}", (2, "", "error: the option '--all' needs '--timeline'"), (status, text, told.splitlines()[0]))
+        status, text, reported = sgt.run("check", *words, given="c1")
+        same(f"{words}", (2, "", "error: the option '--all' needs '--timeline'"), (status, text, reported.splitlines()[0]))
 
 
 def brings_nothing_along(sgt):
@@ -353,7 +353,7 @@ def main():
     if sys.argv[2:] == ["write"]:
         write_examples(sgt)
         return 0
-    return tell(CASES, sgt)
+    return run_cases(CASES, sgt)
 
 
 if __name__ == "__main__":

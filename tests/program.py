@@ -23,7 +23,7 @@ from itertools import permutations
 
 sys.dont_write_bytecode = True
 from helpers import explained  # noqa: E402
-from helpers.cases import SECONDS, TESTS, Differs, first_line, same, tell  # noqa: E402
+from helpers.cases import SECONDS, TESTS, Differs, first_line, same, run_cases  # noqa: E402
 from helpers.legal import Illegal, judge  # noqa: E402
 from helpers.worked import PROGRAMS, Bank, drawn  # noqa: E402
 
@@ -83,12 +83,12 @@ class Program:
             streams["preexec_fn"] = lambda: resource.setrlimit(resource.RLIMIT_AS, limit)
         process = self.start(*words, **streams)
         try:
-            wrote, told = process.communicate(None if source else given.encode(), timeout=SECONDS)
+            wrote, reported = process.communicate(None if source else given.encode(), timeout=SECONDS)
         except subprocess.TimeoutExpired:
             os.killpg(process.pid, signal.SIGKILL)
             process.communicate()
             raise Differs(f"no end after {SECONDS} seconds") from None
-        return process.returncode, (wrote or b"").decode(), told.decode()
+        return process.returncode, (wrote or b"").decode(), reported.decode()
 
     def expect(self, *words, given="", status=0, out="", err=""):
         """If one line is wanted of an error, a second one may explain it."""
@@ -103,7 +103,7 @@ class Program:
 # Words
 
 
-def tells_its_version(sgt):
+def reports_its_version(sgt):
     for word in ("--version", "version"):
         sgt.expect(word, out="sgt 0.1.0\n")
 
@@ -150,9 +150,9 @@ def refuses_two_forms_of_one_run(sgt):
 
 def reads_a_named_file(sgt):
     """Each command reads a file as it reads standard input, and nothing of standard input then."""
-    with tempfile.TemporaryDirectory() as room:
+    with tempfile.TemporaryDirectory() as scratch:
         def named(text, name="an input.txt"):
-            path = os.path.join(room, name)
+            path = os.path.join(scratch, name)
             with open(path, "w") as file:
                 file.write(text)
             return path
@@ -163,13 +163,13 @@ def reads_a_named_file(sgt):
         sgt.expect("bank", "--workers", "2", named(OPENING + '["job",0,[1]]\n'),
                    out=sgt.run("bank", "--workers", "2", given=OPENING + '["job",0,[1]]\n')[1])
         sgt.expect("check", named(HISTORY), status=1, out=REPORT)
-        sgt.expect("check", "--graph", named(HISTORY, "-h.txt").replace(room, f"{room}/."), status=1, out=GRAPH)
-        missing = os.path.join(room, "none")
+        sgt.expect("check", "--graph", named(HISTORY, "-h.txt").replace(scratch, f"{scratch}/."), status=1, out=GRAPH)
+        missing = os.path.join(scratch, "none")
         for command in ("script", "bank", "check"):
             sgt.expect(command, missing, given=HISTORY, status=2, err=f"cannot read {missing}: no such file\n")
-            sgt.expect(command, room, given=HISTORY, status=2, err=f"cannot read {room}: it is a directory\n")
+            sgt.expect(command, scratch, given=HISTORY, status=2, err=f"cannot read {scratch}: it is a directory\n")
             sgt.expect(command, "", given=HISTORY, status=2, err=sgt.run("check", "")[2])
-        with open(os.path.join(room, "closed"), "w") as closed:
+        with open(os.path.join(scratch, "closed"), "w") as closed:
             os.fchmod(closed.fileno(), 0)
         if os.geteuid() != 0:
             sgt.expect("check", closed.name, status=2, err=f"cannot read {closed.name}: no permission\n")
@@ -177,8 +177,8 @@ def reads_a_named_file(sgt):
 
 def is_installed_with_its_page_and_completions(sgt):
     """Each command and option of the help stands in the man page and in the completions, and bash completes them."""
-    with tempfile.TemporaryDirectory() as room:
-        made = subprocess.run([TESTS.parent / "tools/install", room, sgt.path], capture_output=True, text=True, check=True)
+    with tempfile.TemporaryDirectory() as scratch:
+        made = subprocess.run([TESTS.parent / "tools/install", scratch, sgt.path], capture_output=True, text=True, check=True)
         program, page, *completions = made.stdout.splitlines()
         same("the program", "sgt 0.1.0\n", Program(program).run("--version")[1])
         texts = {path: open(path).read().replace("\\-", "-") for path in (page, *completions)}
@@ -256,8 +256,8 @@ def runs_the_worked_programs(sgt):
         opening = given.splitlines()[0]
         for workers in ("1", "4", "16"):
             for seed, text in enumerate([given] + [drawn(name, opening, seed, 2000) for seed in range(1, 4)]):
-                status, wrote, told = sgt.run("bank", "--workers", workers, "--tries", "1000", given=text)
-                same(f"{name}, {workers} workers, input {seed}: standard error and status", ("", 0), (told, status))
+                status, wrote, reported = sgt.run("bank", "--workers", workers, "--tries", "1000", given=text)
+                same(f"{name}, {workers} workers, input {seed}: standard error and status", ("", 0), (reported, status))
                 try:
                     check(Bank(text, wrote))
                 except Differs as why:
@@ -316,8 +316,8 @@ def graph_of(words, report):
             if conflict and origin in committed and to in committed and (origin, to) not in first:
                 first[origin, to] = (later, earlier)
     red = set()
-    if told := re.search("serializable no: (.*)", report):
-        red = {tuple(edge.split()[:2]) for edge in told[1].split(", ")}
+    if reported := re.search("serializable no: (.*)", report):
+        red = {tuple(edge.split()[:2]) for edge in reported[1].split(", ")}
     lines = ["digraph serialization {", *(f"  {transaction};" for transaction in committed)]
     for (origin, to), (later, earlier) in sorted(first.items(), key=lambda edge: (edge[1][0], -edge[1][1])):
         colour = ", color=red" if (origin, to) in red else ""
@@ -356,8 +356,8 @@ def draws_what_dot_takes(sgt):
         return "dot is not installed"
     texts = [history.read_text() for history in sorted((EXAMPLES / "histories").glob("*.txt"))]
     for given in (HISTORY, "", "w1[A-z/0.9_:] w4294967295[A-z/0.9_:] c1 c4294967295", *texts):
-        _, graph, told = sgt.run("check", "--graph", given=given)
-        same("standard error", "", told)
+        _, graph, reported = sgt.run("check", "--graph", given=given)
+        same("standard error", "", reported)
         drawn = subprocess.run([dot, "-Tsvg"], input=graph.encode(), capture_output=True, timeout=SECONDS, check=False)
         same(f"{dot}: standard error", b"", drawn.stderr)
         same(f"{dot}: status", 0, drawn.returncode)
@@ -418,9 +418,9 @@ def explains_accesses_of_callers(sgt):
 """
     replies = "started 0\nstarted 1\nread 1/101 500\nread 0/1 101\nread 1/101 500\nread 2/101 1000\nwrote 1/101 1\n"
     replies += "aborted cycle 0 1 fell none\nstarted 2\nread 1/101 1\naborted quit fell 2\nstarted 3\n"
-    told = "line 9: 1 wrote 1/101 at line 8, which 0 read at line 4\nline 9: 0 would write 2/101, which 1 read at line 7\n"
-    told += "line 12: 2 read 1/101 of 1 at line 11\n1 transaction is live at the end: 3\n"
-    sgt.expect("script", "--explain", given=given, out=replies + RECORDS, err=told)
+    reported = "line 9: 1 wrote 1/101 at line 8, which 0 read at line 4\nline 9: 0 would write 2/101, which 1 read at line 7\n"
+    reported += "line 12: 2 read 1/101 of 1 at line 11\n1 transaction is live at the end: 3\n"
+    sgt.expect("script", "--explain", given=given, out=replies + RECORDS, err=reported)
 
 
 def writes_each_example_as_a_history_of_the_classes_that_are_promised(sgt):
@@ -514,8 +514,8 @@ def why_lost(first):
 
 def explained_by_hand(script):
     """The explanations of a script of the examples or of the inputs; nothing if no file is there."""
-    told = EXPLANATIONS / f"{script.parent.name}_{script.stem}.txt"
-    return told.read_text() if told.exists() else ""
+    reported = EXPLANATIONS / f"{script.parent.name}_{script.stem}.txt"
+    return reported.read_text() if reported.exists() else ""
 
 
 def explains_each_example(sgt):
@@ -531,13 +531,13 @@ def explains_each_input(sgt):
     """Nothing else of a run changes, and its error is reported as without the option."""
     for folder in ("scripts", "script_faults"):
         for script in sorted((INPUTS / folder).glob("*.jsonl")):
-            status, wrote, told = sgt.run("script", given=script.read_text())
+            status, wrote, reported = sgt.run("script", given=script.read_text())
             before = explained_by_hand(script) if folder == "scripts" else ""
-            same(f"{folder}/{script.name}", (status, wrote, before + told), sgt.run("script", "--explain", given=script.read_text()))
+            same(f"{folder}/{script.name}", (status, wrote, before + reported), sgt.run("script", "--explain", given=script.read_text()))
 
 
 # The line of a job that did not commit at its first try; why a try failed; and the summary.
-TOLD_JOB = re.compile(r"job (\d+): (committed|aborted with code (\d+)|given up|refused: (.*)|no memory)(?: at try (\d+))?((?:; try \d+: [^;]*)*)")
+REPORTED_JOB = re.compile(r"job (\d+): (committed|aborted with code (\d+)|given up|refused: (.*)|no memory)(?: at try (\d+))?((?:; try \d+: [^;]*)*)")
 FAILED_TRY = re.compile(r"try (\d+): (?:cycle with job ([\d, ]+)|aborted in cascade with job (\d+))")
 SUMMARY = "{} jobs: {} committed, {} aborted with a code, {} given up, {} refused, {} without memory; {} tries"
 
@@ -562,19 +562,19 @@ def says_why_events_are_refused(sgt):
               '["commit",0]']
     replies = ["unknown", "bad args", "bad args", "no procedure", "bad args", "started 0", "bad args", "started 1", "full", "aborted quit fell none",
                "aborted quit fell none", "started 2", "spent", "aborted quit fell none", "cut 14", "unknown"]
-    told = {2: "no transaction has started with the number 7", 3: "DepositChecking takes 2 arguments, found 1", 4: "procedure 5 takes 1 argument, found 2",
+    reported = {2: "no transaction has started with the number 7", 3: "DepositChecking takes 2 arguments, found 1", 4: "procedure 5 takes 1 argument, found 2",
             5: "there is no procedure 6", 6: f"argument 1 is -1000000000000000, {explained.RANGE}", 8: f"the value is 1000000000000000, {explained.RANGE}",
             10: "as many are live as line 1 allows", 14: "as many have started as line 1 allows", 17: "no transaction has started with the number 0"}
     sgt.expect("script", "--explain", given=opening + "\n".join(events), out="".join(f"{reply}\n" for reply in replies),
-               err="".join(f"line {line}: {words}\n" for line, words in told.items()))
+               err="".join(f"line {line}: {words}\n" for line, words in reported.items()))
 
 
 def says_how_each_job_of_the_examples_ended(sgt):
     for jobs, words in banks():
-        status, wrote, told = sgt.run("bank", "--explain", *words, given=jobs.read_text())
+        status, wrote, reported = sgt.run("bank", "--explain", *words, given=jobs.read_text())
         try:
             same("standard output and status", (jobs.with_suffix(".out").read_text(), 0), (wrote, status))
-            tried(wrote.splitlines(), told.splitlines(), [0, 0])
+            tried(wrote.splitlines(), reported.splitlines(), [0, 0])
         except Differs as why:
             raise Differs(f"{jobs.parent.name}/{jobs.name}: {why}") from None
 
@@ -586,14 +586,14 @@ OVERLAPPING = ('{"limits":[16,4000000],"accounts":[[1,101,0,0]],"procedures":'
                f'[[0,[["look",1,2,101,5],{LOOKS}]],[0,[["put",2,101,7],{LOOKS}]]]}}\n')
 
 
-def tells_by_whom_tries_were_aborted(sgt):
+def reports_by_whom_tries_were_aborted(sgt):
     given = OVERLAPPING + '["job",5,[]]\n["job",6,[]]\n' * 200
     for tries in ("1000", "2"):
         tally = [0, 0]
         for _ in range(30):
-            status, wrote, told = sgt.run("bank", "--explain", "--workers", "16", "--tries", tries, given=given)
+            status, wrote, reported = sgt.run("bank", "--explain", "--workers", "16", "--tries", tries, given=given)
             same("status", 0, status)
-            tried(wrote.splitlines(), told.splitlines(), tally)
+            tried(wrote.splitlines(), reported.splitlines(), tally)
             if 0 not in tally:
                 break
         else:
@@ -607,16 +607,16 @@ def tried(report, lines, tally):
     counts, tries, last = Counter(), 0, -1
     silent = set(range(len(outcomes)))
     for line in lines[:-1]:
-        if not (told := TOLD_JOB.fullmatch(line)):
+        if not (reported := REPORTED_JOB.fullmatch(line)):
             raise Differs(f"came {line!r}")
-        job, how, code, _, at, rest = told.groups()
+        job, how, code, _, at, rest = reported.groups()
         same(f"order: {line}", True, last < int(job) < len(outcomes))
         last = int(job)
         silent.remove(last)
         failed = [FAILED_TRY.fullmatch(one).groups() for one in rest.split("; ")[1:]]
         same(line, [str(number) for number in range(1, len(failed) + 1)], [number for number, _, _ in failed])
         outcome = outcomes[last]
-        wanted = {"committed": "committed", "asked": f"aborted with code {outcome[-1]}", "gave": "given up", "refused": f"refused: {told[4]}", "no": "no memory"}
+        wanted = {"committed": "committed", "asked": f"aborted with code {outcome[-1]}", "gave": "given up", "refused": f"refused: {reported[4]}", "no": "no memory"}
         same(line, wanted[outcome[1]], how)
         ends = outcome[1] in ("committed", "asked")
         if outcome[1] != "refused":
@@ -635,7 +635,7 @@ def tried(report, lines, tally):
     same("the summary", SUMMARY.format(len(outcomes), *summary, tries + len(silent)), lines[-1])
 
 
-def tells_on_a_terminal_how_many_jobs_have_ended(sgt):
+def reports_on_a_terminal_how_many_jobs_have_ended(sgt):
     """At most each second, and behind these lines as where it is none."""
     jobs = 40_000
     ours, theirs = os.openpty()
@@ -645,16 +645,16 @@ def tells_on_a_terminal_how_many_jobs_have_ended(sgt):
         began = time.monotonic()
         process = sgt.start("bank", "--explain", stdin=given, stdout=out, stderr=theirs)
         os.close(theirs)
-        told = read_terminal(ours).splitlines()
+        reported = read_terminal(ours).splitlines()
         same("status", 0, process.wait(SECONDS))
         seconds = time.monotonic() - began
         out.seek(0)
         report = out.read().decode().splitlines()
-    counts = [int(line.split()[0]) for line in told if re.fullmatch("[0-9]+ jobs have ended", line)]
+    counts = [int(line.split()[0]) for line in reported if re.fullmatch("[0-9]+ jobs have ended", line)]
     same("the counts", sorted({count for count in counts if 0 < count <= jobs}), counts)
     if len(counts) > seconds:
         raise Differs(f"{len(counts)} counts in {seconds} seconds")
-    tried(report, told[len(counts):], [0, 0])
+    tried(report, reported[len(counts):], [0, 0])
     return f"{len(counts)} counts in {seconds:.1f} seconds"
 
 
@@ -675,15 +675,15 @@ def explains_drawn_scripts(sgt):
     edges = falls = 0
     for seed in range(60):
         given = explained.drawn(seed, 600)
-        status, wrote, told = sgt.run("script", given=given)
-        same(f"script {seed}: standard error and status", ("", 0), (told, status))
-        told = explained.explanation(given, wrote)
+        status, wrote, reported = sgt.run("script", given=given)
+        same(f"script {seed}: standard error and status", ("", 0), (reported, status))
+        reported = explained.explanation(given, wrote)
         try:
-            sgt.expect("script", "--explain", given=given, out=wrote, err=told)
+            sgt.expect("script", "--explain", given=given, out=wrote, err=reported)
         except Differs as why:
             raise Differs(f"script {seed}: {why}") from None
-        edges += told.count(", which ")
-        falls += told.count(" of ")
+        edges += reported.count(", which ")
+        falls += reported.count(" of ")
     return f"{edges} edges, {falls} that fell"
 
 
@@ -693,8 +693,8 @@ def judges_drawn_scripts(sgt):
     came = Counter()
     for seed in range(120):
         given = explained.drawn(seed, 600)
-        status, wrote, told = sgt.run("script", given=given)
-        same(f"script {seed}: standard error and status", ("", 0), (told, status))
+        status, wrote, reported = sgt.run("script", given=given)
+        same(f"script {seed}: standard error and status", ("", 0), (reported, status))
         try:
             came += judge(given, wrote)
         except Illegal as why:
@@ -704,7 +704,7 @@ def judges_drawn_scripts(sgt):
     return ", ".join(f"{came[what]} {what}" for what in wanted)
 
 
-def tells_who_is_live_at_the_end(sgt):
+def reports_who_is_live_at_the_end(sgt):
     starts = OPENING + '["start",0,[1]]\n' * 4
     replies = "".join(f"started {t}\n" for t in range(4))
     sgt.expect("script", "--explain", given=OPENING + EVENTS, out=REPLIES + RECORDS, err="1 transaction is live at the end: 0\n")
@@ -720,7 +720,7 @@ def explains_up_to_a_fault(sgt):
     sgt.expect("script", "--explain", status=2, err="line 1: no opening\nthe input is empty\n")
 
 
-def tells_of_a_bank_that_has_a_fault_no_more_than_that(sgt):
+def reports_of_a_bank_that_has_a_fault_no_more_than_that(sgt):
     sgt.expect("bank", "--explain", given=OPENING + JOB + '["step",0]\n', status=2,
                err='line 3: bad line\nan event stands in the input of "sgt bank", which takes jobs: ["job",procedure,[argument,..]]\n')
 
@@ -771,9 +771,9 @@ def refuses_no_operations(sgt):
 
 def names_the_fault_of_a_history(sgt):
     # The first 32 bytes of a word are shown, and none of them where it is not printable.
-    for word, told in (("r1x", "r1x"), ("r01[x]", "r01[x]"), ("c4294967296", "c4294967296"), ("w1[]", "w1[]"), ("\x01r1[\x7f]", "?r1[?]"),
+    for word, reported in (("r1x", "r1x"), ("r01[x]", "r01[x]"), ("c4294967296", "c4294967296"), ("w1[]", "w1[]"), ("\x01r1[\x7f]", "?r1[?]"),
                        ("r1[" + "x" * 65 + "]", "r1[" + "x" * 29)):
-        sgt.expect("check", given=f"r1[x]\n\nc1 {word} c1", status=2, err=f"line 3: no operation: {told}\n")
+        sgt.expect("check", given=f"r1[x]\n\nc1 {word} c1", status=2, err=f"line 3: no operation: {reported}\n")
     for word in ("r1[x]", "w1[x]", "c1", "a1"):
         sgt.expect("check", given=f"r1[x] c1\nc2 # c1\n{word}", status=2, err="line 3: transaction 1 has ended\n")
 
@@ -803,18 +803,18 @@ def says_what_an_operation_looks_like(sgt):
         (f"r1[x] r2[{long}]\r\nw2[x] r2[{long}y]", 7, form),
         ("c1 \x01\x7f \x01", 4, form),
     ):
-        status, out, told = sgt.run("check", given=given)
-        same(given, (2, "", f"column {column}: {words}"), (status, out, told.splitlines()[1]))
+        status, out, reported = sgt.run("check", given=given)
+        same(given, (2, "", f"column {column}: {words}"), (status, out, reported.splitlines()[1]))
     for column, given in ((4, "c1 x9 " + " " * 3_000_000), (3_000_003, "c1" + " " * 3_000_000 + "x9")):
-        status, out, told = sgt.run("check", given=given)
-        same("a line of three megabytes", (2, "", f"column {column}: {form}"), (status, out, told.splitlines()[1]))
+        status, out, reported = sgt.run("check", given=given)
+        same("a line of three megabytes", (2, "", f"column {column}: {form}"), (status, out, reported.splitlines()[1]))
 
 
 def says_more_of_each_other_error(sgt):
     """In a second line, which comes without an option."""
     too_long = "an input has at most 16777216 bytes: split it, and begin the next part with what --records writes of the one before"
     history = "a history has operations: r1[x], w1[x], c1 or a1"
-    for words, given, told in (
+    for words, given, reported in (
         (["script"], OPENING + " " * LONGEST_INPUT, "line 2: long line\na line has at most 65536 bytes"),
         (["script"], OPENING + ('["step",9]' + " " * 60_000 + "\n") * 300, f"input too long\n{too_long}"),
         (["script"], "\ufeff" + OPENING, "line 1: not JSON\ncolumn 1: a byte order mark: save the input without it"),
@@ -822,7 +822,7 @@ def says_more_of_each_other_error(sgt):
         (["check"], "", f"no operations\n{history}"),
         (["check"], "c1 c1", "line 1: transaction 1 has ended\nthe commit or abort of a transaction is its last operation"),
     ):
-        same(f"{words} {given[:40]!r}", (2, f"{told}\n"), sgt.run(*words, given=given)[::2])
+        same(f"{words} {given[:40]!r}", (2, f"{reported}\n"), sgt.run(*words, given=given)[::2])
 
 
 def shows_what_was_typed(sgt):
@@ -843,8 +843,8 @@ def shows_what_was_typed(sgt):
 def finds_a_faulty_line_after_many(sgt):
     """Of an input that is much longer than what is stored of it."""
     given = OPENING + '["step",0]\n' * 500_000 + '["step"]\n' + '["step",0]\n' * 20_000
-    told = 'line 500002: bad line\nexpected ["step",transaction], found ["step"]\n'
-    same("standard error", told, sgt.run("script", given=given)[2])
+    reported = 'line 500002: bad line\nexpected ["step",transaction], found ["step"]\n'
+    same("standard error", reported, sgt.run("script", given=given)[2])
 
 
 def asks_for_input_on_a_terminal(sgt):
@@ -853,11 +853,11 @@ def asks_for_input_on_a_terminal(sgt):
     with tempfile.NamedTemporaryFile("w") as history:
         history.write("c1\n")
         history.flush()
-        for words, told in ((["check"], "reading standard input; ^D ends\n"), (["check", history.name], "")):
+        for words, reported in ((["check"], "reading standard input; ^D ends\n"), (["check", history.name], "")):
             process = sgt.start(*words, stdin=theirs, stdout=subprocess.PIPE, stderr=subprocess.PIPE)
             os.write(ours, b"c1\n\x04")
             _, err = process.communicate(timeout=SECONDS)
-            same(f"{words}", (0, told), (process.returncode, err.decode()))
+            same(f"{words}", (0, reported), (process.returncode, err.decode()))
     os.close(ours)
     os.close(theirs)
 
@@ -867,8 +867,8 @@ def writes_objects_of_json(sgt):
     for words, folder in ((["script"], EXAMPLES), (["bank", "--workers", "1"], EXAMPLES / "bank_one_worker")):
         for given in sorted(folder.glob("*.jsonl")):
             plain = sgt.run(*words, given=given.read_text())[1].splitlines()
-            status, wrote, told = sgt.run(*words, "--json", given=given.read_text())
-            same(f"{given.name}: standard error and status", ("", 0), (told, status))
+            status, wrote, reported = sgt.run(*words, "--json", given=given.read_text())
+            same(f"{given.name}: standard error and status", ("", 0), (reported, status))
             same(given.name, plain, [line_of(json.loads(line)) for line in wrote.splitlines()])
             records = "".join(line for line in wrote.splitlines(True) if line.startswith("["))
             same(f"{given.name}: records", sgt.run(*words, "--records", given=given.read_text())[1], records)
@@ -917,13 +917,13 @@ def counts_the_tries_in_json(sgt):
     """As --explain does, on jobs that abort one another."""
     opening = '{"limits":[16,100000],"accounts":[[1,1,500,1000],[2,2,500,1000]],"procedures":[]}\n'
     given = opening + '["job",3,[1,2]]\n["job",3,[2,1]]\n["job",1,[1,1]]\n' * 400
-    status, wrote, told = sgt.run("bank", "--json", "--explain", "--workers", "16", "--tries", "1000", given=given)
+    status, wrote, reported = sgt.run("bank", "--json", "--explain", "--workers", "16", "--tries", "1000", given=given)
     same("status", 0, status)
     jobs = [json.loads(line) for line in wrote.splitlines() if line.startswith("{")]
     same("the jobs", list(range(1200)), [job["job"] for job in jobs])
-    same("the tries in all", int(told.splitlines()[-1].split()[-2]), sum(job["tries"] for job in jobs))
+    same("the tries in all", int(reported.splitlines()[-1].split()[-2]), sum(job["tries"] for job in jobs))
     tries = dict.fromkeys(range(1200), 1)
-    for line in told.splitlines()[:-1]:
+    for line in reported.splitlines()[:-1]:
         match = re.fullmatch(r"job (\d+): .* at try (\d+)(?:;.*)?", line)
         tries[int(match[1])] = int(match[2])
     same("each", [tries[number] for number in range(1200)], [job["tries"] for job in jobs])
@@ -1053,10 +1053,10 @@ def takes_the_tries(sgt):
             raise Differs(f"no job was given up with {tries} tries")
 
 
-def tells_threads_that_could_not_be_made(sgt):
+def reports_threads_that_could_not_be_made(sgt):
     """Each thread takes its stack from the address space. With a little more of it from run to run the first thread is refused,
-    then the second, then the third, and then none. With no more than the stacks need, the threads run and the job is told that
-    there is no memory."""
+    then the second, then the third, and then none. With no more than the stacks need, the threads run and the job's outcome is
+    `no memory`."""
     unchanged = sgt.run("bank", given=OPENING)[1]
     refused = 0
     for megabytes in range(4, 2048):
@@ -1066,8 +1066,8 @@ def tells_threads_that_could_not_be_made(sgt):
         if came != (0, "0 no memory\n" + unchanged, ""):
             same("standard output", "", came[1])
             if came != (2, "", "no memory\n"):
-                told = "workers not started\neach worker is a thread, and the system did not start so many: take fewer with --workers\n"
-                same("status and standard error", (2, told), (came[0], came[2]))
+                reported = "workers not started\neach worker is a thread, and the system did not start so many: take fewer with --workers\n"
+                same("status and standard error", (2, reported), (came[0], came[2]))
                 refused += 1
     else:
         raise Differs("no run of three workers ended well")
@@ -1078,11 +1078,11 @@ def tells_threads_that_could_not_be_made(sgt):
 # Output
 
 
-def tells_a_full_disk(sgt):
+def reports_a_full_disk(sgt):
     for words, given in ((["script"], OPENING + EVENTS), (["bank"], OPENING + JOB), (["script", "--records"], OPENING), (["bank", "--records"], OPENING + JOB), (["check"], HISTORY), (["check", "--graph"], HISTORY), (["check", "--timeline"], HISTORY), (["--help"], ""), (["--version"], ""), (["version"], "")):
         with open("/dev/full", "w", encoding="ascii") as full:
-            status, _, told = sgt.run(*words, given=given, out=full)
-        same(f"{words}: standard error", "writing failed\n", told)
+            status, _, reported = sgt.run(*words, given=given, out=full)
+        same(f"{words}: standard error", "writing failed\n", reported)
         same(f"{words}: status", 2, status)
 
 
@@ -1090,26 +1090,26 @@ def ends_in_silence_if_nobody_reads(sgt):
     for words, given in ((["script"], OPENING + EVENTS), (["bank"], OPENING + JOB), (["check"], HISTORY), (["check", "--graph"], HISTORY), (["check", "--timeline"], HISTORY)):
         reader, writer = os.pipe()
         os.close(reader)
-        status, _, told = sgt.run(*words, given=given, out=writer)
+        status, _, reported = sgt.run(*words, given=given, out=writer)
         os.close(writer)
-        same(f"{words}: standard error", "", told)
+        same(f"{words}: standard error", "", reported)
         same(f"{words}: status", 2, status)
 
 
-def tells_a_failed_read(sgt):
+def reports_a_failed_read(sgt):
     # A folder can be opened, and not be read.
     for command in ("script", "bank", "check"):
-        with tempfile.TemporaryDirectory() as room:
-            folder = os.open(room, os.O_RDONLY)
-            status, out, told = sgt.run(command, source=folder)
+        with tempfile.TemporaryDirectory() as scratch:
+            folder = os.open(scratch, os.O_RDONLY)
+            status, out, reported = sgt.run(command, source=folder)
             os.close(folder)
-        same(f"{command}: standard error", "reading failed\nstandard input is a directory\n", told)
+        same(f"{command}: standard error", "reading failed\nstandard input is a directory\n", reported)
         same(f"{command}: standard output", "", out)
         same(f"{command}: status", 2, status)
 
 
 CASES = [
-    tells_its_version,
+    reports_its_version,
     helps,
     helps_where_no_word_is_given,
     refuses_words,
@@ -1147,11 +1147,11 @@ CASES = [
     says_how_jobs_ended,
     says_why_events_are_refused,
     says_how_each_job_of_the_examples_ended,
-    tells_by_whom_tries_were_aborted,
-    tells_on_a_terminal_how_many_jobs_have_ended,
-    tells_who_is_live_at_the_end,
+    reports_by_whom_tries_were_aborted,
+    reports_on_a_terminal_how_many_jobs_have_ended,
+    reports_who_is_live_at_the_end,
     explains_up_to_a_fault,
-    tells_of_a_bank_that_has_a_fault_no_more_than_that,
+    reports_of_a_bank_that_has_a_fault_no_more_than_that,
     explains_by_the_lines_of_the_whole_script,
     explains_before_it_reads_on,
     runs_on_where_an_explanation_cannot_be_written,
@@ -1172,17 +1172,17 @@ CASES = [
     answers_before_it_reads_on,
     takes_the_workers,
     takes_the_tries,
-    tells_threads_that_could_not_be_made,
-    tells_a_full_disk,
+    reports_threads_that_could_not_be_made,
+    reports_a_full_disk,
     ends_in_silence_if_nobody_reads,
-    tells_a_failed_read,
+    reports_a_failed_read,
 ]
 
 
 def main():
     if len(sys.argv) != 2:
         sys.exit(__doc__)
-    return tell(CASES, Program(sys.argv[1]))
+    return run_cases(CASES, Program(sys.argv[1]))
 
 
 if __name__ == "__main__":

@@ -16,7 +16,7 @@ import tempfile
 from collections import Counter, defaultdict
 
 sys.dont_write_bytecode = True
-from helpers.cases import C_SOURCES, Differs, same, tell  # noqa: E402
+from helpers.cases import C_SOURCES, Differs, same, run_cases  # noqa: E402
 from helpers.legal import Checker, Illegal, database_text  # noqa: E402
 from helpers.library import (  # noqa: E402
     C_FLAGS,
@@ -44,7 +44,7 @@ ACCOUNTS = ",".join(f"[{n},{100 + n},100000,100000]" for n in range(5))
 FUZZER = ["-g", "-fsanitize=fuzzer,address,undefined", "-fno-sanitize-recover=all"]
 NO_TARGET = "int LLVMFuzzerTestOneInput(const char *data, unsigned long size) { return data ? 0 : (int)size; }"
 
-# What has to come in a run of so many calls, so that it tests what it is for.
+# What has to come in a run of this many calls, so that it tests what it is for.
 WANTED = ("tried again", "waited", "decided", "transacted", "timed out", "quit", "cuts", "committed")
 WANTED_OF_RUNS = ("timed out", "cuts", "committed")
 
@@ -78,8 +78,8 @@ def judged(parts):
                 calls.append(event.removeprefix('["start",').removesuffix("]"))
             elif event.startswith('["commit"') and reply.split()[0] in ("committed", "refused"):
                 tid, words = json.loads(event)[1], reply.split()
-                told = f"asked {words[1]}" if words[0] == "refused" else reply
-                ends.append(f"{len(ends)} {part} {tid} {calls[tid]}\t{told}")
+                reported = f"asked {words[1]}" if words[0] == "refused" else reply
+                ends.append(f"{len(ends)} {part} {tid} {calls[tid]}\t{reported}")
         same("who is live behind a part", [], checker.live())
         rows = checker.serial()
         same("the serial run", rows, checker.settled)
@@ -87,15 +87,15 @@ def judged(parts):
     return rows, ends
 
 
-def told_of(folder):
+def reported_of(folder):
     """The replies to the threads of each transaction, with what they asked."""
-    told = defaultdict(list)
+    reported = defaultdict(list)
     for path in folder.glob("thread.*"):
         for line in path.read_text().splitlines():
             asked, reply = line.split("\t")
             part, tid, kind = asked.split()
-            told[int(part), int(tid)].append((kind, reply))
-    return told
+            reported[int(part), int(tid)].append((kind, reply))
+    return reported
 
 
 def entries_of(parts):
@@ -111,10 +111,10 @@ def entries_of(parts):
     return entries
 
 
-def compare_replies(told, entries):
+def compare_replies(reported, entries):
     """Whoever steps got each reply; whoever runs got the last one. A transaction function whose try was quit, and cut off, is tried
     again: of that try only the quit was told."""
-    for ticket, replies in told.items():
+    for ticket, replies in reported.items():
         ran = [reply for kind, reply in replies if kind == "run"]
         if {kind for kind, _ in replies} == {"quit"}:
             same(f"what was told of {ticket}", Counter(), Counter(replies) - Counter(entries[ticket]))
@@ -140,10 +140,10 @@ def judge(folder, are_runs=False):
     same("the rows", database_text(rows), (folder / "rows").read_text().splitlines())
     same("what the hook was told", ends, (folder / "ended").read_text().splitlines())
     same("what was drained", ends, (folder / "drained").read_text().splitlines())
-    told, entries = told_of(folder), entries_of(parts)
-    compare_replies(told, entries)
+    reported, entries = reported_of(folder), entries_of(parts)
+    compare_replies(reported, entries)
     if are_runs:
-        same("who was carried out, and not told", [], sorted(set(entries) - set(told)))
+        same("who was carried out, and not told", [], sorted(set(entries) - set(reported)))
     deposited = sum(money_in(end) for end in ends)
     same("the money", MONEY + deposited, sum(value for (table, _), value in rows.items() if table in (1, 2)))
     return f"{sum(map(len, parts))} entries in {len(parts)} parts, {len(ends)} calls ended"
@@ -151,120 +151,120 @@ def judge(folder, are_runs=False):
 
 def money_in(end):
     """What a committed deposit or saving brings in."""
-    call, told = end.split("\t")
+    call, reported = end.split("\t")
     procedure, _, args = call.split()[3].partition(",")
-    return json.loads(args)[1] if procedure in ("1", "2") and told.startswith("committed") else 0
+    return json.loads(args)[1] if procedure in ("1", "2") and reported.startswith("committed") else 0
 
 
-def ran(room, program, calls, stepped):
+def ran(scratch, program, calls, stepped):
     """A run of the program: its folder, and its counts."""
-    folder = pathlib.Path(tempfile.mkdtemp(dir=room))
+    folder = pathlib.Path(tempfile.mkdtemp(dir=scratch))
     lines = run([program, folder, 1 + stepped, THREADS, calls, stepped]).splitlines()
     return folder, {name: int(count) for name, _, count in (line.rpartition(" ") for line in lines)}
 
 
-def ran_and_judged(room, flags, calls, stepped, wanted):
-    folder, counts = ran(room, built(room, "cc", C_FLAGS, C_SOURCES / "shared_runs.c", flags), calls, stepped)
+def ran_and_judged(scratch, flags, calls, stepped, wanted):
+    folder, counts = ran(scratch, built(scratch, "cc", C_FLAGS, C_SOURCES / "shared_runs.c", flags), calls, stepped)
     missing = [name for name in wanted if counts[name] == 0]
     same("what did not come", [], missing)
     return f"{judge(folder, stepped == 0)}; " + ", ".join(f"{name} {count}" for name, count in counts.items() if count)
 
 
-def threads_are_told_what_the_history_says(room):
-    return ran_and_judged(room, [], CALLS, STEPPED, WANTED)
+def threads_get_the_replies_of_the_history(scratch):
+    return ran_and_judged(scratch, [], CALLS, STEPPED, WANTED)
 
 
-def threads_run_without_steps(room):
-    return ran_and_judged(room, [], FEW_CALLS, 0, WANTED_OF_RUNS)
+def threads_run_without_steps(scratch):
+    return ran_and_judged(scratch, [], FEW_CALLS, 0, WANTED_OF_RUNS)
 
 
-def threads_run_beside_few_steps(room):
-    return ran_and_judged(room, [], FEW_CALLS, FEW_STEPPED, WANTED)
+def threads_run_beside_few_steps(scratch):
+    return ran_and_judged(scratch, [], FEW_CALLS, FEW_STEPPED, WANTED)
 
 
-def sanitized(room, flags):
+def sanitized(scratch, flags):
     """Runs the threads under a sanitizer, which also sees the code of the shared engine."""
-    compiler = next((name for name in ("cc", "clang", "clang-14") if shutil.which(name) and can(room, name, flags)), None)
+    compiler = next((name for name in ("cc", "clang", "clang-14") if shutil.which(name) and can(scratch, name, flags)), None)
     if not compiler:
         return f"left out: no compiler here has {flags[1]}"
-    run([built(room, compiler, C_FLAGS, C_SOURCES / "shared_calls.c", flags, [SHARED])])
-    run([built(room, compiler, C_FLAGS, C_SOURCES / "shared_hazards.c", [*flags, *WRAPS_LOCK], [SHARED])])
+    run([built(scratch, compiler, C_FLAGS, C_SOURCES / "shared_calls.c", flags, [SHARED])])
+    run([built(scratch, compiler, C_FLAGS, C_SOURCES / "shared_hazards.c", [*flags, *WRAPS_LOCK], [SHARED])])
     if compiler == "cc" and shutil.which("c++"):
-        shared = compiled(room, "cc", C_FLAGS, SHARED, flags)
-        run([built(room, "c++", CPP_FLAGS, C_SOURCES / "shared_hazards.cpp", flags, [shared])])
-    program = built(room, compiler, C_FLAGS, C_SOURCES / "shared_runs.c", flags, [SHARED])
-    told = []
+        shared = compiled(scratch, "cc", C_FLAGS, SHARED, flags)
+        run([built(scratch, "c++", CPP_FLAGS, C_SOURCES / "shared_hazards.cpp", flags, [shared])])
+    program = built(scratch, compiler, C_FLAGS, C_SOURCES / "shared_runs.c", flags, [SHARED])
+    reported = []
     for stepped in (STEPPED, FEW_STEPPED, 0):
-        folder, _ = ran(room, program, SANITIZED_CALLS, stepped)
-        told.append(judge(folder, stepped == 0))
-    return f"{compiler}: " + "; ".join(told)
+        folder, _ = ran(scratch, program, SANITIZED_CALLS, stepped)
+        reported.append(judge(folder, stepped == 0))
+    return f"{compiler}: " + "; ".join(reported)
 
 
-def threads_do_not_race(room):
-    return sanitized(room, THREAD_SANITIZER)
+def threads_do_not_race(scratch):
+    return sanitized(scratch, THREAD_SANITIZER)
 
 
-def threads_stay_within_their_memory(room):
-    return sanitized(room, SANITIZERS)
+def threads_stay_within_their_memory(scratch):
+    return sanitized(scratch, SANITIZERS)
 
 
-def threads_get_their_turns(room):
-    """Threads come back for the lock at once, until each has got it often. How often they slept is told, as it depends on the machine."""
-    return run([built(room, "cc", C_FLAGS, C_SOURCES / "shared_turns.c"), IN_TURN, TURNS]).strip().replace("\n", ", ")
+def threads_get_their_turns(scratch):
+    """Threads come back for the lock at once, until each has got it often. How often they slept is printed, as it depends on the machine."""
+    return run([built(scratch, "cc", C_FLAGS, C_SOURCES / "shared_turns.c"), IN_TURN, TURNS]).strip().replace("\n", ", ")
 
 
-def tells_the_status_of_each_call(room):
-    return all_held(run([built(room, "cc", C_FLAGS, C_SOURCES / "shared_calls.c")]))
+def reports_the_status_of_each_call(scratch):
+    return all_held(run([built(scratch, "cc", C_FLAGS, C_SOURCES / "shared_calls.c")]))
 
 
-def all_held(told):
+def all_held(reported):
     """How many checks a program made, all of which held."""
-    same("what is told", f"{told.split()[0]} checks, 0 failed\n", told)
-    return f"{told.split()[0]} checks"
+    same("what is told", f"{reported.split()[0]} checks, 0 failed\n", reported)
+    return f"{reported.split()[0]} checks"
 
 
-def goes_on_whatever_a_thread_does(room):
+def goes_on_whatever_a_thread_does(scratch):
     """Threads that are cancelled, end in a hook, or begin a call beside the close."""
-    return all_held(run([built(room, "cc", C_FLAGS, C_SOURCES / "shared_hazards.c", WRAPS_LOCK)]))
+    return all_held(run([built(scratch, "cc", C_FLAGS, C_SOURCES / "shared_hazards.c", WRAPS_LOCK)]))
 
 
-def goes_on_whatever_a_hook_throws(room):
+def goes_on_whatever_a_hook_throws(scratch):
     if not shutil.which("c++"):
         return "left out: no c++ here"
-    return all_held(run([built(room, "c++", CPP_FLAGS, C_SOURCES / "shared_hazards.cpp")]))
+    return all_held(run([built(scratch, "c++", CPP_FLAGS, C_SOURCES / "shared_hazards.cpp")]))
 
 
-def goes_on_where_each_allocation_is_refused(room):
-    told = run([built(room, "cc", C_FLAGS, C_SOURCES / "shared_refused.c", WRAPS)])
-    count = int(told.split()[2])
-    same("what is told", f"{count - 1} of {count} allocations were told as refused, 1 done without\n", told)
+def goes_on_where_each_allocation_is_refused(scratch):
+    reported = run([built(scratch, "cc", C_FLAGS, C_SOURCES / "shared_refused.c", WRAPS)])
+    count = int(reported.split()[2])
+    same("what is told", f"{count - 1} of {count} allocations were told as refused, 1 done without\n", reported)
     return f"{count} allocations"
 
 
-def keeps_its_word_whatever_is_called(room):
+def keeps_its_word_whatever_is_called(scratch):
     """Calls that a fuzzer draws, or, without one, calls drawn at random for as long."""
     source = C_SOURCES / "shared_fuzz.c"
     have = [name for name in ("clang", "clang-14") if shutil.which(name)]
-    compiler = next((name for name in have if can(room, name, FUZZER, NO_TARGET, ["-runs=1"])), None)
+    compiler = next((name for name in have if can(scratch, name, FUZZER, NO_TARGET, ["-runs=1"])), None)
     if compiler:
-        program = built(room, compiler, C_FLAGS, source, FUZZER, [SHARED])
-        corpus = room / "corpus"
+        program = built(scratch, compiler, C_FLAGS, source, FUZZER, [SHARED])
+        corpus = scratch / "corpus"
         corpus.mkdir()
         for seed in range(4):  # long inputs to begin with, so that engines grow full and histories long
             (corpus / f"seed{seed}").write_bytes(random.Random(seed).randbytes(2048))
         words = [f"-max_total_time={FUZZED_SECONDS}", "-max_len=4096", "-len_control=0", "-seed=1", "-print_final_stats=1"]
-        told = run([program, *words, corpus], also_errors=True, cwd=room)
-        count = next(line.split()[-1] for line in told.splitlines() if line.startswith("stat::number_of_executed_units"))
+        reported = run([program, *words, corpus], also_errors=True, cwd=scratch)
+        count = next(line.split()[-1] for line in reported.splitlines() if line.startswith("stat::number_of_executed_units"))
         return f"{compiler}: {count} inputs in {FUZZED_SECONDS} s, {len(list(corpus.iterdir()))} kept"
-    told = run([built(room, "cc", C_FLAGS, source, ["-DDRAWN"]), FUZZED_SECONDS])
-    return f"drawn, as no compiler here has a fuzzer: {told.strip()}"
+    reported = run([built(scratch, "cc", C_FLAGS, source, ["-DDRAWN"]), FUZZED_SECONDS])
+    return f"drawn, as no compiler here has a fuzzer: {reported.strip()}"
 
 
 CASES = [
-    tells_the_status_of_each_call,
+    reports_the_status_of_each_call,
     goes_on_whatever_a_thread_does,
     goes_on_whatever_a_hook_throws,
-    threads_are_told_what_the_history_says,
+    threads_get_the_replies_of_the_history,
     threads_run_without_steps,
     threads_run_beside_few_steps,
     threads_get_their_turns,
@@ -286,8 +286,8 @@ def main():
         print("FAILED: no library: bindings/build makes it")
         print(f"0 passed, {len(CASES)} failed")
         return 1
-    with tempfile.TemporaryDirectory() as room:
-        return tell(CASES, pathlib.Path(room), of="threads")
+    with tempfile.TemporaryDirectory() as scratch:
+        return run_cases(CASES, pathlib.Path(scratch), of="threads")
 
 
 if __name__ == "__main__":

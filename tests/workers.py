@@ -13,7 +13,7 @@ import sys
 from collections import Counter
 
 sys.dont_write_bytecode = True
-from helpers.cases import Differs, same, tell_failing  # noqa: E402
+from helpers.cases import Differs, same, run_failing_cases  # noqa: E402
 from helpers.legal import IN_TWO_STEPS, REMOVERS, Checker, Illegal, database_text, rows_of  # noqa: E402
 
 ALL = 10**18
@@ -22,7 +22,7 @@ OPENING = '{"limits":[1,100],"accounts":[[1,101,500,1000],[2,102,0,200]],"proced
 JOBS = OPENING + "".join(f'["job",1,[{name},{amount}]]\n' for name, amount in DEPOSITS)
 BANK = ("bank", "--workers", "1")
 
-# One call of so many is as good as none.
+# One call among this many is as good as none.
 NEVER = 4_000_000_000
 BANKS, JOBS_OF_A_BANK, WORKERS, ACCOUNTS = 20, 1_000, 16, 5
 
@@ -44,19 +44,19 @@ def report_on(done):
 
 def outcome_of(came, what):
     """What became of a bank whose allocations failed: a fault, and nothing was written, or the deposits that were done."""
-    status, out, told = came
+    status, out, reported = came
     if status == 0:
         done = {int(line.split()[0]) for line in out.splitlines() if line.split()[1] == "committed"}
-        same(what, (report_on(done), ""), (out, told))
+        same(what, (report_on(done), ""), (out, reported))
         return frozenset(done)
     same(what, (2, ""), (status, out))
-    fault = told.splitlines()[0] if told else ""
+    fault = reported.splitlines()[0] if reported else ""
     if fault not in ("no memory", "workers not started"):
-        raise Differs(f"{what}: came {told!r:.400}")
+        raise Differs(f"{what}: came {reported!r:.400}")
     return fault
 
 
-def refuses_each_growth_of_a_bank(sgt, _):
+def fails_each_allocation_of_a_bank(sgt, _):
     """One allocation fails, or some from one on, or all: never do the receipts differ from the history."""
     count = sgt.allocations(*BANK, given=JOBS)
     came = Counter()
@@ -82,10 +82,10 @@ def quits_where_all_memory_is_refused(_, program):
     """A session aborts its transactions, the first one after the first line and the others at the end."""
     start = "started\naborted quit fell none\n"
     same("with memory", (0, start + "32 started, then full\n32 quit\n", ""), program.run("quit"))
-    status, out, told = program.run("quit", refuse_after_writes=1)
+    status, out, reported = program.run("quit", refuse_after_writes=1)
     lines = out.removeprefix(start).splitlines()
     more = lines[0].split()[0] if lines else "?"
-    same("without memory", (0, start + f"{more} started, then no memory\n{more} quit\n", ""), (status, out, told))
+    same("without memory", (0, start + f"{more} started, then no memory\n{more} quit\n", ""), (status, out, reported))
     if program.counted("quit", refuse_after_writes=1, count_refused=1) == 0:
         raise Differs("no memory was refused")
     return f"{more} more were started, and quit"
@@ -142,15 +142,15 @@ def check_report(checker, replies, outcomes, workers):
     return kinds
 
 
-def parts_of(told):
+def parts_of(reported):
     """The events, their replies, and the report after them."""
-    asked = sum(line.startswith("[") for line in told)
-    return told[: 2 * asked : 2], told[1 : 2 * asked : 2], told[2 * asked :]
+    asked = sum(line.startswith("[") for line in reported)
+    return reported[: 2 * asked : 2], reported[1 : 2 * asked : 2], reported[2 * asked :]
 
 
-def check_told(told, opened, jobs, workers):
+def check_reported(reported, opened, jobs, workers):
     """Compares a bank's history and report with the definitions, and gives how many jobs came to what."""
-    events, replies, report = parts_of(told)
+    events, replies, report = parts_of(reported)
     checker = Checker(opened)
     try:
         for event, reply in zip(events, replies):
@@ -163,11 +163,11 @@ def check_told(told, opened, jobs, workers):
     return check_report(checker, replies, report[:jobs], workers) + Counter(entries=len(replies))
 
 
-def told_by(program, seed, odds):
+def reported_by(program, seed, odds):
     """The lines of a bank of which one call of so many makes its worker leave, or none."""
     given = opening() + "".join(drawn_jobs(seed, JOBS_OF_A_BANK))
-    status, out, told = program.run("bank", str(WORKERS), "100", str(seed), str(odds), given=given)
-    same(f"bank {seed}", (0, ""), (status, told))
+    status, out, reported = program.run("bank", str(WORKERS), "100", str(seed), str(odds), given=given)
+    same(f"bank {seed}", (0, ""), (status, reported))
     return out.splitlines()
 
 
@@ -175,8 +175,8 @@ def replays_banks_whose_workers_leave(_, program):
     """In every fourth bank nobody leaves, and in every fourth all do."""
     total = Counter()
     for seed in range(BANKS):
-        told = told_by(program, seed, (NEVER, 5_000, 1_000, 100)[seed % 4])
-        total += check_told(told, opening(), JOBS_OF_A_BANK, WORKERS)
+        reported = reported_by(program, seed, (NEVER, 5_000, 1_000, 100)[seed % 4])
+        total += check_reported(reported, opening(), JOBS_OF_A_BANK, WORKERS)
     for kind in ("committed", "left", "untaken", "quits", "cycles", "fell", "waits"):
         if not total[kind]:
             raise Differs(f"none {kind}: {total}")
@@ -211,10 +211,10 @@ def presses_five_accounts(_, program):
     given = PRESSED + "".join(f'["job",{procedure},{args}]\n'.replace(" ", "") for procedure, args, _ in jobs)
     total = Counter()
     for seed in range(PRESSES):
-        status, out, told = program.run("bank", str(PRESSED_WORKERS), "1", str(seed), str(NEVER), given=given)
-        same(f"bank {seed}", (0, ""), (status, told))
+        status, out, reported = program.run("bank", str(PRESSED_WORKERS), "1", str(seed), str(NEVER), given=given)
+        same(f"bank {seed}", (0, ""), (status, reported))
         lines = out.splitlines()
-        total += check_told(lines, PRESSED, len(jobs), PRESSED_WORKERS)
+        total += check_reported(lines, PRESSED, len(jobs), PRESSED_WORKERS)
         _, replies, report = parts_of(lines)
         same(f"bank {seed}: starts", len(jobs), sum(reply.startswith("started") for reply in replies))
         committed = [job for job, line in zip(jobs, report) if line.split()[1] == "committed"]
@@ -231,10 +231,10 @@ def refusals_are_those_of_the_serial_run(_, program):
         jobs = [f'["job",{draw.randrange(5, 7)},[]]\n' for _ in range(500)]
         jobs += [f'["job",2,[{draw.randrange(ACCOUNTS)},{-draw.randrange(60_000)}]]\n' for _ in range(100)]
         draw.shuffle(jobs)
-        status, out, told = program.run("bank", str(WORKERS), "100", str(seed), str(NEVER), given=opened + "".join(jobs))
-        same(f"bank {seed}", (0, ""), (status, told))
+        status, out, reported = program.run("bank", str(WORKERS), "100", str(seed), str(NEVER), given=opened + "".join(jobs))
+        same(f"bank {seed}", (0, ""), (status, reported))
         lines = out.splitlines()
-        total += check_told(lines, opened, len(jobs), WORKERS)
+        total += check_reported(lines, opened, len(jobs), WORKERS)
         same(f"bank {seed}", 0, sum(line.endswith(" asked 99") for line in lines))
     if not total["asked"]:
         raise Differs(f"none asked: {total}")
@@ -251,10 +251,10 @@ def removals_are_those_of_the_serial_run(_, program):
         jobs += [f'["job",9,[{draw.choice(customers)}]]\n' for _ in range(50)]
         jobs += [f'["job",2,[{draw.choice(customers) - 100},{-draw.randrange(600)}]]\n' for _ in range(100)]
         draw.shuffle(jobs)
-        status, out, told = program.run("bank", str(WORKERS), "100", str(seed), str((NEVER, 1_000)[seed % 2]), given=opened + "".join(jobs))
-        same(f"bank {seed}", (0, ""), (status, told))
+        status, out, reported = program.run("bank", str(WORKERS), "100", str(seed), str((NEVER, 1_000)[seed % 2]), given=opened + "".join(jobs))
+        same(f"bank {seed}", (0, ""), (status, reported))
         lines = out.splitlines()
-        total += check_told(lines, opened, len(jobs), WORKERS) + Counter(removed=sum(line.startswith("removed ") for line in lines))
+        total += check_reported(lines, opened, len(jobs), WORKERS) + Counter(removed=sum(line.startswith("removed ") for line in lines))
     same("what did not come", [], [kind for kind in ("committed", "asked", "fell", "waits", "removed") if not total[kind]])
     return ", ".join(f"{number} {kind}" for kind, number in sorted(total.items()))
 
@@ -281,7 +281,7 @@ def changed(reply):
 
 def knows_a_changed_reply(_, program):
     """Of a history one reply is changed: those before it are legal, and it is not."""
-    events, replies, _ = parts_of(told_by(program, BANKS, 1_000))
+    events, replies, _ = parts_of(reported_by(program, BANKS, 1_000))
     places = {reply.split()[0]: place for place, reply in enumerate(replies)}
     for kind, place in places.items():
         wrong = replies[:place] + [changed(replies[place])]
@@ -290,7 +290,7 @@ def knows_a_changed_reply(_, program):
 
 
 CASES = [
-    refuses_each_growth_of_a_bank,
+    fails_each_allocation_of_a_bank,
     quits_where_all_memory_is_refused,
     replays_banks_whose_workers_leave,
     presses_five_accounts,
@@ -303,7 +303,7 @@ CASES = [
 def main():
     if len(sys.argv) != 3:
         sys.exit(__doc__)
-    return tell_failing(CASES, *sys.argv[1:])
+    return run_failing_cases(CASES, *sys.argv[1:])
 
 
 if __name__ == "__main__":

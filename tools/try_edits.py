@@ -24,14 +24,14 @@ VERDICT = re.compile(r".*must-fail (\w+)/([\w.-]+)\.edit: (.*)")
 REFUSED = "refused, as it must be"
 
 
-def copied(crate, room):
+def copied(crate, scratch):
     """Copies a crate, with the library that was built of it, and with the mutants of tools/edits alone."""
     kept = crate / "out" / "rlib"
-    shutil.copytree(crate, room, ignore=shutil.ignore_patterns("out", "must-fail"))
+    shutil.copytree(crate, scratch, ignore=shutil.ignore_patterns("out", "must-fail"))
     if kept.is_dir():
-        shutil.copytree(kept, room / "out" / "rlib", copy_function=os.link)
+        shutil.copytree(kept, scratch / "out" / "rlib", copy_function=os.link)
     if (EDITS / crate.name).is_dir():
-        shutil.copytree(EDITS / crate.name, room / "must-fail")
+        shutil.copytree(EDITS / crate.name, scratch / "must-fail")
 
 
 def git(*words):
@@ -44,10 +44,10 @@ def commit():
     return git("rev-parse", "--short=8", "HEAD").strip() + "+" * any(not line.endswith("/TRIED") for line in changed)
 
 
-def verdicts(room, names):
+def verdicts(scratch, names):
     """Has `rt must-fail` try the mutants of these crates, shows what it says, and returns its status and each verdict by its mutant."""
     found = {}
-    with subprocess.Popen(["rt", "must-fail", *names], cwd=room, stdout=subprocess.PIPE, text=True, errors="replace") as run:
+    with subprocess.Popen(["rt", "must-fail", *names], cwd=scratch, stdout=subprocess.PIPE, text=True, errors="replace") as run:
         for line in run.stdout:
             print(line, end="", flush=True)
             said = VERDICT.fullmatch(line.rstrip("\n"))
@@ -78,14 +78,14 @@ def main(names):
         return 2
     at = commit()
     with tempfile.TemporaryDirectory(prefix=".edits-", dir=ROOT) as made:
-        room = Path(made)
-        shutil.copy(ROOT / "crates.txt", room)
-        shutil.copy(ROOT / "HANDLES", room)
-        (room / ".git").mkdir()
+        scratch = Path(made)
+        shutil.copy(ROOT / "crates.txt", scratch)
+        shutil.copy(ROOT / "HANDLES", scratch)
+        (scratch / ".git").mkdir()
         for crate in sorted((ROOT / "crates").iterdir()):
             if (crate / "src").is_dir():
-                copied(crate, room / "crates" / crate.name)
-        status, found = verdicts(room, names or there)
+                copied(crate, scratch / "crates" / crate.name)
+        status, found = verdicts(scratch, names or there)
     record(found, at)
     return status
 

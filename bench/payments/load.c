@@ -3,7 +3,7 @@
 //
 //     load PORT CLIENTS SECONDS ACCOUNTS SEED [LIST]
 //
-// A line is one payment, or with LIST a list of so many, from 1 to 140.
+// A line is one payment, or with LIST a list of LIST payments, from 1 to 140.
 #include <arpa/inet.h>
 #include <netinet/tcp.h>
 #include <stdint.h>

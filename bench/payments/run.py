@@ -41,11 +41,11 @@ LISTS = "8 in lists of 100"
 CENTS = 100_000_000
 RECORDS, UNTIL_CUT = 5_000_000, 60  # the seconds at most until the history is cut
 RATE, LATENCY, TIME = "Payments a second", "Median latency, ms", "Processor time a payment, microseconds"
-told: dict = {}  # by what is measured, contestant and clients
+reported: dict = {}  # by what is measured, contestant and clients
 
 
 def note(what, name, clients, value):
-    told.setdefault(what, {}).setdefault(name, {}).setdefault(clients, []).append(value)
+    reported.setdefault(what, {}).setdefault(name, {}).setdefault(clients, []).append(value)
 
 
 def taken():
@@ -60,9 +60,9 @@ def used(processes):
     return sum(int(it) for user_and_system in times for it in user_and_system) / os.sysconf("SC_CLK_TCK")
 
 
-def fsyncs(room):
+def fsyncs(scratch):
     """How long an fsync of 60 appended bytes takes, in microseconds."""
-    file, times = os.open(room / "f", os.O_WRONLY | os.O_CREAT | os.O_APPEND), []
+    file, times = os.open(scratch / "f", os.O_WRONLY | os.O_CREAT | os.O_APPEND), []
     for _ in range(300):
         begin = time.perf_counter()
         os.write(file, bytes(60))
@@ -108,9 +108,9 @@ def old_payments(records):
     return b"".join(ROW.pack(*row) for row in rows)
 
 
-def cut(room, python, load):
+def cut(scratch, python, load):
     """Loads a server that has many records until it has cut its history, and stored a snapshot."""
-    folder, rows = room / "many", old_payments(RECORDS)
+    folder, rows = scratch / "many", old_payments(RECORDS)
     folder.mkdir()
     texts = {name: it.text for name, it in load_procedures(PAYMENTS / "procedures").items()}
     (folder / f"{1:015}.snapshot").write_bytes(seal(json.dumps([1, texts, len(rows), zlib.crc32(rows)])) + b"\n" + rows)
@@ -130,56 +130,56 @@ def cut(room, python, load):
 class Postgres:
     """A server of its own, in a folder of its own, with synchronous commit, as it is by default."""
 
-    def __init__(self, room):
-        self.room, self.bin = room / "postgres", max(pathlib.Path("/usr/lib/postgresql").glob("*/bin"), default=None)
+    def __init__(self, scratch):
+        self.scratch, self.bin = scratch / "postgres", max(pathlib.Path("/usr/lib/postgresql").glob("*/bin"), default=None)
         self.is_there = self.bin is not None
         if not self.is_there:
             return
         self.user = ["runuser", "-u", "postgres", "--"] if os.getuid() == 0 else []
-        self.room.mkdir()
+        self.scratch.mkdir()
         if self.user:
-            os.chown(self.room, pwd.getpwnam("postgres").pw_uid, -1)
-        self.run("initdb", "-D", self.room / "data", "-A", "trust")
-        options = f"-k {self.room} -c listen_addresses= -c default_transaction_isolation=serializable -c max_connections=200"
-        self.run("pg_ctl", "-D", self.room / "data", "-o", options, "-l", self.room / "log", "-w", "start")
-        script = self.room / "postgres.sql"
+            os.chown(self.scratch, pwd.getpwnam("postgres").pw_uid, -1)
+        self.run("initdb", "-D", self.scratch / "data", "-A", "trust")
+        options = f"-k {self.scratch} -c listen_addresses= -c default_transaction_isolation=serializable -c max_connections=200"
+        self.run("pg_ctl", "-D", self.scratch / "data", "-o", options, "-l", self.scratch / "log", "-w", "start")
+        script = self.scratch / "postgres.sql"
         shutil.copy(HERE / "postgres.sql", script)
-        shutil.copy(HERE / "postgres.pgbench", self.room)
+        shutil.copy(HERE / "postgres.pgbench", self.scratch)
         script.chmod(0o644)
-        self.run("psql", "-h", self.room, "-q", "-v", "ON_ERROR_STOP=1", "-f", script, "postgres")
+        self.run("psql", "-h", self.scratch, "-q", "-v", "ON_ERROR_STOP=1", "-f", script, "postgres")
 
     def run(self, program, *words):
         command = [*self.user, str(self.bin / program), *map(str, words)]
-        return subprocess.run(command, stdout=subprocess.PIPE, stderr=subprocess.STDOUT, text=True, check=True, cwd=self.room).stdout
+        return subprocess.run(command, stdout=subprocess.PIPE, stderr=subprocess.STDOUT, text=True, check=True, cwd=self.scratch).stdout
 
     def turn(self, seconds):
         """With the row of the fees, which every two payments of the same moment want, and without it."""
         for has_fee, name in ((1, "PostgreSQL, SERIALIZABLE, with the row of the fees"), (0, "PostgreSQL, SERIALIZABLE, without it")):
             for clients in CLIENTS:
-                words = ("-h", self.room, "-n", "-D", f"has_fee={has_fee}", "--max-tries=100000", "-f", self.room / "postgres.pgbench")
+                words = ("-h", self.scratch, "-n", "-D", f"has_fee={has_fee}", "--max-tries=100000", "-f", self.scratch / "postgres.pgbench")
                 said = self.run("pgbench", *words, "-c", clients, "-j", min(clients, 2), "-T", seconds, "postgres")
                 note(RATE, name, clients, float(re.search(r"tps = ([\d.]+)", said)[1]))
                 note(LATENCY, name, clients, float(re.search(r"latency average = ([\d.]+)", said)[1]))
 
     def end(self):
         if self.is_there:
-            self.run("pg_ctl", "-D", self.room / "data", "-m", "immediate", "stop")
+            self.run("pg_ctl", "-D", self.scratch / "data", "-m", "immediate", "stop")
 
 
-def take_turn(room, python, load, seconds):
+def take_turn(scratch, python, load, seconds):
     """All contestants but PostgreSQL, each with a journal of its own."""
     serve = (PAYMENTS / "payments.py", "serve")
-    fsyncs(room)
-    served("sgt, file", python, load, seconds, *serve, room / "file", "--cents", CENTS)
-    served("SQLite behind the same server", python, load, seconds, HERE / "sqlite_queue.py", "serve", room / "served.db")
+    fsyncs(scratch)
+    served("sgt, file", python, load, seconds, *serve, scratch / "file", "--cents", CENTS)
+    served("SQLite behind the same server", python, load, seconds, HERE / "sqlite_queue.py", "serve", scratch / "served.db")
     if not Redis.missing():
-        (room / "redis").mkdir()
-        with running(Redis, room / "redis") as redis:
-            words = (*serve, room / "by_redis", "--journal", redis.address, "--cents", CENTS)
+        (scratch / "redis").mkdir()
+        with running(Redis, scratch / "redis") as redis:
+            words = (*serve, scratch / "by_redis", "--journal", redis.address, "--cents", CENTS)
             served("sgt, Redis", redis.python, load, seconds, *words, others=[redis.process.pid])
     if not Etcd.missing():
-        with running(Etcd, room) as etcd:
-            words = (*serve, room / "by_etcd", "--journal", etcd.address, "--cents", CENTS)
+        with running(Etcd, scratch) as etcd:
+            words = (*serve, scratch / "by_etcd", "--journal", etcd.address, "--cents", CENTS)
             served("sgt, etcd", python, load, seconds, *words, others=[it.pid for it in etcd.processes])
 
 
@@ -191,7 +191,7 @@ def shown(values, is_rate):
 
 
 def print_tables():
-    for what, names in told.items():
+    for what, names in reported.items():
         columns = [column for column in (*CLIENTS, LISTS) if any(column in values for values in names.values())]
         print(f"\n| {what} | {' | '.join(map(str, columns))} |\n|{'---|' * (len(columns) + 1)}")
         for name, values in names.items():
@@ -201,23 +201,23 @@ def print_tables():
 def main():
     rounds, seconds = ([int(word) for word in sys.argv[1:]] + [2, 3][len(sys.argv) - 1 :])[:2]
     # A folder that other users may enter, for PostgreSQL's.
-    room = pathlib.Path(tempfile.mkdtemp(prefix="payments-", dir=os.environ.get("ROOM", "/var/tmp")))
-    room.chmod(0o755)
-    load = room / "load"
+    scratch = pathlib.Path(tempfile.mkdtemp(prefix="payments-", dir=os.environ.get("ROOM", "/var/tmp")))
+    scratch.chmod(0o755)
+    load = scratch / "load"
     subprocess.run(["cc", "-O2", "-Wall", "-Wextra", "-o", load, HERE / "load.c"], check=True)
     print(f"Python {sys.version.split()[0]}, {sys.executable}; {os.cpu_count()} processors", flush=True)
     with contextlib.ExitStack() as ends:
-        ends.callback(shutil.rmtree, room)
-        postgres = Postgres(room)
+        ends.callback(shutil.rmtree, scratch)
+        postgres = Postgres(scratch)
         ends.callback(postgres.end)
         for number in range(rounds):
-            own = room / f"round{number}"
+            own = scratch / f"round{number}"
             own.mkdir()
             take_turn(own, sys.executable, load, seconds)
             if postgres.is_there:
                 postgres.turn(seconds)
             print(f"round {number + 1}: load {os.getloadavg()[0]:.1f}", flush=True)
-        cut(room, sys.executable, load)
+        cut(scratch, sys.executable, load)
     missing = {"etcd": Etcd.missing(), "Redis": Redis.missing(), "PostgreSQL": None if postgres.is_there else "it is not on this machine"}
     for name, why in missing.items():
         if why:

@@ -44,41 +44,41 @@ def made(path: str) -> sqlite3.Connection:
     return database
 
 
-class Told(NamedTuple):
+class Reported(NamedTuple):
     """What pay.json answers: a code, or what payer and payee have."""
 
     code: int
     answers: tuple = ()
 
 
-def pay(database: sqlite3.Connection, number: int, payer: int, payee: int, amount: int) -> Told:
+def pay(database: sqlite3.Connection, number: int, payer: int, payee: int, amount: int) -> Reported:
     """As procedures/pay.json."""
     run_one = database.execute
     earlier = run_one("select payer,payee,amount,from_has,to_has from payment where id=?", (number,)).fetchone()
     if earlier:
-        return Told(0, earlier[3:]) if earlier[:3] == (payer, payee, amount) else Told(7)
+        return Reported(0, earlier[3:]) if earlier[:3] == (payer, payee, amount) else Reported(7)
     if amount < 1:
-        return Told(1)
+        return Reported(1)
     if payer == payee:
-        return Told(2)
+        return Reported(2)
     has = run_one("select cents from balance where account=?", (payer,)).fetchone()
     gets = run_one("select cents from balance where account=?", (payee,)).fetchone()
     fee = amount // 100
     if not has or not gets:
-        return Told(3 if not has else 4)
+        return Reported(3 if not has else 4)
     if has[0] < amount + fee:
-        return Told(5)
+        return Reported(5)
     spent = run_one("select cents from spent where account=? and day=?", (payer, DAY)).fetchone()
     so_far = (spent[0] if spent else 0) + amount
     if so_far > LIMIT:
-        return Told(6)
+        return Reported(6)
     run_one("insert or replace into spent values(?,?,?)", (payer, DAY, so_far))
     run_one("update balance set cents=cents-? where account=?", (amount + fee, payer))
     run_one("update balance set cents=cents+? where account=?", (amount, payee))
     run_one("update balance set cents=cents+? where account=0", (fee,))
     answers = (has[0] - amount - fee, gets[0] + amount)
     run_one("insert into payment values(?,?,?,?,?,?)", (number, payer, payee, amount, *answers))
-    return Told(0, answers)
+    return Reported(0, answers)
 
 
 class Bank:
@@ -94,9 +94,9 @@ class Bank:
         calls = unpack_calls(packed)
         if calls and not self.database.in_transaction:
             self.database.execute("begin immediate")
-        told = [pay(self.database, *args) for _, *args in calls]
-        outcomes = [OUTCOME(not it.code, Kind.REFUSED if it.code else Kind.COMMITTED, it.code, len(it.answers), *it.answers or (0, 0)) for it in told]
-        return b"".join(outcomes), [entry for entry, it in zip(entries, told) if not it.code]
+        reported = [pay(self.database, *args) for _, *args in calls]
+        outcomes = [OUTCOME(not it.code, Kind.REFUSED if it.code else Kind.COMMITTED, it.code, len(it.answers), *it.answers or (0, 0)) for it in reported]
+        return b"".join(outcomes), [entry for entry, it in zip(entries, reported) if not it.code]
 
     def is_long(self) -> bool:
         return False

@@ -11,7 +11,7 @@ static const char empty[] = "{\"limits\":[8,100],\"accounts\":[],\"procedures\":
 
 static const char lookup[] = "[1,[[\"look\",0,7,[\"arg\",0],5],[\"answer\",[\"reg\",0]]]]"; /* returns a record of table 7 */
 
-static const char misfit[] = "{\"limits\":[8,100],\"accounts\":[],\"procedures\":[[0,[7]]]}";
+static const char shape_error[] = "{\"limits\":[8,100],\"accounts\":[],\"procedures\":[[0,[7]]]}";
 
 static void show(const sgt_reply *reply)
 {
@@ -83,8 +83,8 @@ int main(void)
     printf("procedure %u: ", number), show(&reply);
     if (sgt_put(&engine, &own, 1, &at) == SGT_BEGUN) printf("begun\n");
     sgt_close(&engine);
-    if (sgt_open(&engine, misfit, strlen(misfit), &fault) != SGT_PROC_SHAPE) return 1;
-    if (sgt_explain_opening(misfit, strlen(misfit), text, sizeof text, &length) != SGT_OK || length > sizeof text) return 1;
+    if (sgt_open(&engine, shape_error, strlen(shape_error), &fault) != SGT_PROC_SHAPE) return 1;
+    if (sgt_explain_opening(shape_error, strlen(shape_error), text, sizeof text, &length) != SGT_OK || length > sizeof text) return 1;
     printf("%.*s\n", (int)length, text);
     return 0;
 }

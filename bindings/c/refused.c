@@ -141,7 +141,7 @@ static int run(void)
     int64_t value = 0;
     uint32_t status;
     long before_event, opened;
-    int refused = 0, added, more, told, cut;
+    int refused = 0, added, more, reported, cut;
     while ((status = sgt_open_with(&engine, opening, strlen(opening), &own, 1, &fault)) == SGT_NO_MEMORY) {
         if (engine.is_open || engine.at) return -1;
         refused++;
@@ -163,9 +163,9 @@ static int run(void)
         if (status != SGT_OK) return -1;
     }
     if (sgt_get(&engine, 2, 101, &value) != SGT_OK || value != 1200) return -1;
-    if ((more = runs(&engine, &reply)) < 0 || (told = texts(&reply)) < 0 || (cut = cuts(&engine)) < 0) return -1;
+    if ((more = runs(&engine, &reply)) < 0 || (reported = texts(&reply)) < 0 || (cut = cuts(&engine)) < 0) return -1;
     sgt_close(&engine);
-    return engine.is_open || engine.at ? -1 : refused + added + more + told + cut;
+    return engine.is_open || engine.at ? -1 : refused + added + more + reported + cut;
 }
 
 int main(void)

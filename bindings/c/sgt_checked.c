@@ -154,11 +154,11 @@ uint32_t sgt_run(sgt_engine *engine, uint64_t procedure, const int64_t *args, si
     return proved_sgt_run(engine, procedure, args ? args : &none.number, count, tid, reply);
 }
 
-uint32_t sgt_run_many(sgt_engine *engine, const sgt_call *calls, size_t count, sgt_outcome *outcomes, size_t room, uint64_t *done)
+uint32_t sgt_run_many(sgt_engine *engine, const sgt_call *calls, size_t count, sgt_outcome *outcomes, size_t capacity, uint64_t *done)
 {
     if (!engine) return SGT_CLOSED;
-    if (!is_list(calls, count) || !is_list(outcomes, room) || !done) return SGT_BAD_CALL;
-    return proved_sgt_run_many(engine, calls ? calls : &none.call, count, outcomes ? outcomes : &none.outcome, room, done);
+    if (!is_list(calls, count) || !is_list(outcomes, capacity) || !done) return SGT_BAD_CALL;
+    return proved_sgt_run_many(engine, calls ? calls : &none.call, count, outcomes ? outcomes : &none.outcome, capacity, done);
 }
 
 uint32_t sgt_get(const sgt_engine *engine, uint64_t table, int64_t number, int64_t *value)
@@ -167,11 +167,11 @@ uint32_t sgt_get(const sgt_engine *engine, uint64_t table, int64_t number, int64
     return value ? proved_sgt_get(read_from(engine), table, number, value) : (uint32_t)SGT_BAD_CALL;
 }
 
-uint32_t sgt_rows(const sgt_engine *engine, uint64_t table, int64_t number, sgt_row *rows, size_t room, uint64_t *count)
+uint32_t sgt_rows(const sgt_engine *engine, uint64_t table, int64_t number, sgt_row *rows, size_t capacity, uint64_t *count)
 {
     if (!engine) return SGT_CLOSED;
-    if (!is_list(rows, room) || !count) return SGT_BAD_CALL;
-    return proved_sgt_rows(read_from(engine), table, number, rows ? rows : &none.row, room, count);
+    if (!is_list(rows, capacity) || !count) return SGT_BAD_CALL;
+    return proved_sgt_rows(read_from(engine), table, number, rows ? rows : &none.row, capacity, count);
 }
 
 uint32_t sgt_records(const sgt_engine *engine, uint64_t *count)
@@ -198,18 +198,18 @@ uint32_t sgt_entry(const sgt_engine *engine, uint64_t place, sgt_event *event, s
     return event && reply ? proved_sgt_entry(read_from(engine), place, event, reply) : (uint32_t)SGT_BAD_CALL;
 }
 
-uint32_t sgt_calls(const sgt_engine *engine, uint64_t from, sgt_call *calls, size_t room, uint64_t *count, uint64_t *next)
+uint32_t sgt_calls(const sgt_engine *engine, uint64_t from, sgt_call *calls, size_t capacity, uint64_t *count, uint64_t *next)
 {
     if (!engine) return SGT_CLOSED;
-    if (!is_list(calls, room) || !count || !next) return SGT_BAD_CALL;
-    return proved_sgt_calls(read_from(engine), from, calls ? calls : &none.call, room, count, next);
+    if (!is_list(calls, capacity) || !count || !next) return SGT_BAD_CALL;
+    return proved_sgt_calls(read_from(engine), from, calls ? calls : &none.call, capacity, count, next);
 }
 
-uint32_t sgt_accesses(const sgt_engine *engine, uint32_t tid, sgt_access *accesses, size_t room, uint64_t *count)
+uint32_t sgt_accesses(const sgt_engine *engine, uint32_t tid, sgt_access *accesses, size_t capacity, uint64_t *count)
 {
     if (!engine) return SGT_CLOSED;
-    if (!is_list(accesses, room) || !count) return SGT_BAD_CALL;
-    return proved_sgt_accesses(read_from(engine), tid, accesses ? accesses : &none.access, room, count);
+    if (!is_list(accesses, capacity) || !count) return SGT_BAD_CALL;
+    return proved_sgt_accesses(read_from(engine), tid, accesses ? accesses : &none.access, capacity, count);
 }
 
 uint32_t sgt_reserve(sgt_engine *engine, uint64_t entries) { return engine ? proved_sgt_reserve(engine, entries) : (uint32_t)SGT_CLOSED; }
@@ -226,33 +226,33 @@ uint32_t sgt_part(const sgt_engine *engine, uint64_t *part)
     return part ? proved_sgt_part(read_from(engine), part) : (uint32_t)SGT_BAD_CALL;
 }
 
-uint32_t sgt_procedure_text(const sgt_engine *engine, uint64_t number, char *text, size_t room, uint64_t *length)
+uint32_t sgt_procedure_text(const sgt_engine *engine, uint64_t number, char *text, size_t capacity, uint64_t *length)
 {
     if (!engine) return SGT_CLOSED;
-    if (!is_list(text, room) || !length) return SGT_BAD_CALL;
-    return proved_sgt_procedure_text(read_from(engine), number, text ? text : &none.byte, room, length);
+    if (!is_list(text, capacity) || !length) return SGT_BAD_CALL;
+    return proved_sgt_procedure_text(read_from(engine), number, text ? text : &none.byte, capacity, length);
 }
 
-uint32_t sgt_reply_text(const sgt_reply *reply, char *text, size_t room, uint64_t *length)
+uint32_t sgt_reply_text(const sgt_reply *reply, char *text, size_t capacity, uint64_t *length)
 {
-    if (!reply || !is_list(text, room) || !length) return SGT_BAD_CALL;
-    return proved_sgt_reply_text(reply, text ? text : &none.byte, room, length);
+    if (!reply || !is_list(text, capacity) || !length) return SGT_BAD_CALL;
+    return proved_sgt_reply_text(reply, text ? text : &none.byte, capacity, length);
 }
 
-uint32_t sgt_fault_text(const sgt_fault *fault, char *text, size_t room, uint64_t *length)
+uint32_t sgt_fault_text(const sgt_fault *fault, char *text, size_t capacity, uint64_t *length)
 {
-    if (!fault || !is_list(text, room) || !length) return SGT_BAD_CALL;
-    return proved_sgt_fault_text(fault, text ? text : &none.byte, room, length);
+    if (!fault || !is_list(text, capacity) || !length) return SGT_BAD_CALL;
+    return proved_sgt_fault_text(fault, text ? text : &none.byte, capacity, length);
 }
 
-uint32_t sgt_explain_opening(const char *opening, size_t length, char *text, size_t room, uint64_t *written)
+uint32_t sgt_explain_opening(const char *opening, size_t length, char *text, size_t capacity, uint64_t *written)
 {
-    if (!is_list(opening, length) || !is_list(text, room) || !written) return SGT_BAD_CALL;
-    return proved_sgt_explain_opening(opening ? opening : &none.byte, length, text ? text : &none.byte, room, written);
+    if (!is_list(opening, length) || !is_list(text, capacity) || !written) return SGT_BAD_CALL;
+    return proved_sgt_explain_opening(opening ? opening : &none.byte, length, text ? text : &none.byte, capacity, written);
 }
 
-uint32_t sgt_explain_procedure(uint64_t number, const char *procedure, size_t length, char *text, size_t room, uint64_t *written)
+uint32_t sgt_explain_procedure(uint64_t number, const char *procedure, size_t length, char *text, size_t capacity, uint64_t *written)
 {
-    if (!is_list(procedure, length) || !is_list(text, room) || !written) return SGT_BAD_CALL;
-    return proved_sgt_explain_procedure(number, procedure ? procedure : &none.byte, length, text ? text : &none.byte, room, written);
+    if (!is_list(procedure, length) || !is_list(text, capacity) || !written) return SGT_BAD_CALL;
+    return proved_sgt_explain_procedure(number, procedure ? procedure : &none.byte, length, text ? text : &none.byte, capacity, written);
 }

@@ -36,7 +36,7 @@ enum {
 /* What the threads of an engine know of each other. All bytes are zero at first. */
 typedef struct sgt_desk {
     uint64_t ended;      /* how often a transaction has ended */
-    uint64_t told;       /* how many calls were committed or refused */
+    uint64_t reported;       /* how many calls were committed or refused */
     uint64_t committing; /* commits that rest */
     uint64_t cutters;    /* calls that wait for a cut */
 } sgt_desk;

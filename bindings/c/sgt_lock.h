@@ -2,8 +2,8 @@
  * The lock of a shared engine, with its line. See sgt_shared.c, its only user.
  *
  * A run takes less than a microsecond, which is less than it takes to move the lock and the engine's memory to another processor, or to
- * wake a thread. So a thread that comes back for the lock takes it again, though others wait: they sleep, in the order in which they
- * came, and only the first of them looks now and then. When it has waited long the lock is owed to it, and others leave it alone.
+ * wake a thread. So a thread that comes back for the lock takes it again, though others wait: they sleep, in the order in which they came,
+ * and only the first of them looks from time to time. When it has waited long the lock is owed to it, and others leave it alone.
  */
 #ifndef SGT_LOCK_H
 #define SGT_LOCK_H
@@ -71,7 +71,7 @@ static inline struct timespec timespec_of(int64_t at)
     return (struct timespec){(time_t)(at / SECOND), (long)(at % SECOND)};
 }
 
-/* The time in so many nanoseconds. */
+/* The time after this many nanoseconds. */
 static int64_t in_ns(int64_t ns)
 {
     const int64_t at = now();
@@ -114,7 +114,7 @@ static bool is_free(const struct lock *l, bool claims)
         && (claims || !atomic_load_explicit(&l->is_claimed, memory_order_relaxed));
 }
 
-/* Looks for so many nanoseconds whether the lock is free, and stays so for a moment. Whether it has got the lock. */
+/* Watches for this many nanoseconds whether the lock is free, and stays so for a moment. Returns whether it holds the lock. */
 static bool look_out(struct lock *l, int64_t ns, bool claims)
 {
     const int64_t begin = now();

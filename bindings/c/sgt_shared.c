@@ -54,7 +54,7 @@ struct live {
 /* The calls that ended and were not drained yet: `count` of them, from `first` on. */
 struct queue {
     sgt_ended *at;
-    size_t first, count, room;
+    size_t first, count, capacity;
 };
 
 struct sgt_shared {
@@ -62,7 +62,7 @@ struct sgt_shared {
     atomic_uint forks;           /* how many forks this process comes from, as of the opening */
     atomic_uint draining;        /* threads that wait for a call to drain */
     bool is_open;
-    bool tells;                  /* whether the hook has to be called for `ended` */
+    bool reports;                  /* whether the hook has to be called for `ended` */
     struct event changed;        /* a transaction has ended, or a cut is over */
     struct event queued;         /* a call can be drained */
     atomic_uint_fast64_t number; /* of this engine, in its tickets: looked at before the lock is taken */
@@ -246,12 +246,12 @@ static inline uint32_t enter(sgt_shared *s)
 }
 
 static void quit_abandoned(sgt_shared *s);
-static void tell(sgt_shared *s);
+static void report(sgt_shared *s);
 static void cut_if_due(sgt_shared *s);
 
 static inline uint32_t leave(sgt_shared *s, uint32_t status)
 {
-    if (s->tells) tell(s);
+    if (s->reports) report(s);
     if (s->config.cut_after) cut_if_due(s);
     unlock(s);
     if (hooks) end_call();
@@ -297,11 +297,11 @@ static void break_off(void *hook)
 }
 
 /* Calls the hook for the call that has just ended. All else is done, so that it may throw. */
-static void tell(sgt_shared *s)
+static void report(sgt_shared *s)
 {
     const sgt_ended ended = s->ended;
     struct hook hook;
-    s->tells = false;
+    s->reports = false;
     begin_hook(&hook, s);
     pthread_cleanup_push(break_off, &hook);
     s->config.ended(s->config.context, &ended);
@@ -352,8 +352,8 @@ static void drop(sgt_shared *s, uint32_t tid)
 {
     struct live *it = find(s, tid);
     if (!it) return;
-    size_t behind = (size_t)(&s->live[s->lives] - (it + 1));
-    memmove(it, it + 1, behind * sizeof *it);
+    size_t following = (size_t)(&s->live[s->lives] - (it + 1));
+    memmove(it, it + 1, following * sizeof *it);
     if (--s->lives == 0) s->is_alone = false;
 }
 
@@ -361,19 +361,19 @@ static sgt_ticket ticket_of(const sgt_shared *s, uint32_t tid) { return (sgt_tic
 
 /* Calls that ended */
 
-/* Makes room for so many calls more, so that an end never asks for memory. */
+/* Allocates memory for this many more calls, so that an end never allocates. */
 static bool reserve(struct queue *queue, size_t more)
 {
-    if (queue->first + queue->count + more <= queue->room) return true;
+    if (queue->first + queue->count + more <= queue->capacity) return true;
     if (queue->first > 0 && queue->first >= queue->count) {
         memmove(queue->at, queue->at + queue->first, queue->count * sizeof *queue->at);
         queue->first = 0;
         return reserve(queue, more);
     }
-    size_t room = 2 * (queue->first + queue->count + more);
-    sgt_ended *at = realloc(queue->at, room * sizeof *at);
+    size_t capacity = 2 * (queue->first + queue->count + more);
+    sgt_ended *at = realloc(queue->at, capacity * sizeof *at);
     if (!at) return false;
-    queue->at = at, queue->room = room;
+    queue->at = at, queue->capacity = capacity;
     return true;
 }
 
@@ -392,7 +392,7 @@ static void deliver(sgt_shared *s, uint32_t tid)
         s->queue.at[s->queue.first + s->queue.count++] = ended;
         announce(&s->lock, &s->queued);
     }
-    if (s->config.ended) s->ended = ended, s->tells = true;
+    if (s->config.ended) s->ended = ended, s->reports = true;
 }
 
 /* The number of the call that this reply has just committed or refused, or UINT64_MAX. */
@@ -464,7 +464,7 @@ static bool is_own(sgt_shared *s, uint32_t tid)
     return false;
 }
 
-/* Waits until more transactions have ended than these, or nobody is live. SGT_TIMED_OUT; SGT_SELF_WAIT. */
+/* Waits until more transactions have ended than these, or none is live. SGT_TIMED_OUT; SGT_SELF_WAIT. */
 static uint32_t await_end(sgt_shared *s, uint64_t ends, struct deadline *until)
 {
     bool in_time = true;
@@ -476,7 +476,7 @@ static uint32_t await_end(sgt_shared *s, uint64_t ends, struct deadline *until)
 }
 
 /* Waits until fewer are live than the limits allow. SGT_TIMED_OUT; SGT_SELF_WAIT. */
-static uint32_t await_room(sgt_shared *s, struct deadline *until)
+static uint32_t await_capacity(sgt_shared *s, struct deadline *until)
 {
     bool in_time = true;
     while (s->lives >= s->most && in_time) {
@@ -543,7 +543,7 @@ static void break_cut_off(void *hook)
 }
 
 /* Calls the hook before a cut. */
-static void tell_of_cut(sgt_shared *s)
+static void report_cut(sgt_shared *s)
 {
     struct hook hook;
     begin_hook(&hook, s);
@@ -557,7 +557,7 @@ static void tell_of_cut(sgt_shared *s)
 static uint32_t cut(sgt_shared *s)
 {
     uint64_t live = 0;
-    if (s->config.cutting) tell_of_cut(s);
+    if (s->config.cutting) report_cut(s);
     uint32_t status = sgt_cut(&s->engine, &live);
     if (status != SGT_OK) return status;
     sgt_part(&s->engine, &s->part);
@@ -629,7 +629,7 @@ static bool is_awaited(sgt_shared *s)
     return atomic_load(&s->lock.waiting) > 0 || atomic_load(&s->lock.closing) > 0 || atomic_load(&s->draining) > 0;
 }
 
-/* The memory of an engine that was closed long ago, and for whose lock nobody waits, or null. */
+/* The memory of an engine that was closed long ago, and for whose lock no thread waits, or null. */
 static sgt_shared *reused(void)
 {
     sgt_shared *s = 0;
@@ -750,7 +750,7 @@ static bool is_held_up(const sgt_shared *s, bool alone)
 }
 
 /*
- * Whether the next try is made alone: after so many aborts, unless this thread has something else live, which would have to end before.
+ * Whether the next try is made alone: after `most` aborts, unless this thread has something else live, which would have to end before.
  */
 static bool is_due_alone(const sgt_shared *s, uint32_t aborts, uint32_t most) { return aborts >= most && !has_own(s); }
 
@@ -767,7 +767,7 @@ static uint32_t await_others(sgt_shared *s, bool alone, struct deadline *until)
     return is_held_up(s, alone) || s->cutters > 0 || s->pauses ? SGT_TIMED_OUT : SGT_OK;
 }
 
-/* Waits until a transaction may be started, and makes room for its end. */
+/* Waits until a transaction may be started, and allocates memory for its end. */
 static uint32_t may_start(sgt_shared *s, bool alone, struct deadline *until)
 {
     if (alone) s->loners++;
@@ -777,14 +777,14 @@ static uint32_t may_start(sgt_shared *s, bool alone, struct deadline *until)
     return status;
 }
 
-/* Quits a transaction, unless it has ended. */
+/* Aborts a transaction, unless it has ended. */
 static void quit(sgt_shared *s, uint32_t tid)
 {
     sgt_reply reply = {0};
     if (find(s, tid)) ask(s, sgt_quit, tid, &reply);
 }
 
-/* One try of a run. Where the deadline comes, or memory is refused, its transaction is quit. */
+/* One try of a run. If the deadline comes or an allocation fails, its transaction is aborted. */
 static uint32_t try_once(sgt_shared *s, const struct call *call, struct deadline *until, sgt_shared_outcome *out)
 {
     uint32_t tid = NO_TID;
@@ -808,7 +808,7 @@ static bool is_conflict(const sgt_reply *reply)
     return (reply->kind == SGT_ABORTED && reply->cause == SGT_BY_CYCLE) || (reply->kind == SGT_OVER && reply->cause == SGT_BY_FALL);
 }
 
-/* Runs it. Each try but the last was aborted by a conflict, or found no room. */
+/* Runs it. Each try but the last was aborted by a conflict, or was answered SGT_FULL. */
 static uint32_t run(sgt_shared *s, struct run *it, sgt_shared_outcome *out)
 {
     if (is_late(&it->until)) return SGT_TIMED_OUT;
@@ -823,7 +823,7 @@ static uint32_t run(sgt_shared *s, struct run *it, sgt_shared_outcome *out)
         }
         if (out->reply.kind == SGT_OVER) continue; /* one has just ended */
         out->waits++;
-        status = is_full ? await_room(s, &it->until) : await_end(s, s->ends, &it->until);
+        status = is_full ? await_capacity(s, &it->until) : await_end(s, s->ends, &it->until);
         if (status != SGT_OK) return status;
     }
 }
@@ -838,7 +838,7 @@ static uint32_t run_beside(sgt_shared *s, struct run *it, sgt_shared_outcome *ou
     return status;
 }
 
-/* Whether nobody is live, so that a run never waits. */
+/* Whether no transaction is live, so that a run never waits. */
 static bool is_quiet(const sgt_shared *s) { return s->lives == 0 && s->committing == 0 && s->cutters == 0 && s->loners == 0; }
 
 uint32_t sgt_shared_run(sgt_shared *shared, uint64_t procedure, const int64_t *args, size_t count, const sgt_run_options *options,
@@ -868,7 +868,7 @@ static uint32_t start(sgt_shared *s, const struct call *call, bool alone, struct
         if (reply->kind == SGT_STARTED) add(s, reply->tid, call->procedure), *ticket = ticket_of(s, reply->tid), s->is_alone = alone;
         if (reply->kind != SGT_FULL) return SGT_OK;
         s->most = s->lives;
-        status = await_room(s, until);
+        status = await_capacity(s, until);
         if (status != SGT_OK) return status;
     }
 }
@@ -877,13 +877,13 @@ uint32_t sgt_shared_start(sgt_shared *shared, uint64_t procedure, const int64_t 
                           sgt_ticket *ticket, sgt_reply *reply)
 {
     struct call call;
-    sgt_reply told = {0};
+    sgt_reply reported = {0};
     if (!ticket || !reply || !is_call(&call, procedure, args, count)) return SGT_BAD_CALL;
     struct deadline until = deadline_in(wait_ns);
     uint32_t status = enter(shared);
     if (status != SGT_OK) return status;
-    status = start(shared, &call, false, &until, ticket, &told);
-    if (status == SGT_OK) *reply = told;
+    status = start(shared, &call, false, &until, ticket, &reported);
+    if (status == SGT_OK) *reply = reported;
     return leave(shared, status);
 }
 
@@ -938,16 +938,16 @@ uint32_t sgt_shared_remove(sgt_shared *shared, const sgt_ticket *ticket, uint64_
     return access_by(shared, ticket, &(struct access){SGT_REMOVE, table, number, 0}, reply);
 }
 
-uint32_t sgt_shared_accesses(sgt_shared *shared, const sgt_ticket *ticket, sgt_access *accesses, size_t room, uint64_t *count)
+uint32_t sgt_shared_accesses(sgt_shared *shared, const sgt_ticket *ticket, sgt_access *accesses, size_t capacity, uint64_t *count)
 {
-    if (!count || (!accesses && room > 0)) return SGT_BAD_CALL;
+    if (!count || (!accesses && capacity > 0)) return SGT_BAD_CALL;
     if (shared && ticket && !is_in_child(shared) && is_in_hook(shared)) { /* the hook has the lock */
         if (ticket->engine != shared->number) return SGT_MISUSE;
         if (ticket->part != shared->part) return SGT_STALE;
-        return sgt_accesses(&shared->engine, ticket->tid, accesses, room, count);
+        return sgt_accesses(&shared->engine, ticket->tid, accesses, capacity, count);
     }
     const uint32_t status = enter_for(shared, ticket);
-    return status == SGT_OK ? leave(shared, sgt_accesses(&shared->engine, ticket->tid, accesses, room, count)) : status;
+    return status == SGT_OK ? leave(shared, sgt_accesses(&shared->engine, ticket->tid, accesses, capacity, count)) : status;
 }
 
 uint32_t sgt_shared_quit(sgt_shared *shared, const sgt_ticket *ticket, sgt_reply *reply)
@@ -974,21 +974,21 @@ uint32_t sgt_shared_commit(sgt_shared *shared, const sgt_ticket *ticket, int64_t
 {
     struct deadline until = deadline_in(wait_ns);
     uint32_t waits = 0;
-    sgt_reply told = {0};
+    sgt_reply reported = {0};
     uint32_t status = reply ? enter_for(shared, ticket) : (uint32_t)SGT_BAD_CALL;
     if (status != SGT_OK) return status;
-    status = ask(shared, sgt_commit, ticket->tid, &told);
-    if (status == SGT_OK) status = go_on(shared, ticket->tid, &until, &told, &waits);
-    if (status == SGT_OK || status == SGT_TIMED_OUT || status == SGT_SELF_WAIT) *reply = told;
+    status = ask(shared, sgt_commit, ticket->tid, &reported);
+    if (status == SGT_OK) status = go_on(shared, ticket->tid, &until, &reported, &waits);
+    if (status == SGT_OK || status == SGT_TIMED_OUT || status == SGT_SELF_WAIT) *reply = reported;
     return leave(shared, status);
 }
 
-uint32_t sgt_shared_live(sgt_shared *shared, sgt_live *rows, size_t room, uint64_t *count)
+uint32_t sgt_shared_live(sgt_shared *shared, sgt_live *rows, size_t capacity, uint64_t *count)
 {
-    uint32_t status = count && (rows || room == 0) ? enter(shared) : (uint32_t)SGT_BAD_CALL;
+    uint32_t status = count && (rows || capacity == 0) ? enter(shared) : (uint32_t)SGT_BAD_CALL;
     if (status != SGT_OK) return status;
     const int64_t at = now();
-    for (uint32_t i = 0; i < shared->lives && i < room; i++) {
+    for (uint32_t i = 0; i < shared->lives && i < capacity; i++) {
         const struct live *it = &shared->live[i];
         rows[i] = (sgt_live){ticket_of(shared, it->tid), at - it->since, it->procedure, it->waits};
     }
@@ -1016,7 +1016,7 @@ static uint32_t end_cut_off(sgt_transaction *t)
     return t->status = SGT_UNDONE;
 }
 
-/* The status of an access after the end: SGT_UNDONE if a conflict or somebody else ended it, SGT_MISUSE if its own caller did. */
+/* The status of an access after the end: SGT_UNDONE if a conflict or another caller ended it, SGT_MISUSE if its own caller did. */
 static uint32_t has_ended(const sgt_transaction *t)
 {
     return t->status == SGT_UNDONE || (t->reply.kind == SGT_OVER && t->reply.cause == SGT_BY_QUIT) ? SGT_UNDONE : SGT_MISUSE;
@@ -1083,7 +1083,7 @@ static uint32_t start_try(sgt_shared *s, sgt_transaction *t, bool alone, struct 
     return SGT_OK;
 }
 
-/* Makes the next try: alone after so many. */
+/* Makes the next try: alone after `tries` tries. */
 static uint32_t next_try(sgt_shared *shared, sgt_transaction *t, uint32_t tries, struct deadline *until)
 {
     if (t->is_live) sgt_transaction_quit(t);
@@ -1110,7 +1110,7 @@ uint32_t sgt_shared_try(sgt_shared *shared, sgt_transaction *transaction, const 
     return next_try(shared, transaction, options->tries, &until);
 }
 
-/* Commits the last try, or quits it if an access of it failed, or the commit does. */
+/* Commits the last try, or aborts it if an access of it failed, or the commit does. */
 static uint32_t commit_try(sgt_shared *s, sgt_transaction *t, struct deadline *until)
 {
     uint32_t status = t->status;
@@ -1203,22 +1203,22 @@ static void break_guard(void *guard)
 static uint32_t call(sgt_body body, void *context, sgt_transaction *t)
 {
     struct guard guard = {.transaction = t};
-    uint32_t told = 0;
+    uint32_t reported = 0;
     t->is_live = IN_BODY;
     begin_guard(&guard);
     pthread_cleanup_push(break_guard, &guard);
-    told = body(context, t);
+    reported = body(context, t);
     pthread_cleanup_pop(0);
     end_guard(&guard);
     if (t->is_live) t->is_live = 1;
-    return told;
+    return reported;
 }
 
-/* Ends a try as its body says. It is quit if an access of it failed. */
-static uint32_t end_as_told(sgt_transaction *t, uint32_t told, struct deadline *until)
+/* Ends a try as its body says. It is aborted if an access of it failed. */
+static uint32_t end_as_reported(sgt_transaction *t, uint32_t reported, struct deadline *until)
 {
-    if (told == SGT_BODY_COMMIT) return commit_until(t, until);
-    const uint32_t failed = told == SGT_BODY_QUIT ? t->status : (uint32_t)SGT_BAD_CALL;
+    if (reported == SGT_BODY_COMMIT) return commit_until(t, until);
+    const uint32_t failed = reported == SGT_BODY_QUIT ? t->status : (uint32_t)SGT_BAD_CALL;
     const uint32_t status = sgt_transaction_quit(t);
     return status == SGT_OK ? failed : status;
 }
@@ -1234,7 +1234,7 @@ uint32_t sgt_shared_transact(sgt_shared *shared, sgt_body body, void *context, c
     uint32_t status = SGT_OK;
     do {
         status = next_try(shared, &t, options->tries, &until);
-        if (status == SGT_OK && t.is_live) status = end_as_told(&t, call(body, context, &t), &until);
+        if (status == SGT_OK && t.is_live) status = end_as_reported(&t, call(body, context, &t), &until);
     } while (status == SGT_UNDONE);
     outcome->tries = t.tries, outcome->waits = t.waits;
     if (status == SGT_OK) outcome->ticket = t.ticket, outcome->sequence = t.sequence, outcome->reply = t.reply;
@@ -1268,11 +1268,11 @@ uint32_t sgt_shared_get(sgt_shared *shared, uint64_t table, int64_t number, int6
     return status == SGT_OK ? leave(shared, sgt_get(&shared->engine, table, number, value)) : status;
 }
 
-uint32_t sgt_shared_rows(sgt_shared *shared, uint64_t table, int64_t number, sgt_row *rows, size_t room, uint64_t *count)
+uint32_t sgt_shared_rows(sgt_shared *shared, uint64_t table, int64_t number, sgt_row *rows, size_t capacity, uint64_t *count)
 {
-    uint32_t status = count && (rows || room == 0) ? enter(shared) : (uint32_t)SGT_BAD_CALL;
+    uint32_t status = count && (rows || capacity == 0) ? enter(shared) : (uint32_t)SGT_BAD_CALL;
     if (status != SGT_OK) return status;
-    return leave(shared, sgt_rows(&shared->engine, table, number, rows, room, count));
+    return leave(shared, sgt_rows(&shared->engine, table, number, rows, capacity, count));
 }
 
 uint32_t sgt_shared_entries(sgt_shared *shared, uint64_t *count, uint64_t *part)
@@ -1295,15 +1295,15 @@ static uint32_t await_queued(sgt_shared *s, struct deadline *until)
     return is_open ? SGT_OK : SGT_CLOSED;
 }
 
-uint32_t sgt_shared_drain(sgt_shared *shared, int64_t wait_ns, sgt_ended *ended, size_t room, uint64_t *count)
+uint32_t sgt_shared_drain(sgt_shared *shared, int64_t wait_ns, sgt_ended *ended, size_t capacity, uint64_t *count)
 {
     struct deadline until = deadline_in(wait_ns);
-    uint32_t status = count && ended && room > 0 ? enter(shared) : (uint32_t)SGT_BAD_CALL;
+    uint32_t status = count && ended && capacity > 0 ? enter(shared) : (uint32_t)SGT_BAD_CALL;
     if (status != SGT_OK) return status;
     if (!shared->config.keeps_ended) return leave(shared, SGT_BAD_CALL);
     if (await_queued(shared, &until) != SGT_OK) return leave_closed(shared);
     struct queue *queue = &shared->queue;
-    const size_t taken = queue->count < room ? queue->count : room;
+    const size_t taken = queue->count < capacity ? queue->count : capacity;
     if (taken > 0) memcpy(ended, queue->at + queue->first, taken * sizeof *ended);
     queue->count -= taken;
     queue->first = queue->count > 0 ? queue->first + taken : 0;

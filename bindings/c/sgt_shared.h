@@ -9,10 +9,10 @@
  *     sgt_shared_outcome outcome = SGT_SHARED_OUTCOME;
  *     uint32_t status = sgt_shared_run(bank, 1, args, 2, 0, &outcome);      -- from any thread
  *
- * Use sgt_shared_run if you have all arguments of a call at hand: it runs the procedure from its start to its commit in one hold of
- * the lock. Then nobody else is live, so it never conflicts and never waits. Use sgt_shared_transact if your program decides the accesses:
- * it calls a function of yours, and again after a conflict. sgt_shared_start, _step and _commit, and sgt_shared_begin, _read, _write and
- * _remove, are for callers that interleave transactions on purpose. All may be mixed.
+ * Use sgt_shared_run if you have all arguments of a call at hand: it runs the procedure from its start to its commit in one hold of the
+ * lock. Then no other transaction is live, so it never conflicts and never waits. Use sgt_shared_transact if your program decides the
+ * accesses: it calls a function of yours, and again after a conflict. sgt_shared_start, _step and _commit, and sgt_shared_begin, _read,
+ * _write and _remove, are for callers that interleave transactions on purpose. All may be mixed.
  *
  * STATUSES are those of sgt.h, and these:
  *
@@ -28,10 +28,11 @@
  * null pointer, and SGT_BAD_CALL if another pointer is null that has to be there; a list of no items may be null.
  *
  * DEADLINES are nanoseconds from the begin of a call, by a clock that never jumps. 0 never waits for another transaction, and SGT_FOREVER
- * waits as long as it takes. The lock itself is waited for without a deadline, as nobody holds it for long unless a hook does.
- * A thread that has a live transaction and waits for ever in another call may wait for itself, also through other threads: give such a call
- * a deadline. SGT_SELF_WAIT tells where this is seen. A transaction counts as that of the thread that made the last call for it. So give
- * the call a deadline, too, if another thread is to end that transaction. A commit sees also those for which it waits through others.
+ * waits as long as it takes. A call waits for the lock itself without a deadline, as no thread holds it for long unless a hook does. A
+ * thread that has a live transaction and waits for ever in another call may wait for itself, also through other threads: give such a call a
+ * deadline. SGT_SELF_WAIT reports it where it can be detected. A transaction counts as that of the thread that made the last call for it.
+ * So give the call a deadline, too, if another thread is to end that transaction. A commit sees also those for which it waits through
+ * others.
  *
  * CANCELLATION. No call is a cancellation point: a thread that is cancelled in a call goes on until it has returned. No call may be made
  * from a thread whose cancellation is asynchronous, from a signal handler, or by a hook that longjmp leaves.
@@ -51,8 +52,8 @@ typedef struct sgt_shared sgt_shared;
 #define SGT_FOREVER INT64_MAX
 
 /*
- * The name of a transaction. `part` counts the cuts before its start, and `tid` is its number in that part, so a ticket never names
- * another transaction. `engine` distinguishes the shared engines of a process. All bytes zero: the ticket of nobody.
+ * The name of a transaction. `part` counts the cuts before its start, and `tid` is its number in that part, so a ticket never names another
+ * transaction. `engine` distinguishes the shared engines of a process. All bytes zero: the ticket of no transaction.
  */
 typedef struct sgt_ticket {
     uint64_t engine;
@@ -108,10 +109,10 @@ typedef struct sgt_shared_config {
     uint32_t spare;
 
     /*
-     * Cuts by itself: as soon as the history has `cut_after` entries and nobody is live. 0: never. Choose no more than
-     * twice the starts that the limits allow, as each transaction has at least two entries. A cut takes time in proportion to the
-     * records, in the call that happens to make it. If somebody is always live, set `cut_wait_ns`: when a cut is due, new
-     * transactions wait so long for the live ones to end. If they do not, the cut is put off until as many entries have come again.
+     * Cuts by itself: as soon as the history has `cut_after` entries and no transaction is live. 0: never. Choose no more than twice the
+     * starts that the limits allow, as each transaction has at least two entries. A cut takes time in proportion to the records, in the
+     * call that happens to make it. If some transaction is always live, set `cut_wait_ns`: when a cut is due, new transactions wait so long
+     * for the live ones to end. If they do not, the cut is put off until as many entries have come again.
      */
     uint64_t cut_after;
     int64_t cut_wait_ns;
@@ -126,7 +127,7 @@ typedef struct sgt_shared_config {
 typedef struct sgt_run_options {
     size_t size;        /* sizeof(sgt_run_options) */
     int64_t wait_ns;
-    uint32_t tries;     /* at most so many; 0: no limit */
+    uint32_t tries;     /* the most tries; 0: no limit */
     uint32_t spare;
 } sgt_run_options;
 
@@ -136,7 +137,7 @@ typedef struct sgt_run_options {
 typedef struct sgt_transact_options {
     size_t size;        /* sizeof(sgt_transact_options) */
     int64_t wait_ns;
-    uint32_t tries;     /* after so many aborts by a conflict, the next try is made alone; 0: the first one is */
+    uint32_t tries;     /* after this many aborts by a conflict, the next try is made alone; 0: the first one is */
     uint32_t spare;
 } sgt_transact_options;
 
@@ -209,11 +210,11 @@ uint32_t sgt_shared_close(sgt_shared **shared);
 /*
  * Runs a procedure from its start to its commit. `options` may be null.
  *
- * If nobody else is live it takes one hold of the lock. Otherwise it waits as often as it has to: at SGT_FULL and at SGT_WAITS for the
- * end of another transaction. After a cycle or a cascading abort it tries again: after 8 of them alone, as sgt_shared_transact does.
+ * If no other transaction is live it takes one hold of the lock. Otherwise it waits as often as it has to: at SGT_FULL and at SGT_WAITS for
+ * the end of another transaction. After a cycle or a cascading abort it tries again: after 8 of them alone, as sgt_shared_transact does.
  * The reply is the last one: SGT_COMMITTED, SGT_REFUSED, SGT_ABORTED with SGT_BY_CODE, or that to a start that is refused for good
  * (SGT_NO_PROCEDURE, SGT_BAD_ARGS, SGT_SPENT). If the tries are used up, it is the SGT_ABORTED or SGT_OVER of the last one; if another
- * thread quit it, SGT_OVER with SGT_BY_QUIT.
+ * thread aborted it, SGT_OVER with SGT_BY_QUIT.
  *
  * SGT_TIMED_OUT if the deadline comes: nothing of it is left live. If a deadline other than 0 comes before its turn, nothing is started.
  * SGT_NO_MEMORY, SGT_SELF_WAIT: nothing is left live either. SGT_BAD_CALL if there are over 4 arguments, if the procedure is over 65535,
@@ -237,25 +238,25 @@ uint32_t sgt_shared_run(sgt_shared *shared, uint64_t procedure, const int64_t *a
  *
  * THE BODY IS RUN AGAIN after a cycle or a cascading abort. So it must have no effects but its accesses, and set what it returns in its
  * context anew each time. What it reads may be uncommitted, and be undone afterwards. So act on it only after the commit: when this call
- * returns SGT_OK with the reply SGT_COMMITTED. A body that quits on what it read may have quit on a value that is undone. To refuse
+ * returns SGT_OK with the reply SGT_COMMITTED. A body that aborts because of what it read may have read a value that is undone. To refuse
  * truthfully, it notes the refusal in its context, writes nothing, and returns SGT_BODY_COMMIT: once that is committed, the refusal is
  * true.
  *
  * After `tries` aborts the next try is made ALONE: transactions that start wait, as for a cut, until the live ones have ended and it has
- * ended too. Then it is the only live one, so it is not aborted for a cycle and waits for nobody. A thread that has a live transaction may
- * still start others before it, so that it can end its own; one that always has something live keeps the try waiting. No try is made alone
- * while its own thread has another live transaction.
+ * ended too. Then it is the only live one, so it is not aborted for a cycle and never waits. A thread that has a live transaction may still
+ * start others before it, so that it can end its own; one that always has something live keeps the try waiting. No try is made alone while
+ * its own thread has another live transaction.
  *
  * The reply is the last one: SGT_COMMITTED; SGT_ABORTED with SGT_BY_QUIT if the body returned SGT_BODY_QUIT; SGT_SPENT, and the body was
- * not called; or SGT_OVER with SGT_BY_QUIT if another thread quit the transaction. If the history has been cut off before this was
+ * not called; or SGT_OVER with SGT_BY_QUIT if another thread aborted the transaction. If the history has been cut off before this was
  * noticed, the body is run again. What the body returns after a conflict does not matter. So SGT_OK alone does not say that it is
  * committed.
  *
  * With each other status, nothing is left live, and the tries and waits are written, and no more: SGT_TIMED_OUT if the deadline comes,
  * which does not interrupt the body; SGT_SELF_WAIT; SGT_NO_MEMORY; SGT_CLOSED; SGT_BAD_CALL if a size is too small, or the body returns
- * another number: a status, say. If an access of the body failed, nothing is committed, whatever it returns, and the status is that of
- * this access. A body must not commit its transaction itself: such a call is SGT_MISUSE, and so counts as an access that failed. If the
- * body quits it itself, it is as if it returned SGT_BODY_QUIT.
+ * another number: a status, say. If an access of the body failed, nothing is committed, whatever it returns, and the status is that of this
+ * access. A body must not commit its transaction itself: such a call is SGT_MISUSE, and so counts as an access that failed. If the body
+ * aborts it itself, it is as if it returned SGT_BODY_QUIT.
  *
  * A body may be left by an exception, by the end of its thread, and, with glibc, by longjmp: then its transaction is aborted. With another
  * C library, it stays live after a longjmp.
@@ -267,7 +268,7 @@ uint32_t sgt_shared_transact(sgt_shared *shared, sgt_body body, void *context, c
  * Reads a record. SGT_NONE if there is none; SGT_UNDONE; SGT_BAD_CALL if the table is over 7 or the number out of range; SGT_NO_MEMORY.
  *
  * This and the two that follow are SGT_UNDONE once a conflict or another thread has ended the transaction, and SGT_MISUSE once its own
- * caller has committed or quit it. SGT_BAD_CALL also if it was not started.
+ * caller has committed or aborted it. SGT_BAD_CALL also if it was not started.
  */
 uint32_t sgt_transaction_read(sgt_transaction *transaction, uint64_t table, int64_t number, int64_t *value);
 
@@ -282,7 +283,7 @@ uint32_t sgt_transaction_remove(sgt_transaction *transaction, uint64_t table, in
  * sgt_transaction_commit or _quit. If its status is SGT_UNDONE, make the next try with the same sgt_transaction.
  *
  * sgt_shared_try waits, after a cycle, until another transaction has ended, and starts the next one: alone after options->tries tries. If
- * the last one is still live, it is quit. If the reply is not SGT_STARTED, it is SGT_SPENT.
+ * the last one is still live, it is aborted. If the reply is not SGT_STARTED, it is SGT_SPENT.
  *
  * SGT_TIMED_OUT, SGT_SELF_WAIT, SGT_NO_MEMORY: nothing was started. SGT_BAD_CALL if a size is too small. SGT_MISUSE in a body of
  * sgt_shared_transact.
@@ -292,12 +293,12 @@ uint32_t sgt_shared_try(sgt_shared *shared, sgt_transaction *transaction, const 
 /*
  * Commits it. Where it has to wait for another one, it waits until that has ended. The reply is as of sgt_shared_transact.
  *
- * SGT_UNDONE; SGT_TIMED_OUT, SGT_SELF_WAIT, SGT_NO_MEMORY, and the status of an access that failed: it was quit. SGT_MISUSE in a body of
+ * SGT_UNDONE; SGT_TIMED_OUT, SGT_SELF_WAIT, SGT_NO_MEMORY, and the status of an access that failed: it was aborted. SGT_MISUSE in a body of
  * sgt_shared_transact; SGT_BAD_CALL if it was not started.
  */
 uint32_t sgt_transaction_commit(sgt_transaction *transaction, int64_t wait_ns);
 
-/* Quits it. SGT_UNDONE if it had been aborted by a conflict before; SGT_BAD_CALL if it was not started. */
+/* Aborts it. SGT_UNDONE if it had been aborted by a conflict before; SGT_BAD_CALL if it was not started. */
 uint32_t sgt_transaction_quit(sgt_transaction *transaction);
 
 /*
@@ -327,27 +328,27 @@ uint32_t sgt_shared_remove(sgt_shared *shared, const sgt_ticket *ticket, uint64_
  * The accesses that the caller of a transaction decided, as by sgt_accesses, until the history is cut. A hook may call it, too: that of
  * `ended`, for a journal. The cost grows with the entries since its start, so ask soon. SGT_STALE; SGT_BAD_CALL.
  */
-uint32_t sgt_shared_accesses(sgt_shared *shared, const sgt_ticket *ticket, sgt_access *accesses, size_t room, uint64_t *count);
+uint32_t sgt_shared_accesses(sgt_shared *shared, const sgt_ticket *ticket, sgt_access *accesses, size_t capacity, uint64_t *count);
 
-/* Quits a transaction: it is aborted. This never needs memory for a live one. SGT_STALE; SGT_NO_MEMORY. */
+/* Aborts a transaction. This never needs memory for a live one. SGT_STALE; SGT_NO_MEMORY. */
 uint32_t sgt_shared_quit(sgt_shared *shared, const sgt_ticket *ticket, sgt_reply *reply);
 
 /*
- * Aborts a transaction that nobody needs any more, for destructors: as sgt_shared_quit does, or, from inside a hook of the same engine,
- * as soon as the hook has returned. Nothing is done if it has ended. SGT_STALE.
+ * Aborts a transaction that is not needed any more, for destructors: as sgt_shared_quit does, or, from inside a hook of the same engine, as
+ * soon as the hook has returned. Nothing is done if it has ended. SGT_STALE.
  */
 uint32_t sgt_shared_abandon(sgt_shared *shared, const sgt_ticket *ticket);
 
 /*
  * Commits a transaction. Where it has to wait for another one, it waits until that has ended.
  *
- * SGT_TIMED_OUT if the deadline comes first, SGT_SELF_WAIT: the transaction is still live, so commit it again later, or quit it. The reply
+ * SGT_TIMED_OUT if the deadline comes first, SGT_SELF_WAIT: the transaction is still live, so commit it again later, or abort it. The reply
  * is then SGT_WAITS, and its `tid` is the transaction that it waits for. SGT_STALE; SGT_NO_MEMORY.
  */
 uint32_t sgt_shared_commit(sgt_shared *shared, const sgt_ticket *ticket, int64_t wait_ns, sgt_reply *reply);
 
-/* Who is live, in order of their numbers: the first of them into `rows`, which has room for so many, and how many into `count`. */
-uint32_t sgt_shared_live(sgt_shared *shared, sgt_live *rows, size_t room, uint64_t *count);
+/* The live transactions, in order of their numbers: at most `capacity` are written to `rows`, and how many there are to `count`. */
+uint32_t sgt_shared_live(sgt_shared *shared, sgt_live *rows, size_t capacity, uint64_t *count);
 
 /*
  * Cuts the history off, as sgt_cut does. New transactions wait meanwhile, until the live ones have ended.
@@ -360,20 +361,20 @@ uint32_t sgt_shared_cut(sgt_shared *shared, int64_t wait_ns);
 uint32_t sgt_shared_get(sgt_shared *shared, uint64_t table, int64_t number, int64_t *value);
 
 /* The committed database from a record on, as by sgt_rows. SGT_NO_MEMORY; SGT_BAD_CALL. */
-uint32_t sgt_shared_rows(sgt_shared *shared, uint64_t table, int64_t number, sgt_row *rows, size_t room, uint64_t *count);
+uint32_t sgt_shared_rows(sgt_shared *shared, uint64_t table, int64_t number, sgt_row *rows, size_t capacity, uint64_t *count);
 
 /* How many entries the history has since the last cut, and into `part` how many cuts there were. `part` may be null. */
 uint32_t sgt_shared_entries(sgt_shared *shared, uint64_t *count, uint64_t *part);
 
 /*
- * Takes committed and refused calls that were stored because `keeps_ended` is 1: the oldest into `ended`, which has room for so many,
- * and how many these are into `count`. If there is none it waits for one; `count` is 0 if none has come by the deadline. SGT_CLOSED if the
+ * Takes committed and refused calls that were stored because `keeps_ended` is 1: at most `capacity`, the oldest first, are written to `ended`,
+ * and how many these are to `count`. If there is none it waits for one; `count` is 0 if none has come by the deadline. SGT_CLOSED if the
  * engine is closed meanwhile: so a thread that drains without a deadline can be ended.
  *
  * Each call is handed out once. Threads that drain at the same time get different calls, so order them by `sequence`. SGT_BAD_CALL also
  * if `keeps_ended` is not 1.
  */
-uint32_t sgt_shared_drain(sgt_shared *shared, int64_t wait_ns, sgt_ended *ended, size_t room, uint64_t *count);
+uint32_t sgt_shared_drain(sgt_shared *shared, int64_t wait_ns, sgt_ended *ended, size_t capacity, uint64_t *count);
 
 /*
  * Lets calls of this thread be interrupted while they wait for a transaction, a cut or a call to drain. `interrupted` is called ten times a

@@ -47,13 +47,13 @@ template <typename Write> std::string written(Write write)
 // Returns the text of a reply, as `sgt script` prints it.
 inline std::string text(const sgt_reply &reply)
 {
-    return written([&](char *to, std::size_t room, std::uint64_t *length) { return sgt_reply_text(&reply, to, room, length); });
+    return written([&](char *to, std::size_t capacity, std::uint64_t *length) { return sgt_reply_text(&reply, to, capacity, length); });
 }
 
 // Returns the text of a fault.
 inline std::string text(const sgt_fault &fault)
 {
-    return written([&](char *to, std::size_t room, std::uint64_t *length) { return sgt_fault_text(&fault, to, room, length); });
+    return written([&](char *to, std::size_t capacity, std::uint64_t *length) { return sgt_fault_text(&fault, to, capacity, length); });
 }
 
 // Throws std::runtime_error unless the library serves these headers: same major and minor number, and not older.
@@ -88,16 +88,16 @@ public:
     // An opening with this fault.
     static Refused opening(const sgt_fault &fault, std::string_view opening)
     {
-        return Refused(fault, explained(fault, [&](char *to, std::size_t room, std::uint64_t *length) {
-            return sgt_explain_opening(bytes_of(opening), opening.size(), to, room, length);
+        return Refused(fault, explained(fault, [&](char *to, std::size_t capacity, std::uint64_t *length) {
+            return sgt_explain_opening(bytes_of(opening), opening.size(), to, capacity, length);
         }));
     }
 
     // The text of a procedure with this fault.
     static Refused procedure(const sgt_fault &fault, std::string_view text)
     {
-        return Refused(fault, explained(fault, [&](char *to, std::size_t room, std::uint64_t *length) {
-            return sgt_explain_procedure(fault.procedure, bytes_of(text), text.size(), to, room, length);
+        return Refused(fault, explained(fault, [&](char *to, std::size_t capacity, std::uint64_t *length) {
+            return sgt_explain_procedure(fault.procedure, bytes_of(text), text.size(), to, capacity, length);
         }));
     }
 
@@ -151,7 +151,7 @@ public:
 };
 
 // Thrown by the calls of an `OwnTransaction` if it has been aborted: nothing of it is in the database. The reply says why. If that was by a
-// conflict, a cycle or a cascading abort, try it again; else somebody quit it.
+// conflict, a cycle or a cascading abort, try it again; else a caller aborted it.
 class Aborted : public std::runtime_error {
 public:
     Aborted(const sgt_reply &reply, bool is_conflict) : std::runtime_error("sgt: " + text(reply)), reply(reply), is_conflict(is_conflict) {}
@@ -376,8 +376,8 @@ public:
         return entry;
     }
 
-    // Returns the committed and refused calls of the history from an index on, in reply order, at most so many, and the index to go on
-    // from. Returns none if the history is shorter. Run one after another, these calls give the same answers.
+    // Returns the committed and refused calls of the history from an index on, in reply order, at most `most`, and the index to go on from.
+    // Returns none if the history is shorter. Run one after another, these calls give the same answers.
     std::optional<std::pair<std::vector<sgt_call>, std::uint64_t>> calls(std::uint64_t from, std::size_t most) const
     {
         std::vector<sgt_call> calls(most ? most : 1);
@@ -459,21 +459,21 @@ struct TransactLimits {
 
 class SharedEngine;
 
-// A transaction whose accesses you decide, of `SharedEngine::begin` or `SharedEngine::transact`. Its destructor quits it, unless it has
+// A transaction whose accesses you decide, of `SharedEngine::begin` or `SharedEngine::transact`. Its destructor aborts it, unless it has
 // ended before. It must not outlive the engine. What it reads may be uncommitted, and be undone afterwards: so act on it only after the
 // commit. Each call throws Aborted if it has been aborted, std::invalid_argument if a number is out of range, or std::bad_alloc; and
-// std::logic_error (SGT_MISUSE) if you have committed or quit it before. A body must not commit it: std::logic_error, too.
+// std::logic_error (SGT_MISUSE) if you have committed or aborted it before. A body must not commit it: std::logic_error, too.
 class [[nodiscard]] OwnTransaction {
 public:
-    OwnTransaction(OwnTransaction &&other) noexcept : shared(other.shared), told(other.told), is_in_body(other.is_in_body)
+    OwnTransaction(OwnTransaction &&other) noexcept : shared(other.shared), reported(other.reported), is_in_body(other.is_in_body)
     {
-        other.told.is_live = 0;
+        other.reported.is_live = 0;
     }
 
     OwnTransaction &operator=(OwnTransaction &&other) noexcept
     {
         std::swap(shared, other.shared);
-        std::swap(told, other.told);
+        std::swap(reported, other.reported);
         std::swap(is_in_body, other.is_in_body);
         return *this;
     }
@@ -483,32 +483,32 @@ public:
 
     ~OwnTransaction()
     {
-        if (told.is_live) sgt_shared_abandon(shared, &told.ticket); // also inside a hook of the engine
+        if (reported.is_live) sgt_shared_abandon(shared, &reported.ticket); // also inside a hook of the engine
     }
 
     // Identifies the last try: once it is committed, that of its `sgt_ended`.
-    [[nodiscard]] const sgt_ticket &ticket() const { return told.ticket; }
+    [[nodiscard]] const sgt_ticket &ticket() const { return reported.ticket; }
 
     // How many transactions were started for it, this one included.
-    [[nodiscard]] std::uint32_t tries() const { return told.tries; }
+    [[nodiscard]] std::uint32_t tries() const { return reported.tries; }
 
     // Returns the value of a record, or none if there is no such record.
     [[nodiscard]] std::optional<std::int64_t> read(std::uint64_t table, std::int64_t number)
     {
         std::int64_t value = 0;
-        auto status = sgt_transaction_read(&told, table, number, &value);
+        auto status = sgt_transaction_read(&reported, table, number, &value);
         if (status == SGT_NONE) return std::nullopt;
         check(status);
         return value;
     }
 
     // Writes a record.
-    void write(std::uint64_t table, std::int64_t number, std::int64_t value) { check(sgt_transaction_write(&told, table, number, value)); }
+    void write(std::uint64_t table, std::int64_t number, std::int64_t value) { check(sgt_transaction_write(&reported, table, number, value)); }
 
     // Removes a record. Does nothing if there is none.
-    void remove(std::uint64_t table, std::int64_t number) { check(sgt_transaction_remove(&told, table, number)); }
+    void remove(std::uint64_t table, std::int64_t number) { check(sgt_transaction_remove(&reported, table, number)); }
 
-    // Commits it, and waits for its predecessors. Throws TimedOut if the deadline comes first, or SelfWait; then it was quit.
+    // Commits it, and waits for its predecessors. Throws TimedOut if the deadline comes first, or SelfWait; then it was aborted.
     void commit(Wait wait = std::nullopt)
     {
         if (is_in_body) throw std::logic_error("sgt: a body must not commit its transaction: transact does when it returns");
@@ -518,29 +518,29 @@ public:
     // Aborts it, unless it has ended.
     void quit()
     {
-        if (told.is_live) static_cast<void>(ends_undone());
+        if (reported.is_live) static_cast<void>(ends_undone());
     }
 
 private:
     friend class SharedEngine;
 
-    explicit OwnTransaction(sgt_shared *shared) : shared(shared) { told.size = sizeof told; }
+    explicit OwnTransaction(sgt_shared *shared) : shared(shared) { reported.size = sizeof reported; }
 
     void check(std::uint32_t status) const;
 
-    // Starts the next try: alone after so many.
+    // Starts the next try: alone after `tries` tries.
     void start(Wait wait, std::uint32_t tries);
 
     // Commits it. False if it was aborted by a conflict.
     bool is_committed(Wait wait);
 
-    // Quits it. Whether it was aborted by a conflict.
-    bool ends_undone() { return sgt_transaction_quit(&told) == SGT_UNDONE; }
+    // Aborts it. Whether it was aborted by a conflict.
+    bool ends_undone() { return sgt_transaction_quit(&reported) == SGT_UNDONE; }
 
-    [[nodiscard]] Aborted aborted() const { return Aborted(told.reply, told.status == SGT_UNDONE); }
+    [[nodiscard]] Aborted aborted() const { return Aborted(reported.reply, reported.status == SGT_UNDONE); }
 
     sgt_shared *shared;
-    sgt_transaction told{};
+    sgt_transaction reported{};
     bool is_in_body = false; // of `SharedEngine::transact`, which commits it
 };
 
@@ -576,7 +576,7 @@ public:
     [[nodiscard]] sgt_reply step()
     {
         sgt_reply reply{};
-        return told(sgt_shared_step(shared, &of, &reply), reply);
+        return reported(sgt_shared_step(shared, &of, &reply), reply);
     }
 
     // Commits the transaction, and waits for its predecessors. Throws TimedOut if the deadline comes first; it is still live then, and
@@ -590,7 +590,7 @@ public:
     sgt_reply quit()
     {
         sgt_reply reply{};
-        return told(sgt_shared_quit(shared, &of, &reply), reply);
+        return reported(sgt_shared_quit(shared, &of, &reply), reply);
     }
 
 private:
@@ -598,7 +598,7 @@ private:
 
     Transaction(sgt_shared *shared, const sgt_ticket &of) : shared(shared), of(of) {}
 
-    sgt_reply told(std::uint32_t status, const sgt_reply &reply);
+    sgt_reply reported(std::uint32_t status, const sgt_reply &reply);
 
     sgt_shared *shared;
     sgt_ticket of;
@@ -675,14 +675,14 @@ public:
     // Runs a function of yours as a transaction, `body(OwnTransaction &)`, commits it, and returns what it returned.
     //
     // The body is run again after a conflict, so it must have no effects but its accesses. What it reads may be uncommitted, and be undone
-    // afterwards: act on it after the commit, when this call has returned. What it throws quits the transaction and is thrown, unless it
+    // afterwards: act on it after the commit, when this call has returned. What it throws aborts the transaction and is rethrown, unless it
     // is a std::exception and a conflict had come first; it may rest on a value that is undone. To refuse truthfully, return the refusal
     // without a write: once that is committed, it is true. The body must not commit the transaction itself.
     //
     // After `tries` conflicts the next try is made alone: others wait until it has ended, and it has no conflicts.
     //
-    // Throws TimedOut if the deadline comes first, which does not interrupt the body; Aborted if somebody quit the transaction; NotStarted;
-    // SelfWait; std::bad_alloc. Then nothing of it is left live.
+    // Throws TimedOut if the deadline comes first, which does not interrupt the body; Aborted if another caller aborted the transaction;
+    // NotStarted; SelfWait; std::bad_alloc. Then nothing of it is left live.
     template <typename Body> auto transact(Body body, TransactLimits limits = {}) -> decltype(body(std::declval<OwnTransaction &>()))
     {
         using Result = decltype(body(std::declval<OwnTransaction &>()));
@@ -771,7 +771,7 @@ public:
         return count;
     }
 
-    // Takes at most so many of the stored calls. Returns an empty list if none comes in time. Throws std::logic_error if the engine stores
+    // Takes at most `most` of the stored calls. Returns an empty list if none comes in time. Throws std::logic_error if the engine stores
     // none.
     [[nodiscard]] std::vector<sgt_ended> drain(std::size_t most, Wait wait = std::nullopt)
     {
@@ -806,8 +806,8 @@ private:
         sgt_shared_config config{};
         config.size = sizeof config;
         config.context = hooks.get();
-        if (hooks->ended) config.ended = tell_ended;
-        if (hooks->cutting) config.cutting = tell_cutting;
+        if (hooks->ended) config.ended = report_ended;
+        if (hooks->cutting) config.cutting = report_cutting;
         config.keeps_ended = hooks->keeps_ended;
         config.cut_after = hooks->cut_after;
         config.cut_wait_ns = hooks->cut_wait.count();
@@ -837,9 +837,9 @@ private:
         return own.is_committed(left(limits, begin));
     }
 
-    static void tell_ended(void *context, const sgt_ended *call) { static_cast<Configuration *>(context)->ended(*call); }
+    static void report_ended(void *context, const sgt_ended *call) { static_cast<Configuration *>(context)->ended(*call); }
 
-    static void tell_cutting(void *context, sgt_engine *engine, std::uint64_t part)
+    static void report_cutting(void *context, sgt_engine *engine, std::uint64_t part)
     {
         static_cast<Configuration *>(context)->cutting(engine, part);
     }
@@ -879,16 +879,16 @@ inline void OwnTransaction::start(Wait wait, std::uint32_t tries)
     options.size = sizeof options;
     options.wait_ns = SharedEngine::nanoseconds(wait);
     options.tries = tries;
-    SharedEngine::check(sgt_shared_try(shared, &told, &options));
-    if (told.reply.kind != SGT_STARTED) throw NotStarted(told.reply);
+    SharedEngine::check(sgt_shared_try(shared, &reported, &options));
+    if (reported.reply.kind != SGT_STARTED) throw NotStarted(reported.reply);
 }
 
 inline bool OwnTransaction::is_committed(Wait wait)
 {
-    auto status = sgt_transaction_commit(&told, SharedEngine::nanoseconds(wait));
+    auto status = sgt_transaction_commit(&reported, SharedEngine::nanoseconds(wait));
     if (status == SGT_UNDONE) return false;
     SharedEngine::check(status);
-    if (told.reply.kind != SGT_COMMITTED) throw aborted();
+    if (reported.reply.kind != SGT_COMMITTED) throw aborted();
     return true;
 }
 
@@ -897,10 +897,10 @@ inline sgt_reply Transaction::commit(Wait wait)
     sgt_reply reply{};
     auto status = sgt_shared_commit(shared, &of, SharedEngine::nanoseconds(wait), &reply);
     first = reply.kind == SGT_WAITS ? std::optional(reply.tid) : std::nullopt;
-    return told(status, reply);
+    return reported(status, reply);
 }
 
-inline sgt_reply Transaction::told(std::uint32_t status, const sgt_reply &reply)
+inline sgt_reply Transaction::reported(std::uint32_t status, const sgt_reply &reply)
 {
     SharedEngine::check(status);
     if (reply.kind == SGT_COMMITTED || reply.kind == SGT_ABORTED || reply.kind == SGT_REFUSED || reply.kind == SGT_OVER) is_live = false;

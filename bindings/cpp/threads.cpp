@@ -15,9 +15,9 @@ enum : std::uint64_t { PAY = 5 }; // from a customer, to a customer, cents; abor
 int main()
 {
     constexpr int THREADS = 8, EACH = 2000;
-    std::atomic<int> paid{0}, refused{0}, told{0};
+    std::atomic<int> paid{0}, refused{0}, reported{0};
     sgt::Configuration with;
-    with.ended = [&](const sgt_ended &) { told++; };
+    with.ended = [&](const sgt_ended &) { reported++; };
     with.cut_after = 10000;
     sgt::SharedEngine bank(opening, {}, with);
     std::vector<std::thread> threads;
@@ -32,7 +32,7 @@ int main()
     for (auto &thread : threads) thread.join();
     std::int64_t money = 0;
     for (const auto &row : bank.rows(2)) money += row.value;
-    if (paid + refused != THREADS * EACH || told != paid + refused || paid == 0) return 1;
+    if (paid + refused != THREADS * EACH || reported != paid + refused || paid == 0) return 1;
     auto started = bank.start(PAY, std::vector<std::int64_t>{101, 102, 0}); // step by step; its destructor aborts it
     if (!started.first || started.first->step().kind != SGT_LOOKED || bank.live().size() != 1) return 1;
     try {

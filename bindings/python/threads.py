@@ -30,12 +30,12 @@ def pay_each(bank: SharedEngine, number: int, paid: list[int]) -> None:
 
 def main() -> None:
     accounts = [(name, 100 + name, 0, 1000) for name in (1, 2, 3, 4)]
-    told: list[int] = []
+    reported: list[int] = []
     with SharedEngine(
         limits=(8, 4_000_000, 1),
         accounts=accounts,
         procedures=[TRANSFER],
-        ended=lambda call: told.append(call.sequence),
+        ended=lambda call: reported.append(call.sequence),
         keeps_ended=True,
         cut_after=10_000,
     ) as bank:
@@ -46,7 +46,7 @@ def main() -> None:
         for thread in threads:
             thread.join()
         calls = bank.drain(100_000, timeout=0)
-        assert told == [ended.sequence for ended in calls] == list(range(THREADS * EACH))
+        assert reported == [ended.sequence for ended in calls] == list(range(THREADS * EACH))
         assert sum(ended.call.code is None for ended in calls) == sum(paid) > 0
 
         with bank.transaction(PAY, 101, 102, 0) as started:  # step by step; the end of the block aborts it

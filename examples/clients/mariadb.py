@@ -86,14 +86,14 @@ def program(name):
 @contextmanager
 def temporary():
     """A server in a folder of its own: the words that connect to it."""
-    room = pathlib.Path(tempfile.mkdtemp())
+    scratch = pathlib.Path(tempfile.mkdtemp())
     share = pathlib.Path(program("mariadbd")).resolve().parents[1] / "share"
-    own = ["--no-defaults", f"--datadir={room}/data", f"--lc-messages-dir={share}/mysql", *["--user=root"] * (os.getuid() == 0)]
-    words = [program("mariadb"), "--no-defaults", f"--socket={room}/socket", "--user=root"]
+    own = ["--no-defaults", f"--datadir={scratch}/data", f"--lc-messages-dir={share}/mysql", *["--user=root"] * (os.getuid() == 0)]
+    words = [program("mariadb"), "--no-defaults", f"--socket={scratch}/socket", "--user=root"]
     server = None
     try:
-        (room / "data" / "mysql").mkdir(parents=True)
-        server = subprocess.Popen([program("mariadbd"), *own, "--skip-grant-tables", "--skip-networking", f"--socket={room}/socket"],
+        (scratch / "data" / "mysql").mkdir(parents=True)
+        server = subprocess.Popen([program("mariadbd"), *own, "--skip-grant-tables", "--skip-networking", f"--socket={scratch}/socket"],
                                   stdout=subprocess.DEVNULL, stderr=subprocess.DEVNULL)
         wait_for(words, server)
         subprocess.run([*words, "-e", "create database sgt"], check=True)
@@ -102,7 +102,7 @@ def temporary():
         if server is not None:
             server.kill()
             server.wait()
-        shutil.rmtree(room, ignore_errors=True)
+        shutil.rmtree(scratch, ignore_errors=True)
 
 
 def wait_for(words, server):

@@ -75,22 +75,22 @@ def temporary():
     """A database in a folder of its own: the words that connect to it."""
     bin = max(pathlib.Path("/usr/lib/postgresql").glob("*/bin"))
     user = ["runuser", "-u", "postgres", "--"] if os.getuid() == 0 else []
-    room = pathlib.Path(tempfile.mkdtemp())
+    scratch = pathlib.Path(tempfile.mkdtemp())
     try:
         if user:
-            os.chown(room, pwd.getpwnam("postgres").pw_uid, -1)
+            os.chown(scratch, pwd.getpwnam("postgres").pw_uid, -1)
 
         def call(program, *words):
-            subprocess.run([*user, bin / program, *words], check=True, stdout=subprocess.DEVNULL, cwd=room)
+            subprocess.run([*user, bin / program, *words], check=True, stdout=subprocess.DEVNULL, cwd=scratch)
 
-        call("initdb", "-D", room / "data", "-A", "trust", "-U", "postgres")
-        call("pg_ctl", "-D", room / "data", "-o", f"-k {room} -h ''", "-l", room / "log", "-w", "start")
+        call("initdb", "-D", scratch / "data", "-A", "trust", "-U", "postgres")
+        call("pg_ctl", "-D", scratch / "data", "-o", f"-k {scratch} -h ''", "-l", scratch / "log", "-w", "start")
         try:
-            yield ["-h", str(room), "-U", "postgres"]
+            yield ["-h", str(scratch), "-U", "postgres"]
         finally:
-            call("pg_ctl", "-D", room / "data", "-m", "immediate", "stop")
+            call("pg_ctl", "-D", scratch / "data", "-m", "immediate", "stop")
     finally:
-        shutil.rmtree(room, ignore_errors=True)
+        shutil.rmtree(scratch, ignore_errors=True)
 
 
 @contextmanager

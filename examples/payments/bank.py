@@ -15,7 +15,8 @@ ENTRIES = 4_000_000  # the history is cut after so many entries, or as many as t
 ROW = struct.Struct("<I4xqq")  # table, number and value of a row
 AT_ONCE = 10_000  # calls that are replayed: an outcome takes 384 bytes
 COMMITTED = int(Kind.COMMITTED)  # a member of an enum is compared slowly
-# Of an outcome, laid out as `sgt_outcome` of sgt.h, what a client is told of: its reply's kind, the code, and how many answers; then these.
+# The part of an outcome that a client gets, laid out as `sgt_outcome` of sgt.h: its reply's kind, the code, the number of answers, and the
+# answers.
 read_outcomes = struct.Struct("=8xI8xI24xI12x8q256x").iter_unpack
 NO_PROCEDURE = 65_535  # the number of none
 CALL = len(pack_calls([(0,)]))  # bytes of a packed call
@@ -37,12 +38,12 @@ class Procedure:
         self.rights: dict[str, str] = file.get("rights", {})  # by the key that has the account: pay, or read
         self.writes = any(f'["{word}"' in json.dumps(self.text) for word in ("put", "remove"))
         # Replies by how many answers they have, in which %d stands for a number. To put JSON together by `dumps` takes four times as long.
-        told = file.get("reply", [])
-        self._list = f", {json.dumps(told)}: " if isinstance(told, str) else ""  # of all answers, under one key
-        keys = [json.dumps(key).replace("%", "%%") + ": %d" for key in [*(self.request or [""])[:1], *([] if self._list else told)]]
+        reported = file.get("reply", [])
+        self._list = f", {json.dumps(reported)}: " if isinstance(reported, str) else ""  # of all answers, under one key
+        keys = [json.dumps(key).replace("%", "%%") + ": %d" for key in [*(self.request or [""])[:1], *([] if self._list else reported)]]
         done = f", {json.dumps(file['done'])}: true".replace("%", "%%") if "done" in file else ""
         self._begin, self._most = "{" + keys[0], 8 if self._list else len(keys) - 1  # how many answers a client is told
-        self._told = [self._begin + done + "".join([", " + key for key in keys[1 : count + 1]]) + "%s}" for count in range(len(keys))]
+        self._reported = [self._begin + done + "".join([", " + key for key in keys[1 : count + 1]]) + "%s}" for count in range(len(keys))]
         self._reasons = {int(code): reason for code, reason in file.get("refused", {}).items()}
         self._remembers: bool = file.get("remembers", False)  # that a first answer -N is a refusal by code N
         Engine.bare(1, 1).procedure(self.text)  # says what is wrong with it
@@ -58,7 +59,7 @@ class Procedure:
             why = {"refused": self._reasons.get(code, f"code {code}")} if code else {"error": "this server follows another one"}
             return self._begin % first + ", " + json.dumps(why)[1:-1] + age + "}"
         answers = outcome[3 : 3 + min(count, self._most)]
-        return self._told[0] % (first, self._list + str([*answers]) + age) if self._list else self._told[len(answers)] % (first, *answers, age)
+        return self._reported[0] % (first, self._list + str([*answers]) + age) if self._list else self._reported[len(answers)] % (first, *answers, age)
 
 
 def load_procedures(folder: pathlib.Path) -> dict[str, Procedure]:

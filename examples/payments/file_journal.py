@@ -32,11 +32,11 @@ class FileJournal:
             self._begin(1)
         path = self.paths()[-1]
         lines, tail = whole_lines(path)
-        self.report = self._told_of(int(path.stem) + len(lines) - 1, tail)
+        self.report = self._reported_of(int(path.stem) + len(lines) - 1, tail)
         self._open(path).truncate(path.stat().st_size - len(tail))
         return True
 
-    def _told_of(self, number: int, tail: bytes) -> str:
+    def _reported_of(self, number: int, tail: bytes) -> str:
         """What a tail after a batch may have held. A killed server leaves the beginning of a line. Anything else is kept in a file."""
         begin = f"cut off {len(tail)} bytes after batch {number}: "
         if tail.decode("latin-1").isprintable():

@@ -59,9 +59,9 @@ class Front:
         """Waits for lines, has the server run what they ask, and replies."""
         asked = self.wait()
         replies: dict[int, str] = {}
-        told = iter(self.told([it for _, line in asked for it in (line if type(line) is list else (line,))]))
+        reported = iter(self.reported([it for _, line in asked for it in (line if type(line) is list else (line,))]))
         for number, line in asked:
-            text = f"[{', '.join(islice(told, len(line)))}]\n" if type(line) is list else next(told) + "\n"
+            text = f"[{', '.join(islice(reported, len(line)))}]\n" if type(line) is list else next(reported) + "\n"
             replies[number] = replies.get(number, "") + text
         for number, reply in replies.items():
             try:
@@ -69,7 +69,7 @@ class Front:
             except OSError:  # it is gone, or takes no replies; it can ask again with its id
                 self.drop(number)
 
-    def told(self, requests: list[Request]) -> list[str]:
+    def reported(self, requests: list[Request]) -> list[str]:
         """The reply to each request."""
         calls = [it for it in requests if type(it) is tuple]
         words = [it for it in requests if type(it) is dict]
@@ -78,8 +78,8 @@ class Front:
         packed = pack_calls([(self.numbers[procedure.name], *args) for procedure, args in calls])
         self.server.send_bytes(marshal.dumps((packed, [procedure.entry % args for procedure, args in calls], words)))
         outcomes, of_words, age = marshal.loads(self.server.recv_bytes())
-        told = iter([procedure.reply(outcome, args[0], age) for (procedure, args), outcome in zip(calls, read_outcomes(outcomes))])
-        return [next(told) if type(it) is tuple else it if type(it) is str else of_words.pop(0) for it in requests]
+        reported = iter([procedure.reply(outcome, args[0], age) for (procedure, args), outcome in zip(calls, read_outcomes(outcomes))])
+        return [next(reported) if type(it) is tuple else it if type(it) is str else of_words.pop(0) for it in requests]
 
     def wait(self) -> list[tuple[int, Line]]:
         """The next lines, with the numbers of their clients. Meanwhile clients come and go."""

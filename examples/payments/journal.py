@@ -12,7 +12,7 @@ from typing import Any, Callable, Iterable, Protocol, Sequence
 from bank import Unusable
 
 AT_ONCE = 200  # batches that are read
-BEHIND = 50_000  # batches that stay for a server that is away
+FOLLOWING = 50_000  # batches that stay for a server that is away
 LEASE = 3  # seconds without a word of the primary, after which another server leads
 TRY = 1.5  # seconds until a request is given up
 BEAT = threading.Lock()  # has who renews a lease, or forks
@@ -54,7 +54,7 @@ class Journal(Protocol):
 def needed(stored: Iterable[int]) -> int:
     """Before which batch none is needed: each server has a snapshot after it. One that is far behind a majority is not waited for."""
     numbers = sorted(stored, reverse=True)
-    return max(numbers[-1], numbers[len(numbers) // 2] - BEHIND)
+    return max(numbers[-1], numbers[len(numbers) // 2] - FOLLOWING)
 
 
 def keep_alive(begin: Callable[[], Callable[[], object]]) -> None:

@@ -80,8 +80,8 @@ class Server:
         self.batch += wrote
         self.chain.bank.seq += len(wrote)
         self.calls += len(entries)
-        told = [self.words[word](value) if word in self.words else {"error": "no word of this server"} for it in words for word, value in it.items()]
-        return outcomes, [*map(json.dumps, told)]
+        reported = [self.words[word](value) if word in self.words else {"error": "no word of this server"} for it in words for word, value in it.items()]
+        return outcomes, [*map(json.dumps, reported)]
 
     def rows(self, _: int) -> dict[str, Any]:
         """A digest of all rows, and how many there are. Nobody is served while it is made: some seconds for ten million rows."""
@@ -90,8 +90,8 @@ class Server:
 
     def health(self, _: int) -> dict[str, Any]:
         """What an operator should look after, or ok. That there is a reply says that batches become safe, as each reply waits for that."""
-        told = "; ".join(filter(None, (self.chain.trouble, self.trouble, self.trouble_of_clock()))) or "ok"
-        return {"health": told, "leads": self.chain.leads, "seq": self.chain.bank.seq, "batch": self.chain.number}
+        reported = "; ".join(filter(None, (self.chain.trouble, self.trouble, self.trouble_of_clock()))) or "ok"
+        return {"health": reported, "leads": self.chain.leads, "seq": self.chain.bank.seq, "batch": self.chain.number}
 
     def figures(self, _: int) -> dict[str, Any]:
         """Since the start: seconds, calls, batches, and seconds in which batches were made safe. And the records at the last cut."""

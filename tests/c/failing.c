@@ -1,15 +1,11 @@
 // Loaded before the C library, this refuses memory, fails reads of standard input and fails writes to standard output, at the
 // calls that the environment names. Each name may be missing.
 //
-//     REFUSE_FIRST REFUSE_LAST   the first and the last allocation that is refused, counted from 1
-//     REFUSE_AFTER_WRITES        so many writes to standard output are made; each later allocation is refused
-//     COUNT_ALLOCATIONS          tells how many there were, on standard error behind all else
-//     COUNT_REFUSED              tells how many of them were refused, likewise
-//     READ_FAILS_AFTER           so many bytes are given; each later read fails
-//     READ_AT_MOST               so many bytes are given at a time
-//     WRITE_FAILS_AFTER          so many bytes are taken; each later write fails
-//     WRITE_STOPS_AFTER          so many bytes are taken; each later write takes nothing
-//     WRITE_AT_MOST              so many bytes are taken at a time
+// REFUSE_FIRST REFUSE_LAST the first and the last allocation that is refused, counted from 1 REFUSE_AFTER_WRITES each allocation after this
+// many writes to standard output is refused COUNT_ALLOCATIONS prints how many there were, at the end of standard error COUNT_REFUSED prints
+// how many of them were refused, likewise READ_FAILS_AFTER each read after this many bytes fails READ_AT_MOST the most bytes that one read
+// gives WRITE_FAILS_AFTER each write after this many bytes fails WRITE_STOPS_AFTER each write after this many bytes takes nothing
+// WRITE_AT_MOST the most bytes that one write takes
 #define _GNU_SOURCE
 #include <dlfcn.h>
 #include <errno.h>
@@ -94,16 +90,16 @@ int posix_memalign(void **result, size_t alignment, size_t size) {
 
 static size_t least(size_t a, size_t b) { return a < b ? a : b; }
 
-ssize_t read(int file, void *room, size_t size) {
+ssize_t read(int file, void *buffer, size_t size) {
   static ssize_t (*real)(int, void *, size_t);
   ssize_t came;
   if (!real) real = dlsym(RTLD_NEXT, "read");
-  if (!ready || file != 0) return real(file, room, size);
+  if (!ready || file != 0) return real(file, buffer, size);
   if (given >= read_fails_after) {
     errno = EIO;
     return -1;
   }
-  came = real(file, room, least(size, least(read_at_most, read_fails_after - given)));
+  came = real(file, buffer, least(size, least(read_at_most, read_fails_after - given)));
   if (came > 0) given += came;
   return came;
 }
@@ -111,7 +107,7 @@ ssize_t read(int file, void *room, size_t size) {
 ssize_t write(int file, const void *bytes, size_t size) {
   static ssize_t (*real)(int, const void *, size_t);
   ssize_t took;
-  size_t room;
+  size_t buffer;
   if (!real) real = dlsym(RTLD_NEXT, "write");
   if (!ready || file != 1) return real(file, bytes, size);
   writes += 1;
@@ -120,8 +116,8 @@ ssize_t write(int file, const void *bytes, size_t size) {
     return -1;
   }
   if (taken >= write_stops_after) return 0;
-  room = least(write_fails_after - taken, write_stops_after - taken);
-  took = real(file, bytes, least(size, least(write_at_most, room)));
+  buffer = least(write_fails_after - taken, write_stops_after - taken);
+  took = real(file, bytes, least(size, least(write_at_most, buffer)));
   if (took > 0) taken += took;
   return took;
 }

@@ -1,4 +1,4 @@
-// Loaded before the C library, this lets so many calls of fsync pass as FSYNC_FAILS_AFTER says, and fails each later one.
+// Loaded before the C library, this lets the first FSYNC_FAILS_AFTER calls of fsync pass, and fails each later one.
 #define _GNU_SOURCE
 #include <dlfcn.h>
 #include <errno.h>

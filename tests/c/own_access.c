@@ -1,6 +1,6 @@
 /*
- * Transactions whose accesses their caller decides, compared with what the header says. Numbers stand for the header's names here, so
- * that a name that changed its number is seen. Each check that fails is told; the last line counts them all.
+ * Transactions whose accesses their caller decides, compared with what the header says. Numbers stand for the header's names here, so that
+ * a name that changed its number is seen. Each failed check is printed; the last line counts all checks.
  */
 #include <inttypes.h>
 #include <stdio.h>
@@ -32,46 +32,46 @@ static void opens(sgt_engine *engine)
 
 static uint32_t begins(sgt_engine *engine)
 {
-    sgt_reply told = {0};
-    CHECK(sgt_begin(engine, &told) == 0 && told.kind == 1);
-    return told.tid;
+    sgt_reply reported = {0};
+    CHECK(sgt_begin(engine, &reported) == 0 && reported.kind == 1);
+    return reported.tid;
 }
 
-/* Whether a read or a write of a value, or of none, was told of this record. */
-static int is_access(const sgt_reply *told, uint32_t kind, uint32_t table, int64_t number)
+/* Whether the reply is a read or a write of a value, or of none, of this record. */
+static int is_access(const sgt_reply *reported, uint32_t kind, uint32_t table, int64_t number)
 {
-    return told->kind == kind && told->table == table && told->number == number;
+    return reported->kind == kind && reported->table == table && reported->number == number;
 }
 
 static int reads(sgt_engine *engine, uint32_t tid, uint32_t table, int64_t number, int64_t value)
 {
-    sgt_reply told = {0};
-    return sgt_read(engine, tid, table, number, &told) == 0 && is_access(&told, 8, table, number) && told.found == 1 && told.value == value;
+    sgt_reply reported = {0};
+    return sgt_read(engine, tid, table, number, &reported) == 0 && is_access(&reported, 8, table, number) && reported.found == 1 && reported.value == value;
 }
 
 static int reads_none(sgt_engine *engine, uint32_t tid, uint32_t table, int64_t number)
 {
-    sgt_reply told = {.found = 77, .value = 78};
-    return sgt_read(engine, tid, table, number, &told) == 0 && is_access(&told, 8, table, number) && told.found == 0 && told.value == 78;
+    sgt_reply reported = {.found = 77, .value = 78};
+    return sgt_read(engine, tid, table, number, &reported) == 0 && is_access(&reported, 8, table, number) && reported.found == 0 && reported.value == 78;
 }
 
 static int writes(sgt_engine *engine, uint32_t tid, uint32_t table, int64_t number, int64_t value)
 {
-    sgt_reply told = {0};
-    return sgt_write(engine, tid, table, number, value, &told) == 0 && is_access(&told, 9, table, number) && told.found == 1
-        && told.value == value;
+    sgt_reply reported = {0};
+    return sgt_write(engine, tid, table, number, value, &reported) == 0 && is_access(&reported, 9, table, number) && reported.found == 1
+        && reported.value == value;
 }
 
 static int removes(sgt_engine *engine, uint32_t tid, uint32_t table, int64_t number)
 {
-    sgt_reply told = {.found = 77, .value = 78};
-    return sgt_remove(engine, tid, table, number, &told) == 0 && is_access(&told, 9, table, number) && told.found == 0 && told.value == 78;
+    sgt_reply reported = {.found = 77, .value = 78};
+    return sgt_remove(engine, tid, table, number, &reported) == 0 && is_access(&reported, 9, table, number) && reported.found == 0 && reported.value == 78;
 }
 
 static int commits(sgt_engine *engine, uint32_t tid)
 {
-    sgt_reply told = {0};
-    return sgt_commit(engine, tid, &told) == 0 && told.kind == 13 && told.answers == 0;
+    sgt_reply reported = {0};
+    return sgt_commit(engine, tid, &reported) == 0 && reported.kind == 13 && reported.answers == 0;
 }
 
 static int has(const sgt_engine *engine, uint32_t table, int64_t number, int64_t value)
@@ -117,32 +117,32 @@ static void a_caller_moves_money(void)
 static void what_is_out_of_range_is_refused(void)
 {
     sgt_engine engine = {0};
-    sgt_reply told = {0};
+    sgt_reply reported = {0};
     uint64_t count = 0;
-    CHECK(sgt_begin(&engine, &told) == 2);
-    CHECK(sgt_read(&engine, 0, 8, 101, &told) == 5 && sgt_read(&engine, 0, 2, 101, &told) == 2);
-    CHECK(sgt_write(&engine, 0, 8, 101, 1, &told) == 5 && sgt_write(&engine, 0, 2, 101, 1, &told) == 2);
-    CHECK(sgt_remove(&engine, 0, 8, 101, &told) == 5 && sgt_remove(&engine, 0, 2, 101, &told) == 2);
-    CHECK(sgt_begin(NULL, &told) == 2 && sgt_begin(&engine, NULL) == 5 && sgt_read(NULL, 0, 2, 101, &told) == 2);
-    CHECK(told.kind == 0);
+    CHECK(sgt_begin(&engine, &reported) == 2);
+    CHECK(sgt_read(&engine, 0, 8, 101, &reported) == 5 && sgt_read(&engine, 0, 2, 101, &reported) == 2);
+    CHECK(sgt_write(&engine, 0, 8, 101, 1, &reported) == 5 && sgt_write(&engine, 0, 2, 101, 1, &reported) == 2);
+    CHECK(sgt_remove(&engine, 0, 8, 101, &reported) == 5 && sgt_remove(&engine, 0, 2, 101, &reported) == 2);
+    CHECK(sgt_begin(NULL, &reported) == 2 && sgt_begin(&engine, NULL) == 5 && sgt_read(NULL, 0, 2, 101, &reported) == 2);
+    CHECK(reported.kind == 0);
     opens(&engine);
     uint32_t t = begins(&engine);
-    CHECK(sgt_read(&engine, t, 8, 101, &told) == 5 && sgt_read(&engine, t, 258, 101, &told) == 5);
-    CHECK(sgt_read(&engine, t, (UINT64_C(1) << 32) + 2, 101, &told) == 5);
-    CHECK(sgt_read(&engine, t, 2, SGT_MOST + 1, &told) == 5 && sgt_read(&engine, t, 2, SGT_LEAST - 1, &told) == 5);
-    CHECK(sgt_write(&engine, t, 8, 101, 1, &told) == 5 && sgt_write(&engine, t, 2, SGT_MOST + 1, 1, &told) == 5);
-    CHECK(sgt_remove(&engine, t, 8, 101, &told) == 5 && sgt_remove(&engine, t, 2, SGT_LEAST - 1, &told) == 5);
-    CHECK(told.kind == 0 && sgt_entries(&engine, &count) == 0 && count == 1);
-    CHECK(sgt_write(&engine, t, 2, 101, SGT_MOST + 1, &told) == 0 && told.kind == 3);
-    CHECK(sgt_write(&engine, t, 2, 101, SGT_LEAST - 1, &told) == 0 && told.kind == 3);
+    CHECK(sgt_read(&engine, t, 8, 101, &reported) == 5 && sgt_read(&engine, t, 258, 101, &reported) == 5);
+    CHECK(sgt_read(&engine, t, (UINT64_C(1) << 32) + 2, 101, &reported) == 5);
+    CHECK(sgt_read(&engine, t, 2, SGT_MOST + 1, &reported) == 5 && sgt_read(&engine, t, 2, SGT_LEAST - 1, &reported) == 5);
+    CHECK(sgt_write(&engine, t, 8, 101, 1, &reported) == 5 && sgt_write(&engine, t, 2, SGT_MOST + 1, 1, &reported) == 5);
+    CHECK(sgt_remove(&engine, t, 8, 101, &reported) == 5 && sgt_remove(&engine, t, 2, SGT_LEAST - 1, &reported) == 5);
+    CHECK(reported.kind == 0 && sgt_entries(&engine, &count) == 0 && count == 1);
+    CHECK(sgt_write(&engine, t, 2, 101, SGT_MOST + 1, &reported) == 0 && reported.kind == 3);
+    CHECK(sgt_write(&engine, t, 2, 101, SGT_LEAST - 1, &reported) == 0 && reported.kind == 3);
     CHECK(reads(&engine, t, 2, 101, 1000));
     CHECK(writes(&engine, t, 2, 101, SGT_MOST) && writes(&engine, t, 7, SGT_LEAST, SGT_LEAST));
-    CHECK(sgt_read(&engine, 1, 2, 101, &told) == 0 && told.kind == 6);
+    CHECK(sgt_read(&engine, 1, 2, 101, &reported) == 0 && reported.kind == 6);
     CHECK(commits(&engine, t));
     CHECK(has(&engine, 2, 101, SGT_MOST) && has(&engine, 7, SGT_LEAST, SGT_LEAST));
-    CHECK(sgt_read(&engine, t, 2, 101, &told) == 0 && told.kind == 7 && told.cause == 0);
-    CHECK(sgt_write(&engine, t, 2, 101, 5, &told) == 0 && told.kind == 7);
-    CHECK(sgt_remove(&engine, t, 2, 101, &told) == 0 && told.kind == 7);
+    CHECK(sgt_read(&engine, t, 2, 101, &reported) == 0 && reported.kind == 7 && reported.cause == 0);
+    CHECK(sgt_write(&engine, t, 2, 101, 5, &reported) == 0 && reported.kind == 7);
+    CHECK(sgt_remove(&engine, t, 2, 101, &reported) == 0 && reported.kind == 7);
     CHECK(has(&engine, 2, 101, SGT_MOST));
     sgt_close(&engine);
 }
@@ -150,16 +150,16 @@ static void what_is_out_of_range_is_refused(void)
 static void the_limits_hold_for_begins(void)
 {
     sgt_engine engine = {0};
-    sgt_reply told = {0};
+    sgt_reply reported = {0};
     CHECK(sgt_open_bare(&engine, 1, 2, 0) == 0);
     uint32_t t = begins(&engine);
-    CHECK(sgt_begin(&engine, &told) == 0 && told.kind == 5);
+    CHECK(sgt_begin(&engine, &reported) == 0 && reported.kind == 5);
     CHECK(writes(&engine, t, 0, 1, 5) && commits(&engine, t));
     t = begins(&engine);
     CHECK(t == 1 && reads(&engine, t, 0, 1, 5) && commits(&engine, t));
-    CHECK(sgt_begin(&engine, &told) == 0 && told.kind == 4);
-    CHECK(sgt_start(&engine, 65535, NULL, 0, &told) == 0 && told.kind == 4);
-    CHECK(sgt_start(&engine, 0, NULL, 0, &told) == 0 && told.kind == 2);
+    CHECK(sgt_begin(&engine, &reported) == 0 && reported.kind == 4);
+    CHECK(sgt_start(&engine, 65535, NULL, 0, &reported) == 0 && reported.kind == 4);
+    CHECK(sgt_start(&engine, 0, NULL, 0, &reported) == 0 && reported.kind == 2);
     sgt_close(&engine);
 }
 
@@ -167,20 +167,20 @@ static void the_limits_hold_for_begins(void)
 static void accesses_follow_a_procedure(void)
 {
     sgt_engine engine = {0};
-    sgt_reply told = {0};
+    sgt_reply reported = {0};
     opens(&engine);
-    CHECK(sgt_start(&engine, 1, deposit, 2, &told) == 0 && told.kind == 1);
-    uint32_t t = told.tid;
-    CHECK(sgt_read(&engine, t, 2, 101, &told) == 0 && told.kind == 11);
-    CHECK(sgt_step(&engine, t, &told) == 0 && told.kind == 8);
-    CHECK(sgt_write(&engine, t, 2, 101, SGT_MOST + 1, &told) == 0 && told.kind == 11);
-    CHECK(sgt_remove(&engine, t, 2, 101, &told) == 0 && told.kind == 11);
-    CHECK(sgt_step(&engine, t, &told) == 0 && told.kind == 8);
-    CHECK(sgt_step(&engine, t, &told) == 0 && told.kind == 9 && told.value == 1100);
+    CHECK(sgt_start(&engine, 1, deposit, 2, &reported) == 0 && reported.kind == 1);
+    uint32_t t = reported.tid;
+    CHECK(sgt_read(&engine, t, 2, 101, &reported) == 0 && reported.kind == 11);
+    CHECK(sgt_step(&engine, t, &reported) == 0 && reported.kind == 8);
+    CHECK(sgt_write(&engine, t, 2, 101, SGT_MOST + 1, &reported) == 0 && reported.kind == 11);
+    CHECK(sgt_remove(&engine, t, 2, 101, &reported) == 0 && reported.kind == 11);
+    CHECK(sgt_step(&engine, t, &reported) == 0 && reported.kind == 8);
+    CHECK(sgt_step(&engine, t, &reported) == 0 && reported.kind == 9 && reported.value == 1100);
     CHECK(reads(&engine, t, 2, 101, 1100));
     CHECK(writes(&engine, t, 1, 101, 400));
-    CHECK(sgt_step(&engine, t, &told) == 0 && told.kind == 10);
-    CHECK(sgt_commit(&engine, t, &told) == 0 && told.kind == 13 && told.answers == 1 && told.answer[0] == 1100);
+    CHECK(sgt_step(&engine, t, &reported) == 0 && reported.kind == 10);
+    CHECK(sgt_commit(&engine, t, &reported) == 0 && reported.kind == 13 && reported.answers == 1 && reported.answer[0] == 1100);
     CHECK(has(&engine, 2, 101, 1100) && has(&engine, 1, 101, 400));
     sgt_close(&engine);
 }
@@ -188,15 +188,15 @@ static void accesses_follow_a_procedure(void)
 static void a_cycle_aborts(void)
 {
     sgt_engine engine = {0};
-    sgt_reply told = {0};
+    sgt_reply reported = {0};
     opens(&engine);
     uint32_t a = begins(&engine), b = begins(&engine);
     CHECK(reads(&engine, a, 2, 101, 1000));
     CHECK(reads(&engine, b, 2, 102, 60));
     CHECK(writes(&engine, a, 2, 102, 61));
-    CHECK(sgt_remove(&engine, b, 2, 101, &told) == 0);
-    CHECK(told.kind == 14 && told.cause == 1 && told.walked == 2 && told.walk[0] == b && told.walk[1] == a && told.fallen == 0);
-    CHECK(sgt_write(&engine, b, 2, 101, 5, &told) == 0 && told.kind == 7 && told.cause == 1);
+    CHECK(sgt_remove(&engine, b, 2, 101, &reported) == 0);
+    CHECK(reported.kind == 14 && reported.cause == 1 && reported.walked == 2 && reported.walk[0] == b && reported.walk[1] == a && reported.fallen == 0);
+    CHECK(sgt_write(&engine, b, 2, 101, 5, &reported) == 0 && reported.kind == 7 && reported.cause == 1);
     CHECK(commits(&engine, a));
     CHECK(has(&engine, 2, 101, 1000) && has(&engine, 2, 102, 61));
     sgt_close(&engine);
@@ -206,14 +206,14 @@ static void a_cycle_aborts(void)
 static void readers_fall_and_wait(void)
 {
     sgt_engine engine = {0};
-    sgt_reply told = {0};
+    sgt_reply reported = {0};
     opens(&engine);
     uint32_t a = begins(&engine), b = begins(&engine);
     CHECK(removes(&engine, a, 2, 101));
     CHECK(reads_none(&engine, b, 2, 101));
-    CHECK(sgt_commit(&engine, b, &told) == 0 && told.kind == 12 && told.tid == a);
-    CHECK(sgt_quit(&engine, a, &told) == 0 && told.kind == 14 && told.cause == 3 && told.fallen == 1 && told.fell[0] == b);
-    CHECK(sgt_read(&engine, b, 2, 101, &told) == 0 && told.kind == 7 && told.cause == 4 && told.tid == a);
+    CHECK(sgt_commit(&engine, b, &reported) == 0 && reported.kind == 12 && reported.tid == a);
+    CHECK(sgt_quit(&engine, a, &reported) == 0 && reported.kind == 14 && reported.cause == 3 && reported.fallen == 1 && reported.fell[0] == b);
+    CHECK(sgt_read(&engine, b, 2, 101, &reported) == 0 && reported.kind == 7 && reported.cause == 4 && reported.tid == a);
     CHECK(has(&engine, 2, 101, 1000));
     a = begins(&engine);
     b = begins(&engine);
@@ -227,36 +227,36 @@ static void entries_have_accesses(void)
 {
     sgt_engine engine = {0};
     sgt_event event, want;
-    sgt_reply told = {0};
+    sgt_reply reported = {0};
     opens(&engine);
     uint32_t t = begins(&engine);
     CHECK(reads(&engine, t, 2, 101, 1000) && writes(&engine, t, 3, -9, 7) && removes(&engine, t, 2, 102));
-    CHECK(sgt_write(&engine, t, 2, 101, SGT_MOST + 1, &told) == 0 && told.kind == 3);
+    CHECK(sgt_write(&engine, t, 2, 101, SGT_MOST + 1, &reported) == 0 && reported.kind == 3);
     memset(&event, 0x5a, sizeof event);
     want = event;
-    CHECK(sgt_entry(&engine, 0, &event, &told) == 0 && told.kind == 1);
+    CHECK(sgt_entry(&engine, 0, &event, &reported) == 0 && reported.kind == 1);
     want.kind = 1;
     want.procedure = 65535;
     want.args = 0;
     CHECK(memcmp(&event, &want, sizeof event) == 0);
-    CHECK(sgt_entry(&engine, 1, &event, &told) == 0 && told.kind == 8 && told.value == 1000);
+    CHECK(sgt_entry(&engine, 1, &event, &reported) == 0 && reported.kind == 8 && reported.value == 1000);
     want.kind = 5;
     want.tid = t;
     want.table = 2;
     want.number = 101;
     CHECK(memcmp(&event, &want, sizeof event) == 0);
-    CHECK(sgt_entry(&engine, 2, &event, &told) == 0 && told.kind == 9 && told.found == 1 && told.value == 7);
+    CHECK(sgt_entry(&engine, 2, &event, &reported) == 0 && reported.kind == 9 && reported.found == 1 && reported.value == 7);
     want.kind = 6;
     want.table = 3;
     want.number = -9;
     want.value = 7;
     CHECK(memcmp(&event, &want, sizeof event) == 0);
-    CHECK(sgt_entry(&engine, 3, &event, &told) == 0 && told.kind == 9 && told.found == 0);
+    CHECK(sgt_entry(&engine, 3, &event, &reported) == 0 && reported.kind == 9 && reported.found == 0);
     want.kind = 7;
     want.table = 2;
     want.number = 102;
     CHECK(memcmp(&event, &want, sizeof event) == 0);
-    CHECK(sgt_entry(&engine, 4, &event, &told) == 0 && told.kind == 3 && event.kind == 6 && event.value == SGT_MOST + 1);
+    CHECK(sgt_entry(&engine, 4, &event, &reported) == 0 && reported.kind == 3 && event.kind == 6 && event.value == SGT_MOST + 1);
     sgt_close(&engine);
 }
 
@@ -269,7 +269,7 @@ static int is_one(const sgt_access *access, uint32_t kind, uint32_t table, int64
 static void accesses_are_listed(void)
 {
     sgt_engine engine = {0};
-    sgt_reply told = {0};
+    sgt_reply reported = {0};
     sgt_access list[8];
     uint64_t count = 77;
     memset(list, 0x5a, sizeof list);
@@ -279,12 +279,12 @@ static void accesses_are_listed(void)
     CHECK(sgt_accesses(&engine, 0, NULL, 0, &count) == 0 && count == 0);
     uint32_t a = begins(&engine), b = begins(&engine);
     CHECK(reads(&engine, a, 2, 101, 1000) && reads(&engine, b, 1, 101, 500) && writes(&engine, a, 2, 101, 5));
-    CHECK(sgt_write(&engine, a, 2, 101, SGT_MOST + 1, &told) == 0 && told.kind == 3);
+    CHECK(sgt_write(&engine, a, 2, 101, SGT_MOST + 1, &reported) == 0 && reported.kind == 3);
     CHECK(reads_none(&engine, a, 3, 9) && removes(&engine, a, 2, 102));
     CHECK(sgt_accesses(&engine, b, list, 8, &count) == 0 && count == 1 && is_one(&list[0], 5, 1, 101, 1, 500));
     CHECK(list[1].kind == 0x5a5a5a5a);
     CHECK(commits(&engine, a));
-    CHECK(sgt_read(&engine, a, 2, 101, &told) == 0 && told.kind == 7);
+    CHECK(sgt_read(&engine, a, 2, 101, &reported) == 0 && reported.kind == 7);
     CHECK(sgt_accesses(&engine, a, list, 8, &count) == 0 && count == 4);
     CHECK(is_one(&list[0], 5, 2, 101, 1, 1000) && is_one(&list[1], 6, 2, 101, 1, 5));
     CHECK(is_one(&list[2], 5, 3, 9, 0, 0) && is_one(&list[3], 7, 2, 102, 0, 0) && list[4].kind == 0x5a5a5a5a);
@@ -295,38 +295,38 @@ static void accesses_are_listed(void)
     sgt_close(&engine);
 }
 
-/* Makes one access of a journal again, and says whether it is told the same. */
+/* Makes one access of a journal again, and says whether it gets the same reply. */
 static int made_again(sgt_engine *engine, uint32_t tid, const sgt_access *access)
 {
-    sgt_reply told = {0};
+    sgt_reply reported = {0};
     uint32_t status = 0;
-    if (access->kind == 5) status = sgt_read(engine, tid, access->table, access->number, &told);
-    if (access->kind == 6) status = sgt_write(engine, tid, access->table, access->number, access->value, &told);
-    if (access->kind == 7) status = sgt_remove(engine, tid, access->table, access->number, &told);
-    return status == 0 && is_access(&told, access->kind == 5 ? 8 : 9, access->table, access->number) && told.found == access->found
-        && told.value == access->value;
+    if (access->kind == 5) status = sgt_read(engine, tid, access->table, access->number, &reported);
+    if (access->kind == 6) status = sgt_write(engine, tid, access->table, access->number, access->value, &reported);
+    if (access->kind == 7) status = sgt_remove(engine, tid, access->table, access->number, &reported);
+    return status == 0 && is_access(&reported, access->kind == 5 ? 8 : 9, access->table, access->number) && reported.found == access->found
+        && reported.value == access->value;
 }
 
 /* Runs a call of a journal again with its accesses, and says whether its result is the same. */
 static int run_again(sgt_engine *engine, const sgt_call *call, const sgt_access *accesses)
 {
-    sgt_reply told = {0};
-    CHECK(sgt_start(engine, call->procedure, call->arg, call->args, &told) == 0 && told.kind == 1);
-    uint32_t tid = told.tid;
+    sgt_reply reported = {0};
+    CHECK(sgt_start(engine, call->procedure, call->arg, call->args, &reported) == 0 && reported.kind == 1);
+    uint32_t tid = reported.tid;
     do {
-        if (sgt_step(engine, tid, &told) != 0) CHECK(!"a step is answered");
-    } while (told.kind == 8 || told.kind == 9);
+        if (sgt_step(engine, tid, &reported) != 0) CHECK(!"a step is answered");
+    } while (reported.kind == 8 || reported.kind == 9);
     for (uint64_t i = 0; i < call->accesses; i++) CHECK(made_again(engine, tid, &accesses[i]));
-    CHECK(sgt_commit(engine, tid, &told) == 0);
-    if (told.kind != call->kind) return 0;
-    return told.answers == call->answers && memcmp(told.answer, call->answer, call->answers * sizeof *call->answer) == 0;
+    CHECK(sgt_commit(engine, tid, &reported) == 0);
+    if (reported.kind != call->kind) return 0;
+    return reported.answers == call->answers && memcmp(reported.answer, call->answer, call->answers * sizeof *call->answer) == 0;
 }
 
 /* Callers' transactions among those of procedures, one aborted among them, run again on a new engine. */
 static void a_journal_is_run_again(void)
 {
     sgt_engine engine = {0}, other = {0};
-    sgt_reply told = {0};
+    sgt_reply reported = {0};
     sgt_call calls[8] = {{0}};
     sgt_outcome outcomes[8] = {{0}};
     sgt_access accesses[8] = {{0}};
@@ -338,15 +338,15 @@ static void a_journal_is_run_again(void)
     uint32_t a = begins(&engine), b = begins(&engine), c = begins(&engine);
     CHECK(reads(&engine, a, 2, 101, 1000) && removes(&engine, a, 1, 102) && writes(&engine, c, 2, 102, 1) && reads_none(&engine, b, 1, 102));
     CHECK(writes(&engine, b, 3, 5, 8) && writes(&engine, a, 2, 101, 990));
-    CHECK(sgt_quit(&engine, c, &told) == 0 && told.kind == 14);
+    CHECK(sgt_quit(&engine, c, &reported) == 0 && reported.kind == 14);
     CHECK(commits(&engine, a) && commits(&engine, b));
-    CHECK(sgt_run(&engine, 1, deposit, 2, &tid, &told) == 0 && told.kind == 13 && told.answer[0] == 1090);
-    CHECK(sgt_start(&engine, 1, deposit, 2, &told) == 0 && told.kind == 1);
-    tid = told.tid;
+    CHECK(sgt_run(&engine, 1, deposit, 2, &tid, &reported) == 0 && reported.kind == 13 && reported.answer[0] == 1090);
+    CHECK(sgt_start(&engine, 1, deposit, 2, &reported) == 0 && reported.kind == 1);
+    tid = reported.tid;
     do {
-        if (sgt_step(&engine, tid, &told) != 0) CHECK(!"a step is answered");
-    } while (told.kind == 8 || told.kind == 9);
-    CHECK(reads(&engine, tid, 3, 5, 8) && sgt_commit(&engine, tid, &told) == 0 && told.kind == 13 && told.answer[0] == 1190);
+        if (sgt_step(&engine, tid, &reported) != 0) CHECK(!"a step is answered");
+    } while (reported.kind == 8 || reported.kind == 9);
+    CHECK(reads(&engine, tid, 3, 5, 8) && sgt_commit(&engine, tid, &reported) == 0 && reported.kind == 13 && reported.answer[0] == 1190);
     CHECK(sgt_calls(&engine, 0, calls, 8, &count, &next) == 0 && count == 4);
     CHECK(calls[0].tid == a && calls[0].procedure == 65535 && calls[0].args == 0 && calls[0].answers == 0 && calls[0].accesses == 3);
     CHECK(calls[1].tid == b && calls[1].accesses == 2 && calls[2].accesses == 0 && calls[3].procedure == 1 && calls[3].accesses == 1);
@@ -365,14 +365,14 @@ static void a_journal_is_run_again(void)
 
 static void replies_are_spelled(void)
 {
-    sgt_reply told = {.kind = 9, .table = 2, .number = 101, .found = 0, .value = 5};
+    sgt_reply reported = {.kind = 9, .table = 2, .number = 101, .found = 0, .value = 5};
     char text[64] = {0};
     uint64_t length = 0;
-    CHECK(sgt_reply_text(&told, text, sizeof text, &length) == 0 && length > 0 && strstr(text, "101") && !strchr(text, '5'));
-    told.found = 1;
-    CHECK(sgt_reply_text(&told, text, sizeof text, &length) == 0 && strchr(text, '5'));
-    told.found = 2;
-    CHECK(sgt_reply_text(&told, text, sizeof text, &length) == 5);
+    CHECK(sgt_reply_text(&reported, text, sizeof text, &length) == 0 && length > 0 && strstr(text, "101") && !strchr(text, '5'));
+    reported.found = 1;
+    CHECK(sgt_reply_text(&reported, text, sizeof text, &length) == 0 && strchr(text, '5'));
+    reported.found = 2;
+    CHECK(sgt_reply_text(&reported, text, sizeof text, &length) == 5);
 }
 
 int main(void)

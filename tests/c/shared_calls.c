@@ -1,6 +1,6 @@
 /*
- * Each call of sgt_shared.h, with its status and what it tells, compared with what the header says. Each check that fails is told;
- * the last line counts them all.
+ * Each call of sgt_shared.h, with its status and its results, compared with what the header says. Each failed check is printed; the last
+ * line counts all checks.
  */
 #include <inttypes.h>
 #include <pthread.h>
@@ -116,7 +116,7 @@ static void an_engine_is_taken_over(void)
     closes(shared);
 }
 
-static void a_run_is_told(void)
+static void a_run_is_reported(void)
 {
     sgt_shared *shared = bank(0);
     sgt_shared_outcome outcome = SGT_SHARED_OUTCOME, small = SGT_SHARED_OUTCOME;
@@ -212,7 +212,7 @@ static void until_one_waits(sgt_shared *shared)
     CHECK(!"a thread waits");
 }
 
-/* Until the history has so many entries. */
+/* Until the history has this many entries. */
 static void until_entries(sgt_shared *shared, uint64_t wanted)
 {
     uint64_t count = 0;
@@ -241,7 +241,8 @@ static uint32_t drains(struct later *it)
     return count == 1 && call.sequence == 0 && call.call.kind == SGT_COMMITTED ? status : 99;
 }
 
-/* A commit that waits for the writer goes on as the writer commits, and when it is quit it is told that it fell. */
+/* A commit that waits for the writer continues when the writer commits; when the writer is aborted, it is answered that it was aborted in
+ * cascade. */
 static void a_commit_waits(void)
 {
     for (int quits = 0; quits < 2; quits++) {
@@ -335,7 +336,7 @@ static void no_wake_up_is_lost(void)
     if (reader.committed == round - 1) pthread_join(id, 0), closes(reader.shared);
 }
 
-/* A run that read from a transaction that is quit is run anew. */
+/* A run that read from a transaction that is aborted is run anew. */
 static void a_run_is_tried_again(void)
 {
     sgt_shared *shared = bank(0);
@@ -360,7 +361,7 @@ static uint32_t runs_once(struct later *it)
     return sgt_shared_run(it->shared, 0, name, 1, &options, &it->outcome);
 }
 
-/* With one try, the same run is told how that ended. */
+/* With one try, the same run returns how that ended. */
 static void a_run_has_so_many_tries(void)
 {
     sgt_shared *shared = bank(0);
@@ -461,7 +462,7 @@ static void the_history_is_cut_off(void)
     closes(other);
 }
 
-/* What hooks are told. */
+/* What hooks are called with. */
 
 struct heard {
     sgt_shared *shared, *other;
@@ -491,7 +492,7 @@ static void hears_cut(void *context, sgt_engine *engine, uint64_t part)
     heard->misuses += sgt_shared_cut(heard->shared, 0) == SGT_MISUSE;
 }
 
-static void hooks_are_told(void)
+static void hooks_are_called(void)
 {
     struct heard heard = {.other = bank(0)};
     sgt_shared_config config = SGT_SHARED_CONFIG;
@@ -527,7 +528,7 @@ struct payers {
     sgt_shared *shared, *other;
     pthread_t ids[PAYERS];
     atomic_bool is_over;   /* before all payments are made */
-    atomic_uint paid, wrong, told;
+    atomic_uint paid, wrong, reported;
 };
 
 static void *pays(void *of)
@@ -558,19 +559,19 @@ static void pay_all(struct payers *it)
     CHECK(sgt_shared_get(it->shared, 2, 101, &value) == SGT_OK && value == 1000 + 100 * (int64_t)it->paid);
 }
 
-/* Is told of each payment once, in their order, and calls both engines. */
+/* Is called for each payment once, in their order, and calls both engines. */
 static void hears_payers(void *context, const sgt_ended *call)
 {
     struct payers *it = context;
     sgt_shared_outcome outcome = SGT_SHARED_OUTCOME;
-    if (call->sequence != it->told++ || call->call.answer[0] != 1000 + 100 * (int64_t)it->told) it->wrong++;
+    if (call->sequence != it->reported++ || call->call.answer[0] != 1000 + 100 * (int64_t)it->reported) it->wrong++;
     if (sgt_shared_run(it->shared, 0, name, 1, 0, &outcome) != SGT_MISUSE) it->wrong++;
     if (sgt_shared_run(it->other, 1, deposit, 2, 0, &outcome) != SGT_OK) it->wrong++;
 }
 
 static const char roomy[] = "{\"limits\":[2,1000000,1],\"accounts\":[[1,101,500,1000],[2,102,0,0]],\"procedures\":[]}";
 
-static void hooks_are_told_of_all_threads(void)
+static void hooks_are_called_for_all_threads(void)
 {
     struct payers others = {0}, payers = {0};
     sgt_shared_config config = SGT_SHARED_CONFIG;
@@ -583,7 +584,7 @@ static void hooks_are_told_of_all_threads(void)
     pay_in_threads(&others);
     pay_all(&payers);
     for (int i = 0; i < PAYERS; i++) pthread_join(others.ids[i], 0);
-    CHECK(payers.told == PAYERS * PAYMENTS && payers.paid == payers.told && others.wrong == 0);
+    CHECK(payers.reported == PAYERS * PAYMENTS && payers.paid == payers.reported && others.wrong == 0);
     int64_t value = 0;
     CHECK(sgt_shared_get(others.shared, 2, 101, &value) == SGT_OK && value == 1000 + 100 * 2 * PAYERS * PAYMENTS);
     closes(payers.shared);
@@ -741,7 +742,7 @@ static void a_forked_child_is_refused(void)
     closes(shared);
 }
 
-static void numbers_and_texts_are_told(void)
+static void numbers_and_texts_are_reported(void)
 {
     static const uint32_t numbers[] = {SGT_BUSY, SGT_TIMED_OUT, SGT_STALE, SGT_MISUSE};
     CHECK(numbers[0] == 10 && numbers[1] == 12 && numbers[2] == 13 && numbers[3] == 14);
@@ -759,7 +760,7 @@ int main(void)
 {
     engines_are_opened_and_closed();
     an_engine_is_taken_over();
-    a_run_is_told();
+    a_run_is_reported();
     a_run_that_has_to_wait_is_never_left_behind();
     a_commit_waits();
     no_wake_up_is_lost();
@@ -769,15 +770,15 @@ int main(void)
     a_refusal_wakes();
     a_full_engine_is_waited_for();
     the_history_is_cut_off();
-    hooks_are_told();
-    hooks_are_told_of_all_threads();
+    hooks_are_called();
+    hooks_are_called_for_all_threads();
     all_get_their_turn();
     ended_calls_are_drained();
     a_close_ends_drains();
     many_ends_are_stored();
     cuts_come_by_themselves();
     a_forked_child_is_refused();
-    numbers_and_texts_are_told();
+    numbers_and_texts_are_reported();
     printf("%d checks, %d failed\n", checks, failed);
     return failed != 0;
 }

@@ -3,7 +3,7 @@
  * Whatever comes, a call answers a status that it may answer, writes nothing where that is not SGT_OK, and an event adds one entry.
  * The two engines are given the same events, and say the same.
  *
- * Built with -fsanitize=fuzzer it is a target of libFuzzer; with -DDRAWN it draws inputs for so many seconds as DRAWN says.
+ * Built with -fsanitize=fuzzer it is a target of libFuzzer; with -DDRAWN it draws inputs for DRAWN seconds.
  */
 #include <inttypes.h>
 #include <stdbool.h>
@@ -136,13 +136,13 @@ static void access_by(struct pair *pair, struct input *input)
 static void accesses(struct pair *pair, struct input *input)
 {
     const uint32_t tid = byte(input) % 64;
-    const size_t room = byte(input) % 4;
+    const size_t capacity = byte(input) % 4;
     const sgt_ticket ticket = {pair->engine, pair->part, tid, 0};
     sgt_access ones[3] = {{0}}, others[3] = {{0}};
     uint64_t many = 77, count = 77;
     if (!pair->engine) return;
-    must(sgt_accesses(&pair->plain, tid, ones, room, &many) == SGT_OK, "the accesses are not told");
-    must(sgt_shared_accesses(pair->shared, &ticket, others, room, &count) == SGT_OK && many == count, "the accesses differ");
+    must(sgt_accesses(&pair->plain, tid, ones, capacity, &many) == SGT_OK, "the accesses are not told");
+    must(sgt_shared_accesses(pair->shared, &ticket, others, capacity, &count) == SGT_OK && many == count, "the accesses differ");
     must(memcmp(ones, others, sizeof ones) == 0, "the accesses differ");
 }
 
@@ -150,7 +150,7 @@ static void accesses(struct pair *pair, struct input *input)
 struct body {
     struct pair *pair;
     struct input *input;
-    uint32_t tid, told;
+    uint32_t tid, reported;
     bool is_over;
 };
 
@@ -173,17 +173,17 @@ static uint32_t acts(void *context, sgt_transaction *t)
         const uint8_t table = byte(it->input) % 9, which = byte(it->input) % 3;
         const int64_t record = 100 + byte(it->input) % 4, value = number(it->input);
         int64_t found = 77;
-        uint32_t plain, told;
+        uint32_t plain, reported;
         if (which == 0) plain = sgt_read(&it->pair->plain, it->tid, table, record, &reply);
         else if (which == 1) plain = sgt_write(&it->pair->plain, it->tid, table, record, value, &reply);
         else plain = sgt_remove(&it->pair->plain, it->tid, table, record, &reply);
-        if (which == 0) told = sgt_transaction_read(t, table, record, &found);
-        else told = which == 1 ? sgt_transaction_write(t, table, record, value) : sgt_transaction_remove(t, table, record);
-        must(told == wanted(&reply, plain), "an access of a body differs");
-        must(told != SGT_OK || which != 0 || found == reply.value, "a value differs");
-        if (told != SGT_OK && told != SGT_NONE) it->told = told;
-        if (told == SGT_UNDONE) it->is_over = true;
-        if (told != SGT_OK && told != SGT_NONE) break;
+        if (which == 0) reported = sgt_transaction_read(t, table, record, &found);
+        else reported = which == 1 ? sgt_transaction_write(t, table, record, value) : sgt_transaction_remove(t, table, record);
+        must(reported == wanted(&reply, plain), "an access of a body differs");
+        must(reported != SGT_OK || which != 0 || found == reply.value, "a value differs");
+        if (reported != SGT_OK && reported != SGT_NONE) it->reported = reported;
+        if (reported == SGT_UNDONE) it->is_over = true;
+        if (reported != SGT_OK && reported != SGT_NONE) break;
     }
     return byte(it->input) % 4 ? SGT_BODY_COMMIT : SGT_BODY_QUIT;
 }
@@ -200,20 +200,20 @@ static void transacts(struct pair *pair, struct input *input)
     must(sgt_shared_live(pair->shared, live, 3, &count) == SGT_OK, "who is live is not told");
     if (count > 0) return; /* else a conflict, or a full engine, would have it wait, and then quit */
     options.wait_ns = 0, options.tries = byte(input) % 3;
-    const uint32_t told = sgt_shared_transact(pair->shared, acts, &it, &options, &outcome);
+    const uint32_t reported = sgt_shared_transact(pair->shared, acts, &it, &options, &outcome);
     must(!it.is_over, "a body that is alone is aborted");
     if (it.tid == UINT32_MAX) {
-        must(told == SGT_OK && outcome.reply.kind == SGT_SPENT && outcome.tries == 0, "a body is not called");
+        must(reported == SGT_OK && outcome.reply.kind == SGT_SPENT && outcome.tries == 0, "a body is not called");
         must(sgt_begin(&pair->plain, &reply) == SGT_OK && reply.kind == SGT_SPENT, "a begin differs");
-    } else if (told == SGT_OK && outcome.reply.kind == SGT_COMMITTED) {
+    } else if (reported == SGT_OK && outcome.reply.kind == SGT_COMMITTED) {
         must(sgt_commit(&pair->plain, it.tid, &reply) == SGT_OK && reply.kind == SGT_COMMITTED, "a commit differs");
     } else {
-        must(told == it.told && sgt_quit(&pair->plain, it.tid, &reply) == SGT_OK, "a body ends otherwise");
+        must(reported == it.reported && sgt_quit(&pair->plain, it.tid, &reply) == SGT_OK, "a body ends otherwise");
     }
     entries(pair);
 }
 
-/* A run without a deadline to wait for. Where it would have to wait, the shared engine quits it, and so does this. */
+/* A run without a deadline to wait for. If it would have to wait, the shared engine aborts it, and so does this. */
 static void runs(struct pair *pair, struct input *input)
 {
     const int64_t args[5] = {number(input), number(input), number(input), 0, 0};
@@ -243,12 +243,12 @@ static void reads(struct pair *pair, struct input *input)
     int64_t one = 77, other = 77;
     sgt_row rows[3] = {{0}}, others[3] = {{0}};
     uint64_t many = 77, count = 77;
-    const size_t room = byte(input) % 4;
+    const size_t capacity = byte(input) % 4;
     uint32_t status = sgt_get(&pair->plain, table, record, &one);
     must(sgt_shared_get(pair->shared, table, record, &other) == status && one == other, "the values differ");
     must(status == SGT_OK || status == SGT_NONE || status == SGT_BAD_CALL, "a read has another status");
-    status = sgt_rows(&pair->plain, table, record, rows, room, &many);
-    must(sgt_shared_rows(pair->shared, table, record, others, room, &count) == status && many == count, "the rows differ");
+    status = sgt_rows(&pair->plain, table, record, rows, capacity, &many);
+    must(sgt_shared_rows(pair->shared, table, record, others, capacity, &count) == status && many == count, "the rows differ");
     must(memcmp(rows, others, sizeof rows) == 0, "the rows differ");
 }
 
@@ -338,7 +338,7 @@ static void call(struct pair *pair, struct input *input)
     }
 }
 
-/* Quits whoever is live in both. */
+/* Aborts the live transactions of both. */
 static void ends(struct pair *pair)
 {
     sgt_live live[3];

@@ -1,6 +1,6 @@
 /*
  * What may go wrong around a shared engine: a close beside calls and hooks, calls that come late, threads that are cancelled or end in a
- * hook, transactions that are abandoned in a hook, and calls that are interrupted while they wait. Each check that fails is told; the last
+ * hook, transactions that are abandoned in a hook, and calls that are interrupted while they wait. Each failed check is printed; the last
  * line counts them.
  *
  * No check depends on how soon a thread goes on: what a loop here waits for comes, and stays until the loop has seen it.
@@ -82,7 +82,7 @@ static int waits(sgt_shared *shared)
 /* Calls that are held up around the lock, and a close beside them */
 
 /* Where the next call of this thread is held up: until it may go on, or, if it is late, for a while. */
-enum place { NOWHERE, BEFORE, BEHIND, LATE };
+enum place { NOWHERE, BEFORE, FOLLOWING, LATE };
 
 static _Thread_local enum place held_up;
 static atomic_int is_held_up, may_go_on;
@@ -102,7 +102,7 @@ int __wrap_pthread_mutex_trylock(pthread_mutex_t *lock)
     if (held_up == BEFORE) hold_up();
     if (held_up == LATE) held_up = NOWHERE, sleep_for(SLICE / 10);
     const int failed = __real_pthread_mutex_trylock(lock);
-    if (held_up == BEHIND && !failed) hold_up();
+    if (held_up == FOLLOWING && !failed) hold_up();
     return failed;
 }
 
@@ -155,7 +155,7 @@ static void a_close_beside_calls_closes(void)
 static void *counts_slowly(void *of)
 {
     uint64_t count = 0;
-    held_up = BEHIND;
+    held_up = FOLLOWING;
     CHECK(sgt_shared_entries(of, &count, 0) == SGT_OK);
     return 0;
 }
@@ -209,7 +209,7 @@ static void awaits_close(void *context, const sgt_ended *ended)
 static void *runs_behind_lock(void *of)
 {
     sgt_shared_outcome outcome = SGT_SHARED_OUTCOME;
-    held_up = BEHIND;
+    held_up = FOLLOWING;
     CHECK(sgt_shared_run(of, WRITE, 0, 0, 0, &outcome) == SGT_OK);
     return 0;
 }
@@ -236,7 +236,7 @@ static void a_close_never_waits_for_a_hook(void)
     }
 }
 
-/* A deadline that comes before the lock: the run is not started. One of 0 waits for nobody, but for the lock. */
+/* A deadline that comes before the lock: the run is not started. One of 0 never waits, but for the lock. */
 static void a_run_is_not_started_late(void)
 {
     static const int64_t waits[] = {SLICE / 20, 1, 0, SGT_FOREVER};
@@ -300,13 +300,13 @@ static void a_cancelled_thread_holds_nothing(void)
     closes(shared);
 }
 
-static atomic_int is_told, is_cancelled;
+static atomic_int is_reported, is_cancelled;
 
 /* A hook that is a cancellation point. */
 static void dawdles(void *context, const sgt_ended *ended)
 {
     (void)context, (void)ended;
-    is_told = 1;
+    is_reported = 1;
     while (!is_cancelled) sched_yield();
     sleep_for(1000);
 }
@@ -334,7 +334,7 @@ static void a_thread_that_is_cancelled_in_a_hook_holds_nothing(void)
     config.ended = dawdles;
     sgt_shared *shared = opened(&config);
     CHECK(pthread_create(&thread, 0, runs, shared) == 0);
-    while (!is_told) sched_yield();
+    while (!is_reported) sched_yield();
     pthread_cancel(thread);
     is_cancelled = 1;
     pthread_join(thread, &ended);
@@ -414,7 +414,7 @@ static void hooks_that_call_each_other_do_not_lock_up(void)
 struct abandoned {
     sgt_shared *shared;
     sgt_ticket tickets[2];
-    uint32_t told[3], quit, count;
+    uint32_t reported[3], quit, count;
 };
 
 static void abandons(void *context, const sgt_ended *ended)
@@ -425,8 +425,8 @@ static void abandons(void *context, const sgt_ended *ended)
     (void)ended;
     strange.engine++;
     it->quit = sgt_shared_quit(it->shared, &it->tickets[0], &reply);
-    for (uint32_t i = 0; i < it->count; i++) it->told[i] = sgt_shared_abandon(it->shared, &it->tickets[i]);
-    it->told[2] = sgt_shared_abandon(it->shared, &strange);
+    for (uint32_t i = 0; i < it->count; i++) it->reported[i] = sgt_shared_abandon(it->shared, &it->tickets[i]);
+    it->reported[2] = sgt_shared_abandon(it->shared, &strange);
 }
 
 static void a_transaction_is_abandoned_in_a_hook(void)
@@ -440,7 +440,7 @@ static void a_transaction_is_abandoned_in_a_hook(void)
     it.shared = opened(&config);
     it.tickets[0] = begins(it.shared, WRITE, 1);
     CHECK(sgt_shared_run(it.shared, WRITE_OTHER, 0, 0, 0, &outcome) == SGT_OK);
-    CHECK(it.quit == SGT_MISUSE && it.told[0] == SGT_OK && it.told[2] == SGT_MISUSE && lives(it.shared) == 0);
+    CHECK(it.quit == SGT_MISUSE && it.reported[0] == SGT_OK && it.reported[2] == SGT_MISUSE && lives(it.shared) == 0);
     CHECK(sgt_shared_step(it.shared, &it.tickets[0], &reply) == SGT_OK && reply.kind == SGT_OVER && reply.cause == SGT_BY_QUIT);
     it.tickets[0] = begins(it.shared, READ, 1);
     CHECK(sgt_shared_abandon(it.shared, &it.tickets[0]) == SGT_OK && lives(it.shared) == 0); /* outside a hook */

@@ -1,5 +1,5 @@
 // What may go wrong around a shared engine in C++: hooks that throw, transactions that are destroyed in a hook or used after their end, and
-// an engine that is destroyed beside a call. Each check that fails is told; the last line counts them.
+// an engine that is destroyed beside a call. Each failed check is printed; the last line counts them.
 #include <atomic>
 #include <chrono>
 #include <cstdio>
@@ -64,27 +64,27 @@ static void hooks_of_c_throw()
 
 static void a_hook_throws()
 {
-    int told = 0;
+    int reported = 0;
     sgt::Configuration with;
     with.ended = [&](const sgt_ended &) {
-        if (told++ % 2 == 0) throw std::runtime_error("full disk");
+        if (reported++ % 2 == 0) throw std::runtime_error("full disk");
     };
     sgt::SharedEngine bank(opening, {}, with);
     CHECK(thrown([&] { (void)bank.run(WRITE, {}); }) == "full disk" && bank.get(7, 1) == 5 && bank.live().empty());
     CHECK(thrown([&] { (void)bank.run(WRITE, {}); }).empty());
     auto writer = bank.start(WRITE, {});
     while (writer.first->step().kind != SGT_ENDED) continue;
-    CHECK(thrown([&] { (void)writer.first->commit(); }) == "full disk" && bank.live().empty() && told == 3);
+    CHECK(thrown([&] { (void)writer.first->commit(); }) == "full disk" && bank.live().empty() && reported == 3);
     CHECK(writer.first->step().kind == SGT_OVER);
-    std::thread([&] { CHECK(thrown([&] { (void)bank.run(WRITE, {}); }).empty() && told == 4); }).join();
+    std::thread([&] { CHECK(thrown([&] { (void)bank.run(WRITE, {}); }).empty() && reported == 4); }).join();
 }
 
 static void a_hook_of_cuts_throws()
 {
-    int told = 0;
+    int reported = 0;
     sgt::Configuration with;
     with.cutting = [&](sgt_engine *, std::uint64_t part) {
-        if (told++ < 2) throw std::runtime_error("no cut " + std::to_string(part));
+        if (reported++ < 2) throw std::runtime_error("no cut " + std::to_string(part));
     };
     with.cut_after = 6;
     sgt::SharedEngine bank(opening, {}, with);
@@ -94,7 +94,7 @@ static void a_hook_of_cuts_throws()
     CHECK(thrown([&] { (void)bank.run(WRITE, {}); }).empty()); // the cut is put off
     CHECK(thrown([&] { (void)bank.run(WRITE, {}); }) == "no cut 0" && bank.entries() == 3 * each);
     std::thread([&] { CHECK(thrown([&] { bank.cut(); }).empty() && bank.entries() == 0); }).join();
-    CHECK(told == 3 && bank.live().empty());
+    CHECK(reported == 3 && bank.live().empty());
 }
 
 static void a_transaction_is_destroyed_in_a_hook()
@@ -133,9 +133,9 @@ static void a_transaction_is_used_after_its_end()
 static void an_engine_is_destroyed_beside_a_call()
 {
     alignas(sgt::SharedEngine) static unsigned char memory[sizeof(sgt::SharedEngine)];
-    std::atomic<int> told{0};
+    std::atomic<int> reported{0};
     sgt::Configuration with;
-    with.ended = [&](const sgt_ended &) { told++; };
+    with.ended = [&](const sgt_ended &) { reported++; };
     auto *bank = new (memory) sgt::SharedEngine(opening, {}, with);
     auto writer = bank->start(WRITE, {});
     while (writer.first->step().kind != SGT_ENDED) continue;
@@ -146,7 +146,7 @@ static void an_engine_is_destroyed_beside_a_call()
     bank->~SharedEngine();
     CHECK(writer.first->commit().kind == SGT_COMMITTED);
     waiter.join();
-    CHECK(told == 2);
+    CHECK(reported == 2);
 }
 
 int main()

@@ -1,7 +1,7 @@
 /*
  * The calls of sgt_shared.h for transactions whose accesses their caller decides, and transaction functions: each call with its status and
- * what it tells, bodies that are left in every way, tries that are made alone, and threads that would wait for themselves. Each check that
- * fails is told; the last line counts them all.
+ * its results, bodies that are left in every way, tries that are made alone, and threads that would wait for themselves. Each failed check
+ * is printed; the last line counts all checks.
  */
 #include <pthread.h>
 #include <sched.h>
@@ -116,7 +116,7 @@ static void accesses_are_made_one_by_one(void)
     closes(shared);
 }
 
-static void wrong_accesses_are_told(void)
+static void wrong_accesses_are_reported(void)
 {
     sgt_shared *shared = opened(0), *other = opened(0);
     const sgt_ticket t = begins(shared);
@@ -179,7 +179,7 @@ static void functions_are_committed_or_quit(void)
 }
 
 /* A body that returns a status has made a mistake, whichever status it is, and commits nothing. */
-static void functions_that_return_a_status_are_told(void)
+static void functions_that_return_a_status_are_reported(void)
 {
     sgt_shared *shared = opened(0);
     sgt_shared_outcome out = fresh;
@@ -202,7 +202,7 @@ static uint32_t commits_itself(void *context, sgt_transaction *t)
     return note->returns;
 }
 
-/* Quits its own transaction, and goes on. */
+/* Aborts its own transaction, and continues. */
 static uint32_t quits_itself(void *context, sgt_transaction *t)
 {
     struct note *note = context;
@@ -222,7 +222,7 @@ static uint32_t commits_its_ticket(void *context, sgt_transaction *t)
     return note->returns;
 }
 
-static void functions_that_end_themselves_are_told(void)
+static void functions_that_end_themselves_are_reported(void)
 {
     sgt_shared *shared = opened(0);
     sgt_shared_outcome out = fresh;
@@ -243,7 +243,7 @@ static void functions_that_end_themselves_are_told(void)
     closes(shared);
 }
 
-static void wrong_functions_are_told(void)
+static void wrong_functions_are_reported(void)
 {
     sgt_shared *shared = opened(0);
     sgt_shared_outcome out = fresh, small = {.size = sizeof small - 1};
@@ -363,7 +363,7 @@ static void cascading_aborts_are_tried_again(void)
     closes(shared);
 }
 
-/* Is quit by somebody else. */
+/* Is aborted by another thread. */
 static uint32_t is_quit(void *context, sgt_transaction *t)
 {
     struct note *note = context;
@@ -373,7 +373,7 @@ static uint32_t is_quit(void *context, sgt_transaction *t)
     return note->returns;
 }
 
-static void transactions_that_others_quit_are_told(void)
+static void transactions_that_others_quit_are_reported(void)
 {
     sgt_shared *shared = opened(0);
     sgt_shared_outcome out = fresh;
@@ -384,7 +384,7 @@ static void transactions_that_others_quit_are_told(void)
     closes(shared);
 }
 
-static void spent_starts_are_told(void)
+static void spent_starts_are_reported(void)
 {
     static const char few[] = "{\"limits\":[1,1,1],\"accounts\":[],\"procedures\":[]}";
     sgt_shared *shared = 0;
@@ -523,7 +523,7 @@ static void the_unlucky_are_alone_at_last(void)
     closes(shared);
 }
 
-/* Writes what a run reads, and quits when the run waits for that: as often as the run is not alone. */
+/* Writes what a run reads, and aborts when the run waits for that: as often as the run is not alone. */
 static void *undoes(void *context)
 {
     struct beside *it = context;
@@ -597,7 +597,7 @@ static void accesses_may_follow_a_procedure(void)
 
 /* Waiting for oneself */
 
-static void threads_that_wait_for_themselves_are_told(void)
+static void threads_that_wait_for_themselves_are_reported(void)
 {
     sgt_shared *shared = opened(0);
     const sgt_ticket first = begins(shared), second = begins(shared);
@@ -630,7 +630,7 @@ static void *waits_through_another(void *context)
     return 0;
 }
 
-static void threads_that_wait_through_others_are_told(void)
+static void threads_that_wait_through_others_are_reported(void)
 {
     sgt_shared *shared = opened(0);
     sgt_reply reply = {0};
@@ -719,8 +719,8 @@ static uint32_t forks(void *context, sgt_transaction *t)
     int64_t value = 0;
     const pid_t child = fork();
     if (child == 0) {
-        const uint32_t told = sgt_transaction_read(t, TABLE, 1, &value);
-        _exit(told == SGT_MISUSE && sgt_transaction_commit(t, 0) == SGT_MISUSE ? 0 : 1);
+        const uint32_t reported = sgt_transaction_read(t, TABLE, 1, &value);
+        _exit(reported == SGT_MISUSE && sgt_transaction_commit(t, 0) == SGT_MISUSE ? 0 : 1);
     }
     int ended = 1;
     CHECK(child > 0 && waitpid(child, &ended, 0) == child && ended == 0);
@@ -756,7 +756,7 @@ static void tries_in_hook(void *context, const sgt_ended *ended)
     CHECK(sgt_shared_accesses(note->shared, &old, accesses, 3, &count) == SGT_STALE);
 }
 
-static void hooks_are_told_of_accesses(void)
+static void hooks_are_called_with_accesses(void)
 {
     struct note note = {0}, body = {.returns = SGT_BODY_COMMIT};
     sgt_shared_config config = SGT_SHARED_CONFIG;
@@ -802,28 +802,28 @@ static void loops_are_of_ones_own(void)
 int main(void)
 {
     accesses_are_made_one_by_one();
-    wrong_accesses_are_told();
+    wrong_accesses_are_reported();
     functions_are_committed_or_quit();
-    functions_that_return_a_status_are_told();
-    functions_that_end_themselves_are_told();
-    wrong_functions_are_told();
+    functions_that_return_a_status_are_reported();
+    functions_that_end_themselves_are_reported();
+    wrong_functions_are_reported();
     failed_accesses_commit_nothing();
     records_are_removed();
     conflicts_are_tried_again();
     cascading_aborts_are_tried_again();
-    transactions_that_others_quit_are_told();
-    spent_starts_are_told();
+    transactions_that_others_quit_are_reported();
+    spent_starts_are_reported();
     the_try_that_is_alone_holds_others_up();
     the_try_that_is_alone_waits_for_others();
     the_unlucky_are_alone_at_last();
     unlucky_runs_are_alone_at_last();
     accesses_may_follow_a_procedure();
-    threads_that_wait_for_themselves_are_told();
-    threads_that_wait_through_others_are_told();
+    threads_that_wait_for_themselves_are_reported();
+    threads_that_wait_through_others_are_reported();
     bodies_may_jump();
     threads_may_end_in_bodies();
     bodies_may_fork();
-    hooks_are_told_of_accesses();
+    hooks_are_called_with_accesses();
     loops_are_of_ones_own();
     printf("%d checks, %d failed\n", checks, failed);
     return failed ? 1 : 0;

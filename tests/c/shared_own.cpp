@@ -1,5 +1,5 @@
-// Transactions whose caller decides the accesses, in C++: functions that commit, throw and quit, transactions that are destroyed, errors,
-// single calls, threads that end in a body, and threads on three records. Each check that fails is told; the last line counts them.
+// Transactions whose caller decides the accesses, in C++: functions that commit, throw and abort, transactions that are destroyed, errors,
+// single calls, threads that end in a body, and threads on three records. Each failed check is printed; the last line counts them.
 #include <pthread.h>
 
 #include <atomic>

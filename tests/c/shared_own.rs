@@ -61,16 +61,16 @@ impl From<Error> for Why {
 
 fn quits() -> Result<(), Error> {
     let bank = opened(Configuration::default())?;
-    let told: Result<(), Why> = bank.transact_within(TransactLimits::default(), |t| {
+    let reported: Result<(), Why> = bank.transact_within(TransactLimits::default(), |t| {
         t.write(TABLE, 102, 0)?;
         match t.read(TABLE, 101)? {
             Some(value) if value >= 50 => Ok(()),
             value => Err(Why::TooLittle(value.unwrap_or(0))),
         }
     });
-    assert_eq!(told, Err(Why::TooLittle(10)));
-    let told: Result<(), Why> = bank.transact_within(TransactLimits::default(), |t| Ok(t.write(8, 102, 0)?));
-    assert_eq!(told, Err(Why::Engine(Error::BadCall)));
+    assert_eq!(reported, Err(Why::TooLittle(10)));
+    let reported: Result<(), Why> = bank.transact_within(TransactLimits::default(), |t| Ok(t.write(8, 102, 0)?));
+    assert_eq!(reported, Err(Why::Engine(Error::BadCall)));
     assert_eq!(bank.transact(|t| t.write(TABLE, 102, sgt::MOST + 1).or(Ok(()))), Err(Error::BadCall));
     let panicked = catch_unwind(AssertUnwindSafe(|| {
         bank.transact(|t| {
@@ -100,10 +100,10 @@ fn says_why() -> Result<(), Error> {
     assert_eq!(other.commit(None), Err(fell));
     let mut writer = bank.begin(None)?;
     writer.write(TABLE, 101, 11)?;
-    let told = bank.transact_within(TransactLimits { wait: Some(Duration::from_millis(5)), ..TransactLimits::default() }, |t| {
+    let reported = bank.transact_within(TransactLimits { wait: Some(Duration::from_millis(5)), ..TransactLimits::default() }, |t| {
         t.read(TABLE, 101)
     });
-    assert_eq!(told, Err(Error::TimedOut));
+    assert_eq!(reported, Err(Error::TimedOut));
     assert_eq!(bank.live()?.len(), 1);
     bank.quit(writer.ticket())?;
     let quit = Error::Aborted { reply: Reply::Over(Fate::Aborted(Cause::Quit)), is_conflict: false };
@@ -208,11 +208,11 @@ fn works(bank: &SharedEngine, mut state: u64) -> Result<Done, Error> {
     Ok(done)
 }
 
-/// Threads on three records. In the order in which the hook is told, each reads what a plain map has.
+/// Threads on three records. In the order of the hook's calls, each reads what a plain map has.
 fn shares() -> Result<(), Error> {
     let order: Arc<Mutex<Vec<Ticket>>> = Arc::default();
-    let told = Arc::clone(&order);
-    let ended: Box<dyn FnMut(sgt::Ended) + Send> = Box::new(move |ended| told.lock().expect("no panic").push(ended.ticket));
+    let reported = Arc::clone(&order);
+    let ended: Box<dyn FnMut(sgt::Ended) + Send> = Box::new(move |ended| reported.lock().expect("no panic").push(ended.ticket));
     let bank = opened(Configuration { ended: Some(ended), cut_after: 2000, ..Configuration::default() })?;
     let threads: Vec<_> = (0..16)
         .map(|number| {

@@ -28,7 +28,7 @@ void *__wrap_realloc(void *old, size_t size) { return ++asked == refuse ? 0 : __
 void *__wrap_calloc(size_t count, size_t size) { return ++asked == refuse ? 0 : __real_calloc(count, size); }
 void *__wrap_aligned_alloc(size_t alignment, size_t size) { return ++asked == refuse ? 0 : __real_aligned_alloc(alignment, size); }
 
-/* Whether the checking of account 1 is this, and so many are live. */
+/* Whether the checking balance of account 1 is this, and this many transactions are live. */
 static bool stands(sgt_shared *shared, int64_t wanted, uint64_t wanted_live)
 {
     int64_t value = 0;
@@ -73,7 +73,7 @@ static int steps(sgt_shared *shared, int64_t had)
     return stands(shared, had + 100, 0) ? refused : -1;
 }
 
-/* A deposit of a transaction function: it is tried again where an access was refused memory. */
+/* A deposit of a transaction function: it is tried again if an allocation of an access failed. */
 static uint32_t deposits(void *context, sgt_transaction *t)
 {
     int64_t *value = context;
@@ -117,7 +117,7 @@ static int ends(sgt_shared *shared)
     return status == SGT_OK && count == 6 ? refused : -1;
 }
 
-/* How many calls were refused memory, or -1 where one did not keep its word. */
+/* In how many calls an allocation failed, or -1 if one broke its promise. */
 static int run(void)
 {
     sgt_shared *shared = 0;

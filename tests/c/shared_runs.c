@@ -1,5 +1,5 @@
 /*
- * Threads on one shared engine that run, step, quit, time out and cut at random, for tests/threads.py.
+ * Threads on one shared engine that run, step, abort, time out and cut at random, for tests/threads.py.
  *
  *     shared_runs FOLDER SEED THREADS CALLS STEPPED
  *
@@ -82,11 +82,11 @@ static void write_args(FILE *to, uint32_t procedure, const int64_t *args, size_t
 
 /* What the hooks write. They are called under the engine's lock. */
 
-static void write_ended(FILE *to, const sgt_ended *told)
+static void write_ended(FILE *to, const sgt_ended *reported)
 {
-    const sgt_call *call = &told->call;
-    must(told->ticket.tid == call->tid, "a ticket is another call's");
-    fprintf(to, "%" PRIu64 " %" PRIu64 " %" PRIu32 " ", told->sequence, told->ticket.part, call->tid);
+    const sgt_call *call = &reported->call;
+    must(reported->ticket.tid == call->tid, "a ticket is another call's");
+    fprintf(to, "%" PRIu64 " %" PRIu64 " %" PRIu32 " ", reported->sequence, reported->ticket.part, call->tid);
     write_args(to, call->procedure, call->arg, call->args);
     if (call->kind == SGT_REFUSED) fprintf(to, "\tasked %" PRIu32 "\n", call->code);
     else if (call->answers == 0) fprintf(to, "\tcommitted none\n");
@@ -106,7 +106,7 @@ static void dawdle(int64_t ns)
 }
 
 /* It dawdles now and then: for a while, or for longer than a thread that wants the lock looks for it before it sleeps. */
-static void tell_ended(void *context, const sgt_ended *call)
+static void report_ended(void *context, const sgt_ended *call)
 {
     (void)context;
     if (call->sequence % 8 == 0) dawdle(20000);
@@ -210,7 +210,7 @@ static uint32_t decide(struct thread *it, const sgt_ticket *ticket, sgt_reply *r
     return SGT_OK;
 }
 
-/* Steps a transaction until it ends, is quit or left to another thread. Its last reply, or the status of a call. */
+/* Steps a transaction until it ends, is aborted or left to another thread. Its last reply, or the status of a call. */
 static uint32_t step_on(struct thread *it, const sgt_ticket *ticket, sgt_reply *reply)
 {
     uint32_t status;
@@ -300,7 +300,7 @@ static int64_t drawn_wait_of_cut(struct thread *it)
     return draw(it, 4) == 0 ? SGT_FOREVER : (int64_t)draw(it, 2000000);
 }
 
-/* Quits whoever has been live for too long, as an operator would. */
+/* Aborts the transactions that have been live for too long, as an operator would. */
 static void quit_oldest(struct thread *it)
 {
     sgt_live live[32];
@@ -384,7 +384,7 @@ int main(int argc, char **argv)
     history = opened("history"), ended = opened("ended"), drained = opened("drained");
     sgt_fault fault = {0};
     sgt_shared_config config = SGT_SHARED_CONFIG;
-    config.ended = tell_ended, config.cutting = write_entries;
+    config.ended = report_ended, config.cutting = write_entries;
     config.keeps_ended = 1, config.cut_after = 1000, config.cut_wait_ns = 2000000;
     const char *text = opening;
     must(sgt_shared_open(&shared, text, sizeof opening - 1, 0, 0, &config, &fault) == SGT_OK, "the engine is not opened");

@@ -1,11 +1,11 @@
 /*
  * Threads that all read and write the same three records by transaction functions, some by steps, beside runs of a procedure. What each
- * read and wrote is compared with a plain map, in the order in which the hook was told of the commits; so are the accesses that the engine
- * returns before each cut, and the records at the end.
+ * read and wrote is compared with a plain map, in the order in which the hook was called for the commits; so are the accesses that the
+ * engine returns before each cut, and the records at the end.
  *
  *     shared_transact THREADS CALLS SEED
  *
- * It writes how many were committed, quit, tried again, and how many were tried alone. Its status is 1 if something differs.
+ * It writes how many were committed, aborted, tried again, and how many were tried alone. Its status is 1 if something differs.
  */
 #include <inttypes.h>
 #include <pthread.h>
@@ -44,15 +44,15 @@ struct thread {
     uint64_t quits, again, alone;
 };
 
-/* A commit that the hook was told, and the accesses of its caller. */
-struct told {
+/* A commit that the hook was called for, and the accesses of its caller. */
+struct reported {
     sgt_ended ended;
     sgt_access accesses[MOST];
 };
 
 static sgt_shared *bank;
 static size_t calls;
-static struct told *ends;
+static struct reported *ends;
 static size_t ended_count, cut_count;
 static atomic_int differing;
 
@@ -143,7 +143,7 @@ static void *works(void *context)
     return 0;
 }
 
-/* The hooks: each commit in its order, and before each cut the accesses of those that were told since the last one. */
+/* The hooks: each commit in its order, and before each cut the accesses of those that were reported since the last one. */
 static void notes_end(void *context, const sgt_ended *ended)
 {
     (void)context;
@@ -155,10 +155,10 @@ static void notes_accesses(void *context, sgt_engine *engine, uint64_t part)
 {
     (void)context;
     for (; cut_count < ended_count; cut_count++) {
-        struct told *told = &ends[cut_count];
+        struct reported *reported = &ends[cut_count];
         uint64_t count = 0;
-        if (told->ended.ticket.part != part) differs("the part of a commit");
-        if (sgt_accesses(engine, told->ended.ticket.tid, told->accesses, MOST, &count) != SGT_OK || count != told->ended.call.accesses) {
+        if (reported->ended.ticket.part != part) differs("the part of a commit");
+        if (sgt_accesses(engine, reported->ended.ticket.tid, reported->accesses, MOST, &count) != SGT_OK || count != reported->ended.call.accesses) {
             differs("the number of accesses");
         }
     }
@@ -183,12 +183,12 @@ static void replay(const struct access *access, bool *found, int64_t *value)
 }
 
 /* Compares what a transaction did with what the engine returned. */
-static void compare(const struct did *did, const struct told *told)
+static void compare(const struct did *did, const struct reported *reported)
 {
-    if (did->count != told->ended.call.accesses) differs("how many accesses a call made");
+    if (did->count != reported->ended.call.accesses) differs("how many accesses a call made");
     for (uint32_t i = 0; i < did->count; i++) {
         const struct access *a = &did->accesses[i];
-        const sgt_access *b = &told->accesses[i];
+        const sgt_access *b = &reported->accesses[i];
         if (a->kind != b->kind || a->number != b->number || b->table != TABLE || a->found != b->found || a->value != b->value) {
             differs("an access that was returned");
         }
@@ -218,9 +218,9 @@ static void judge(struct did *all, size_t count)
     }
     if (at != count) differs("how many were committed");
     for (int64_t i = 0; i < RECORDS; i++) {
-        int64_t told = 0;
-        const uint32_t status = sgt_shared_get(bank, TABLE, FIRST + i, &told);
-        if (status != (found[i] ? SGT_OK : SGT_NONE) || (found[i] && told != value[i])) differs("a record at the end");
+        int64_t reported = 0;
+        const uint32_t status = sgt_shared_get(bank, TABLE, FIRST + i, &reported);
+        if (status != (found[i] ? SGT_OK : SGT_NONE) || (found[i] && reported != value[i])) differs("a record at the end");
     }
 }
 

@@ -3,8 +3,8 @@
  *
  *     shared_turns THREADS RUNS
  *
- * Each thread goes on until all have made so many runs. It prints how many were made in all, and how often threads have slept, as
- * `name count` lines. It stops after ten minutes, with status 1.
+ * Each thread continues until all have made RUNS runs. It prints how many were made in all, and how often threads have slept, as `name
+ * count` lines. It stops after ten minutes, with status 1.
  */
 #include <pthread.h>
 #include <stdatomic.h>

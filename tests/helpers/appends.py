@@ -18,7 +18,7 @@ class Transaction:
 
 
 def sees_all(operations, contents):
-    """Runs the operations on the lists, and tells whether each read sees what was observed."""
+    """Runs the operations on the lists, and returns whether each read sees what was observed."""
     for word, key, what in operations:
         if word == "append":
             contents[key] = contents.get(key, ()) + (what,)

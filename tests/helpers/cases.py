@@ -14,7 +14,7 @@ C_SOURCES = TESTS / "c"
 SECONDS = 600
 CASE_SECONDS = 4_000
 
-# No program makes so many allocations.
+# No program makes that many allocations.
 FOREVER = 10**18
 
 
@@ -29,22 +29,22 @@ def same(what, wanted, came):
 
 def first_line(came):
     """What a run came to, with the first line of its standard error alone. The second one explains an error, and has tests of its own."""
-    status, out, told, *rest = came
-    lines = told.splitlines(True)
+    status, out, reported, *rest = came
+    lines = reported.splitlines(True)
     if len(lines) > 2:
-        raise Differs(f"more than two lines: {told!r:.400}")
+        raise Differs(f"more than two lines: {reported!r:.400}")
     return status, out, "".join(lines[:1]), *rest
 
 
-def tell(cases, *given, of="sgt"):
+def run_cases(cases, *given, of="sgt"):
     """Runs each case on what is given, reports how it went, counts them in a last line, and gives the status."""
     failed = 0
     for case in cases:
         name = case.__name__.replace("_", " ")
         faulthandler.dump_traceback_later(CASE_SECONDS, exit=True)
         try:
-            told = case(*given)
-            print(f"{of} {name}" + (f": {told}" if told else ""), flush=True)
+            reported = case(*given)
+            print(f"{of} {name}" + (f": {reported}" if reported else ""), flush=True)
         except (Differs, OSError) as why:
             failed += 1
             print(f"FAILED: {of} {name}: {why}", flush=True)
@@ -75,14 +75,14 @@ class Failing:
 
     def counted(self, *words, given="", **failing):
         """What the library counts."""
-        _, _, told = self.run(*words, given=given, **failing)
-        if not told:
+        _, _, reported = self.run(*words, given=given, **failing)
+        if not reported:
             raise Differs("the library that fails calls is not loaded")
-        return int(told.splitlines()[-1])
+        return int(reported.splitlines()[-1])
 
 
-def tell_failing(cases, *paths, of="sgt"):
-    """As `tell`, with each of these programs under the library of `failing.c`, which is made first."""
+def run_failing_cases(cases, *paths, of="sgt"):
+    """As `run_cases`, with each of these programs under the library of `failing.c`, which is made first."""
     with tempfile.TemporaryDirectory() as folder:
         library = os.path.join(folder, "failing.so")
         made = ["cc", "-O1", "-shared", "-fPIC", "-o", library, str(C_SOURCES / "failing.c"), "-ldl"]
@@ -92,4 +92,4 @@ def tell_failing(cases, *paths, of="sgt"):
             print(f"FAILED: no library that fails calls, which takes a compiler for C: {why}")
             print(f"0 passed, {len(cases)} failed")
             return 1
-        return tell(cases, *(Failing(path, library) for path in paths), of=of)
+        return run_cases(cases, *(Failing(path, library) for path in paths), of=of)

@@ -20,7 +20,7 @@ ARGUMENTS = (1, 2, 2, 2, 2, 0, 0, 1, 0, 1)
 
 
 def drawn(seed, events):
-    """A script of so many events, with cuts now and then."""
+    """A script of this many events, with cuts now and then."""
     dice = random.Random(seed)
     lines = [OPENING.format(asks=dice.choice(("", ",1")))]
     lines += [f'["record",{table},{number},{value}]\n' for table, number, value in RECORDS if dice.random() < 0.5]
@@ -53,7 +53,7 @@ def drawn(seed, events):
 
 def explanation(script, replies):
     """The explanations of a script that ends well, by its lines and their replies."""
-    told = []
+    reported = []
     part = Part()
     lines = list(enumerate(script.splitlines()[1:], start=2))
     events = [(line, event) for line, event in lines if not event.startswith('["record",')]
@@ -61,11 +61,11 @@ def explanation(script, replies):
         if reply.startswith("cut "):
             part = Part()
         elif reply != "still live":
-            told += [f"line {line}: {text}\n" for text in part.take(line, json.loads(event), reply)]
+            reported += [f"line {line}: {text}\n" for text in part.take(line, json.loads(event), reply)]
     if live := sorted(part.live):
         are = "transaction is" if len(live) == 1 else "transactions are"
-        told.append(f"{len(live)} {are} live at the end: {', '.join(map(str, live))}\n")
-    return "".join(told)
+        reported.append(f"{len(live)} {are} live at the end: {', '.join(map(str, live))}\n")
+    return "".join(reported)
 
 
 NAMES = ("Balance", "DepositChecking", "TransactSaving", "Amalgamate", "WriteCheck")

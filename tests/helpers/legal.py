@@ -192,7 +192,7 @@ class Run:
         except StopIteration as end:
             self.answer = end.value
 
-    def told(self):
+    def reported(self):
         """What its caller gets at the end: its code, or its answer."""
         if self.code is not None:
             return f"asked {self.code}"
@@ -247,7 +247,7 @@ class Checker:
         self.settled = dict(self.opened)
         self.runs = []  # of each transaction that was started
         self.fates = {}  # of each that has ended, as a reply behind `over`
-        self.told = []  # the calls that were committed or refused, in that order, with what each was answered, and the accesses on which its caller decided
+        self.reported = []  # the calls that were committed or refused, in that order, with what each was answered, and the accesses on which its caller decided
         self.accesses = []  # of those that are live, in their order: who, look or store, key, value
         self.pairs = set()  # among those that are live: of two accesses in conflict the first one's, the second one's
         self.reads = set()  # who read from whom, while both are live
@@ -375,12 +375,12 @@ class Checker:
         if before:
             return f"waits {min(before)}"
         if run.code is not None:
-            self.told.append((run.call, f"asked {run.code}", []))
+            self.reported.append((run.call, f"asked {run.code}", []))
             return f"refused {run.code} fell {self.undo(t, f'asked {run.code}')}"
         self.settled = stored(self.settled, [access for u, *access in self.accesses if u == t])
         self.end(t, "committed")
-        self.told.append((run.call, run.told(), run.requests))
-        return run.told()
+        self.reported.append((run.call, run.reported(), run.requests))
+        return run.reported()
 
     def end(self, t, fate):
         removed = sum(u == t and kind == "store" and value is None for u, kind, _, value in self.accesses)
@@ -391,18 +391,18 @@ class Checker:
         self.reads = {pair for pair in self.reads if t not in pair}
 
     def serial(self):
-        """What the committed and refused ones leave, run one after another. Each has to give what it was answered, and what its
-        caller was told that it read."""
+        """What the committed and refused ones leave, run one after another. Each has to give what it was answered, and the
+        values that its caller read."""
         rows = dict(self.opened)
-        for (procedure, args), told, requests in self.told:
+        for (procedure, args), reported, requests in self.reported:
             run, own = Run(procedure, args), dict(rows)
             while run.access is not None:
                 kind, key, _ = run.access
                 if kind == "store":
                     own = stored(own, [run.access])
                 run.go(own.get(key))
-            if run.told() != told:
-                raise Illegal(f"the serial run of {procedure} {args} gives {run.told()}, and not {told}")
+            if run.reported() != reported:
+                raise Illegal(f"the serial run of {procedure} {args} gives {run.reported()}, and not {reported}")
             for kind, key, value in requests:
                 if kind == "look" and own.get(key) != value:
                     raise Illegal(f"in the serial run {key_text(key)} is {own.get(key)}, and not {value} as its caller was told")

@@ -32,27 +32,27 @@ def run(words, seconds=SECONDS, env=None, cwd=None, also_errors=False):
     return (ran.stdout + ran.stderr if also_errors else ran.stdout).decode()
 
 
-def built(room, compiler, flags, source, extra=(), beside=()):
+def built(scratch, compiler, flags, source, extra=(), beside=()):
     """The program that the source makes, with these beside it, and with the static library."""
-    program = room / f"{source.stem}{abs(hash(tuple(map(str, extra)))) % 10**6}"
+    program = scratch / f"{source.stem}{abs(hash(tuple(map(str, extra)))) % 10**6}"
     run([compiler, *flags, *extra, "-o", program, source, *beside, OUT / "libsgt.a", "-lpthread"])
     return program
 
 
-def compiled(room, compiler, flags, source, extra=()):
+def compiled(scratch, compiler, flags, source, extra=()):
     """The object file that the source makes."""
-    made = room / f"{source.stem}{abs(hash(tuple(map(str, extra)))) % 10**6}.o"
+    made = scratch / f"{source.stem}{abs(hash(tuple(map(str, extra)))) % 10**6}.o"
     run([compiler, *flags, *extra, "-c", "-o", made, source])
     return made
 
 
-def can(room, compiler, flags, text="int main(void) { return 0; }", words=()):
+def can(scratch, compiler, flags, text="int main(void) { return 0; }", words=()):
     """Whether programs with these flags can be built and run here: the program of this text, with these words."""
-    source = room / "nothing.c"
+    source = scratch / "nothing.c"
     source.write_text(text + "\n")
     try:
-        run([compiler, *flags, "-o", room / "nothing", source])
-        run([room / "nothing", *words])
+        run([compiler, *flags, "-o", scratch / "nothing", source])
+        run([scratch / "nothing", *words])
     except (Differs, OSError):
         return False
     return True

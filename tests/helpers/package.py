@@ -24,7 +24,7 @@ class Interrupted(BaseException):
 
 @contextlib.contextmanager
 def interrupts(seconds):
-    """A signal raises Interrupted after so many seconds, unless the block has ended by then."""
+    """A signal raises Interrupted after this many seconds, unless the block has ended by then."""
     is_on = True
 
     def handle(*_):
@@ -78,19 +78,19 @@ def interrupted_beside(call, action):
 
 def elsewhere(call):
     """Makes a call on another thread, and returns its result. So a transaction in it is not of this thread."""
-    told = []
-    thread = threading.Thread(target=lambda: told.append(call()))
+    reported = []
+    thread = threading.Thread(target=lambda: reported.append(call()))
     thread.start()
     thread.join()
-    return told[0]
+    return reported[0]
 
 
-def what(error, call, told):
+def what(error, call, reported):
     """Returns how a call ended: with this error, or with its result."""
     try:
         return call()
     except error:
-        return told
+        return reported
 
 
 def refusal(call):

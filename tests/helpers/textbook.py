@@ -285,16 +285,16 @@ class LongHistory(History):
         return edges
 
     def serial_order(self):
-        behind, waits = defaultdict(list), dict.fromkeys(self.commits, 0)
+        following, waits = defaultdict(list), dict.fromkeys(self.commits, 0)
         for one, other in self.edges():
-            behind[one].append(other)
+            following[one].append(other)
             waits[other] += 1
         free, order = [(self.commits[it], it) for it, number in waits.items() if not number], []
         heapq.heapify(free)
         while free:
             _, first = heapq.heappop(free)
             order.append(first)
-            for it in behind[first]:
+            for it in following[first]:
                 waits[it] -= 1
                 if not waits[it]:
                     heapq.heappush(free, (self.commits[it], it))

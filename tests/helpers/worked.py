@@ -101,9 +101,9 @@ def queue_of_payments(bank):
     bank.kept(1)
     balances = bank.opened(2)
     place_of, payments = bank.table(3), bank.table(5)
-    first, behind = bank.records.get("4/0", 0), bank.records.get("4/1", 0)
-    same("places", list(range(behind)), sorted(place_of.values()))
-    queued = {place: tuple(payments[3 * place + part] for part in range(3)) for place in range(behind)}
+    first, following = bank.records.get("4/0", 0), bank.records.get("4/1", 0)
+    same("places", list(range(following)), sorted(place_of.values()))
+    queued = {place: tuple(payments[3 * place + part] for part in range(3)) for place in range(following)}
     for (key, *payment), outcome in bank.of(5):
         payer, payee, amount = payment
         fault = "asked 30" if amount < 1 else "asked 31" if payer not in balances else "asked 32" if payee not in balances else None

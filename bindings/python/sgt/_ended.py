@@ -35,8 +35,8 @@ def ticket_of(ticket: CTicket) -> Ticket:
     return Ticket(ticket.engine, ticket.part, ticket.tid)
 
 
-def ended_of(told: CEnded) -> Ended:
-    return Ended(told.sequence, ticket_of(told.ticket), call_of(told.call))
+def ended_of(reported: CEnded) -> Ended:
+    return Ended(reported.sequence, ticket_of(reported.ticket), call_of(reported.call))
 
 
 class Stored:
@@ -58,7 +58,7 @@ class Stored:
             self._added.wait_for(lambda: self._calls, timeout)
 
     def take(self, most: int) -> list[CEnded]:
-        """Takes at most so many, oldest first."""
+        """Takes at most `most`, oldest first."""
         taken: list[CEnded] = []
         try:
             with self._lock:
@@ -74,7 +74,7 @@ class Stored:
 
 
 class Teller:
-    """Calls the hook of an engine. The library stores the calls that ended, and after each call to the engine they are taken and told.
+    """Calls the hook of an engine. The library stores the calls that ended, and after each call to the engine they are taken and reported.
 
     The hook is not called by the library, since an exception cannot pass through it, and a signal that comes where it calls Python would
     be lost, together with the call of the hook.
@@ -84,49 +84,49 @@ class Teller:
         self._shared, self._hook, self._stored = shared, hook, stored
         self._telling = threading.Lock()
         self._thread: Optional[int] = None  # the thread that has the lock, if any has
-        self._calls, self._count, self._told = (CEnded * BATCH)(), ctypes.c_uint64(), 0
+        self._calls, self._count, self._reported = (CEnded * BATCH)(), ctypes.c_uint64(), 0
         self._raised: dict[Ticket, Exception] = {}
 
     def is_here(self) -> bool:
         """Whether this thread is in the hook."""
         return self._thread == threading.get_ident() and self._telling.locked()
 
-    def tell(self, ticket: Optional[Ticket] = None) -> None:
+    def report(self, ticket: Optional[Ticket] = None) -> None:
         """Calls the hook for all calls that it was not called for yet. Raises what it raised for this one."""
         with self._telling:
             self._thread = threading.get_ident()
             try:
-                self._tell_all()
+                self._report_all()
             finally:
                 self._thread = None
         why = self._raised.pop(ticket, None) if ticket else None
         if why:
             raise why
 
-    def _tell_all(self) -> None:
+    def _report_all(self) -> None:
         """An interrupt may come anywhere: then the next call goes on from there."""
-        self._tell_taken()
+        self._report_taken()
         taken = BATCH
         while taken == BATCH:
             self._count.value = 0
-            self._told = 0
+            self._reported = 0
             status = FREE.sgt_shared_drain(self._shared, 0, self._calls, BATCH, self._count)
             if status == CLOSED:
                 return
             check(status)
             taken = self._count.value
-            self._tell_taken()
+            self._report_taken()
 
-    def _tell_taken(self) -> None:
-        while self._told < self._count.value:
-            self._tell_one(self._calls[self._told])
-            self._told += 1
+    def _report_taken(self) -> None:
+        while self._reported < self._count.value:
+            self._report_one(self._calls[self._reported])
+            self._reported += 1
 
-    def _tell_one(self, told: CEnded) -> None:
-        ended = ended_of(told)
+    def _report_one(self, reported: CEnded) -> None:
+        ended = ended_of(reported)
         try:
             self._hook(ended)
         except Exception as why:
             self._raised[ended.ticket] = why
         if self._stored:
-            self._stored.add(CEnded.from_buffer_copy(told))
+            self._stored.add(CEnded.from_buffer_copy(reported))

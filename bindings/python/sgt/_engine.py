@@ -50,9 +50,9 @@ from ._replies import (
     all_accesses,
     call_of,
     event_of,
-    free_room,
+    free_buffers,
     reply_of,
-    room,
+    buffers,
     unpack_outcomes,
 )
 
@@ -133,8 +133,8 @@ class Engine(Uncopied):
     def put_bytes(self, rows: Union[bytes, bytearray, memoryview]) -> None:
         """Puts the rows in these bytes, as `rows_bytes` returns them. Raises what `put` raises."""
         at = ctypes.c_uint64()
-        told, count = rows_in(rows)
-        status = HELD.sgt_put(self._engine, told, count, at)
+        reported, count = rows_in(rows)
+        status = HELD.sgt_put(self._engine, reported, count, at)
         if status == TAKEN:
             raise Taken(at.value)
         check(status)
@@ -164,11 +164,11 @@ class Engine(Uncopied):
 
     def start(self, procedure: int, *args: int) -> Reply:
         """Starts a transaction of the procedure, with at most 4 arguments."""
-        to = room()
+        to = buffers()
         pack_args(to.args, args)
         check(_start(self._at, ctypes.c_uint64(whole(procedure, 0, 65535)), to.given, _SIZES[len(args)], to.to))
-        reply = reply_of(to.told, to.fields)
-        free_room(to)
+        reply = reply_of(to.reported, to.fields)
+        free_buffers(to)
         return reply
 
     def run(self, procedure: int, *args: int) -> tuple[Optional[int], Reply]:
@@ -176,12 +176,12 @@ class Engine(Uncopied):
 
         Raises NoMemory. Then nothing has changed, except that the transaction may have been started and aborted.
         """
-        to = room()
+        to = buffers()
         to.tid.value = NO_TID
         pack_args(to.args, args)
         check(_run(self._at, ctypes.c_uint64(whole(procedure, 0, 65535)), to.given, _SIZES[len(args)], to.to_tid, to.to))
-        tid, reply = to.tid.value, reply_of(to.told, to.fields)
-        free_room(to)
+        tid, reply = to.tid.value, reply_of(to.reported, to.fields)
+        free_buffers(to)
         return (None if tid == NO_TID else tid), reply
 
     def run_many(self, calls: Sequence[Sequence[int]]) -> list[BatchOutcome]:
@@ -209,69 +209,69 @@ class Engine(Uncopied):
 
     def step(self, tid: int) -> Reply:
         """Makes the next access of the transaction. Like each call with a transaction's number, raises BadCall if it exceeds 32 bits."""
-        to = room()
+        to = buffers()
         status = _step(self._at, tid if tid.__class__ is int and not tid >> 32 else _tid(tid), to.to)
         if status:
             check(status)
-        reply = reply_of(to.told, to.fields)
-        free_room(to)
+        reply = reply_of(to.reported, to.fields)
+        free_buffers(to)
         return reply
 
     def commit(self, tid: int) -> Reply:
         """Commits the transaction, unless it has to wait."""
-        to = room()
+        to = buffers()
         status = _commit(self._at, tid if tid.__class__ is int and not tid >> 32 else _tid(tid), to.to)
         if status:
             check(status)
-        reply = reply_of(to.told, to.fields)
-        free_room(to)
+        reply = reply_of(to.reported, to.fields)
+        free_buffers(to)
         return reply
 
     def quit(self, tid: int) -> Reply:
         """Aborts the transaction."""
-        to = room()
+        to = buffers()
         check(_quit(self._at, _tid(tid), to.to))
-        reply = reply_of(to.told, to.fields)
-        free_room(to)
+        reply = reply_of(to.reported, to.fields)
+        free_buffers(to)
         return reply
 
     def begin(self) -> Reply:
         """Starts a transaction of no procedure: its caller decides all its accesses, by `read`, `write` and `remove`."""
-        to = room()
+        to = buffers()
         check(_begin(self._at, to.to))
-        reply = reply_of(to.told, to.fields)
-        free_room(to)
+        reply = reply_of(to.reported, to.fields)
+        free_buffers(to)
         return reply
 
     def read(self, tid: int, table: int, number: int) -> Reply:
         """Reads a record for a transaction whose procedure is at its end. The value of the reply is None if there is no such record.
         Like `write` and `remove`, raises BadCall if the record is out of range."""
-        to = room()
+        to = buffers()
         check(_read(self._at, _tid(tid), *_record(table, number), to.to))
-        reply = reply_of(to.told, to.fields)
-        free_room(to)
+        reply = reply_of(to.reported, to.fields)
+        free_buffers(to)
         return reply
 
     def write(self, tid: int, table: int, number: int, value: int) -> Reply:
         """Writes a record in the same way. If the value is out of range, the reply is Kind.BAD_ARGS."""
-        to = room()
+        to = buffers()
         check(_write(self._at, _tid(tid), *_record(table, number), ctypes.c_int64(whole(value, -(2**63), 2**63 - 1)), to.to))
-        reply = reply_of(to.told, to.fields)
-        free_room(to)
+        reply = reply_of(to.reported, to.fields)
+        free_buffers(to)
         return reply
 
     def remove(self, tid: int, table: int, number: int) -> Reply:
         """Removes a record in the same way. The reply is Kind.WROTE, and its value None."""
-        to = room()
+        to = buffers()
         check(_remove(self._at, _tid(tid), *_record(table, number), to.to))
-        reply = reply_of(to.told, to.fields)
-        free_room(to)
+        reply = reply_of(to.reported, to.fields)
+        free_buffers(to)
         return reply
 
     def accesses(self, tid: int) -> list[Access]:
         """Returns the accesses that the caller of a transaction decided, in their order."""
         tid = _tid(tid)
-        return all_accesses(lambda told, space, count: check(HELD.sgt_accesses(self._engine, tid, told, space, count)))
+        return all_accesses(lambda reported, space, count: check(HELD.sgt_accesses(self._engine, tid, reported, space, count)))
 
     def get(self, table: int, number: int) -> Optional[int]:
         """Returns the committed value of a record, or None if there is no such record."""
@@ -285,12 +285,12 @@ class Engine(Uncopied):
     def rows(self, table: int = 0, number: int = LEAST) -> list[Row]:
         """Returns the committed database from a record on, in order of tables and then of numbers."""
         table, number = whole(table, 0, 7), whole(number, LEAST, MOST)
-        return rows_of(*all_rows(lambda told, space, count: HELD.sgt_rows(self._engine, table, number, told, space, count)))
+        return rows_of(*all_rows(lambda reported, space, count: HELD.sgt_rows(self._engine, table, number, reported, space, count)))
 
     def rows_bytes(self) -> bytes:
         """Returns the committed database as bytes, for `put_bytes`: 24 for each row, laid out as `sgt_row`. About ten times as fast as `rows`."""
-        told, count = all_rows(lambda told, space, count: HELD.sgt_rows(self._engine, 0, LEAST, told, space, count))
-        return bytes(bytes_of(told, count))
+        reported, count = all_rows(lambda reported, space, count: HELD.sgt_rows(self._engine, 0, LEAST, reported, space, count))
+        return bytes(bytes_of(reported, count))
 
     def records(self) -> int:
         """The number of records of the committed database."""
@@ -324,15 +324,15 @@ class Engine(Uncopied):
         """Returns the entry of the history at an index, oldest first. Raises NoSuchEntry if the history is shorter."""
         if not 0 <= place < 2**64:
             raise NoSuchEntry()
-        asked, told = CEvent(), CReply()
-        status = HELD.sgt_entry(self._engine, place, asked, told)
+        asked, reported = CEvent(), CReply()
+        status = HELD.sgt_entry(self._engine, place, asked, reported)
         if status == NONE:
             raise NoSuchEntry()
         check(status)
-        return event_of(asked), reply_of(told, told)
+        return event_of(asked), reply_of(reported, reported)
 
     def calls(self, start: int = 0, most: int = 1024) -> tuple[list[Call], int]:
-        """Returns the committed and refused calls of the history from an index on, in reply order, at most so many, and the index to go
+        """Returns the committed and refused calls of the history from an index on, in reply order, at most `most`, and the index to go
         on from. Run one after another, these calls give the same answers. Raises NoSuchEntry if the history is shorter.
         """
         if not 0 <= start < 2**64:

@@ -127,7 +127,7 @@ class Stale(Error, RuntimeError):
 
 class Misuse(Error, RuntimeError):
     """A call from a hook of the same engine, with a ticket of another engine, in a forked child, or of a transaction that its own caller
-    has committed or quit; or a commit by the body of `transact`."""
+    has committed or aborted; or a commit by the body of `transact`."""
 
     def __init__(self, what: str = "the call may not be made from here, or the ticket is of another engine") -> None:
         super().__init__(f"sgt: {what}")
@@ -136,7 +136,7 @@ class Misuse(Error, RuntimeError):
 class Aborted(Error, RuntimeError):
     """The transaction was aborted, and nothing of it is in the database. `reply` says why.
 
-    `is_conflict` says whether that was by a conflict, a cycle or a cascading abort: then try it again. Otherwise somebody quit it.
+    `is_conflict` says whether that was by a conflict, a cycle or a cascading abort: then try it again. Otherwise a caller aborted it.
     """
 
     def __init__(self, reply: Reply, is_conflict: bool) -> None:

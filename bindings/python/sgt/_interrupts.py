@@ -20,16 +20,16 @@ def _asked() -> Generator[int, None, None]:
     It is a generator, since the interpreter runs handlers wherever Python code begins or goes on. A generator goes on inside its `try`; a
     function begins before any `try` of it, so what a handler raises there would be lost.
     """
-    told = 0
+    reported = 0
     while True:
         try:
-            yield told
-            told = 0
+            yield reported
+            reported = 0
         except GeneratorExit:
             return
         except BaseException as why:
             _raised.append(why)
-            told = 1
+            reported = 1
 
 
 class _Watch:

@@ -285,13 +285,13 @@ ABANDON = ctypes.CFUNCTYPE(ctypes.c_uint32, _shared, _ticket, ctypes.py_object)(
 
 def written(write: Callable[..., int], *asked: Union[ctypes.Structure, int, bytes]) -> str:
     """Returns the text that a call writes. Every reply fits into the buffer; for a longer text the call is repeated."""
-    room, length = 1024, ctypes.c_uint64()
+    capacity, length = 1024, ctypes.c_uint64()
     while True:
-        text = ctypes.create_string_buffer(room)
-        check(write(*asked, text, room, length))
-        if length.value <= room:
+        text = ctypes.create_string_buffer(capacity)
+        check(write(*asked, text, capacity, length))
+        if length.value <= capacity:
             return text.raw[: length.value].decode()
-        room = length.value
+        capacity = length.value
 
 
 def explained(explain: Callable[..., int], *asked: Union[int, bytes]) -> Optional[str]:
@@ -383,14 +383,14 @@ if sys.byteorder != "little":
 _unpacked_rows = struct.Struct("=I4xqq").iter_unpack
 
 
-def rows_of(told: ctypes.Array[CRow], count: int) -> list[Row]:
-    """Returns the first so many rows that a call wrote."""
-    return list(map(Row._make, _unpacked_rows(bytes_of(told, count))))
+def rows_of(reported: ctypes.Array[CRow], count: int) -> list[Row]:
+    """Returns the first `count` rows that a call wrote."""
+    return list(map(Row._make, _unpacked_rows(bytes_of(reported, count))))
 
 
-def bytes_of(told: ctypes.Array[CRow], count: int) -> memoryview:
-    """Returns the bytes of the first so many rows that a call wrote."""
-    return memoryview(told).cast("B")[: count * ctypes.sizeof(CRow)]
+def bytes_of(reported: ctypes.Array[CRow], count: int) -> memoryview:
+    """Returns the bytes of the first `count` rows that a call wrote."""
+    return memoryview(reported).cast("B")[: count * ctypes.sizeof(CRow)]
 
 
 def rows_in(data: Union[bytes, bytearray, memoryview]) -> tuple[ctypes.Array[CRow], int]:
@@ -406,13 +406,13 @@ def rows_in(data: Union[bytes, bytearray, memoryview]) -> tuple[ctypes.Array[CRo
 
 def all_rows(ask: Callable[[ctypes.Array[CRow], int, ctypes.c_uint64], int]) -> tuple[ctypes.Array[CRow], int]:
     """Returns the rows that a call writes, and their number. Other threads may add records meanwhile, so it repeats until all fit."""
-    count, room = ctypes.c_uint64(), 0
+    count, capacity = ctypes.c_uint64(), 0
     while True:
-        told = (CRow * max(1, room))()
-        check(ask(told, room, count))
-        if count.value <= room:
-            return told, count.value
-        room = count.value
+        reported = (CRow * max(1, capacity))()
+        check(ask(reported, capacity, count))
+        if count.value <= capacity:
+            return reported, count.value
+        capacity = count.value
 
 
 _pack_args = [struct.Struct(f"{count}q").pack_into for count in range(5)]

@@ -38,9 +38,9 @@ def _not_run(result: object) -> TypeError:
 class OwnTransaction:
     """A transaction whose accesses you decide, of `SharedEngine.transaction` or `SharedEngine.transact`.
 
-    The end of a `with` block commits it, unless it has ended before; an exception in the block quits it. So does the loss of the last
+    The end of a `with` block commits it, unless it has ended before; an exception in the block aborts it. So does the loss of the last
     reference to it, wherever an interrupt comes. Each call raises Aborted if the transaction has been aborted, NoMemory, BadCall if a
-    number is out of range, or Misuse once you have committed or quit it.
+    number is out of range, or Misuse once you have committed or aborted it.
 
     What it reads may be uncommitted, and be undone afterwards. So act on it only after the commit.
     """
@@ -48,9 +48,9 @@ class OwnTransaction:
     _guard: Optional[weakref.ref[OwnTransaction]] = None  # aborts it; no Python code runs then, in which an interrupt could come
 
     def __init__(self, engine: SharedEngine) -> None:
-        self._engine, self._told = engine, CTransaction(size=ctypes.sizeof(CTransaction))
+        self._engine, self._reported = engine, CTransaction(size=ctypes.sizeof(CTransaction))
         self._in_body = False  # of `transact`, which commits it
-        self._ticket = self._told.ticket  # in the same memory: always that of the last try
+        self._ticket = self._reported.ticket  # in the same memory: always that of the last try
         self._guard = weakref.ref(self, functools.partial(ABANDON, engine._shared, self._ticket))
 
     @property
@@ -61,7 +61,7 @@ class OwnTransaction:
     @property
     def tries(self) -> int:
         """How many transactions were started for it, this one included."""
-        return self._told.tries
+        return self._reported.tries
 
     def read(self, table: int, number: int) -> Optional[int]:
         """Returns the value of a record, or None if there is no such record."""
@@ -82,7 +82,7 @@ class OwnTransaction:
         self._check(self._ask(FREE.sgt_transaction_remove, whole(table, 0, 7), whole(number, LEAST, MOST)))
 
     def commit(self, timeout: Optional[float] = None) -> Reply:
-        """Commits it, and waits for its predecessors. Raises TimedOut if the deadline comes first, or SelfWait; then it was quit.
+        """Commits it, and waits for its predecessors. Raises TimedOut if the deadline comes first, or SelfWait; then it was aborted.
 
         The body of `transact` must not call it: Misuse.
         """
@@ -90,42 +90,42 @@ class OwnTransaction:
             raise Misuse("a body must not commit its transaction: `transact` does when the body returns")
         if not self._commits(nanoseconds(timeout)):
             raise self._aborted()
-        self._engine._tell(self._ticket)
+        self._engine._report(self._ticket)
         return self._reply()
 
     def quit(self) -> None:
         """Aborts it, unless it has ended."""
-        if self._told.is_live:
+        if self._reported.is_live:
             self._ends_undone()
 
     def _ask(self, function: Callable[..., int], *words: object) -> int:
         """Makes a call for it and returns its status."""
         self._engine._check_place()
-        return function(self._told, *words)
+        return function(self._reported, *words)
 
     def _check(self, status: int) -> None:
         """Raises what the status says, unless it is OK."""
         if status == UNDONE:
             raise self._aborted()
-        if status == MISUSE and self._told.tries and not self._told.is_live:
+        if status == MISUSE and self._reported.tries and not self._reported.is_live:
             raise Misuse("the transaction has ended")
         check(status)
 
     def _reply(self) -> Reply:
-        return reply_of(self._told.reply, self._told.reply)
+        return reply_of(self._reported.reply, self._reported.reply)
 
     def _aborted(self) -> Error:
-        return Aborted(self._reply(), self._told.status == UNDONE)
+        return Aborted(self._reply(), self._reported.status == UNDONE)
 
     def _start(self, tries: int, wait_ns: int) -> None:
-        """Starts the next try: alone after so many. Raises NotStarted if no start is left."""
+        """Starts the next try: alone after `tries` tries. Raises NotStarted if no start is left."""
         options = CTransactOptions(ctypes.sizeof(CTransactOptions), wait_ns, tries)
-        check(self._engine._wait(FREE.sgt_shared_try, self._told, options))
-        if self._told.reply.kind != Kind.STARTED:
+        check(self._engine._wait(FREE.sgt_shared_try, self._reported, options))
+        if self._reported.reply.kind != Kind.STARTED:
             raise NotStarted(self._reply())
 
     def _run(self, body: Callable[[OwnTransaction], _Result], tries: int, deadline: Optional[float]) -> _Result:
-        """Runs the body, again after each conflict, and commits. Raises Aborted if somebody quit it."""
+        """Runs the body, again after each conflict, and commits. Raises Aborted if another caller aborted it."""
         self._in_body = True
         while True:
             self._start(tries, _left(deadline))
@@ -140,19 +140,19 @@ class OwnTransaction:
                     raise
 
     def _commits(self, wait_ns: int) -> bool:
-        """Commits it. False if it was aborted by a conflict. Raises Aborted if somebody quit it."""
+        """Commits it. False if it was aborted by a conflict. Raises Aborted if another caller aborted it."""
         self._engine._check_place()
-        status = interruptible(FREE.sgt_transaction_commit, self._told, wait_ns)
+        status = interruptible(FREE.sgt_transaction_commit, self._reported, wait_ns)
         if status == UNDONE:
             return False
         check(status)
-        if self._told.reply.kind != Kind.COMMITTED:
+        if self._reported.reply.kind != Kind.COMMITTED:
             raise self._aborted()
         return True
 
     def _ends_undone(self) -> bool:
-        """Quits it, unless it has ended. Whether it was aborted by a conflict."""
-        return FREE.sgt_transaction_quit(self._told) == UNDONE
+        """Aborts it, unless it has ended. Whether it was aborted by a conflict."""
+        return FREE.sgt_transaction_quit(self._reported) == UNDONE
 
     def _abandon(self) -> None:
         """Aborts it, unless it has ended. It may also have been aborted in cascade and cut off, or the engine closed."""
@@ -164,5 +164,5 @@ class OwnTransaction:
     def __exit__(self, kind: Optional[type[BaseException]], *_: object) -> None:
         if kind is not None:
             self._abandon()
-        elif self._told.is_live or self._told.status != OK or self._told.reply.kind == Kind.OVER:
+        elif self._reported.is_live or self._reported.status != OK or self._reported.reply.kind == Kind.OVER:
             self.commit()

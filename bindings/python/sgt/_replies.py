@@ -83,12 +83,12 @@ class Reply(NamedTuple):
 
     def text(self) -> str:
         """The line that `sgt script` prints for it."""
-        return written(HELD.sgt_reply_text, _told(self))
+        return written(HELD.sgt_reply_text, _reported(self))
 
 
-def _told(reply: Reply) -> CReply:
+def _reported(reply: Reply) -> CReply:
     """Returns the fields of a reply."""
-    told = CReply(
+    reported = CReply(
         kind=reply.kind,
         cause=reply.cause or 0,
         tid=reply.tid or 0,
@@ -101,22 +101,22 @@ def _told(reply: Reply) -> CReply:
         walked=len(reply.walk),
         fallen=len(reply.fell),
     )
-    told.answer[: told.answers] = reply.answers
-    told.walk[: told.walked] = reply.walk
-    told.fell[: told.fallen] = reply.fell
-    return told
+    reported.answer[: reported.answers] = reply.answers
+    reported.walk[: reported.walked] = reply.walk
+    reported.fell[: reported.fallen] = reply.fell
+    return reported
 
 
-def _ended(told: CReply, kind: Kind) -> Reply:
+def _ended(reported: CReply, kind: Kind) -> Reply:
     """Returns a reply that reports an end: its cause, and the fields of that cause."""
-    cause = Cause(told.cause)
+    cause = Cause(reported.cause)
     return Reply(
         kind,
-        tid=told.tid if cause is Cause.FALL else None,
+        tid=reported.tid if cause is Cause.FALL else None,
         cause=cause,
-        code=told.code if cause is Cause.CODE else None,
-        walk=tuple(told.walk[: told.walked]) if cause is Cause.CYCLE else (),
-        fell=tuple(told.fell[: told.fallen]) if kind is Kind.ABORTED else (),
+        code=reported.code if cause is Cause.CODE else None,
+        walk=tuple(reported.walk[: reported.walked]) if cause is Cause.CYCLE else (),
+        fell=tuple(reported.fell[: reported.fallen]) if kind is Kind.ABORTED else (),
     )
 
 
@@ -130,7 +130,7 @@ _plain_fields = struct.Struct("6I2q").unpack_from  # the fields before the count
 _made = tuple.__new__
 
 
-def reply_of(told: CReply, fields: Union[CReply, memoryview]) -> Reply:
+def reply_of(reported: CReply, fields: Union[CReply, memoryview]) -> Reply:
     number, _, tid, code, table, found, key, value = _plain_fields(fields)
     kind = _KINDS[number]
     # tuple.__new__ with all fields: the constructor of a NamedTuple takes twice as long.
@@ -141,11 +141,11 @@ def reply_of(told: CReply, fields: Union[CReply, memoryview]) -> Reply:
     if number == _STARTED or number == _WAITS:
         return _made(Reply, (kind, tid, None, None, None, (), None, None, (), ()))
     if number == _COMMITTED:
-        return _made(Reply, (kind, None, None, None, None, tuple(told.answer[: told.answers]), None, None, (), ()))
+        return _made(Reply, (kind, None, None, None, None, tuple(reported.answer[: reported.answers]), None, None, (), ()))
     if number == _REFUSED:
-        return Reply(kind, code=code, fell=tuple(told.fell[: told.fallen]))
+        return Reply(kind, code=code, fell=tuple(reported.fell[: reported.fallen]))
     if number == _ABORTED or number == _OVER:
-        return _ended(told, kind)
+        return _ended(reported, kind)
     try:
         return _PLAIN[number]
     except IndexError:
@@ -169,10 +169,10 @@ class BatchOutcome(NamedTuple):
 _NOT_STARTED = (Kind.NO_PROCEDURE, Kind.BAD_ARGS, Kind.SPENT, Kind.FULL)
 
 
-def _rare(told: COutcome) -> BatchOutcome:
+def _rare(reported: COutcome) -> BatchOutcome:
     """Returns an outcome whose reply may be of any kind."""
-    reply = reply_of(told.reply, told.reply)
-    return BatchOutcome(None if reply.kind in _NOT_STARTED else told.tid, reply, bool(told.wrote))
+    reply = reply_of(reported.reply, reported.reply)
+    return BatchOutcome(None if reply.kind in _NOT_STARTED else reported.tid, reply, bool(reported.wrote))
 
 
 _OUTCOME_BYTES = ctypes.sizeof(COutcome)
@@ -226,19 +226,19 @@ class Access(NamedTuple):
     value: Optional[int]
 
 
-def access_of(told: CAccess) -> Access:
-    return Access(Asked(told.kind), told.table, told.number, told.value if told.found else None)
+def access_of(reported: CAccess) -> Access:
+    return Access(Asked(reported.kind), reported.table, reported.number, reported.value if reported.found else None)
 
 
 def all_accesses(ask: Callable[[ctypes.Array[CAccess], int, ctypes.c_uint64], None]) -> list[Access]:
     """Returns the accesses that a call writes. It repeats the call until all fit."""
-    count, room = ctypes.c_uint64(), 16
+    count, capacity = ctypes.c_uint64(), 16
     while True:
-        told = (CAccess * room)()
-        ask(told, room, count)
-        if count.value <= room:
-            return [access_of(access) for access in told[: count.value]]
-        room = count.value
+        reported = (CAccess * capacity)()
+        ask(reported, capacity, count)
+        if count.value <= capacity:
+            return [access_of(access) for access in reported[: count.value]]
+        capacity = count.value
 
 
 class Call(NamedTuple):
@@ -253,31 +253,31 @@ class Call(NamedTuple):
     accesses: int = 0
 
 
-def call_of(told: CCall) -> Call:
-    code = told.code if told.kind == Kind.REFUSED else None
-    args, answers = tuple(told.arg[: told.args]), tuple(told.answer[: told.answers])
-    return Call(told.tid, told.procedure, args, answers, code, told.accesses)
+def call_of(reported: CCall) -> Call:
+    code = reported.code if reported.kind == Kind.REFUSED else None
+    args, answers = tuple(reported.arg[: reported.args]), tuple(reported.answer[: reported.answers])
+    return Call(reported.tid, reported.procedure, args, answers, code, reported.accesses)
 
 
-class Room:
+class Buffers:
     """The buffers of a call: for its reply and its arguments. Each call has its own, so that another thread or a signal handler never
     writes into them."""
 
-    __slots__ = ("args", "fields", "tid", "to", "to_tid", "told", "given")
+    __slots__ = ("args", "fields", "tid", "to", "to_tid", "reported", "given")
 
     def __init__(self) -> None:
-        self.told, self.args, self.tid = CReply(), (ctypes.c_int64 * 4)(), ctypes.c_uint32()
-        self.fields = memoryview(self.told).cast("B")
-        self.to, self.given, self.to_tid = map(ctypes.byref, (self.told, self.args, self.tid))
+        self.reported, self.args, self.tid = CReply(), (ctypes.c_int64 * 4)(), ctypes.c_uint32()
+        self.fields = memoryview(self.reported).cast("B")
+        self.to, self.given, self.to_tid = map(ctypes.byref, (self.reported, self.args, self.tid))
 
 
-_ROOMS: list[Room] = []
-free_room = _ROOMS.append
+_FREE_BUFFERS: list[Buffers] = []
+free_buffers = _FREE_BUFFERS.append
 
 
-def room() -> Room:
-    """Returns one that no other call uses. `free_room` returns it to the pool."""
+def buffers() -> Buffers:
+    """Returns one that no other call uses. `free_buffers` returns it to the pool."""
     try:
-        return _ROOMS.pop()
+        return _FREE_BUFFERS.pop()
     except IndexError:
-        return Room()
+        return Buffers()

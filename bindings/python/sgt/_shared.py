@@ -160,10 +160,10 @@ class SharedEngine(Uncopied):
         if self._teller and self._teller.is_here():
             raise Misuse()
 
-    def _tell(self, ticket: CTicket) -> None:
+    def _report(self, ticket: CTicket) -> None:
         """Calls the hook, if there is one, after a call for this transaction."""
         if self._teller:
-            self._teller.tell(ticket_of(ticket))
+            self._teller.report(ticket_of(ticket))
 
     def run(self, procedure: int, *args: int, timeout: Optional[float] = None, tries: int = 0) -> Outcome:
         """Runs a procedure from its start to its commit. It waits and tries again as often as needed, or up to `tries` times.
@@ -175,7 +175,7 @@ class SharedEngine(Uncopied):
         pack_args(given, args)
         options = CRunOptions(ctypes.sizeof(CRunOptions), nanoseconds(timeout), whole(tries, 0, 2**32 - 1))
         check(self._wait(FREE.sgt_shared_run, whole(procedure, 0, 65535), given, len(args), options, outcome))
-        self._tell(outcome.ticket)
+        self._report(outcome.ticket)
         ticket = ticket_of(outcome.ticket) if outcome.tries else None
         sequence = outcome.sequence if outcome.sequence < 2**64 - 1 else None
         return Outcome(reply_of(outcome.reply, outcome.reply), ticket, outcome.tries, outcome.waits, sequence)
@@ -185,15 +185,15 @@ class SharedEngine(Uncopied):
         and `t.remove`.
 
         The body is run again after a conflict, so it must have no effects but these. What it reads may be uncommitted, and be undone
-        afterwards: act on it after the commit, when this call has returned. An exception of the body quits the transaction and is raised,
-        unless a conflict had come first; it may rest on a value that is undone. To refuse truthfully, return the refusal without a write:
-        once that is committed, it is true. To quit, raise an exception of your own.
+        afterwards: act on it after the commit, when this call has returned. An exception of the body aborts the transaction and is
+        raised, unless a conflict had come first; it may rest on a value that is undone. To refuse truthfully, return the refusal without a write:
+        once that is committed, it is true. To abort, raise an exception of your own.
 
         The body must not commit the transaction itself: Misuse. A body that is async or a generator is a TypeError.
 
         After `tries` conflicts the next try is made alone: others wait until it has ended, and it has no conflicts.
 
-        Raises TimedOut if the deadline comes first, which does not interrupt the body; Aborted if somebody quit the transaction; NotStarted
+        Raises TimedOut if the deadline comes first, which does not interrupt the body; Aborted if another caller aborted the transaction; NotStarted
         if no start is left; SelfWait; NoMemory, also if the body has caught that. Then nothing of it is left live. An interrupt ends the
         call too, and may come when it has been carried out.
         """
@@ -204,7 +204,7 @@ class SharedEngine(Uncopied):
         except BaseException:
             transaction._abandon()
             raise
-        self._tell(transaction._ticket)
+        self._report(transaction._ticket)
         return result
 
     @overload
@@ -218,7 +218,7 @@ class SharedEngine(Uncopied):
     ) -> Union[OwnTransaction, Transaction]:
         """Starts a transaction.
 
-        Without a procedure, you decide its accesses: see OwnTransaction. The end of a `with` block commits it, and an exception quits it.
+        Without a procedure, you decide its accesses: see OwnTransaction. The end of a `with` block commits it, and an exception aborts it.
 
         With a procedure, its accesses are made one at a time, by `step`. The end of a `with` block aborts it, unless it has ended; so does
         the loss of the last reference to it.
@@ -236,12 +236,12 @@ class SharedEngine(Uncopied):
             raise
 
     def _transaction_of(self, procedure: int, args: Sequence[int], timeout: Optional[float]) -> Transaction:
-        given, told, transaction = (ctypes.c_int64 * 4)(), CReply(), Transaction(self, CTicket())
+        given, reported, transaction = (ctypes.c_int64 * 4)(), CReply(), Transaction(self, CTicket())
         pack_args(given, args)
         number = whole(procedure, 0, 65535)
         try:
-            check(self._wait(FREE.sgt_shared_start, number, given, len(args), nanoseconds(timeout), transaction._ticket, told))
-            reply = reply_of(told, told)
+            check(self._wait(FREE.sgt_shared_start, number, given, len(args), nanoseconds(timeout), transaction._ticket, reported))
+            reply = reply_of(reported, reported)
             if reply.kind is not Kind.STARTED:
                 raise NotStarted(reply)
             return transaction
@@ -251,9 +251,9 @@ class SharedEngine(Uncopied):
 
     def quit(self, ticket: Ticket) -> Reply:
         """Aborts the transaction of a ticket, which `live` returns."""
-        told = CReply()
-        check(self._ask(FREE.sgt_shared_quit, CTicket(ticket.engine, ticket.part, ticket.tid), told))
-        return reply_of(told, told)
+        reported = CReply()
+        check(self._ask(FREE.sgt_shared_quit, CTicket(ticket.engine, ticket.part, ticket.tid), reported))
+        return reply_of(reported, reported)
 
     def accesses(self, ticket: Ticket) -> list[Access]:
         """Returns the accesses that the caller of a transaction decided, in their order, until the history is cut. Raises Stale then.
@@ -262,7 +262,7 @@ class SharedEngine(Uncopied):
         `t.ticket`, which is the `ticket` of its `Ended`.
         """
         of = CTicket(ticket.engine, ticket.part, ticket.tid)
-        return all_accesses(lambda told, space, count: check(self._ask(FREE.sgt_shared_accesses, of, told, space, count)))
+        return all_accesses(lambda reported, space, count: check(self._ask(FREE.sgt_shared_accesses, of, reported, space, count)))
 
     def live(self) -> list[Live]:
         """Returns the live transactions."""
@@ -286,7 +286,7 @@ class SharedEngine(Uncopied):
     def rows(self, table: int = 0, number: int = LEAST) -> list[Row]:
         """Returns the committed database from a record on, in order of tables and then of numbers."""
         table, number = whole(table, 0, 7), whole(number, LEAST, MOST)
-        return rows_of(*all_rows(lambda told, space, count: self._ask(FREE.sgt_shared_rows, table, number, told, space, count)))
+        return rows_of(*all_rows(lambda reported, space, count: self._ask(FREE.sgt_shared_rows, table, number, reported, space, count)))
 
     def entries(self) -> int:
         """The number of entries of the history since the last cut."""
@@ -295,7 +295,7 @@ class SharedEngine(Uncopied):
         return count.value
 
     def drain(self, most: int = 1024, timeout: Optional[float] = None) -> list[Ended]:
-        """Takes at most so many of the stored calls, oldest first. Returns an empty list if none comes in time.
+        """Takes at most `most` of the stored calls, oldest first. Returns an empty list if none comes in time.
 
         Raises BadCall if the engine stores none, and Closed if it is closed meanwhile. What an interrupt keeps it from returning is
         returned by the next call; before Python 3.11, unless the interrupt comes between the return and the next instruction.
@@ -323,7 +323,7 @@ class SharedEngine(Uncopied):
         waits for something else.
         """
         if self._teller and not self._teller.is_here():
-            self._teller.tell()
+            self._teller.report()
         status = self._ask(FREE.sgt_shared_close)
         if status == BUSY:
             raise Busy("another thread waits in a call, or is in a hook, so the engine stays open")
@@ -371,30 +371,30 @@ class Transaction:
 
     def step(self) -> Reply:
         """Makes the next access of the procedure."""
-        told = CReply()
-        check(self._engine._ask(FREE.sgt_shared_step, self._ticket, told))
-        return self._replied(told)
+        reported = CReply()
+        check(self._engine._ask(FREE.sgt_shared_step, self._ticket, reported))
+        return self._replied(reported)
 
     def commit(self, timeout: Optional[float] = None) -> Reply:
         """Commits it, and waits for its predecessors. Raises TimedOut if the deadline comes first; it is still live then, and `waits_for`
         names the predecessor.
         """
-        told = CReply()
-        status = self._engine._wait(FREE.sgt_shared_commit, self._ticket, nanoseconds(timeout), told)
-        self.waits_for = told.tid if told.kind == Kind.WAITS else None
+        reported = CReply()
+        status = self._engine._wait(FREE.sgt_shared_commit, self._ticket, nanoseconds(timeout), reported)
+        self.waits_for = reported.tid if reported.kind == Kind.WAITS else None
         check(status)
-        reply = self._replied(told)
-        self._engine._tell(self._ticket)
+        reply = self._replied(reported)
+        self._engine._report(self._ticket)
         return reply
 
     def quit(self) -> Reply:
         """Aborts it."""
-        told = CReply()
-        check(self._engine._ask(FREE.sgt_shared_quit, self._ticket, told))
-        return self._replied(told)
+        reported = CReply()
+        check(self._engine._ask(FREE.sgt_shared_quit, self._ticket, reported))
+        return self._replied(reported)
 
-    def _replied(self, told: CReply) -> Reply:
-        reply = reply_of(told, told)
+    def _replied(self, reported: CReply) -> Reply:
+        reply = reply_of(reported, reported)
         if reply.kind in (Kind.COMMITTED, Kind.ABORTED, Kind.REFUSED, Kind.OVER):
             self._guard = None
         return reply

@@ -35,7 +35,7 @@ fn main() -> Result<(), Error> {
     assert_eq!(engine.entry(11), None);
     let (calls, next) = engine.calls(0, 9)?.expect("there is a history");
     assert_eq!((calls.len(), next), (2, engine.entries()));
-    assert_eq!((calls[1].procedure, &calls[1].args, &calls[1].told), (0, &vec![1], &Ok(vec![1600])));
+    assert_eq!((calls[1].procedure, &calls[1].args, &calls[1].reported), (0, &vec![1], &Ok(vec![1600])));
     assert_eq!(engine.calls(next + 1, 9)?, None);
     let mut rows = engine.rows(0, LEAST)?;
     for Row { table, number, value } in &rows {

@@ -27,8 +27,8 @@ fn pay_each(bank: &SharedEngine, number: i64) -> Result<u32, Error> {
 }
 
 fn main() -> Result<(), Error> {
-    let told = Arc::new(AtomicU32::new(0));
-    let counted = Arc::clone(&told);
+    let reported = Arc::new(AtomicU32::new(0));
+    let counted = Arc::clone(&reported);
     let with = Configuration {
         ended: Some(Box::new(move |_| {
             counted.fetch_add(1, Relaxed);
@@ -49,8 +49,8 @@ fn main() -> Result<(), Error> {
         paid += thread.join().expect("no thread panics")?;
     }
     let calls = bank.drain(100_000, Some(Duration::ZERO))?;
-    assert_eq!((told.load(Relaxed), calls.len()), (16_000, 16_000));
-    assert_eq!(calls.iter().filter(|ended| ended.call.told.is_ok()).count(), paid as usize);
+    assert_eq!((reported.load(Relaxed), calls.len()), (16_000, 16_000));
+    assert_eq!(calls.iter().filter(|ended| ended.call.reported.is_ok()).count(), paid as usize);
     let money: i64 = bank.rows(2, sgt::LEAST)?.iter().map(|row| row.value).sum();
 
     let mut started = bank.start(PAY, &[101, 102, 0], None)?.expect("8 may be live"); // step by step

@@ -45,14 +45,14 @@ pub(crate) fn text_of(write: impl Fn(*mut u8, usize, &mut u64) -> u32) -> Option
 /// The error of an opening that has this fault.
 pub(crate) fn opening_refused(fault: &c::Fault, opening: &str) -> Error {
     let (from, count) = (opening.as_ptr(), opening.len());
-    let explanation = text_of(|to, room, length| unsafe { c::sgt_explain_opening(from, count, to, room, length) });
+    let explanation = text_of(|to, capacity, length| unsafe { c::sgt_explain_opening(from, count, to, capacity, length) });
     Error::Opening { fault: fault_of(fault), explanation }
 }
 
 /// The error of a procedure's text that has this fault.
 pub(crate) fn procedure_refused(fault: &c::Fault, text: &str) -> Error {
     let (number, from, count) = (fault.procedure, text.as_ptr(), text.len());
-    let explanation = text_of(|to, room, length| unsafe { c::sgt_explain_procedure(number, from, count, to, room, length) });
+    let explanation = text_of(|to, capacity, length| unsafe { c::sgt_explain_procedure(number, from, count, to, capacity, length) });
     Error::Opening { fault: fault_of(fault), explanation }
 }
 
@@ -150,7 +150,7 @@ pub(crate) fn done(status: u32) -> Result<(), Error> {
     }
 }
 
-pub(crate) fn told(status: u32, reply: &c::Reply) -> Result<Reply, Error> {
+pub(crate) fn reported(status: u32, reply: &c::Reply) -> Result<Reply, Error> {
     done(status).map(|()| reply_of(reply))
 }
 
@@ -187,7 +187,7 @@ pub(crate) fn call_of(call: &c::Call) -> Call {
         tid: call.tid,
         procedure: call.procedure as u16,
         args: call.arg[..call.args as usize].to_vec(),
-        told: if call.kind == 13 { Ok(answers()) } else { Err(call.code) },
+        reported: if call.kind == 13 { Ok(answers()) } else { Err(call.code) },
         accesses: call.accesses,
     }
 }

@@ -1,7 +1,7 @@
 //! The engine for one thread at a time.
 use crate::convert::{
     accesses_of, call_for, call_of, done, event_of, no_fault, opening_refused, outcome_of, procedure_refused, reply_of, row_for,
-    row_of, told,
+    row_of, reported,
 };
 use crate::{check_version, Access, Call, Error, Event, Fault, Reply, Row};
 use sgt_sys as c;
@@ -37,7 +37,7 @@ impl Engine {
     /// Opens an engine by an opening's JSON text.
     pub fn open(opening: &str) -> Result<Engine, Error> {
         check_version()?;
-        let (mut engine, mut fault) = blank();
+        let (mut engine, mut fault) = zeroed();
         // The pointers are of distinct values that live during the call. The same holds for each call below.
         let status = unsafe { c::sgt_open(engine.inner.get_mut(), opening.as_ptr(), opening.len(), &mut fault) };
         opened(status, engine, &fault, opening)
@@ -46,7 +46,7 @@ impl Engine {
     /// The same, with these rows added to the database of the opening's accounts.
     pub fn open_with(opening: &str, rows: &[Row]) -> Result<Engine, Error> {
         check_version()?;
-        let (mut engine, mut fault) = blank();
+        let (mut engine, mut fault) = zeroed();
         let rows: Vec<c::Row> = rows.iter().map(row_for).collect();
         let (bytes, length) = (opening.as_ptr(), opening.len());
         let status = unsafe { c::sgt_open_with(engine.inner.get_mut(), bytes, length, rows.as_ptr(), rows.len(), &mut fault) };
@@ -57,7 +57,7 @@ impl Engine {
     /// in all; with `asks`, codes are reported at the commit.
     pub fn open_bare(live: u32, begins: u32, asks: bool) -> Result<Engine, Error> {
         check_version()?;
-        let (mut engine, _) = blank();
+        let (mut engine, _) = zeroed();
         match unsafe { c::sgt_open_bare(engine.inner.get_mut(), live.into(), begins.into(), asks.into()) } {
             c::BAD_LIMITS => Err(Error::Opening { fault: Fault::BadLimits, explanation: None }),
             status => done(status).map(|()| engine),
@@ -87,8 +87,8 @@ impl Engine {
     pub fn procedure_text(&self, number: u16) -> Result<Option<String>, Error> {
         let (mut text, mut length) = (Vec::new(), 0);
         loop {
-            let (to, room) = (text.as_mut_ptr(), text.len());
-            match unsafe { c::sgt_procedure_text(self.inner.get(), number.into(), to, room, &mut length) } {
+            let (to, capacity) = (text.as_mut_ptr(), text.len());
+            match unsafe { c::sgt_procedure_text(self.inner.get(), number.into(), to, capacity, &mut length) } {
                 c::NONE => return Ok(None),
                 status => done(status)?,
             }
@@ -104,7 +104,7 @@ impl Engine {
     pub fn start(&mut self, procedure: u16, args: &[i64]) -> Result<Reply, Error> {
         let mut reply = c::Reply::default();
         let status = unsafe { c::sgt_start(self.inner.get_mut(), procedure.into(), args.as_ptr(), args.len(), &mut reply) };
-        told(status, &reply)
+        reported(status, &reply)
     }
 
     /// Runs a procedure from its start to its commit. Returns the number of its transaction, if one was started, and the last reply.
@@ -113,7 +113,7 @@ impl Engine {
         let mut tid = u32::MAX; // no transaction ever has this number
         let status =
             unsafe { c::sgt_run(self.inner.get_mut(), procedure.into(), args.as_ptr(), args.len(), &mut tid, &mut reply) };
-        told(status, &reply).map(|reply| ((tid != u32::MAX).then_some(tid), reply))
+        reported(status, &reply).map(|reply| ((tid != u32::MAX).then_some(tid), reply))
     }
 
     /// Runs these calls of procedures with their arguments one after another, as `run` does. Returns an outcome for each, also if it is
@@ -122,9 +122,9 @@ impl Engine {
         let calls: Option<Vec<c::Call>> = calls.iter().map(call_for).collect();
         let calls = calls.ok_or((Vec::new(), Error::BadCall))?;
         let (mut outcomes, mut done_calls) = (vec![c::Outcome::default(); calls.len()], 0);
-        let (to, room) = (outcomes.as_mut_ptr(), outcomes.len());
+        let (to, capacity) = (outcomes.as_mut_ptr(), outcomes.len());
         let status =
-            unsafe { c::sgt_run_many(self.inner.get_mut(), calls.as_ptr(), calls.len(), to, room, &mut done_calls) };
+            unsafe { c::sgt_run_many(self.inner.get_mut(), calls.as_ptr(), calls.len(), to, capacity, &mut done_calls) };
         let ran = outcomes[..done_calls as usize].iter().map(outcome_of).collect();
         match done(status) {
             Ok(()) => Ok(ran),
@@ -151,33 +151,33 @@ impl Engine {
     pub fn begin(&mut self) -> Result<Reply, Error> {
         let mut reply = c::Reply::default();
         let status = unsafe { c::sgt_begin(self.inner.get_mut(), &mut reply) };
-        told(status, &reply)
+        reported(status, &reply)
     }
 
     /// Reads a record for a transaction whose procedure is at its end.
     pub fn read(&mut self, tid: u32, table: u8, number: i64) -> Result<Reply, Error> {
         let mut reply = c::Reply::default();
         let status = unsafe { c::sgt_read(self.inner.get_mut(), tid, table.into(), number, &mut reply) };
-        told(status, &reply)
+        reported(status, &reply)
     }
 
     /// Writes a record in the same way. If the value is out of range, the reply is `BadArgs`.
     pub fn write(&mut self, tid: u32, table: u8, number: i64, value: i64) -> Result<Reply, Error> {
         let mut reply = c::Reply::default();
         let status = unsafe { c::sgt_write(self.inner.get_mut(), tid, table.into(), number, value, &mut reply) };
-        told(status, &reply)
+        reported(status, &reply)
     }
 
     /// Removes a record in the same way. The reply is that of a write of no value.
     pub fn remove(&mut self, tid: u32, table: u8, number: i64) -> Result<Reply, Error> {
         let mut reply = c::Reply::default();
         let status = unsafe { c::sgt_remove(self.inner.get_mut(), tid, table.into(), number, &mut reply) };
-        told(status, &reply)
+        reported(status, &reply)
     }
 
     /// Returns the accesses that the caller of a transaction decided, in their order.
     pub fn accesses(&self, tid: u32) -> Result<Vec<Access>, Error> {
-        accesses_of(|to, room, count| unsafe { c::sgt_accesses(self.inner.get(), tid, to, room, count) })
+        accesses_of(|to, capacity, count| unsafe { c::sgt_accesses(self.inner.get(), tid, to, capacity, count) })
     }
 
     /// Returns the committed value of a record, or none if there is no such record.
@@ -235,7 +235,7 @@ impl Engine {
         }
     }
 
-    /// Returns the committed and refused calls of the history from an index on, in reply order, at most so many, and the index to go on
+    /// Returns the committed and refused calls of the history from an index on, in reply order, at most `most`, and the index to go on
     /// from. Run one after another, these calls give the same answers. `None` if the history is shorter.
     pub fn calls(&self, from: u64, most: usize) -> Result<Option<(Vec<Call>, u64)>, Error> {
         let (mut calls, mut count, mut next) = (vec![c::Call::default(); most], 0, 0);
@@ -268,7 +268,7 @@ impl Engine {
     fn ask(&mut self, event: Ask, tid: u32) -> Result<Reply, Error> {
         let mut reply = c::Reply::default();
         let status = unsafe { event(self.inner.get_mut(), tid, &mut reply) };
-        told(status, &reply)
+        reported(status, &reply)
     }
 }
 
@@ -278,7 +278,7 @@ impl Drop for Engine {
     }
 }
 
-fn blank() -> (Engine, c::Fault) {
+fn zeroed() -> (Engine, c::Fault) {
     (Engine { inner: UnsafeCell::new(c::Engine { is_open: 0, at: std::ptr::null_mut() }) }, no_fault())
 }
 

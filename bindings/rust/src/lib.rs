@@ -128,7 +128,7 @@ pub struct Call {
     pub procedure: u16,
     pub args: Vec<i64>,
     /// The answers, or the code that the procedure raised.
-    pub told: Result<Vec<i64>, u32>,
+    pub reported: Result<Vec<i64>, u32>,
     /// The number of accesses that its caller decided.
     pub accesses: u64,
 }
@@ -182,8 +182,8 @@ pub enum Error {
     Busy,
     /// The deadline came first.
     TimedOut,
-    /// The transaction was aborted, and nothing of it is in the database. If that was by a conflict, try it again; else somebody
-    /// quit it. The reply says why.
+    /// The transaction was aborted, and nothing of it is in the database. If that was by a conflict, try it again; else a caller aborted
+    /// it. The reply says why.
     Aborted { reply: Reply, is_conflict: bool },
     /// A start was refused: no start is left.
     NotStarted(Reply),
@@ -228,7 +228,7 @@ impl fmt::Display for Error {
 impl fmt::Display for Reply {
     fn fmt(&self, f: &mut fmt::Formatter<'_>) -> fmt::Result {
         let reply = fields_of(self);
-        written(f, self, |to, room, length| unsafe { c::sgt_reply_text(&reply, to, room, length) })
+        written(f, self, |to, capacity, length| unsafe { c::sgt_reply_text(&reply, to, capacity, length) })
     }
 }
 
@@ -236,7 +236,7 @@ impl fmt::Display for Reply {
 impl fmt::Display for Fault {
     fn fmt(&self, f: &mut fmt::Formatter<'_>) -> fmt::Result {
         let fault = fault_fields(self);
-        written(f, self, |to, room, length| unsafe { c::sgt_fault_text(&fault, to, room, length) })
+        written(f, self, |to, capacity, length| unsafe { c::sgt_fault_text(&fault, to, capacity, length) })
     }
 }
 

@@ -11,7 +11,7 @@ use std::time::{Duration, Instant};
 pub struct TransactLimits {
     /// None: without a limit.
     pub wait: Option<Duration>,
-    /// After so many aborts by a conflict the next try is made alone. 0: the first one is.
+    /// After this many aborts by a conflict the next try is made alone. 0: the first one is.
     pub tries: u32,
 }
 
@@ -21,7 +21,7 @@ impl Default for TransactLimits {
     }
 }
 
-/// A transaction whose accesses you decide, of [`SharedEngine::transact`] or [`SharedEngine::begin`]. Dropping it quits it, unless it has
+/// A transaction whose accesses you decide, of [`SharedEngine::transact`] or [`SharedEngine::begin`]. Dropping it aborts it, unless it has
 /// ended before.
 ///
 /// Each call is `Aborted` if the transaction has been aborted, `NoMemory`, or `BadCall` if a number is out of range. What it reads may be
@@ -30,7 +30,7 @@ impl Default for TransactLimits {
 #[must_use = "a transaction that is dropped is quit"]
 pub struct OwnTransaction {
     engine: SharedEngine,
-    told: c::Transaction,
+    reported: c::Transaction,
 }
 
 // Its pointer is that of the engine, whose calls any thread may make.
@@ -41,14 +41,14 @@ impl SharedEngine {
     /// [`OwnTransaction::read`], [`write`](OwnTransaction::write) and [`remove`](OwnTransaction::remove), each with `?`.
     ///
     /// The body is run again after a conflict, so it must have no effects but these. What it reads may be uncommitted, and be undone
-    /// afterwards: act on it after the commit, when this call has returned `Ok`. An error of the body quits the transaction and is
+    /// afterwards: act on it after the commit, when this call has returned `Ok`. An error of the body aborts the transaction and is
     /// returned, unless a conflict had come first; it may rest on a value that is undone. To refuse truthfully, return the refusal as `Ok`
-    /// without a write: once that is committed, it is true. If the body panics, the transaction is quit.
+    /// without a write: once that is committed, it is true. If the body panics, the transaction is aborted.
     ///
     /// After 8 conflicts the next try is made alone: others wait until it has ended, and it has no conflicts.
     ///
-    /// `Aborted` if somebody quit the transaction; `NotStarted` if no start is left; `SelfWait`; `NoMemory`. Then nothing of it is left
-    /// live. If a call of the transaction failed, nothing is committed, and the error is that of this call.
+    /// `Aborted` if another caller aborted the transaction; `NotStarted` if no start is left; `SelfWait`; `NoMemory`. Then nothing of it is
+    /// left live. If a call of the transaction failed, nothing is committed, and the error is that of this call.
     pub fn transact<R>(&self, body: impl FnMut(&mut OwnTransaction) -> Result<R, Error>) -> Result<R, Error> {
         self.transact_within(TransactLimits::default(), body)
     }
@@ -84,18 +84,18 @@ impl SharedEngine {
 impl OwnTransaction {
     /// Identifies the last try: once it is committed, that of its `Ended`.
     pub fn ticket(&self) -> Ticket {
-        self.told.ticket
+        self.reported.ticket
     }
 
     /// How many transactions were started for it, this one included.
     pub fn tries(&self) -> u32 {
-        self.told.tries
+        self.reported.tries
     }
 
     /// Returns the value of a record, or none if there is no such record.
     pub fn read(&mut self, table: u8, number: i64) -> Result<Option<i64>, Error> {
         let mut value = 0;
-        match unsafe { c::sgt_transaction_read(&mut self.told, table.into(), number, &mut value) } {
+        match unsafe { c::sgt_transaction_read(&mut self.reported, table.into(), number, &mut value) } {
             c::NONE => Ok(None),
             status => self.checked(status).map(|()| Some(value)),
         }
@@ -103,18 +103,18 @@ impl OwnTransaction {
 
     /// Writes a record.
     pub fn write(&mut self, table: u8, number: i64, value: i64) -> Result<(), Error> {
-        let status = unsafe { c::sgt_transaction_write(&mut self.told, table.into(), number, value) };
+        let status = unsafe { c::sgt_transaction_write(&mut self.reported, table.into(), number, value) };
         self.checked(status)
     }
 
     /// Removes a record. Does nothing if there is none.
     pub fn remove(&mut self, table: u8, number: i64) -> Result<(), Error> {
-        let status = unsafe { c::sgt_transaction_remove(&mut self.told, table.into(), number) };
+        let status = unsafe { c::sgt_transaction_remove(&mut self.reported, table.into(), number) };
         self.checked(status)
     }
 
     /// Commits it, and waits for its predecessors; `None` without a limit. `TimedOut` if the deadline comes first, or `SelfWait`; then it
-    /// was quit.
+    /// was aborted.
     pub fn commit(mut self, wait: Option<Duration>) -> Result<(), Error> {
         match self.is_committed(nanoseconds(wait))? {
             true => Ok(()),
@@ -128,7 +128,7 @@ impl OwnTransaction {
     }
 
     fn new(engine: &SharedEngine) -> OwnTransaction {
-        let told = c::Transaction {
+        let reported = c::Transaction {
             size: size_of::<c::Transaction>(),
             shared: std::ptr::null_mut(),
             ticket: Ticket::default(),
@@ -140,14 +140,14 @@ impl OwnTransaction {
             is_live: 0,
             reply: c::Reply::default(),
         };
-        OwnTransaction { engine: engine.clone(), told }
+        OwnTransaction { engine: engine.clone(), reported }
     }
 
-    /// Starts the next try: alone after so many.
+    /// Starts the next try: alone after `tries` tries.
     fn start(&mut self, tries: u32, wait_ns: i64) -> Result<(), Error> {
         let options = c::TransactOptions { size: size_of::<c::TransactOptions>(), wait_ns, tries, spare: 0 };
-        done(unsafe { c::sgt_shared_try(self.engine.at(), &mut self.told, &options) })?;
-        match reply_of(&self.told.reply) {
+        done(unsafe { c::sgt_shared_try(self.engine.at(), &mut self.reported, &options) })?;
+        match reply_of(&self.reported.reply) {
             Reply::Started(_) => Ok(()),
             refused => Err(Error::NotStarted(refused)),
         }
@@ -155,19 +155,19 @@ impl OwnTransaction {
 
     /// Commits it. False if it was aborted by a conflict.
     fn is_committed(&mut self, wait_ns: i64) -> Result<bool, Error> {
-        match unsafe { c::sgt_transaction_commit(&mut self.told, wait_ns) } {
+        match unsafe { c::sgt_transaction_commit(&mut self.reported, wait_ns) } {
             c::UNDONE => return Ok(false),
             status => done(status)?,
         }
-        match reply_of(&self.told.reply) {
+        match reply_of(&self.reported.reply) {
             Reply::Committed(_) => Ok(true),
             _ => Err(self.aborted()),
         }
     }
 
-    /// Quits it, unless it has ended. Whether it was aborted by a conflict.
+    /// Aborts it, unless it has ended. Whether it was aborted by a conflict.
     fn ends_undone(&mut self) -> bool {
-        unsafe { c::sgt_transaction_quit(&mut self.told) == c::UNDONE }
+        unsafe { c::sgt_transaction_quit(&mut self.reported) == c::UNDONE }
     }
 
     fn checked(&self, status: u32) -> Result<(), Error> {
@@ -178,15 +178,15 @@ impl OwnTransaction {
     }
 
     fn aborted(&self) -> Error {
-        Error::Aborted { reply: reply_of(&self.told.reply), is_conflict: self.told.status == c::UNDONE }
+        Error::Aborted { reply: reply_of(&self.reported.reply), is_conflict: self.reported.status == c::UNDONE }
     }
 }
 
 impl Drop for OwnTransaction {
     fn drop(&mut self) {
-        if self.told.is_live != 0 {
+        if self.reported.is_live != 0 {
             // The abort of a live transaction never fails, also inside the engine's hook. One that has ended or was cut off needs none.
-            let _ = unsafe { c::sgt_shared_abandon(self.engine.at(), &self.told.ticket) };
+            let _ = unsafe { c::sgt_shared_abandon(self.engine.at(), &self.reported.ticket) };
         }
     }
 }

@@ -184,7 +184,7 @@ impl SharedEngine {
     /// Returns the accesses that the caller of a transaction decided, in their order. `Stale` once the history is cut. The hook of the
     /// engine may call it. The cost grows with the entries since its start, so ask soon.
     pub fn accesses(&self, ticket: Ticket) -> Result<Vec<Access>, Error> {
-        accesses_of(|to, room, count| unsafe { c::sgt_shared_accesses(self.at(), &ticket, to, room, count) })
+        accesses_of(|to, capacity, count| unsafe { c::sgt_shared_accesses(self.at(), &ticket, to, capacity, count) })
     }
 
     /// Returns the live transactions.
@@ -212,9 +212,9 @@ impl SharedEngine {
     pub fn rows(&self, table: u8, number: i64) -> Result<Vec<Row>, Error> {
         let (mut rows, mut count) = (Vec::new(), 0);
         loop {
-            let (to, room) = (rows.as_mut_ptr(), rows.len());
-            done(unsafe { c::sgt_shared_rows(self.at(), table.into(), number, to, room, &mut count) })?;
-            let fits = count as usize <= room;
+            let (to, capacity) = (rows.as_mut_ptr(), rows.len());
+            done(unsafe { c::sgt_shared_rows(self.at(), table.into(), number, to, capacity, &mut count) })?;
+            let fits = count as usize <= capacity;
             rows.resize(count as usize, c::Row::default());
             if fits {
                 return Ok(rows.iter().map(row_of).collect());
@@ -228,7 +228,7 @@ impl SharedEngine {
         done(unsafe { c::sgt_shared_entries(self.at(), &mut count, std::ptr::null_mut()) }).map(|()| count)
     }
 
-    /// Takes at most so many of the stored calls. Returns an empty list if none comes in time. `BadCall` if the engine stores none.
+    /// Takes at most `most` of the stored calls. Returns an empty list if none comes in time. `BadCall` if the engine stores none.
     pub fn drain(&self, most: usize, wait: Option<Duration>) -> Result<Vec<Ended>, Error> {
         let (mut calls, mut count) = (vec![c::Ended::default(); most], 0);
         let (to, wait) = (calls.as_mut_ptr(), nanoseconds(wait));
@@ -260,7 +260,7 @@ impl Transaction {
     pub fn step(&mut self) -> Result<Reply, Error> {
         let mut reply = c::Reply::default();
         let status = unsafe { c::sgt_shared_step(self.engine.at(), &self.ticket, &mut reply) };
-        self.told(status, &reply)
+        self.reported(status, &reply)
     }
 
     /// Commits it, and waits for its predecessors; `None` without a limit. `TimedOut` if the deadline comes first; it is still live then,
@@ -272,7 +272,7 @@ impl Transaction {
             Reply::Waits(first) => Some(first),
             _ => None,
         };
-        self.told(status, &reply)
+        self.reported(status, &reply)
     }
 
     /// The number of the transaction that the last commit waits for, if its error was `TimedOut` or `SelfWait`.
@@ -286,7 +286,7 @@ impl Transaction {
         self.engine.quit(self.ticket)
     }
 
-    fn told(&mut self, status: u32, reply: &c::Reply) -> Result<Reply, Error> {
+    fn reported(&mut self, status: u32, reply: &c::Reply) -> Result<Reply, Error> {
         done(status)?;
         let reply = reply_of(reply);
         if let Reply::Committed(_) | Reply::Aborted { .. } | Reply::Refused { .. } | Reply::Over(_) = reply {
@@ -310,7 +310,7 @@ fn configured(with: Configuration) -> (Inner, c::SharedConfig) {
     let hook = with.ended.map_or(std::ptr::null_mut(), |hook| Box::into_raw(Box::new(hook)));
     let config = c::SharedConfig {
         size: size_of::<c::SharedConfig>(),
-        ended: (!hook.is_null()).then_some(tell as c::EndedHook),
+        ended: (!hook.is_null()).then_some(report as c::EndedHook),
         cutting: None,
         context: hook.cast(),
         keeps_ended: with.keeps_ended.into(),
@@ -322,7 +322,7 @@ fn configured(with: Configuration) -> (Inner, c::SharedConfig) {
 }
 
 /// The hook for C.
-unsafe extern "C-unwind" fn tell(context: *mut c_void, call: *const c::Ended) {
+unsafe extern "C-unwind" fn report(context: *mut c_void, call: *const c::Ended) {
     // The context is the hook in the engine's `Inner`, which lives as long as the engine. The call is a value of the library.
     let (hook, call) = unsafe { (&mut *context.cast::<Hook>(), &*call) };
     hook(ended_of(call));

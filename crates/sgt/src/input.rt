@@ -16,10 +16,10 @@ pub(crate) enum InputBytes<I: Read + Drop, F: Read + Drop> {
 }
 
 impl<I: Read + Drop, F: Read + Drop> Read for InputBytes<I, F> {
-    fn read(&mut self, room: &mut [u8]) -> io::Result<usize> {
+    fn read(&mut self, buffer: &mut [u8]) -> io::Result<usize> {
         match self {
-            InputBytes::Standard(standard) => standard.read(room),
-            InputBytes::File(file) => file.read(room),
+            InputBytes::Standard(standard) => standard.read(buffer),
+            InputBytes::File(file) => file.read(buffer),
         }
     }
 }

@@ -507,7 +507,7 @@ fn check<R: Print + Eprint + Files, I: Read + Drop>(
     input: I,
 ) -> ExitCode {
     if options.get_flag("all") && !options.get_flag("timeline") {
-        return tell(rt, NEEDS_TIMELINE);
+        return report(rt, NEEDS_TIMELINE);
     }
     let strict = options.get_flag("strict");
     let level = options.get_str("level");
@@ -515,7 +515,7 @@ fn check<R: Print + Eprint + Files, I: Read + Drop>(
         return check_clients(rt, alloc, options, question_of(level, strict), input);
     }
     if strict || level.is_some() || options.get_flag("json") {
-        return tell(rt, NEEDS_MODEL);
+        return report(rt, NEEDS_MODEL);
     }
     let mut source = Remembering::new(alloc, Reader::new(input));
     let mut writer = Writer::new(OutputBytes::new(io::writer(rt)));
@@ -525,7 +525,7 @@ fn check<R: Print + Eprint + Files, I: Read + Drop>(
             rt,
             Failure::<Fault>::Unread,
         ),
-        Err(fault) if is_brace(&fault) => tell_hint(rt, fault, IS_JSON),
+        Err(fault) if is_brace(&fault) => report_hint(rt, fault, IS_JSON),
         Err(fault) => failed(rt, check_failure(rt, &source, options.get_str(FILE), fault)),
     }
 }
@@ -555,7 +555,7 @@ fn clients_failed<R: Eprint + Files>(
     fault: ClientsFault,
 ) -> ExitCode {
     if is_no_json(&fault) {
-        return tell_hint(rt, fault, IS_TEXT);
+        return report_hint(rt, fault, IS_TEXT);
     }
     if is_unread && fault == ClientsFault::Check(CheckFault::Writing) {
         return failed(rt, Failure::<Fault>::Unread);
@@ -631,11 +631,11 @@ fn run<R: Print + Eprint + Input + Files + Clock + Threads + Wait + Sync>(
     }
     let file = options.get_str(FILE);
     if file.is_none() && streams.is_typed {
-        tell(rt, TYPED);
+        report(rt, TYPED);
     }
     match open_input(rt, file) {
         Ok(input) => run_on(rt, alloc, streams, name, options, input),
-        Err(fault) => tell(rt, fault),
+        Err(fault) => report(rt, fault),
     }
 }
 
@@ -643,7 +643,7 @@ fn run<R: Print + Eprint + Input + Files + Clock + Threads + Wait + Sync>(
 fn print_version<R: Print + Eprint>(rt: &R) -> ExitCode {
     match println!(rt; "sgt {VERSION}") {
         Ok(()) => ExitCode::SUCCESS,
-        Err(_) => tell(rt, Fault::Writing),
+        Err(_) => report(rt, Fault::Writing),
     }
 }
 
@@ -693,23 +693,23 @@ fn ended<R: Eprint>(rt: &R, ran: Result<(), Failure<Fault>>) -> ExitCode {
 fn failed<R: Eprint, F: Display + Drop>(rt: &R, failure: Failure<F>) -> ExitCode {
     match failure {
         Failure::Unread => ExitCode::from(2),
-        Failure::Fault(fault, Detail::Nothing) => tell(rt, fault),
+        Failure::Fault(fault, Detail::Nothing) => report(rt, fault),
         Failure::Fault(fault, detail) => {
-            tell(rt, fault);
-            tell(rt, detail)
+            report(rt, fault);
+            report(rt, detail)
         }
     }
 }
 
 /// Writes a text to standard error, and returns the status of a failure. If the write fails too, only the status is
 /// left.
-fn tell<R: Eprint>(rt: &R, text: impl Display + Drop) -> ExitCode {
+fn report<R: Eprint>(rt: &R, text: impl Display + Drop) -> ExitCode {
     let _ = eprintln!(rt; "{text}");
     ExitCode::from(2)
 }
 
 /// The same, with a hint on the same line.
-fn tell_hint<R: Eprint>(rt: &R, fault: impl Display + Drop, hint: &str) -> ExitCode {
+fn report_hint<R: Eprint>(rt: &R, fault: impl Display + Drop, hint: &str) -> ExitCode {
     let _ = eprintln!(rt; "{fault}{hint}");
     ExitCode::from(2)
 }
@@ -717,10 +717,10 @@ fn tell_hint<R: Eprint>(rt: &R, fault: impl Display + Drop, hint: &str) -> ExitC
 /// Writes what `clap` reports in place of a run: help and version to standard output, all else to standard error.
 fn refuse<R: Print + Eprint>(rt: &R, error: &clap::Error) -> ExitCode {
     if error.kind() == ErrorKind::OutOfMemory {
-        return tell(rt, Fault::NoMemory);
+        return report(rt, Fault::NoMemory);
     }
     if error.print(rt).is_err() {
-        return tell(rt, Fault::Writing);
+        return report(rt, Fault::Writing);
     }
     ExitCode::from(error.exit_code() as u8)
 }
@@ -733,7 +733,7 @@ fn run_words<R: Print + Eprint + Input + Files + Clock + Threads + Wait + Sync>(
     words: &[String],
 ) -> ExitCode {
     let Ok(command) = command(alloc) else {
-        return tell(rt, Fault::NoMemory);
+        return report(rt, Fault::NoMemory);
     };
     match command.try_get_matches_from(words) {
         Ok(matches) => run(rt, alloc, streams, &matches),
@@ -745,8 +745,8 @@ fn main(rt: HostRuntime) -> ExitCode {
     let alloc = rt.alloc();
     let words: Result<Vec<String>, AllocError> = match env::args(&rt) {
         Ok(words) => words.collect(alloc),
-        Err(error) if error.kind() == io::ErrorKind::InvalidData => return tell(&rt, NO_TEXT),
-        Err(_) => return tell(&rt, Fault::NoMemory),
+        Err(error) if error.kind() == io::ErrorKind::InvalidData => return report(&rt, NO_TEXT),
+        Err(_) => return report(&rt, Fault::NoMemory),
     };
     let streams = Streams {
         stderr: rt.stderr(),
@@ -754,6 +754,6 @@ fn main(rt: HostRuntime) -> ExitCode {
     };
     match words {
         Ok(words) => run_words(&rt, alloc, streams, words.as_slice()),
-        Err(_) => tell(&rt, Fault::NoMemory),
+        Err(_) => report(&rt, Fault::NoMemory),
     }
 }

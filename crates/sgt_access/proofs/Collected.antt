@@ -1,11 +1,11 @@
 -- The transactions at the places of a set, taken out of it one after another.
 use Rattle.std.proofs.Common.{◌≡◌, ℕ, ◌<◌, ◌≤◌, ◌^◌, ◌⊎◌, ◌↔◌, Bool, true, false, ◌&&◌, not, nat_eq, List, [], length, slice_index, get_or, arith, refl, sym, ap, subst, ◌∙◌, inl, inr}
 use Rattle.std.proofs.lemmas.Bool.{cases_Bool, cases_lt, cases_eq, eqb-true, eq-eqb, and_parts, and_cases, not-true, not-false, false_from_ne_true, both_ways}
-use Rattle.sgt_model.specs.Walks.{Member, Rising}
+use Rattle.sgt_model.specs.Paths.{Member, Rising}
 use Rattle.sgt_cycle.specs.Indices.{is_set}
 use Rattle.sgt_cycle.proofs.Bits.{none_above}
 use Rattle.std.proofs.lemmas.List.{get_or_default}
-use Rattle.sgt_access.proofs.RisingLists.{member_at, room_among}
+use Rattle.sgt_access.proofs.RisingLists.{member_at, capacity_among}
 
 -- found are the transactions at the places of the set that are not left
 pub record Collected (set : ℕ) (tids : List ℕ) (left : ℕ) (found : List ℕ) : Type 0 where
@@ -49,11 +49,11 @@ module _ (set : ℕ) (tids : List ℕ) where
       second : (a b : Bool) → a ≡ true → (a && b) ≡ false → b ≡ false
       second a b t none = elim (and_cases a b none) [ inl f ↦ absurd (both_ways a f t) | inr f ↦ f ]
 
-  -- there is room for the next
-  pub collected_room : (left p : ℕ) (found : List ℕ) → set < 2 ^ 32 → length tids ≡ 32 → Collected set tids left found
+  -- the list has capacity for the next
+  pub collected_capacity : (left p : ℕ) (found : List ℕ) → set < 2 ^ 32 → length tids ≡ 32 → Collected set tids left found
       → is_set left p ≡ true → (t : ℕ) → t ≡ slice_index tids p → (Member t found → ⊥) → length found < 32
-  collected_room left p found fits size before there t is out = subst (λ n. length found < n) size
-      (room_among tids found t before.rising
+  collected_capacity left p found fits size before there t is out = subst (λ n. length found < n) size
+      (capacity_among tids found t before.rising
       (λ u m. let (i, set_there, gone, at) = (before.members u).0 m in member_at tids i u (short i set_there) at)
       (member_at tids p t (short p (before.within p there)) (sym is)) out)
     where

@@ -29,7 +29,7 @@ pub any_implied : {X : Type 0} (p q : X → Bool) → ((x : X) → p x ≡ true 
     → list_any q xs ≡ true
 any_implied p q h xs some = elim (any_either p q q (λ x t. inl (h x t)) xs some) [ inl a ↦ a | inr b ↦ b ]
 
--- an access that passes a test is somebody's
+-- an access that passes a test belongs to some transaction
 pub any_owner : (q : ListedAccess → Bool) (xs : List ListedAccess) → list_any q xs ≡ true
     → (u : ℕ) × (list_any (λ (a : ListedAccess). nat_eq a.by u && q a) xs ≡ true)
 any_owner q [] h = absurd (true≢false (sym h))

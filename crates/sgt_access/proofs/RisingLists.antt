@@ -7,7 +7,7 @@ use Rattle.std.specs.List.{insert}
 use Rattle.std.specs.List.Sorted.{IsBinarySearchResult}
 use Rattle.std.specs.Ordering.{nat_cmp}
 use Rattle.std.specs.Result.{MatchResult}
-use Rattle.sgt_model.specs.Walks.{Member, Distinct, Rising, AtMost}
+use Rattle.sgt_model.specs.Paths.{Member, Distinct, Rising, AtMost}
 
 -- the members of two lists joined
 member_joined : (xs ys : List ℕ) (u : ℕ) → Member u (xs ++ ys) ↔ (Member u xs ⊎ Member u ys)
@@ -168,19 +168,20 @@ rising_distinct [] h = tt
 rising_distinct (x ∷ []) h = ((λ m. m), tt)
 rising_distinct (x ∷ y ∷ xs) h = ((λ m. let lt = rising_above x (y ∷ xs) h x m in omega arith), rising_distinct (y ∷ xs) h.1)
 
--- where at most so many numbers pass a test, rising ones that pass it are fewer while another passes it too
-pub room_left : (most : ℕ) (counts : ℕ → Bool) (xs : List ℕ) (t : ℕ) → AtMost most counts → Rising xs
+-- if at most N numbers pass a test, a rising list of numbers that pass it has fewer than N while another one passes it
+-- too
+pub capacity_left : (most : ℕ) (counts : ℕ → Bool) (xs : List ℕ) (t : ℕ) → AtMost most counts → Rising xs
     → ((u : ℕ) → Member u xs → counts u ≡ true) → counts t ≡ true → (Member t xs → ⊥) → length xs < most
-room_left most counts xs t few h all also out =
+capacity_left most counts xs t few h all also out =
     let whole : length (t ∷ xs) ≤ length few.among = fits (t ∷ xs) few.among (out, rising_distinct xs h)
     (λ u m. elim m [ inl e ↦ few.all u (subst (λ z. counts z ≡ true) (sym e) also) | inr m' ↦ few.all u (all u m') ]) in
     let enough = few.few in
     omega arith
 
 -- different numbers that are all in a list, without one of it, are fewer than it has
-pub room_among : (ys xs : List ℕ) (t : ℕ) → Rising xs → ((u : ℕ) → Member u xs → Member u ys) → Member t ys → (Member t xs → ⊥)
+pub capacity_among : (ys xs : List ℕ) (t : ℕ) → Rising xs → ((u : ℕ) → Member u xs → Member u ys) → Member t ys → (Member t xs → ⊥)
     → length xs < length ys
-room_among ys xs t h all also out =
+capacity_among ys xs t h all also out =
     let whole : length (t ∷ xs) ≤ length ys = fits (t ∷ xs) ys (out, rising_distinct xs h)
     (λ u m. elim m [ inl e ↦ subst (λ z. Member z ys) (sym e) also | inr m' ↦ all u m' ]) in
     omega arith

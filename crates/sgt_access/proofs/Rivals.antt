@@ -7,7 +7,7 @@ use Rattle.sgt_model.specs.declared.kind.Kind.{Kind}
 use Rattle.sgt_model.specs.Contents.{Key, key_eq}
 use Rattle.sgt_model.specs.Pairs.{one_stores}
 use Rattle.sgt_model.specs.AccessList.{ListedAccess, is_conflicting, lists_conflicting, is_listed}
-use Rattle.sgt_model.specs.Walks.{Member, AtMost}
+use Rattle.sgt_model.specs.Paths.{Member, AtMost}
 
 -- these are the transactions other than t with a listed access that conflicts with one of that kind of the key
 abbrev pub AreRivals : ℕ → Key → Kind → List ListedAccess → List ℕ → Type 0

@@ -2,7 +2,7 @@
 ghost use Rattle.std.specs.Prelude.{◌≡◌, ◌≢◌, ℕ, true, List, [], ◌∷◌, ◌++◌, ◌↔◌, IsTrue, OnOk};
 ghost use Rattle.sgt_model.specs.Contents.{Key};
 ghost use Rattle.sgt_model.specs.AccessList.{ListedAccess, lists_conflicting, is_listed, forgotten};
-ghost use Rattle.sgt_model.specs.Walks.{Member, Rising, AtMost};
+ghost use Rattle.sgt_model.specs.Paths.{Member, Rising, AtMost};
 
 use sgt_model::{Key, Kind, NoMemory, Tid, Tids};
 use std::alloc::Global;

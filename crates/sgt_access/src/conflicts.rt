@@ -1,7 +1,7 @@
 //! The conflicts of an access with a list of others.
 ghost use Rattle.std.specs.Prelude.{◌≡◌, ◌≢◌, ℕ, true, ◌↔◌, IsTrue};
 ghost use Rattle.sgt_model.specs.AccessList.{lists_conflicting, is_listed};
-ghost use Rattle.sgt_model.specs.Walks.{Member, Rising, AtMost};
+ghost use Rattle.sgt_model.specs.Paths.{Member, Rising, AtMost};
 
 use crate::access::Access;
 use crate::rising::add_rising;

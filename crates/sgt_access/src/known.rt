@@ -91,7 +91,7 @@ fn add_all(masks: &mut Masks, accesses: &[Access])
 #[inline(never)]
 pub fn grow(accesses: &mut Vec<Access>, known: &mut Known) -> Result<(), NoMemory>
     ensures items { accesses.new.items ≡ accesses.old.items }
-    ensures room { OnOk result (vec_len accesses.new < vec_capacity accesses.new) }
+    ensures enough { OnOk result (vec_len accesses.new < vec_capacity accesses.new) }
     ensures known { Knows known.old.only known.old.masks accesses.old.items
         → Knows known.new.only known.new.masks accesses.new.items }
 {

@@ -1,7 +1,7 @@
 //! Masks in front of the access list: which transactions have read and written the keys of each hash.
 ghost use Rattle.std.specs.Prelude.{◌≡◌, ◌≢◌, ℕ, ◌<◌, true, false, List, [], ◌∷◌, ◌++◌, ◌↔◌, ◌⊎◌, IfSome, IsNone, IsTrue, slice_index};
 ghost use Rattle.sgt_model.specs.AccessList.{ListedAccess, is_listed};
-ghost use Rattle.sgt_model.specs.Walks.{Member, Rising};
+ghost use Rattle.sgt_model.specs.Paths.{Member, Rising};
 ghost use Rattle.sgt_cycle.specs.Indices.{is_set};
 ghost use Rattle.sgt_access.specs.Places.{is_at};
 ghost use Rattle.sgt_access.specs.Masks.{spot_at, Covers, IsLeaving, IsOneLess, IsSaid};

@@ -1,6 +1,6 @@
 //! The places of transactions: each transaction with an access has one of 32, so that a set of transactions is a number's bits.
 ghost use Rattle.std.specs.Prelude.{◌≡◌, ℕ, ◌<◌, ◌%◌, true, false, not, ◌&&◌, ◌↔◌, nat_eq, IfSome, IsNone, length, slice_index};
-ghost use Rattle.sgt_model.specs.Walks.{Member, Rising};
+ghost use Rattle.sgt_model.specs.Paths.{Member, Rising};
 ghost use Rattle.sgt_cycle.specs.Indices.{is_set};
 ghost use Rattle.sgt_access.specs.Places.{is_at, IsTaken};
 

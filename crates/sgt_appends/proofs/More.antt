@@ -85,12 +85,12 @@ next_one at old links new r p k seen i (Some x) y within so_far is paired = reco
 -- the reader's own values: one more from behind
 pub own_one : (at : Positions) (r k : ℕ) (seen : List ℕ) (i : ℕ) (x : ℕ × ℕ) → AreOwnFrom at r k seen (i + 1)
     → at k (get_or seen i 0) ≡ Some x → x.0 ≡ r → AreOwnFrom at r k seen i
-own_one at r k seen i x behind is mine j from within = elim (cases_eq j i) [
+own_one at r k seen i x following is mine j from within = elim (cases_eq j i) [
   | inl same ↦ (
     x.1,
     subst (λ n. at k (get_or seen n 0) ≡ Some (r, x.1)) (sym same) (is ∙ ap (λ q. Some (q, x.1)) mine),
   )
-  | inr differ ↦ behind j (omega (arith, from, differ)) within
+  | inr differ ↦ following j (omega (arith, from, differ)) within
 ]
 
 no_other : (o : Option (ℕ × ℕ)) (x : ℕ × ℕ) (r p : ℕ) → o ≡ Some x → o ≡ Some (r, p) → x.0 ≡ r
@@ -99,9 +99,9 @@ no_other o x r p one other = ap (λ (y : ℕ × ℕ). y.0) (same_append o x (r, 
 -- the last value of others is linked
 pub last_linked : (at : Positions) (links : List Link) (r k : ℕ) (seen : List ℕ) (y : ℕ × ℕ) → IsLastOther at r k seen y
     → IsLinked links y.0 r → IsLastLinked at links r k seen
-last_linked at links r k seen y last linked i x within is behind = elim (cases_lt i last.0) [
+last_linked at links r k seen y last linked i x within is following = elim (cases_lt i last.0) [
   | inl less ↦
-      let own = behind last.0 (omega (arith, less)) last.1 in
+      let own = following last.0 (omega (arith, less)) last.1 in
       absurd (last.3 (no_other (at k (get_or seen last.0 0)) y r own.0 last.2 own.1))
   | inr no_less ↦ elim (cases_eq i last.0) [
     | inl same ↦
@@ -115,7 +115,7 @@ last_linked at links r k seen y last linked i x within is behind = elim (cases_l
 
 pub none_other : (at : Positions) (links : List Link) (r k : ℕ) (seen : List ℕ)
     → ((j : ℕ) → j < length seen → IsOwn at r k (get_or seen j 0)) → IsLastLinked at links r k seen
-none_other at links r k seen all i x within is behind =
+none_other at links r k seen all i x within is following =
     let own = all i within in
     inl (no_other (at k (get_or seen i 0)) x r own.0 is own.1)
 

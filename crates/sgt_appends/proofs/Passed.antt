@@ -263,9 +263,9 @@ fault_one h at t p k seen i last x (Ahead append) index passed within is it =
     (x, here, not_yet (operations_of h t) p append k x ((index_once h at index).once t k) here it.1, has_at seen i x within is)
 
 -- the fault, or a value that stands there twice
-pub twice_told : (h : List Transaction) (t k : ℕ) (own seen : List ℕ) (fault told : Fault)
-    → (told ≡ fault) ⊎ ((v : ℕ) × (told ≡ Twice v) × StandsBefore seen v v) → Faults h t k own seen fault → Faults h t k own seen told
-twice_told h t k own seen fault told is it = elim is [
+pub twice_reported : (h : List Transaction) (t k : ℕ) (own seen : List ℕ) (fault reported : Fault)
+    → (reported ≡ fault) ⊎ ((v : ℕ) × (reported ≡ Twice v) × StandsBefore seen v v) → Faults h t k own seen fault → Faults h t k own seen reported
+twice_reported h t k own seen fault reported is it = elim is [
   | inl same ↦ subst (λ f. Faults h t k own seen f) (sym same) it
   | inr w ↦ subst (λ f. Faults h t k own seen f) (sym w.1) w.2
 ]
@@ -316,8 +316,8 @@ ended_within (y ∷ ts) zero x is = omega arith
 ended_within (y ∷ ts) (suc t) x is = omega (arith, ended_within ts t x is)
 
 -- all transactions
-pub clean_behind : (h : List Transaction) (i : ℕ) → ((t : ℕ) → t < i → AreCleanIn h t) → length h ≤ i → (t : ℕ) → AreCleanIn h t
-clean_behind h i before whole t p k seen committed is =
+pub clean_after : (h : List Transaction) (i : ℕ) → ((t : ℕ) → t < i → AreCleanIn h t) → length h ≤ i → (t : ℕ) → AreCleanIn h t
+clean_after h i before whole t p k seen committed is =
     before t (omega (arith, whole, ended_within h t committed.0 committed.1)) p k seen committed is
 
 same_read : (os : List Operation) (p k l : ℕ) (values others : Vec ℕ) → slice_get os p ≡ Some (Read k values)

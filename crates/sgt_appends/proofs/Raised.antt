@@ -40,18 +40,18 @@ climb_on h rank k x (y ∷ ys) w t u once climbs written has one other =
     end (inl same) rest = step u (subst (λ v. Appends h u k v) (sym same) other)
     end (inr later) rest = join a.0 (step a.0 a.1) (rest a.0 a.1 later)
 
-climbs_behind : (h : List Transaction) (rank : ℕ → ℕ) (k : ℕ) (xs : List ℕ) (y : ℕ) (ys : List ℕ) → Climbs h rank k (xs ++ y ∷ ys)
+climbs_after : (h : List Transaction) (rank : ℕ → ℕ) (k : ℕ) (xs : List ℕ) (y : ℕ) (ys : List ℕ) → Climbs h rank k (xs ++ y ∷ ys)
     → ClimbsFrom h rank k y ys
-climbs_behind h rank k [] y ys climbs = climbs
-climbs_behind h rank k (x ∷ []) y ys climbs = climbs.1
-climbs_behind h rank k (x ∷ z ∷ zs) y ys climbs = climbs_behind h rank k (z ∷ zs) y ys climbs.1
+climbs_after h rank k [] y ys climbs = climbs
+climbs_after h rank k (x ∷ []) y ys climbs = climbs.1
+climbs_after h rank k (x ∷ z ∷ zs) y ys climbs = climbs_after h rank k (z ∷ zs) y ys climbs.1
 
 -- of two values of a list that climbs
 pub stand_climb : (h : List Transaction) (rank : ℕ → ℕ) (k : ℕ) (xs : List ℕ) (v w t u : ℕ) → AppendsOnce h → Climbs h rank k xs
     → AreWritten h k xs → StandsBefore xs v w → Appends h t k v → Appends h u k w → (t ≡ u) ⊎ (rank t < rank u)
 stand_climb h rank k xs v w t u once climbs written stand one other =
     climb_on h rank k v stand.1 w t u once
-    (climbs_behind h rank k stand.0 v stand.1 (subst (λ zs. Climbs h rank k zs) stand.2 climbs))
+    (climbs_after h rank k stand.0 v stand.1 (subst (λ zs. Climbs h rank k zs) stand.2 climbs))
     (λ z has. written z (subst (λ zs. Has zs z) (sym stand.2) (Has-append_right stand.0 (v ∷ stand.1) z (inr has)))) stand.3 one other
 
 -- the last of a list that is not empty
@@ -184,8 +184,8 @@ missed_above h order rank end line once clean raised t u k v own seen has commit
             | inl before ↦ absurd (unknown (known v before))
             | inr after ↦ elim after [
               | inl e ↦ omega (arith, less, ap rank (once.by_one who.0 u k v (subst (λ x. Appends h who.0 k x) e who.1) appends))
-              | inr behind ↦ elim (stand_climb h rank k (line k) w v who.0 u once (raised.line_climbs k)
-                  (line_written h k (line k) clean is) (front, back, same, behind) who.1 appends) [
+              | inr following ↦ elim (stand_climb h rank k (line k) w v who.0 u once (raised.line_climbs k)
+                  (line_written h k (line k) clean is) (front, back, same, following) who.1 appends) [
                     | inl e ↦ omega (arith, less, ap rank e)
                     | inr more ↦ omega (arith, less, more)
                   ]

@@ -64,12 +64,12 @@ last_within : (front own : List ℕ) (x : ℕ) → length front < length ((front
 last_within [] own x = omega arith
 last_within (y ∷ front) own x = omega (arith, last_within front own x)
 
-own_behind : (front own : List ℕ) (x j : ℕ) → length front < j → j < length ((front ++ x ∷ []) ++ own)
+own_after : (front own : List ℕ) (x j : ℕ) → length front < j → j < length ((front ++ x ∷ []) ++ own)
     → Has own (get_or ((front ++ x ∷ []) ++ own) j 0)
-own_behind [] own x zero after within = absurd (omega (arith, after))
-own_behind [] own x (suc j) after within = has_at own j (get_or own j 0) (omega (arith, within)) refl
-own_behind (y ∷ front) own x zero after within = absurd (omega (arith, after))
-own_behind (y ∷ front) own x (suc j) after within = own_behind front own x j (omega (arith, after)) (omega (arith, within))
+own_after [] own x zero after within = absurd (omega (arith, after))
+own_after [] own x (suc j) after within = has_at own j (get_or own j 0) (omega (arith, within)) refl
+own_after (y ∷ front) own x zero after within = absurd (omega (arith, after))
+own_after (y ∷ front) own x (suc j) after within = own_after front own x j (omega (arith, after)) (omega (arith, within))
 
 -- the appender of the last value of others
 last_below : (h : List Transaction) (at : Positions) (links : List Link) (rank : ℕ → ℕ) (r k : ℕ) (own seen front : List ℕ) (x t : ℕ)
@@ -96,7 +96,7 @@ last_below h at links rank r k own seen front x t index rise linked reads clean 
         (λ j after within. subst (λ xs. IsOwn at r k (get_or xs j 0)) (sym same)
         (own_is h at r k (get_or ((front ++ x ∷ []) ++ own) j 0) index
         (own_appended h r k own seen (get_or ((front ++ x ∷ []) ++ own) j 0) reads
-        (own_behind front own x j (omega (arith, after)) (subst (λ xs. j < length xs) same within)))))
+        (own_after front own x j (omega (arith, after)) (subst (λ xs. j < length xs) same within)))))
 
 -- the own appends after a list that climbs
 own_climb : (h : List Transaction) (rank : ℕ → ℕ) (r k x : ℕ) (later : List ℕ) → AppendsOnce h → Appends h r k x

@@ -50,9 +50,9 @@ at_both (o ∷ os) (suc p) (suc q) k v w less one other =
     subst (λ xs. StandsBefore xs v w) (sym (appended-append k (o ∷ []) os))
     (StandsBefore-front (appended k (o ∷ [])) (appended k os) v w (at_both os p q k v w (omega arith) one other))
 
-pub IsOnce-behind : (xs ys : List ℕ) → IsOnce (xs ++ ys) → IsOnce ys
-IsOnce-behind [] ys once = once
-IsOnce-behind (x ∷ xs) ys once = IsOnce-behind xs ys once.1
+pub IsOnce-following : (xs ys : List ℕ) → IsOnce (xs ++ ys) → IsOnce ys
+IsOnce-following [] ys once = once
+IsOnce-following (x ∷ xs) ys once = IsOnce-following xs ys once.1
 
 -- the value appended at a position is not among those that the operations before it append
 pub not_yet : (os : List Operation) (q p k v : ℕ) → IsOnce (appended k os) → slice_get os p ≡ Some (Append k v) → q ≤ p
@@ -65,5 +65,5 @@ not_yet (o ∷ os) (suc q) (suc p) k v once at less has =
     elim (Has-append_cases (appended k (o ∷ [])) (appended k (take q os)) v
     (subst (λ xs. Has xs v) (appended-append k (o ∷ []) (take q os)) has)) [
       | inl w ↦ apart (appended k (o ∷ [])) (appended k os) v parted w (at_append os p k v at)
-      | inr w ↦ not_yet os q p k v (IsOnce-behind (appended k (o ∷ [])) (appended k os) parted) at (omega arith) w
+      | inr w ↦ not_yet os q p k v (IsOnce-following (appended k (o ∷ [])) (appended k os) parted) at (omega arith) w
     ]

@@ -11,7 +11,7 @@ use Rattle.sgt_appends.specs.declared.transaction.Status.TheVariants.{Committed}
 use Rattle.sgt_appends.specs.Lists.{Has}
 use Rattle.sgt_appends.specs.Runs.{operations_or_none, IsSerializable}
 use Rattle.sgt_appends.specs.Precedences.{appended, Appends, HasReadAfter, HasSeen, AppendsOnce, Precedes, IsPath}
-use Rattle.sgt_appends.specs.Walks.{Reaches, ReadAt}
+use Rattle.sgt_appends.specs.Paths.{Reaches, ReadAt}
 use Rattle.sgt_appends.proofs.Orders.{cycle_enough}
 
 pub has_at : (xs : List ℕ) (i : ℕ) (x : ℕ) → i < length xs → get_or xs i 0 ≡ x → Has xs x

@@ -25,7 +25,7 @@ read_still : (at : Positions) (n : ℕ) (lines : KeyLines) (old new : List Link)
     → IsReadLinked at n lines old r k seen → IsReadLinked at n lines new r k seen
 read_still at n lines old new r k seen stay it = record {
   next = λ i x y within one other. linked_still old new x.0 y.0 stay (it.next i x y within one other);
-  last = λ i x within is behind. linked_still old new x.0 r stay (it.last i x within is behind);
+  last = λ i x within is following. linked_still old new x.0 r stay (it.last i x within is following);
   missed = λ line is. let m = it.missed line is in (m.0, m.1, linked_still old new r m.0.0 stay m.2);
 }
 
@@ -70,7 +70,7 @@ read_linked h at lines i j r p k seen b c d is place reads next last missed one 
     all : IsReadLinked at (length h) lines d r k seen
     all = record {
       next = λ m x y within first second. linked_still b d x.0 y.0 (λ o there. two o (one o there)) (next m x y within first second);
-      last = λ m x within here behind. linked_still c d x.0 r two (last m x within here behind);
+      last = λ m x within here following. linked_still c d x.0 r two (last m x within here following);
       missed = missed;
     }
 

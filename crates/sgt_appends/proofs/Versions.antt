@@ -16,7 +16,7 @@ use Rattle.sgt_appends.proofs.Filed.{append_at}
 use Rattle.sgt_appends.proofs.Words.{Has-append_left, Has-append_right, Has-append_cases, IsOnce-append}
 use Rattle.sgt_appends.proofs.Added.{appended-append}
 use Rattle.sgt_appends.proofs.Along.{apart, has_or_not}
-use Rattle.sgt_appends.proofs.ReadFaults.{IsOnce-behind}
+use Rattle.sgt_appends.proofs.ReadFaults.{IsOnce-following}
 use Rattle.sgt_appends.proofs.Passed.{reads_at, at_reads}
 
 -- what a transaction appends to a key before a position, and from it on
@@ -48,7 +48,7 @@ version_once h t p k seen once clean =
     let mine : IsOnce (own_at h t p k ++ appended k (drop p (operations_of h t))) =
     subst (λ xs. IsOnce xs) (parted h t p k) (once.once t k) in
     IsOnce-append seen (appended k (drop p (operations_of h t))) clean.once
-    (IsOnce-behind (own_at h t p k) (appended k (drop p (operations_of h t))) mine)
+    (IsOnce-following (own_at h t p k) (appended k (drop p (operations_of h t))) mine)
     (λ v there later.
     apart (own_at h t p k) (appended k (drop p (operations_of h t))) v mine
     (clean.not_ahead v there (subst (λ xs. Has xs v) (sym (parted h t p k))

@@ -22,7 +22,7 @@ pub(crate) struct Chains {
 }
 
 impl Chains {
-    /// The chains of the links between so many nodes.
+    /// The chains of the links between this many nodes.
     pub(crate) fn new(
         alloc: Global,
         links: &[Link],
@@ -120,7 +120,7 @@ fn mark(marks: &mut Vec<usize>, waiting: &mut Vec<usize>, node: usize) -> Result
     Ok(())
 }
 
-/// A list of so many numbers, each of which is this one.
+/// A list of this number, repeated this many times.
 pub(crate) fn filled(alloc: Global, len: usize, number: usize) -> Result<Vec<usize>, NoMemory> {
     let mut list = Vec::new(alloc);
     for _ in 0..len {

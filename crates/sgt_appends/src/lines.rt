@@ -159,7 +159,7 @@ fn joined(alloc: Global, seen: &[u32], later: &[u32]) -> Result<Vec<u32>, NoMemo
     Ok(values)
 }
 
-/// Whether the two lists have at most so many values.
+/// Whether the two lists together have at most this many values.
 fn fit(most: usize, seen: &[u32], later: &[u32]) -> bool
     ensures { IsTrue result ↔ (length (seen.now ++ later.now) ≤ most) }
 {

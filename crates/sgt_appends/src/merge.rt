@@ -1,6 +1,6 @@
 //! Steps of a cycle that one read shows together.
 //!
-//! Values of a key that stand in a read one after another lead along it in many steps. Any two of them make one step.
+//! Values of a key that follow one another in a read lead along it in many steps. Any two of them make one step.
 
 use crate::shown::is_shown;
 use crate::transaction::{Operation, Transaction};

@@ -198,7 +198,7 @@ fn unwritten(history: &[Transaction], appends: &AppendIndex, key: u32, value: u3
 /// The fault of a read that saw these values. If two of them stand in the wrong order, and one stands there twice, that
 /// is the fault.
 fn twice_or(alloc: Global, seen: &[u32], fault: Fault) -> Result<Fault, NoMemory>
-    ensures { IfOk result (λ told. (told ≡ fault) ⊎ ((v : ℕ) × (told ≡ Twice v) × StandsBefore seen.now v v)) }
+    ensures { IfOk result (λ reported. (reported ≡ fault) ⊎ ((v : ℕ) × (reported ≡ Twice v) × StandsBefore seen.now v v)) }
 {
     match fault {
         Fault::Swapped { .. } => match twice_in(alloc, seen)? {

@@ -112,7 +112,7 @@ impl Search {
         })
     }
 
-    /// A cycle of at most so many steps.
+    /// A cycle of at most this many steps.
     fn cycle_of(
         &mut self,
         alloc: Global,
@@ -155,7 +155,7 @@ impl Search {
         number_at(self.component.as_slice(), node) == 2
     }
 
-    /// The link that closes a cycle of at most so many steps, the first of which is this link.
+    /// The link that closes a cycle of at most this many steps that begins with this link.
     fn cycle_from(
         &mut self,
         history: &[Transaction],

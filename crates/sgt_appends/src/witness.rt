@@ -3,7 +3,7 @@ ghost use Rattle.std.specs.Prelude.{◌≡◌, ◌<◌, ◌↔◌, ℕ, List, Is
 ghost use Rattle.sgt_appends.specs.Lists.{Has, StandsBefore};
 ghost use Rattle.sgt_appends.specs.Runs.{IsSerializable};
 ghost use Rattle.sgt_appends.specs.Precedences.{Appends, HasSeen, AppendsOnce, Precedes, WasSeen, WasMissed, WereSeen};
-ghost use Rattle.sgt_appends.specs.Walks.{Reaches, ReadAt};
+ghost use Rattle.sgt_appends.specs.Paths.{Reaches, ReadAt};
 ghost use Rattle.sgt_appends.specs.Witnesses.{AllPrecede};
 
 use crate::transaction::{Operation, Status, Transaction};

@@ -1,9 +1,9 @@
 //! The engine that the program runs: its layers, and how an `Opening` (the first line) makes one.
 ghost use Rattle.std.specs.Prelude.{◌≡◌, ◌++◌, [], IfOk};
 ghost use Rattle.sgt_model.specs.Bounds.{AreInRange};
-ghost use Rattle.sgt_engine.specs.EngineView.{setting_of};
+ghost use Rattle.sgt_engine.specs.EngineView.{configuration_of};
 ghost use Rattle.sgt_smallbank.specs.Texts.{procedures};
-ghost use Rattle.sgt_assembly.specs.Openings.{opened_setting};
+ghost use Rattle.sgt_assembly.specs.Openings.{opened_configuration};
 
 use sgt_access::PerKey;
 use sgt_engine::Engine;
@@ -33,7 +33,7 @@ pub type SgtEngine = Engine<SlabRecords, PerKey, BitGraph>;
 /// `NoMemory` if an allocation failed.
 pub fn open_engine(alloc: Global, opening: Opening) -> Result<SgtEngine, NoMemory>
     requires { AreInRange opening.limits }
-    ensures setting { IfOk result (λ e. setting_of e ≡ opened_setting opening) }
+    ensures configuration { IfOk result (λ e. configuration_of e ≡ opened_configuration opening) }
     ensures fresh { IfOk result (λ e. e.past ≡ []) }
 {
     let Opening {

@@ -11,4 +11,4 @@ use Rattle.sgt_audit.proofs.outcome.Outcome.TheSendSync as outcome
 
 -- the outcomes under their lock, where a note may
 pub outcomes_sync : (N : RattleType) → IsSend N → IsSync (Mutex.the_row (Vec.the_row (Outcome.the_row N) Heap.the_row ghosts))
-outcomes_sync N s = let told = outcome.the_send N s in search (sendable, crosses) depth 20
+outcomes_sync N s = let reported = outcome.the_send N s in search (sendable, crosses) depth 20

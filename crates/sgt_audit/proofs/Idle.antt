@@ -7,16 +7,16 @@ use Rattle.sgt_model.specs.declared.reply.Reply.TheVariants as reply
 use Rattle.sgt_model.specs.declared.entry.Entry.{Entry}
 use Rattle.sgt_model.specs.Fates.{is_start, live_ones, ending_in}
 use Rattle.sgt_model.specs.Questions.{is_commit, is_quit, is_ending, started_in}
-use Rattle.sgt_model.specs.Settings.{Setting}
+use Rattle.sgt_model.specs.Configurations.{Configuration}
 use Rattle.sgt_model.specs.Legality.{Legal}
 use Rattle.sgt_model.proofs.Effects.{EndsNone, ends_none-no_end, effect}
-use Rattle.sgt_model.proofs.Room.{starts_or_not}
+use Rattle.sgt_model.proofs.Capacity.{starts_or_not}
 use Rattle.sgt_audit.specs.declared.lives.Life.{Life}
 use Rattle.sgt_audit.specs.Lives.{AreLives, life_after}
 use Rattle.sgt_audit.proofs.LiveCount.{same_live}
 use Rattle.sgt_audit.proofs.Rows.{lives_ended}
 
--- a reply that ends nothing neither commits nor quits
+-- a reply that ends nothing neither commits nor aborts
 pub ends_nothing : (r : Reply) → is_ending r ≡ false → (is_commit r ≡ false) × (is_quit r ≡ false)
 ends_nothing (reply.Started t) none = (refl, refl)
 ends_nothing reply.NoProcedure none = (refl, refl)
@@ -40,7 +40,7 @@ ends_no_one (reply.Aborted why fell) none = absurd cc
 ends_no_one (reply.Refused code fell) none = absurd cc
 ends_no_one _ none = tt
 
-module _ (s : Setting) (past : List Entry) (e : Entry) (legal : Legal s (e ∷ past)) (starts : started_in e.event e.reply ≡ None)
+module _ (s : Configuration) (past : List Entry) (e : Entry) (legal : Legal s (e ∷ past)) (starts : started_in e.event e.reply ≡ None)
     (ends : is_ending e.reply ≡ false) where
   no_start : is_start e.reply ≡ false
   no_start = elim (starts_or_not (effect s past e.event e.reply legal.1)) [

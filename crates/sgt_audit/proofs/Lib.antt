@@ -4,7 +4,7 @@ pub mod LiveCount
 pub mod Rows
 pub mod Idle
 pub mod Named
-pub mod Told
+pub mod Reported
 pub mod Crossing
 pub mod Nexts
 pub mod Zips

@@ -9,16 +9,16 @@ use Rattle.sgt_model.specs.declared.reply.Reply.TheVariants as reply
 use Rattle.sgt_model.specs.declared.reply.Fate.{Fate}
 use Rattle.sgt_model.specs.declared.reply.Fate.TheVariants as fate
 use Rattle.sgt_model.specs.declared.entry.Entry.{Entry}
-use Rattle.sgt_model.specs.Walks.{Member, Distinct}
+use Rattle.sgt_model.specs.Paths.{Member, Distinct}
 use Rattle.sgt_model.specs.Fates.{is_start, start_count, ending_in, fate_of, live, started_ones, live_ones}
-use Rattle.sgt_model.specs.Settings.{Setting}
+use Rattle.sgt_model.specs.Configurations.{Configuration}
 use Rattle.sgt_model.specs.Legality.{Legal}
 use Rattle.sgt_model.proofs.Effects.{EndsNone, ends_none-no_end, Effect, idle, begins, accesses, commits, undoes, refuses, Undoing, effect}
 use Rattle.sgt_model.proofs.Facts.{live-started, unstarted-no_fate}
 use Rattle.sgt_model.proofs.Counted.{filter-both, filter-same, filter_listed}
 use Rattle.sgt_model.proofs.Listed.{kept_member}
 use Rattle.sgt_model.proofs.Rises.{live_ones-rise}
-use Rattle.sgt_model.proofs.Room.{begun_below}
+use Rattle.sgt_model.proofs.Capacity.{begun_below}
 use Rattle.sgt_model.proofs.SomeReply.{begun_has}
 use Rattle.sgt_audit.specs.LiveCount.{count_started, count_ended}
 use Rattle.sgt_audit.specs.AllOutcomes.{FewLive, AllEnded}
@@ -83,7 +83,7 @@ module _ (past : List Entry) (e : Entry) where
       let zero : length {A = ℕ} [] ≡ 0 = refl in
       omega arith
 
-  one_started : (s : Setting) → Legal s past → e.reply ≡ reply.Started (start_count past)
+  one_started : (s : Configuration) → Legal s past → e.reply ≡ reply.Started (start_count past)
       → length (live_ones (e ∷ past)) + count_ended e.reply ≡ length (live_ones past) + count_started e.reply
   one_started s legal is =
       let ones : live_ones (e ∷ past) ≡ filter (live (e ∷ past)) (started_ones past ++ start_count past ∷ []) =
@@ -135,7 +135,7 @@ module _ (past : List Entry) (e : Entry) where
       those t (inl same) = subst (λ v. live past v ≡ true) (sym same) u.is_live
       those t (inr m) = (u.falls.each t m).0
 
-  by_effect : (s : Setting) → Legal s past → Effect s past e.event e.reply
+  by_effect : (s : Configuration) → Legal s past → Effect s past e.event e.reply
       → length (live_ones (e ∷ past)) + count_ended e.reply ≡ length (live_ones past) + count_started e.reply
   by_effect s legal (idle i) = none_lost i.no_start i.ends_none
   by_effect s legal (begins b) = one_started s legal b.reply_is
@@ -166,19 +166,19 @@ started_or_ended (reply.Refused code fell) = inl refl
 started_or_ended _ = inr refl
 
 -- after an entry as many are live as before it, plus the one that it started, minus those that it ended
-pub live_count : (s : Setting) (past : List Entry) (e : Entry) → Legal s (e ∷ past)
+pub live_count : (s : Configuration) (past : List Entry) (e : Entry) → Legal s (e ∷ past)
     → length (live_ones (e ∷ past)) + count_ended e.reply ≡ length (live_ones past) + count_started e.reply
 live_count s past e legal = by_effect past e s legal.0 (effect s past e.event e.reply legal.1)
 
 -- an entry ends at most as many as were live
-pub ends_live : (s : Setting) (past : List Entry) (e : Entry) → Legal s (e ∷ past) → count_ended e.reply ≤ length (live_ones past)
+pub ends_live : (s : Configuration) (past : List Entry) (e : Entry) → Legal s (e ∷ past) → count_ended e.reply ≤ length (live_ones past)
 ends_live s past e legal = let n = live_count s past e legal in elim (started_or_ended e.reply) [
   | inl none ↦ omega arith
   | inr none ↦ omega arith
 ]
 
 -- after an entry that starts and ends nothing as many are live
-pub same_live : (s : Setting) (past : List Entry) (e : Entry) → Legal s (e ∷ past) → is_start e.reply ≡ false → EndsNone e.reply
+pub same_live : (s : Configuration) (past : List Entry) (e : Entry) → Legal s (e ∷ past) → is_start e.reply ≡ false → EndsNone e.reply
     → length (live_ones (e ∷ past)) ≡ length (live_ones past)
 same_live s past e legal none ends =
     let n = live_count s past e legal in

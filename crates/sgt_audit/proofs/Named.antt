@@ -10,7 +10,7 @@ use Rattle.sgt_model.specs.Fates.{start_count}
 use Rattle.sgt_audit.specs.declared.job.Job.{Job}
 use Rattle.sgt_audit.specs.declared.outcome.Outcome.{Outcome}
 use Rattle.sgt_audit.specs.declared.outcome.Outcome.TheVariants as outcome
-use Rattle.sgt_model.specs.Questions.{named_by, is_commit, is_ask}
+use Rattle.sgt_model.specs.Questions.{named_by, is_commit, is_raised}
 use Rattle.sgt_audit.specs.Outcomes.{Ends, IsFailed, OutcomeStands}
 use Rattle.sgt_audit.specs.AllOutcomes.{entries_of, transaction_at, transactions_of}
 
@@ -33,7 +33,7 @@ module _ (history : List Entry) (tries : ℕ) where
   transactions_started : {N : Type 0} (job : Job) (o : Outcome N) → OutcomeStands history tries job o
       → All is_started (transactions_of history o)
   transactions_started job (outcome.Done n) h = ended_started is_commit job n h
-  transactions_started job (outcome.Asked n) h = ended_started is_ask job n h
+  transactions_started job (outcome.Asked n) h = ended_started is_raised job n h
   transactions_started job (outcome.Gave attempts) h = All-weaker (IsFailed (reverse history) job) is_started
       (λ t f. f.is_of.started) attempts.items h.failed
   transactions_started job (outcome.Refused n) h = All-nil is_started

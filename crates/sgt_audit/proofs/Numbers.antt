@@ -3,7 +3,7 @@ use Rattle.std.proofs.Common.{◌≡◌, ℕ, ◌+◌, ◌<◌, Bool, true, fals
 use Rattle.std.proofs.lemmas.List.{get_or-set_same, get_or-set_other}
 use Rattle.std.proofs.lemmas.Bool.{cases_eq, true≢false, eqb-true, eq-eqb, ne_eqb, or_cases, or_left, or_right}
 use Rattle.std.specs.List.{filter, list_any}
-use Rattle.sgt_model.specs.Walks.{Member, Distinct, Rising}
+use Rattle.sgt_model.specs.Paths.{Member, Distinct, Rising}
 use Rattle.sgt_model.proofs.Counted.{filter-both, filter-same}
 use Rattle.sgt_model.proofs.Listed.{kept_member, distinct_kept}
 

@@ -16,7 +16,7 @@ lent lives n t life within is same =
     subst (λ k. slice_get lives k ≡ Some life) same (slice_get_read lives (length lives) n life refl within is)
 
 pub not_lent : (lives : List Life) (n t : ℕ) → length lives ≤ n → n ≡ t → slice_get lives t ≡ None
-not_lent lives n t behind same = subst (λ k. slice_get lives k ≡ None) same (slice_get_past lives n behind)
+not_lent lives n t following same = subst (λ k. slice_get lives k ≡ None) same (slice_get_past lives n following)
 
 module _ (past : List Entry) (lives : List Life) (are : AreLives past lives) (first second : ℕ) where
   pub never_ended : (a : Life) → slice_get lives first ≡ Some a → a.ended ≡ None → ¬ EndsBefore past first second
@@ -43,7 +43,7 @@ module _ (past : List Entry) (lives : List Life) (are : AreLives past lives) (jo
   unstarted out of = let less : t < length lives = subst (λ n. t < n) (sym are.counted) of.started in
       elim (slice_get_cases lives t).1 [
         | inl w ↦ none-some w.0 (sym out ∙ w.2)
-        | inr w ↦ let behind = w.0 in absurd (omega arith)
+        | inr w ↦ let following = w.0 in absurd (omega arith)
       ]
 
   module _ (life : Life) (at : slice_get lives t ≡ Some life) where

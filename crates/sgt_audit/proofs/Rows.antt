@@ -12,11 +12,11 @@ use Rattle.sgt_model.specs.declared.reply.Fate.{Fate}
 use Rattle.sgt_model.specs.declared.entry.Entry.{Entry}
 use Rattle.sgt_model.specs.Fates.{is_start, start_count, ending_in, fate_of}
 use Rattle.sgt_model.specs.Progress.{call_in, call_of}
-use Rattle.sgt_model.specs.Settings.{Setting}
+use Rattle.sgt_model.specs.Configurations.{Configuration}
 use Rattle.sgt_model.specs.Legality.{Legal, LegalReply}
 use Rattle.sgt_model.proofs.Effects.{no_start-no_call, effect}
 use Rattle.sgt_model.proofs.Facts.{end-live, live-started, unstarted-no_fate}
-use Rattle.sgt_model.proofs.Room.{starts_or_not}
+use Rattle.sgt_model.proofs.Capacity.{starts_or_not}
 use Rattle.sgt_audit.specs.declared.lives.Life.{Life}
 use Rattle.sgt_audit.specs.Spans.{starts_as, started_at, ended_at}
 use Rattle.sgt_audit.specs.Outcomes.{has_failed}
@@ -36,7 +36,7 @@ no_row f None e = refl
 no_row f (Some old) e = absurd (none-some (f old) (sym e))
 
 -- an entry that starts none, and ends some or none
-pub lives_ended : (s : Setting) (past : List Entry) (e : Entry) (lives after : List Life) → LegalReply s past e.event e.reply
+pub lives_ended : (s : Configuration) (past : List Entry) (e : Entry) (lives after : List Life) → LegalReply s past e.event e.reply
     → is_start e.reply ≡ false → AreLives past lives
     → ((t : ℕ) → slice_get after t ≡ option_map (life_after (length past) (ending_in e.event e.reply t)) (slice_get lives t))
     → length after ≡ length lives → AreLives (e ∷ past) after
@@ -98,7 +98,7 @@ pushed (x ∷ lives) new (suc t) life at = elim (pushed lives new t life at) [
 ]
 
 -- an entry that starts one
-pub lives_started : (s : Setting) (past : List Entry) (e : Entry) (lives : List Life) → Legal s past → (p : ℕ) (args : List ℤ)
+pub lives_started : (s : Configuration) (past : List Entry) (e : Entry) (lives : List Life) → Legal s past → (p : ℕ) (args : List ℤ)
     → e.event ≡ Start p args → e.reply ≡ reply.Started (start_count past) → AreLives past lives → AreLives (e ∷ past)
     (lives ++ record { procedure = p; args = args; started = length past; ended = None; failed = false } ∷ [])
 lives_started s past e lives legal p args event_is reply_is are = record {
@@ -163,7 +163,7 @@ lives_started s past e lives legal p args event_is reply_is are = record {
     }
 
 -- an entry with the reply Started
-pub lives_started_by : (s : Setting) (past : List Entry) (e : Entry) (lives : List Life) (t : ℕ) → Legal s past
+pub lives_started_by : (s : Configuration) (past : List Entry) (e : Entry) (lives : List Life) (t : ℕ) → Legal s past
     → LegalReply s past e.event e.reply → e.reply ≡ reply.Started t → AreLives past lives → AreLives (e ∷ past)
     (with_started (length past) e.event lives)
 lives_started_by s past e lives t legal reply_legal is are = elim (starts_or_not (effect s past e.event e.reply reply_legal)) [

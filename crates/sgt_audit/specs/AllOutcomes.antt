@@ -3,7 +3,7 @@ use Rattle.std.specs.Prelude.{◌≡◌, ℕ, ◌+◌, ◌≤◌, ◌<◌, Bool,
 use Rattle.std.specs.List.{AllZip, count_by, flat_map}
 use Rattle.std.specs.Option.{option_and_then, option_to_list}
 use Rattle.sgt_model.specs.declared.entry.Entry.{Entry}
-use Rattle.sgt_model.specs.Walks.{Distinct}
+use Rattle.sgt_model.specs.Paths.{Distinct}
 use Rattle.sgt_model.specs.Fates.{live, live_ones}
 use Rattle.sgt_audit.specs.declared.job.Job.{Job}
 use Rattle.sgt_audit.specs.declared.outcome.Outcome.{Outcome}

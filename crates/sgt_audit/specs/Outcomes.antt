@@ -9,7 +9,7 @@ use Rattle.sgt_model.specs.declared.reply.Fate.TheVariants as fate
 use Rattle.sgt_model.specs.declared.entry.Entry.{Entry}
 use Rattle.sgt_model.specs.Fates.{start_count, fate_of}
 use Rattle.sgt_model.specs.Progress.{Call, call_at, call_of}
-use Rattle.sgt_model.specs.Questions.{named_by, refuses_start, is_commit, is_ask}
+use Rattle.sgt_model.specs.Questions.{named_by, refuses_start, is_commit, is_raised}
 use Rattle.sgt_audit.specs.declared.job.Job.{Job}
 use Rattle.sgt_audit.specs.declared.outcome.Outcome.{Outcome}
 use Rattle.sgt_audit.specs.declared.outcome.Outcome.TheVariants as outcome
@@ -32,7 +32,7 @@ pub record IsOf (past : List Entry) (job : Job) (t : ℕ) : Type 0 where
 abbrev pub has_failed : Option Fate → Bool
 has_failed None = false
 has_failed (Some fate.Committed) = false
-has_failed (Some (fate.Aborted (cause.Cycle walk))) = true
+has_failed (Some (fate.Aborted (cause.Cycle cycle))) = true
 has_failed (Some (fate.Aborted (cause.Asked code))) = false
 has_failed (Some (fate.Aborted cause.Quit)) = false
 has_failed (Some (fate.Fell first)) = true
@@ -70,7 +70,7 @@ pub record GaveUp (past : List Entry) (tries : ℕ) (job : Job) (attempts : List
 -- what an outcome says of the history and its job
 abbrev pub OutcomeStands : {N : Type 0} → List Entry → ℕ → Job → Outcome N → Type 0
 OutcomeStands history tries job (outcome.Done n) = Ends is_commit history job n
-OutcomeStands history tries job (outcome.Asked n) = Ends is_ask history job n
+OutcomeStands history tries job (outcome.Asked n) = Ends is_raised history job n
 OutcomeStands history tries job (outcome.Gave attempts) = GaveUp (reverse history) tries job attempts.items
 OutcomeStands history tries job (outcome.Refused n) = StartIsRefused history job n
 OutcomeStands history tries job (outcome.Left note) = Unit {0}

@@ -1,6 +1,6 @@
 //! The audit: whether the outcomes of all jobs are true of a legal history.
 ghost use Rattle.std.specs.Prelude.{◌≡◌, ◌↔◌, IsTrue, IfOk, reverse};
-ghost use Rattle.sgt_model.specs.Settings.{Setting};
+ghost use Rattle.sgt_model.specs.Configurations.{Configuration};
 ghost use Rattle.sgt_model.specs.Legality.{Legal};
 ghost use Rattle.sgt_audit.specs.AllOutcomes.{OutcomesStand};
 
@@ -26,7 +26,7 @@ pub fn audit<N>(
     workers: u32,
     tries: u32,
 ) -> Result<bool, NoMemory>
-    requires { (s : Setting) × Legal s (reverse history.now.entries) }
+    requires { (s : Configuration) × Legal s (reverse history.now.entries) }
     ensures { IfOk result (λ stands.
         IsTrue stands ↔ OutcomesStand history.now.entries jobs.now outcomes.now workers tries) }
 {

@@ -13,7 +13,7 @@ use sgt_log::EntryRef;
 use sgt_model::Event;
 
 /// Whether the event starts the job.
-pub fn asks_for(event: &Event, job: &Job) -> bool
+pub fn requests(event: &Event, job: &Job) -> bool
     ensures { IsTrue result ↔ (call_at event.now ≡ Some (call_for job.now)) }
 {
     match event {

@@ -5,8 +5,8 @@
 //! them say together. [`audit`] tests whether they are true: each of its job, none of what another names, and none too
 //! few.
 //!
-//! It runs nothing, and depends on no engine and no threads: its input is a legal history, jobs and outcomes, whoever
-//! made them.
+//! It runs nothing, and depends on no engine and no threads: its input is a legal history, jobs and outcomes, from any
+//! source.
 //!
 //! ```
 //! // Entry 4 commits the one job of this history. The first outcome says so; the second names entry 3, a step.

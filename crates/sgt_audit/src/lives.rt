@@ -4,7 +4,7 @@ ghost use Rattle.std.specs.List.{list_any};
 ghost use Rattle.std.specs.Option.{option_map};
 ghost use Rattle.sgt_model.specs.declared.entry.Entry.{Entry};
 ghost use Rattle.sgt_model.specs.Fates.{concerns, ending_in};
-ghost use Rattle.sgt_model.specs.Settings.{Setting};
+ghost use Rattle.sgt_model.specs.Configurations.{Configuration};
 ghost use Rattle.sgt_model.specs.Legality.{Legal, LegalReply};
 ghost use Rattle.sgt_audit.specs.Lives.{AreLives, ended_life, life_after, with_started};
 
@@ -27,7 +27,7 @@ pub struct Life {
 
 /// Adds what the entry with this number says.
 pub fn add_entry(lives: &mut Vec<Life>, number: usize, entry: &EntryRef<'_>) -> Result<(), NoMemory>
-    ensures { (s : Setting) (past : List Entry) → LegalReply s past entry.now.event entry.now.reply
+    ensures { (s : Configuration) (past : List Entry) → LegalReply s past entry.now.event entry.now.reply
         → Legal s past → length past ≡ number → AreLives past lives.old.items
         → OnOk result (AreLives (entry.now ∷ past) lives.new.items) }
 {

@@ -2,7 +2,7 @@
 ghost use Rattle.std.specs.Prelude.{◌≡◌, ◌↔◌, ◌++◌, ℕ, ◌<◌, IsTrue, IfOk, OnOk, List};
 ghost use Rattle.std.specs.List.{All, flat_map};
 ghost use Rattle.std.specs.Option.{option_to_list};
-ghost use Rattle.sgt_model.specs.Walks.{Distinct};
+ghost use Rattle.sgt_model.specs.Paths.{Distinct};
 ghost use Rattle.sgt_audit.specs.AllOutcomes.{entries_of, transaction_at, transactions_of};
 
 use crate::outcome::Outcome;

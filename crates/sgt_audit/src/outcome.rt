@@ -17,6 +17,7 @@ pub enum Outcome<N> {
     Left(N),
     /// No worker took the job.
     Untaken,
-    /// An allocation failed in a call for the job. Its transaction, if it had one, was quit, and the worker continued.
+    /// An allocation failed in a call for the job. Its transaction, if it had one, was aborted, and the worker
+    /// continued.
     NoMemory,
 }

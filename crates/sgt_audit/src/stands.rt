@@ -2,11 +2,11 @@
 ghost use Rattle.std.specs.Prelude.{◌≡◌, ◌↔◌, ℕ, IsTrue, Option, length, reverse};
 ghost use Rattle.std.specs.List.{AllZip};
 ghost use Rattle.sgt_audit.specs.Lives.{AreLives};
-ghost use Rattle.sgt_model.specs.Questions.{is_commit, is_ask};
+ghost use Rattle.sgt_model.specs.Questions.{is_commit, is_raised};
 ghost use Rattle.sgt_audit.specs.Outcomes.{Ends, StartIsRefused, OutcomeStands};
 
 use crate::attempts::gave_up;
-use crate::events::{asks_for, names_one_of};
+use crate::events::{names_one_of, requests};
 use crate::job::Job;
 use crate::lives::Life;
 use crate::outcome::Outcome;
@@ -62,10 +62,10 @@ fn is_committed(history: &History, lives: &[Life], job: &Job, n: u64) -> bool
 /// Whether entry n aborted a transaction of the job with a code, at the step or at the commit.
 fn is_asked(history: &History, lives: &[Life], job: &Job, n: u64) -> bool
     requires { AreLives (reverse history.now.entries) lives.now }
-    ensures { IsTrue result ↔ Ends is_ask history.now.entries job.now n }
+    ensures { IsTrue result ↔ Ends is_raised history.now.entries job.now n }
 {
     match history.get_entry(n as usize) {
-        Some(entry) => entry.is_ask() && names_one_of(&entry, lives, job),
+        Some(entry) => entry.is_raised() && names_one_of(&entry, lives, job),
         None => false,
     }
 }
@@ -75,7 +75,7 @@ fn is_refused(history: &History, job: &Job, n: u64) -> bool
     ensures { IsTrue result ↔ StartIsRefused history.now.entries job.now n }
 {
     match history.get_entry(n as usize) {
-        Some(entry) => entry.refuses_start() && asks_for(&entry.event(), job),
+        Some(entry) => entry.refuses_start() && requests(&entry.event(), job),
         None => false,
     }
 }

@@ -3,7 +3,7 @@ ghost use Rattle.std.specs.Prelude.{◌≡◌, ◌↔◌, ℕ, ◌+◌, ◌<◌,
 ghost use Rattle.std.specs.List.{count_by};
 ghost use Rattle.sgt_model.specs.declared.entry.Entry.{Entry};
 ghost use Rattle.sgt_model.specs.Questions.{is_commit, is_quit};
-ghost use Rattle.sgt_model.specs.Settings.{Setting};
+ghost use Rattle.sgt_model.specs.Configurations.{Configuration};
 ghost use Rattle.sgt_model.specs.Legality.{Legal};
 ghost use Rattle.sgt_audit.specs.Lives.{AreLives};
 ghost use Rattle.sgt_audit.specs.LiveCount.{count_started, count_ended};
@@ -39,7 +39,7 @@ pub fn make_survey(
     history: &History,
     workers: u32,
 ) -> Result<Option<Survey>, NoMemory>
-    requires { (s : Setting) × Legal s (reverse history.now.entries) }
+    requires { (s : Configuration) × Legal s (reverse history.now.entries) }
     ensures few { IfOk result (λ found.
         IsSome found ↔ (FewLive history.now.entries workers × AllEnded history.now.entries)) }
     ensures lives { IfOk result (λ found. IfSome found (λ s. AreLives (reverse history.now.entries) s.lives.items)) }

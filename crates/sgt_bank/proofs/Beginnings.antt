@@ -15,7 +15,7 @@ use Rattle.sgt_input.specs.Spelled.{spelled, end_of}
 use Rattle.sgt_input.proofs.Begun.{Begun, HasBadRecord}
 use Rattle.sgt_bank.specs.Jobs.{job_at, numbered}
 use Rattle.sgt_bank.specs.Taking.{EndsWith}
-use Rattle.sgt_bank.specs.Inputs.{InputAsks, InputFails, LinesAsk, LinesFail}
+use Rattle.sgt_bank.specs.Inputs.{InputRequests, InputFails, LinesRequest, LinesFail}
 
 -- the same lines from the same number on
 same-calls : (m n : ℕ) (ls ls' : List (List ℕ)) → m ≡ n → ls ≡ ls' → spelled (job_at m) m ls ≡ spelled (job_at n) n ls'
@@ -59,11 +59,11 @@ fails-record workers (Some bytes) line f (later, given, bad, refuses, is) =
     (inr (inl (record { bad = bad; refuses = refuses; fault_is = is })))
 
 -- they open, and a later line is at fault
-pub fails-behind : (workers : ℕ) (rest : Option (List ℕ)) (line : List ℕ) (n : ℕ) (new : Option Cut) (o : Opening) (f : Fault)
+pub fails-following : (workers : ℕ) (rest : Option (List ℕ)) (line : List ℕ) (n : ℕ) (new : Option Cut) (o : Opening) (f : Fault)
     → Begun workers rest line o n new → EndsWith n n (Err f) new → Fails workers rest f
-fails-behind workers None line n new o f begun ends = tt
-fails-behind workers (Some bytes) line n None o f begun ends = absurd begun
-fails-behind workers (Some bytes) line n (Some c) o f begun ends =
+fails-following workers None line n new o f begun ends = tt
+fails-following workers (Some bytes) line n None o f begun ends = absurd begun
+fails-following workers (Some bytes) line n (Some c) o f begun ends =
     subst (λ (ls : List (List ℕ)). LinesFail workers ls (cut bytes).ending f) (sym begun.given)
     (inr (inr (record {
       opening = o;
@@ -75,11 +75,11 @@ fails-behind workers (Some bytes) line n (Some c) o f begun ends =
 pub asks-all : (workers : ℕ) (rest : Option (List ℕ)) (line : List ℕ) (n : ℕ) (new : Option Cut) (o : Opening)
     (jobs : List Job) → Begun workers rest line o n new
     → IfSome new (λ c. (jobs ≡ numbered 0 (spelled (job_at n) n c.given)) × (end_of (job_at n) n c.given c.ending ≡ Ok tt))
-    → IfSome rest (λ bytes. InputAsks workers bytes o jobs)
+    → IfSome rest (λ bytes. InputRequests workers bytes o jobs)
 asks-all workers None line n new o jobs begun asks = tt
 asks-all workers (Some bytes) line n None o jobs begun asks = absurd begun
 asks-all workers (Some bytes) line n (Some c) o jobs begun asks =
-    subst (λ (ls : List (List ℕ)). LinesAsk workers ls (cut bytes).ending o jobs) (sym begun.given)
+    subst (λ (ls : List (List ℕ)). LinesRequest workers ls (cut bytes).ending o jobs) (sym begun.given)
     (record {
       opens = begun.opens;
       jobs_are = asks.0 ∙ sym (ap (numbered 0) (same-calls _ n _ c.given begun.number begun.left));

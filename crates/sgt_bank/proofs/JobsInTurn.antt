@@ -35,19 +35,19 @@ numbered-at n (c ∷ cs) zero job at = ap (λ (j : Job). j.number) (sym (same_So
 numbered-at n (c ∷ cs) (suc i) job at = numbered-at (n + 1) cs i job at ∙ omega arith
 
 -- before the first
-pub asked-none : (first : ℕ) (known : Option Cut) → TakesCalls first known [] known
-asked-none first None = tt
-asked-none first (Some c) =
+pub requested-none : (first : ℕ) (known : Option Cut) → TakesCalls first known [] known
+requested-none first None = tt
+requested-none first (Some c) =
     let here : first ≡ first + 0 = omega arith in
     (ap (λ n. spelled (job_at first) n c.given) here, ap (λ n. end_of (job_at first) n c.given c.ending) here)
 
 -- one more line that requests a call
-pub asked-next : (first : ℕ) (a b d : Option Cut) (cs : List JobCall) (c : JobCall) → length cs < 1000000
+pub requested-next : (first : ℕ) (a b d : Option Cut) (cs : List JobCall) (c : JobCall) → length cs < 1000000
     → TakesCalls first a cs b → TakesCall b c d → TakesCalls first a (cs ++ c ∷ []) d
-asked-next first None b d cs c few before next = tt
-asked-next first (Some a) None d cs c few before next = absurd before
-asked-next first (Some a) (Some b) None cs c few before next = next
-asked-next first (Some a) (Some b) (Some d) cs c few before (line, given, asks, ending) =
+requested-next first None b d cs c few before next = tt
+requested-next first (Some a) None d cs c few before next = absurd before
+requested-next first (Some a) (Some b) None cs c few before next = next
+requested-next first (Some a) (Some b) (Some d) cs c few before (line, given, asks, ending) =
     let fits : nat_lt (first + length cs) (first + 1000000) ≡ true = lt-ltb (first + length cs) (first + 1000000) (omega (arith, few)) in
     let at : job_at first (first + length cs) line ≡ Ok c =
     ap (λ r. unless_too_many first (first + length cs) (at_line (first + length cs) r)) asks
@@ -69,12 +69,12 @@ asked-next first (Some a) (Some b) (Some d) cs c few before (line, given, asks, 
     )
 
 -- one more than may be requested
-pub asked-many : (first : ℕ) (a b d : Option Cut) (cs : List JobCall) (c : JobCall) → length cs ≡ 1000000 → TakesCalls first a cs b
+pub requested-many : (first : ℕ) (a b d : Option Cut) (cs : List JobCall) (c : JobCall) → length cs ≡ 1000000 → TakesCalls first a cs b
     → TakesCall b c d → EndsWith first first (Err fault.TooManyJobs) a
-asked-many first None b d cs c many before next = tt
-asked-many first (Some a) None d cs c many before next = absurd before
-asked-many first (Some a) (Some b) None cs c many before next = absurd next
-asked-many first (Some a) (Some b) (Some d) cs c many before (line, given, asks, ending) =
+requested-many first None b d cs c many before next = tt
+requested-many first (Some a) None d cs c many before next = absurd before
+requested-many first (Some a) (Some b) None cs c many before next = absurd next
+requested-many first (Some a) (Some b) (Some d) cs c many before (line, given, asks, ending) =
     let full : nat_lt (first + length cs) (first + 1000000) ≡ false =
     le-ltb (first + length cs) (first + 1000000) (omega (arith, many)) in
     let at : job_at first (first + length cs) line ≡ Err fault.TooManyJobs =
@@ -84,9 +84,9 @@ asked-many first (Some a) (Some b) (Some d) cs c many before (line, given, asks,
     ∙ ap (λ r. or_later r (end_of (job_at first) (first + length cs + 1) d.given b.ending)) at
 
 -- the next line is at fault
-pub asked-fault : (first : ℕ) (a b : Option Cut) (cs : List JobCall) (n : ℕ) (end : End) → n ≡ first + length cs → TakesCalls first a cs b
+pub requested-fault : (first : ℕ) (a b : Option Cut) (cs : List JobCall) (n : ℕ) (end : End) → n ≡ first + length cs → TakesCalls first a cs b
     → EndsWith first n end b → EndsWith first first end a
-asked-fault first None b cs n end at before next = tt
-asked-fault first (Some a) None cs n end at before next = absurd before
-asked-fault first (Some a) (Some b) cs n end at before next =
+requested-fault first None b cs n end at before next = tt
+requested-fault first (Some a) None cs n end at before next = absurd before
+requested-fault first (Some a) (Some b) cs n end at before next =
     before.1 ∙ ap (λ k. end_of (job_at first) k b.given b.ending) (sym at) ∙ next

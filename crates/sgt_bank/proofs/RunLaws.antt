@@ -16,8 +16,8 @@ use Rattle.sgt_format.specs.declared.opening.Opening.{Opening}
 use Rattle.sgt_format.specs.declared.record_line.RecordLine.{RecordLine}
 use Rattle.sgt_audit.specs.declared.job.Job.{Job}
 use Rattle.sgt_input.specs.Lines.{Ending, cut}
-use Rattle.sgt_bank.specs.Inputs.{InputAsks, LinesAsk}
-use Rattle.sgt_assembly.specs.Openings.{opened_setting, OpenedIsBank}
+use Rattle.sgt_bank.specs.Inputs.{InputRequests, LinesRequest}
+use Rattle.sgt_assembly.specs.Openings.{opened_configuration, OpenedIsBank}
 use Rattle.sgt_bank.specs.Banks.{HasRun, AreRun, IsHistory, IsJson, IsRecords, IsReport, IsRun}
 use Rattle.sgt_bank.specs.OutcomeJson.{json_text}
 use Rattle.sgt_textbook.specs.Laws.{AreCommitOrdered, AreSerializable, AreRecoverable}
@@ -72,13 +72,13 @@ each-run os workers some full = all-run os (all-taken workers _ _ some (none-lef
 
 -- the first lines of an input of jobs open
 opens-first : (workers : ℕ) (ls : List (List ℕ)) (ending : Ending) (o : Opening) (jobs : List Job)
-    → LinesAsk workers ls ending o jobs → (line : List ℕ) × (records : List RecordLine) × OpensWith workers line records o
+    → LinesRequest workers ls ending o jobs → (line : List ℕ) × (records : List RecordLine) × OpensWith workers line records o
 opens-first workers [] ending o jobs asks = absurd asks
 opens-first workers (line ∷ later) ending o jobs asks = (line, leading_records later, asks.opens)
 
 -- jobs that were run are those of the input
 pub is-run : OpenedIsBank → (workers tries : ℕ) (rest : Option (List ℕ)) (o : Opening) (jobs : List Job) (history : List Entry)
-    (outcomes : List (Outcome Infallible)) (rows : List Row) → IfSome rest (λ bytes. InputAsks workers bytes o jobs)
+    (outcomes : List (Outcome Infallible)) (rows : List Row) → IfSome rest (λ bytes. InputRequests workers bytes o jobs)
     → AreRun o jobs workers tries history outcomes rows → IfSome rest (λ bytes. IsRun workers tries bytes history outcomes rows)
 is-run bank workers tries None o jobs history outcomes rows asks run = tt
 is-run bank workers tries (Some bytes) o jobs history outcomes rows asks run =
@@ -101,7 +101,7 @@ is-report workers tries bytes history outcomes rows out run text = record {
   rows = rows;
   run = run;
   text = text;
-  written = text ∙ text-same (opened_setting run.opening) history tries run.jobs outcomes rows run.are_run.replay run.are_run.stand.each;
+  written = text ∙ text-same (opened_configuration run.opening) history tries run.jobs outcomes rows run.are_run.replay run.are_run.stand.each;
 }
 
 -- so does the text of its records
@@ -138,9 +138,9 @@ is-history ordered serializable recoverable spelled workers tries bytes history 
   rows = rows;
   run = run;
   textbook = record {
-    commit_ordered = λ number numbers. ordered number numbers (opened_setting run.opening) (reverse history) run.are_run.legal;
-    serializable = λ number numbers. serializable number numbers (opened_setting run.opening) (reverse history) run.are_run.legal;
-    recoverable = λ number numbers. recoverable number numbers (opened_setting run.opening) (reverse history) run.are_run.legal;
+    commit_ordered = λ number numbers. ordered number numbers (opened_configuration run.opening) (reverse history) run.are_run.legal;
+    serializable = λ number numbers. serializable number numbers (opened_configuration run.opening) (reverse history) run.are_run.legal;
+    recoverable = λ number numbers. recoverable number numbers (opened_configuration run.opening) (reverse history) run.are_run.legal;
   };
   text = text;
   spelled = spelled;

@@ -5,7 +5,7 @@ use Rattle.std.specs.declared.convert.Infallible.{Infallible}
 use Rattle.sgt_model.specs.declared.entry.Entry.{Entry}
 use Rattle.sgt_model.specs.Contents.{Key}
 use Rattle.sgt_model.specs.Databases.{Row, IsByKey, contents_of}
-use Rattle.sgt_model.specs.Walks.{Acyclic}
+use Rattle.sgt_model.specs.Paths.{Acyclic}
 use Rattle.sgt_model.specs.Pairs.{Pair}
 use Rattle.sgt_model.specs.Legality.{Legal}
 use Rattle.sgt_model.specs.Replay.{folded, ReplayAgrees}
@@ -14,14 +14,14 @@ use Rattle.sgt_model.specs.CommitOrder.{CommitsInOrder}
 use Rattle.sgt_smallbank.specs.Replays.{CommitsAreBank}
 use Rattle.sgt_format.specs.declared.opening.Opening.{Opening}
 use Rattle.sgt_format.specs.RecordText.{record_lines}
-use Rattle.sgt_assembly.specs.Openings.{opened_setting}
+use Rattle.sgt_assembly.specs.Openings.{opened_configuration}
 use Rattle.sgt_audit.specs.declared.job.Job.{Job}
 use Rattle.sgt_audit.specs.declared.outcome.Outcome.{Outcome}
 use Rattle.sgt_audit.specs.declared.outcome.Outcome.TheVariants as outcome
 use Rattle.sgt_audit.specs.AllOutcomes.{OutcomesStand}
 use Rattle.sgt_textbook.specs.Laws.{TextbookLaws}
 use Rattle.sgt_notation.specs.Transcripts.{TranscriptsSpellTextbooks, transcript}
-use Rattle.sgt_bank.specs.Inputs.{InputAsks}
+use Rattle.sgt_bank.specs.Inputs.{InputRequests}
 use Rattle.sgt_bank.specs.OutcomeJson.{json_text}
 use Rattle.sgt_bank.specs.Reports.{report_text}
 use Rattle.sgt_bank.specs.SerialText.{serial_text}
@@ -40,14 +40,14 @@ HasRun outcome.NoMemory = ⊤
 -- jobs were run after an opening. The history is legal, each outcome agrees with it, and the parts of the headline
 -- hold. The database is the one that the committed transactions leave, run one after another in commit order
 pub record AreRun (opening : Opening) (jobs : List Job) (workers tries : ℕ) (history : List Entry) (outcomes : List (Outcome Infallible)) (rows : List Row) : Type 0 where
-  pub legal : Legal (opened_setting opening) (reverse history)
+  pub legal : Legal (opened_configuration opening) (reverse history)
   pub stand : OutcomesStand history jobs outcomes workers tries
   pub each : All HasRun outcomes
-  pub replay : ReplayAgrees (opened_setting opening) (reverse history)
+  pub replay : ReplayAgrees (opened_configuration opening) (reverse history)
   pub no_cycle : Acyclic (Pair (reverse history))
-  pub causes : AbortsHaveCause (opened_setting opening) (reverse history)
+  pub causes : AbortsHaveCause (opened_configuration opening) (reverse history)
   pub order : CommitsInOrder (reverse history)
-  pub database : (k : Key) → contents_of rows k ≡ (folded (opened_setting opening) (reverse history)).last k
+  pub database : (k : Key) → contents_of rows k ≡ (folded (opened_configuration opening) (reverse history)).last k
   pub by_key : IsByKey rows
 
 -- an input of these bytes was run: its jobs, after its opening. Each committed or refused transaction of one of
@@ -55,9 +55,9 @@ pub record AreRun (opening : Opening) (jobs : List Job) (workers tries : ℕ) (h
 pub record IsRun (workers tries : ℕ) (bytes : List ℕ) (history : List Entry) (outcomes : List (Outcome Infallible)) (rows : List Row) : Type 0 where
   pub opening : Opening
   pub jobs : List Job
-  pub asks : InputAsks workers bytes opening jobs
+  pub asks : InputRequests workers bytes opening jobs
   pub are_run : AreRun opening jobs workers tries history outcomes rows
-  pub bank : CommitsAreBank (opened_setting opening) (reverse history)
+  pub bank : CommitsAreBank (opened_configuration opening) (reverse history)
 
 -- the output for an input of these bytes in the mode History: the transcript of the history of the jobs, which spells
 -- the operations of the textbook's history
@@ -80,7 +80,7 @@ pub record IsRecords (workers tries : ℕ) (bytes out : List ℕ) : Type 0 where
   pub text : out ≡ record_lines rows
 
 -- the output for an input of these bytes in the mode Report: the text of a report on its jobs. Each `committed` line
--- has the answers that the serial run gives the job's transaction. Each `asked` line of a transaction refused at its
+-- has the answers that the serial run gives the job's transaction. Each `requested` line of a transaction refused at its
 -- commit has the code
 pub record IsReport (workers tries : ℕ) (bytes out : List ℕ) : Type 0 where
   pub history : List Entry
@@ -88,7 +88,7 @@ pub record IsReport (workers tries : ℕ) (bytes out : List ℕ) : Type 0 where
   pub rows : List Row
   pub run : IsRun workers tries bytes history outcomes rows
   pub text : out ≡ report_text history outcomes rows
-  pub written : out ≡ serial_text (opened_setting run.opening) history outcomes rows
+  pub written : out ≡ serial_text (opened_configuration run.opening) history outcomes rows
 
 -- the output for an input of these bytes in the mode Json: the objects of the outcomes of its jobs, and then the record
 -- lines of the database. How often a job was tried in vain is what was seen of the run: these counts can be any

@@ -1,7 +1,7 @@
 -- What an input of a bank requests, and its first fault.
 use Rattle.std.specs.Prelude.{◌≡◌, ◌≢◌, ◌⊎◌, ℕ, List, [], ◌∷◌, Ok, Err}
 use Rattle.sgt_format.specs.Openings.{Refuses}
-use Rattle.sgt_format.specs.FilledOpenings.{OpensWith, RefusesRecord, behind_records, leading_records, number_behind}
+use Rattle.sgt_format.specs.FilledOpenings.{OpensWith, RefusesRecord, after_records, leading_records, number_after}
 use Rattle.sgt_format.specs.declared.opening.Opening.{Opening}
 use Rattle.sgt_format.specs.declared.errors.OpeningError.{OpeningError}
 use Rattle.sgt_format.specs.declared.errors.OpeningError.TheVariants as opening_error
@@ -17,17 +17,17 @@ use Rattle.sgt_bank.specs.Jobs.{job_at, numbered}
 -- job
 pub record IsInput (workers : ℕ) (line : List ℕ) (later : List (List ℕ)) (ending : Ending) (opening : Opening) (jobs : List Job) : Type 0 where
   pub opens : OpensWith workers line (leading_records later) opening
-  pub jobs_are : jobs ≡ numbered 0 (spelled (job_at (number_behind later)) (number_behind later) (behind_records later))
-  pub no_fault : end_of (job_at (number_behind later)) (number_behind later) (behind_records later) ending ≡ Ok tt
+  pub jobs_are : jobs ≡ numbered 0 (spelled (job_at (number_after later)) (number_after later) (after_records later))
+  pub no_fault : end_of (job_at (number_after later)) (number_after later) (after_records later) ending ≡ Ok tt
 
 -- the same of these lines: the first of them is line 1
-abbrev pub LinesAsk : ℕ → List (List ℕ) → Ending → Opening → List Job → Type 0
-LinesAsk workers [] ending opening jobs = ⊥
-LinesAsk workers (line ∷ later) ending opening jobs = IsInput workers line later ending opening jobs
+abbrev pub LinesRequest : ℕ → List (List ℕ) → Ending → Opening → List Job → Type 0
+LinesRequest workers [] ending opening jobs = ⊥
+LinesRequest workers (line ∷ later) ending opening jobs = IsInput workers line later ending opening jobs
 
 -- these bytes request these jobs after this opening
-abbrev pub InputAsks : ℕ → List ℕ → Opening → List Job → Type 0
-InputAsks workers bytes opening jobs = LinesAsk workers (cut bytes).given (cut bytes).ending opening jobs
+abbrev pub InputRequests : ℕ → List ℕ → Opening → List Job → Type 0
+InputRequests workers bytes opening jobs = LinesRequest workers (cut bytes).given (cut bytes).ending opening jobs
 
 -- line 1 is refused as an opening, with this fault
 pub record OpeningIsRefused (workers : ℕ) (line : List ℕ) (f : Fault) : Type 0 where
@@ -43,16 +43,16 @@ pub record RecordIsRefused (workers : ℕ) (line : List ℕ) (later : List (List
   pub fault_is : f ≡ fault.BadRecord bad
 
 -- line 1 and the record lines after it are an opening, and this is the first fault after them
-pub record IsBehind (workers : ℕ) (line : List ℕ) (later : List (List ℕ)) (ending : Ending) (f : Fault) : Type 0 where
+pub record IsAfter (workers : ℕ) (line : List ℕ) (later : List (List ℕ)) (ending : Ending) (f : Fault) : Type 0 where
   pub opening : Opening
   pub opens : OpensWith workers line (leading_records later) opening
-  pub ends : end_of (job_at (number_behind later)) (number_behind later) (behind_records later) ending ≡ Err f
+  pub ends : end_of (job_at (number_after later)) (number_after later) (after_records later) ending ≡ Err f
 
 -- the first fault of these lines
 abbrev pub LinesFail : ℕ → List (List ℕ) → Ending → Fault → Type 0
 LinesFail workers [] ending f = no_opening ending ≡ Err f
 LinesFail workers (line ∷ later) ending f =
-    OpeningIsRefused workers line f ⊎ RecordIsRefused workers line later f ⊎ IsBehind workers line later ending f
+    OpeningIsRefused workers line f ⊎ RecordIsRefused workers line later f ⊎ IsAfter workers line later ending f
 
 -- the first fault of these bytes
 abbrev pub InputFails : ℕ → List ℕ → Fault → Type 0

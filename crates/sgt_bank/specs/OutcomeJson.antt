@@ -24,7 +24,7 @@ code_members code = joined (codes "\"asked\",\"code\":" ∷ decimal code ∷ [])
 -- the code of an abort's cause
 abbrev pub cause_members : Cause → List ℕ
 cause_members (cause.Asked code) = code_members code
-cause_members (cause.Cycle walk) = codes "null"
+cause_members (cause.Cycle cycle) = codes "null"
 cause_members cause.Quit = codes "null"
 
 -- an abort because a code was raised, at the step or at the commit

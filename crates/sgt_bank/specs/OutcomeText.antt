@@ -16,20 +16,20 @@ commit_words (reply.Committed answers) = committed_text answers
 commit_words _ = []
 
 -- a code that was raised
-abbrev pub asked_text : ℕ → List ℕ
-asked_text code = codes "asked " ++ decimal code
+abbrev pub raised_text : ℕ → List ℕ
+raised_text code = codes "asked " ++ decimal code
 
 -- the code of an abort's cause
 abbrev pub code_words : Cause → List ℕ
-code_words (cause.Asked code) = asked_text code
-code_words (cause.Cycle walk) = []
+code_words (cause.Asked code) = raised_text code
+code_words (cause.Cycle cycle) = []
 code_words cause.Quit = []
 
 -- an abort because a code was raised, at the step or at the commit
-abbrev pub ask_words : Reply → List ℕ
-ask_words (reply.Aborted why fell) = code_words why
-ask_words (reply.Refused code fell) = asked_text code
-ask_words _ = []
+abbrev pub raised_words : Reply → List ℕ
+raised_words (reply.Aborted why fell) = code_words why
+raised_words (reply.Refused code fell) = raised_text code
+raised_words _ = []
 
 -- a refused start, with the number of its reply
 abbrev pub refusal_words : Reply → List ℕ
@@ -47,7 +47,7 @@ words_at words (Some e) = words e.reply
 -- the words of an outcome, by the history whose entries it names
 abbrev pub outcome_words : {N : Type 0} → List Entry → Outcome N → List ℕ
 outcome_words history (outcome.Done n) = words_at commit_words (slice_get history n)
-outcome_words history (outcome.Asked n) = words_at ask_words (slice_get history n)
+outcome_words history (outcome.Asked n) = words_at raised_words (slice_get history n)
 outcome_words history (outcome.Gave attempts) = codes "gave " ++ decimal (length attempts.items)
 outcome_words history (outcome.Refused n) = words_at refusal_words (slice_get history n)
 outcome_words history (outcome.Left note) = codes "left"

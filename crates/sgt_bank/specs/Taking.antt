@@ -15,11 +15,11 @@ TakesCall (Some old) call (Some new) = (line : List ℕ) × (old.given ≡ line 
 
 -- known lines, the first job's and then others, start with those that request these calls, and these follow
 abbrev pub TakesCalls : ℕ → Option Cut → List JobCall → Option Cut → Type 0
-TakesCalls first None asked new = ⊤
-TakesCalls first (Some old) asked None = ⊥
-TakesCalls first (Some old) asked (Some new) =
-    (spelled (job_at first) first old.given ≡ asked ++ spelled (job_at first) (first + length asked) new.given)
-    × (end_of (job_at first) first old.given old.ending ≡ end_of (job_at first) (first + length asked) new.given new.ending)
+TakesCalls first None requested new = ⊤
+TakesCalls first (Some old) requested None = ⊥
+TakesCalls first (Some old) requested (Some new) =
+    (spelled (job_at first) first old.given ≡ requested ++ spelled (job_at first) (first + length requested) new.given)
+    × (end_of (job_at first) first old.given old.ending ≡ end_of (job_at first) (first + length requested) new.given new.ending)
 
 -- known lines from number n on, after a first job's, end so at the next line, or if there is none
 abbrev pub EndsWith : ℕ → ℕ → End → Option Cut → Type 0

@@ -1,7 +1,7 @@
 //! The bank that the jobs of an input run on.
 ghost use Rattle.std.specs.Prelude.{◌≡◌, IfOk};
-ghost use Rattle.sgt_assembly.specs.Openings.{opened_setting};
-ghost use Rattle.sgt_workers.specs.Banks.{engine_setting};
+ghost use Rattle.sgt_assembly.specs.Openings.{opened_configuration};
+ghost use Rattle.sgt_workers.specs.Banks.{engine_configuration};
 
 use sgt_assembly::all_procedures;
 use sgt_format::Opening;
@@ -14,7 +14,7 @@ use std::alloc::Global;
 ///
 /// `NoMemory` if an allocation failed.
 pub fn bank_of(alloc: Global, opening: Opening) -> Result<Bank, NoMemory>
-    ensures setting { IfOk result (λ b. engine_setting b ≡ opened_setting opening) }
+    ensures configuration { IfOk result (λ b. engine_configuration b ≡ opened_configuration opening) }
     ensures limits { IfOk result (λ b. b.limits ≡ opening.limits) }
 {
     let Opening {

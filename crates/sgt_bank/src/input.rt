@@ -1,7 +1,7 @@
 //! The input of a bank: its opening (the first line) with the records, and its jobs.
 ghost use Rattle.std.specs.Prelude.{◌≡◌, ◌≢◌, IfOk, IfErr, IfSome, Err, ◌+◌, ◌^◌, ◌<◌, ◌≤◌};
 ghost use Rattle.sgt_workers.specs.Banks.{AreLimitsFor, AreJobs};
-ghost use Rattle.sgt_bank.specs.Inputs.{InputAsks, InputFails};
+ghost use Rattle.sgt_bank.specs.Inputs.{InputRequests, InputFails};
 ghost use Rattle.sgt_input.specs.Ends.{IsOfInput};
 
 use crate::jobs::read_jobs;
@@ -23,7 +23,7 @@ pub fn read_input<S: Source>(
 ) -> Result<(Opening, Vec<Job>), Fault>
     requires { S.failures source.old + 1 < 2 ^ 64 }
     ensures input { IfOk result (λ input. IfSome (S.rest source.old) (λ bytes.
-        InputAsks workers bytes input.0 input.1.items)) }
+        InputRequests workers bytes input.0 input.1.items)) }
     ensures limits { IfOk result (λ input. AreLimitsFor workers input.0.limits) }
     ensures numbered { IfOk result (λ input. AreJobs input.1.items) }
     ensures fault { IfErr result (λ f. IsOfInput f → IfSome (S.rest source.old) (λ bytes.

@@ -14,7 +14,7 @@ use sgt_input::{Fault, Lines, Source, at_line};
 use sgt_workers::{Job, MOST_JOBS};
 use std::alloc::Global;
 
-/// For how many jobs there is capacity at first. A list of so many is long enough to grow without being copied.
+/// For how many jobs there is capacity at first. A list of this capacity grows without being copied.
 const AT_FIRST: usize = 4_096;
 
 /// The call that the next line requests, if there is a line.

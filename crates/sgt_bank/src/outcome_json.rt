@@ -76,7 +76,7 @@ fn append_members<N>(
 {
     match outcome {
         Outcome::Done(n) => append_commit(text, history, *n),
-        Outcome::Asked(n) => append_ask(text, history, *n),
+        Outcome::Asked(n) => append_raised(text, history, *n),
         Outcome::Gave(_) => text.extend_from_slice(b"\"gave\""),
         Outcome::Refused(n) => append_refusal(text, history, *n),
         Outcome::Left(_) => text.extend_from_slice(b"\"left\""),
@@ -110,7 +110,7 @@ fn append_commit_members(text: &mut Vec<u8>, entry: &EntryRef<'_>) -> Result<(),
     }
 }
 
-fn append_ask(text: &mut Vec<u8>, history: &History, n: u64) -> Result<(), AllocError>
+fn append_raised(text: &mut Vec<u8>, history: &History, n: u64) -> Result<(), AllocError>
     ensures { OnOk result
         (text.new.items ≡ text.old.items ++ members_at ask_members (slice_get history.now.entries n)) }
 {

@@ -1,6 +1,6 @@
 //! The line of a job's outcome.
 ghost use Rattle.std.specs.Prelude.{◌≡◌, ◌++◌, take, vec_len, slice_get, IfOk, OnOk, OnErr};
-ghost use Rattle.sgt_bank.specs.OutcomeText.{commit_words, code_words, ask_words, refusal_words, words_at, outcome_words, outcome_line};
+ghost use Rattle.sgt_bank.specs.OutcomeText.{commit_words, code_words, raised_words, refusal_words, words_at, outcome_words, outcome_line};
 
 use sgt_format::{append_answers, append_number, append_numbered};
 use sgt_log::{EntryRef, History};
@@ -54,7 +54,7 @@ fn append_words<N>(
 {
     match outcome {
         Outcome::Done(n) => append_commit(line, history, *n),
-        Outcome::Asked(n) => append_ask(line, history, *n),
+        Outcome::Asked(n) => append_raised(line, history, *n),
         Outcome::Gave(attempts) => append_numbered(line, b"gave ", attempts.len()),
         Outcome::Refused(n) => append_refusal(line, history, *n),
         Outcome::Left(_) => line.extend_from_slice(b"left"),
@@ -87,19 +87,19 @@ fn append_commit_words(line: &mut Vec<u8>, entry: &EntryRef<'_>) -> Result<(), A
     }
 }
 
-fn append_ask(line: &mut Vec<u8>, history: &History, n: u64) -> Result<(), AllocError>
+fn append_raised(line: &mut Vec<u8>, history: &History, n: u64) -> Result<(), AllocError>
     ensures ok { OnOk result
-        (line.new.items ≡ line.old.items ++ words_at ask_words (slice_get history.now.entries n)) }
+        (line.new.items ≡ line.old.items ++ words_at raised_words (slice_get history.now.entries n)) }
     ensures err { OnErr result (take (vec_len line.old) line.new.items ≡ line.old.items) }
 {
     match history.get_entry(n as usize) {
-        Some(entry) => append_ask_words(line, &entry.reply()),
+        Some(entry) => append_raised_words(line, &entry.reply()),
         None => Ok(()),
     }
 }
 
-fn append_ask_words(line: &mut Vec<u8>, reply: &Reply) -> Result<(), AllocError>
-    ensures ok { OnOk result (line.new.items ≡ line.old.items ++ ask_words reply.now) }
+fn append_raised_words(line: &mut Vec<u8>, reply: &Reply) -> Result<(), AllocError>
+    ensures ok { OnOk result (line.new.items ≡ line.old.items ++ raised_words reply.now) }
     ensures err { OnErr result (take (vec_len line.old) line.new.items ≡ line.old.items) }
 {
     match reply {

@@ -28,7 +28,7 @@ use std::thread::Threads;
 /// # Errors
 ///
 /// `Spawn`, `Mismatch` and `NoMemory`.
-fn run_behind_opening<G: Gate<Note = Infallible> + Sync, W: Threads + Wait + Sync>(
+fn run_after_opening<G: Gate<Note = Infallible> + Sync, W: Threads + Wait + Sync>(
     rt: &W,
     alloc: Global,
     opening: Opening,
@@ -84,7 +84,7 @@ fn run_input<S: Source, G: Gate<Note = Infallible> + Sync, W: Threads + Wait + S
     // In every legal history after the opening SmallBank's procedures did the bank's arithmetic.
     opened_is_bank();
     let (opening, jobs) = read_input(alloc, source, workers)?;
-    let report = run_behind_opening(rt, alloc, opening, jobs.as_slice(), workers, tries, gate)?;
+    let report = run_after_opening(rt, alloc, opening, jobs.as_slice(), workers, tries, gate)?;
     Ok(report)
 }
 
@@ -175,7 +175,7 @@ pub(crate) fn write_run<
 /// - The first fault of the input.
 /// - `Reading` if a read failed, and `NoMemory`.
 /// - `Spawn` if a thread could not be made.
-/// - `Mismatch` if what the workers were told differs from the history.
+/// - `Mismatch` if the replies that the workers received differ from the history.
 /// - `Writing` if a write failed.
 ///
 /// Nothing is written then, except the part before a failed write.

@@ -29,7 +29,7 @@ struct Known {
 #[derive(Clone, Copy)]
 struct Tally {
     committed: usize,
-    asked: usize,
+    requested: usize,
     gave: usize,
     refused: usize,
     failed: usize,
@@ -67,7 +67,7 @@ impl Tally {
     fn new() -> Self {
         Tally {
             committed: 0,
-            asked: 0,
+            requested: 0,
             gave: 0,
             refused: 0,
             failed: 0,
@@ -79,7 +79,7 @@ impl Tally {
     fn count<N>(&mut self, outcome: &Outcome<N>, failed: usize) {
         match outcome {
             Outcome::Done(_) => self.committed = self.committed.saturating_add(1),
-            Outcome::Asked(_) => self.asked = self.asked.saturating_add(1),
+            Outcome::Asked(_) => self.requested = self.requested.saturating_add(1),
             Outcome::Gave(_) => self.gave = self.gave.saturating_add(1),
             Outcome::Refused(_) => self.refused = self.refused.saturating_add(1),
             _ => self.failed = self.failed.saturating_add(1),
@@ -93,7 +93,7 @@ impl Tally {
         append_numbered(text, b"", jobs)?;
         text.extend_from_slice(if jobs == 1 { b" job" } else { b" jobs" })?;
         append_numbered(text, b": ", self.committed)?;
-        append_numbered(text, b" committed, ", self.asked)?;
+        append_numbered(text, b" committed, ", self.requested)?;
         append_numbered(text, b" aborted with a code, ", self.gave)?;
         append_numbered(text, b" given up, ", self.refused)?;
         append_numbered(text, b" refused, ", self.failed)?;
@@ -312,7 +312,7 @@ fn append_cycle(
     };
     text.extend_from_slice(b": cycle with")?;
     let mut words: &'static [u8] = b" job ";
-    for other in entry.walk() {
+    for other in entry.cycle() {
         if *other != t {
             append_owner(text, words, *other, known)?;
             words = b", ";

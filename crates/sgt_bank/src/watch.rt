@@ -30,7 +30,7 @@ pub(crate) struct Seen {
     // How many jobs have ended.
     ended: u32,
     // When progress was last reported, if it is to be reported.
-    told: Option<Instant>,
+    reported: Option<Instant>,
 }
 
 /// A gate that lets every worker continue and records the failed attempts. On request it reports on standard error
@@ -44,8 +44,8 @@ pub(crate) struct Watch<'a, W> {
 
 impl<'a, W: Clock> Watch<'a, W> {
     /// Starts observing a run. Without a clock no progress is reported.
-    pub(crate) fn new(rt: &'a W, alloc: Global, tells_progress: bool) -> Self {
-        let told = if tells_progress {
+    pub(crate) fn new(rt: &'a W, alloc: Global, reports_progress: bool) -> Self {
+        let reported = if reports_progress {
             Instant::now(rt).ok()
         } else {
             None
@@ -56,7 +56,7 @@ impl<'a, W: Clock> Watch<'a, W> {
                 failed: Vec::new(alloc),
                 has_lost: false,
                 ended: 0,
-                told,
+                reported,
             }),
         }
     }
@@ -84,13 +84,13 @@ impl<W: Wait + Clock + Eprint> Gate for Watch<'_, W> {
     fn finished(&self, _worker: u8, _job: u32, _outcome: &Outcome<Infallible>) {
         let mut seen = self.seen.lock(self.rt);
         seen.ended = seen.ended.saturating_add(1);
-        let Some(told) = seen.told else {
+        let Some(reported) = seen.reported else {
             return;
         };
         if let Ok(now) = Instant::now(self.rt) {
-            if now.saturating_duration_since(told) >= Duration::from_secs(BETWEEN_LINES) {
+            if now.saturating_duration_since(reported) >= Duration::from_secs(BETWEEN_LINES) {
                 let _ = eprintln!(self.rt; "{} jobs have ended", seen.ended);
-                seen.told = Some(now);
+                seen.reported = Some(now);
             }
         }
     }

@@ -1,5 +1,5 @@
 //! A bank of five accounts, and jobs for it.
-use crate::banks::{Crew, run_bank};
+use crate::banks::{Pool, run_bank};
 use crate::gates::Gates;
 use crate::printed::{Printed, print_report};
 use sgt_access::{Accesses, PerKey};
@@ -66,7 +66,7 @@ pub fn run_on<R: Records, A: Accesses, G: Graph, W: Threads + Wait + Sync>(
     alloc: Global,
     limits: Limits,
     jobs: &[Job],
-    crew: Crew,
+    pool: Pool,
     gates: &Gates,
 ) -> Result<Report<u64>, PoolError> {
     let accounts = [account(1), account(2), account(3), account(4), account(5)];
@@ -78,7 +78,7 @@ pub fn run_on<R: Records, A: Accesses, G: Graph, W: Threads + Wait + Sync>(
         database,
         procedures: Vec::new(alloc),
     };
-    run_bank::<R, A, G, W>(rt, alloc, opening, jobs, crew, gates)
+    run_bank::<R, A, G, W>(rt, alloc, opening, jobs, pool, gates)
 }
 
 /// The same over the implementations that the program uses. Prints this of the report, or why there is none.
@@ -87,11 +87,11 @@ pub fn run<W: Threads + Wait + Sync + Print>(
     alloc: Global,
     limits: Limits,
     jobs: &[Job],
-    crew: Crew,
+    pool: Pool,
     gates: &Gates,
     printed: Printed<'_>,
 ) -> io::Result<()> {
-    match run_on::<SlabRecords, PerKey, BitGraph, W>(rt, alloc, limits, jobs, crew, gates) {
+    match run_on::<SlabRecords, PerKey, BitGraph, W>(rt, alloc, limits, jobs, pool, gates) {
         Ok(report) => print_report(rt, alloc, &report, printed),
         Err(error) => println!(rt; "{error}"),
     }

@@ -18,7 +18,7 @@ use std::thread::Threads;
 
 /// The number of workers that run jobs, and how often each job is tried.
 #[derive(Clone, Copy)]
-pub struct Crew {
+pub struct Pool {
     pub workers: u32,
     pub tries: u32,
 }
@@ -29,13 +29,13 @@ pub fn run_bank<R: Records, A: Accesses, G: Graph, W: Threads + Wait + Sync>(
     alloc: Global,
     opening: Opening,
     jobs: &[Job],
-    crew: Crew,
+    pool: Pool,
     gates: &Gates,
 ) -> Result<Report<u64>, PoolError> {
     let Ok(bank) = bank_of(alloc, opening) else {
         return Err(PoolError::NoMemory);
     };
-    run::<R, A, G, Gates, W>(rt, alloc, bank, jobs, crew.workers, crew.tries, gates)
+    run::<R, A, G, Gates, W>(rt, alloc, bank, jobs, pool.workers, pool.tries, gates)
 }
 
 /// Runs the bank of standard input, and prints it. If it has no report it prints why, in a line that starts with `no
@@ -43,12 +43,12 @@ pub fn run_bank<R: Records, A: Accesses, G: Graph, W: Threads + Wait + Sync>(
 pub fn run_input_bank<W: Print + Input + Threads + Wait + Sync>(
     rt: &W,
     alloc: Global,
-    crew: Crew,
+    pool: Pool,
     gates: &Gates,
 ) -> io::Result<()> {
     let mut reader = Reader::new(rt.reader());
-    match read_input(alloc, &mut reader, crew.workers) {
-        Ok((opening, jobs)) => print_bank(rt, alloc, opening, jobs.as_slice(), crew, gates),
+    match read_input(alloc, &mut reader, pool.workers) {
+        Ok((opening, jobs)) => print_bank(rt, alloc, opening, jobs.as_slice(), pool, gates),
         Err(_) => Err(io::Error::from(ErrorKind::InvalidInput)),
     }
 }
@@ -58,10 +58,10 @@ fn print_bank<W: Print + Threads + Wait + Sync>(
     alloc: Global,
     opening: Opening,
     jobs: &[Job],
-    crew: Crew,
+    pool: Pool,
     gates: &Gates,
 ) -> io::Result<()> {
-    match run_bank::<SlabRecords, PerKey, BitGraph, W>(rt, alloc, opening, jobs, crew, gates) {
+    match run_bank::<SlabRecords, PerKey, BitGraph, W>(rt, alloc, opening, jobs, pool, gates) {
         Ok(report) => write(rt, alloc, &report),
         Err(error) => println!(rt; "no report: {error}"),
     }

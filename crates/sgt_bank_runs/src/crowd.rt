@@ -1,6 +1,6 @@
 //! Many workers on few accounts, and the same jobs on one worker.
 use crate::accounts::{ACCOUNTS, AMALGAMATE, BALANCE, DEPOSIT_CHECKING, held, job, run, run_on};
-use crate::banks::Crew;
+use crate::banks::Pool;
 use crate::gates::{Gates, Plan};
 use crate::printed::Printed;
 use sgt_access::OneList;
@@ -27,7 +27,7 @@ pub fn run_crowd<W: Threads + Wait + Sync + Print>(
     println!(rt; "{JOBS} jobs:")?;
     let jobs = many_jobs(alloc)?;
     let jobs = jobs.as_slice();
-    let crew = Crew {
+    let pool = Pool {
         workers: 16,
         tries: 1000,
     };
@@ -37,7 +37,7 @@ pub fn run_crowd<W: Threads + Wait + Sync + Print>(
         alloc,
         limits,
         jobs,
-        crew,
+        pool,
         &gates,
         Printed::Compared { limits, jobs },
     )
@@ -63,12 +63,12 @@ fn run_alone<W: Threads + Wait + Sync + Print>(
     done: &[Job],
     crowd: &Report<u64>,
 ) -> io::Result<()> {
-    let crew = Crew {
+    let pool = Pool {
         workers: 1,
         tries: 1,
     };
     let gates = Gates::new(Plan::Open);
-    match run_on::<ListRecords, OneList, PairGraph, W>(rt, alloc, limits, done, crew, &gates) {
+    match run_on::<ListRecords, OneList, PairGraph, W>(rt, alloc, limits, done, pool, &gates) {
         Ok(alone) => print_same(rt, alloc, done.len(), crowd, &alone),
         Err(error) => println!(rt; "{error}"),
     }

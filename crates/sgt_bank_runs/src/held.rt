@@ -1,7 +1,7 @@
 //! Workers that gates block until the others have arrived: this shows that workers run concurrently, that the lock is
 //! freed between two calls, and that the gate is asked.
 use crate::accounts::{BALANCE, DEPOSIT_CHECKING, LIMITS, TRANSACT_SAVING, WRITE_CHECK, job, run};
-use crate::banks::Crew;
+use crate::banks::Pool;
 use crate::gates::{Gates, Plan};
 use crate::printed::Printed;
 use sgt_model::{Asks, Limits};
@@ -36,12 +36,12 @@ pub fn second_commits_first<W: Threads + Wait + Sync + Print>(
         job(0, DEPOSIT_CHECKING, &[1, 10]),
         job(1, DEPOSIT_CHECKING, &[2, 20]),
     ];
-    let crew = Crew {
+    let pool = Pool {
         workers: 2,
         tries: 100,
     };
     let gates = Gates::new(Plan::SecondFirst);
-    run(rt, alloc, LIMITS, &jobs, crew, &gates, Printed::Order)
+    run(rt, alloc, LIMITS, &jobs, pool, &gates, Printed::Order)
 }
 
 /// Two checks of one customer, each of which reads what the other writes: one of them is aborted.
@@ -55,9 +55,9 @@ pub fn one_gives_up<W: Threads + Wait + Sync + Print>(
         job(0, WRITE_CHECK, &[1, 100]),
         job(1, WRITE_CHECK, &[1, 100]),
     ];
-    let crew = Crew { workers: 2, tries };
+    let pool = Pool { workers: 2, tries };
     let gates = Gates::new(Plan::BothRead);
-    run(rt, alloc, LIMITS, &jobs, crew, &gates, Printed::Counts)
+    run(rt, alloc, LIMITS, &jobs, pool, &gates, Printed::Counts)
 }
 
 /// A job that aborts with a code, two that are refused, one that is committed, and two more.
@@ -81,12 +81,12 @@ pub fn each_outcome<W: Threads + Wait + Sync + Print>(
 ) -> io::Result<()> {
     println!(rt; "one worker, which leaves after {calls} calls:")?;
     let jobs = jobs_of_each_outcome();
-    let crew = Crew {
+    let pool = Pool {
         workers: 1,
         tries: 100,
     };
     let gates = Gates::new(Plan::LeavesAt(calls));
-    run(rt, alloc, limits, &jobs, crew, &gates, Printed::Counts)?;
+    run(rt, alloc, limits, &jobs, pool, &gates, Printed::Counts)?;
     println!(rt; "told of {} jobs", gates.finished())?;
     for number in 0..jobs.len() {
         match gates.finish_of(number) {
@@ -106,12 +106,12 @@ pub fn finish_together<W: Threads + Wait + Sync + Print>(rt: &W, alloc: Global) 
         job(0, DEPOSIT_CHECKING, &[1, 10]),
         job(1, DEPOSIT_CHECKING, &[2, 20]),
     ];
-    let crew = Crew {
+    let pool = Pool {
         workers: 2,
         tries: 100,
     };
     let gates = Gates::new(Plan::FinishTogether(2));
-    run(rt, alloc, LIMITS, &jobs, crew, &gates, Printed::Counts)?;
+    run(rt, alloc, LIMITS, &jobs, pool, &gates, Printed::Counts)?;
     let workers = match (gates.finish_of(0), gates.finish_of(1)) {
         (Some(first), Some(second)) => first.1 != second.1,
         _ => false,
@@ -126,11 +126,11 @@ pub fn finish_together<W: Threads + Wait + Sync + Print>(rt: &W, alloc: Global) 
 pub fn refusals<W: Threads + Wait + Sync + Print>(rt: &W, alloc: Global) -> io::Result<()> {
     for (first, live, workers, tries) in &REFUSALS {
         print!(rt; "job {first}, {live} live, {workers} workers, {tries} tries: ")?;
-        let crew = Crew {
+        let pool = Pool {
             workers: *workers,
             tries: *tries,
         };
-        run_refusal(rt, alloc, *first, *live, crew)?;
+        run_refusal(rt, alloc, *first, *live, pool)?;
     }
     Ok(())
 }
@@ -141,7 +141,7 @@ fn run_refusal<W: Threads + Wait + Sync + Print>(
     alloc: Global,
     first: u32,
     live: u32,
-    crew: Crew,
+    pool: Pool,
 ) -> io::Result<()> {
     let jobs = [job(first, BALANCE, &[1]), job(1, BALANCE, &[1])];
     let limits = Limits {
@@ -150,5 +150,5 @@ fn run_refusal<W: Threads + Wait + Sync + Print>(
         asks: Asks::AtStep,
     };
     let gates = Gates::new(Plan::Open);
-    run(rt, alloc, limits, &jobs, crew, &gates, Printed::Report)
+    run(rt, alloc, limits, &jobs, pool, &gates, Printed::Report)
 }

@@ -1,6 +1,6 @@
 //! Workers that leave, and the state after that.
 use crate::accounts::{DEPOSIT_CHECKING, LIMITS, job, run};
-use crate::banks::Crew;
+use crate::banks::Pool;
 use crate::gates::{Gates, Plan};
 use crate::printed::Printed;
 use sgt_workers::Job;
@@ -30,12 +30,12 @@ fn leaves_after<W: Threads + Wait + Sync + Print>(
 ) -> io::Result<()> {
     print!(rt; "after {calls} calls: ")?;
     let jobs = [job(0, DEPOSIT_CHECKING, &[1, 100])];
-    let crew = Crew {
+    let pool = Pool {
         workers: 1,
         tries: 1,
     };
     let gates = Gates::new(Plan::LeavesAt(calls));
-    run(rt, alloc, LIMITS, &jobs, crew, &gates, Printed::Leaver)
+    run(rt, alloc, LIMITS, &jobs, pool, &gates, Printed::Leaver)
 }
 
 /// Sixteen workers: each reads what the previous one has written, and the first leaves.
@@ -59,13 +59,13 @@ fn run_deposits<W: Threads + Wait + Sync + Print>(
     gates: &Gates,
 ) -> io::Result<()> {
     let jobs = deposits(alloc, count)?;
-    let crew = Crew { workers, tries: 1 };
+    let pool = Pool { workers, tries: 1 };
     run(
         rt,
         alloc,
         LIMITS,
         jobs.as_slice(),
-        crew,
+        pool,
         gates,
         Printed::Aborts,
     )

@@ -1,9 +1,9 @@
 //! Runs banks on workers, for the test command and the measurements in `bench`, and prints what they check from
 //! outside. The first argument selects the run:
 //!
-//!     sgt_bank_runs bank WORKERS TRIES [SEED ODDS]    the bank of standard input; one call in ODDS makes its worker leave
-//!     sgt_bank_runs quit                              a session that quits while all allocations fail
-//!     sgt_bank_runs scripts                           the scripts of standard input, each after its length in four bytes
+//! sgt_bank_runs bank WORKERS TRIES [SEED ODDS] the bank of standard input; one call in ODDS makes its worker leave
+//! sgt_bank_runs quit a session that aborts its transaction while all allocations fail sgt_bank_runs scripts the
+//! scripts of standard input, each after its length in four bytes
 //!
 //! Without an argument it makes many runs, whose output does not depend on the schedule, and then runs the bank of
 //! standard input by one worker. `stdout` has the expected output. The first runs have gates, which block each worker
@@ -24,7 +24,7 @@ mod quits;
 mod scripts;
 
 use crate::accounts::{LIMITS, LIMITS_AT_COMMIT};
-use crate::banks::{Crew, run_input_bank};
+use crate::banks::{Pool, run_input_bank};
 use crate::crowd::run_crowd;
 use crate::gates::{Gates, Plan};
 use crate::held::{each_outcome, finish_together, one_gives_up, refusals, second_commits_first};
@@ -51,7 +51,7 @@ fn run_named_bank<W: Print + Input + Threads + Wait + Sync>(
     alloc: Global,
     words: &[String],
 ) -> io::Result<()> {
-    let crew = Crew {
+    let pool = Pool {
         workers: number(words, 2, 4),
         tries: number(words, 3, 100),
     };
@@ -59,7 +59,7 @@ fn run_named_bank<W: Print + Input + Threads + Wait + Sync>(
         seed: number(words, 4, 0),
         odds: number(words, 5, 0),
     };
-    run_input_bank(rt, alloc, crew, &Gates::new(plan))
+    run_input_bank(rt, alloc, pool, &Gates::new(plan))
 }
 
 /// The runs whose schedule is fixed, or does not matter.
@@ -81,11 +81,11 @@ fn run_schedules<W: Print + Threads + Wait + Sync>(rt: &W, alloc: Global) -> io:
 /// The runs of the test command.
 fn run_all<W: Print + Input + Threads + Wait + Sync>(rt: &W, alloc: Global) -> io::Result<()> {
     run_schedules(rt, alloc)?;
-    let crew = Crew {
+    let pool = Pool {
         workers: 1,
         tries: 100,
     };
-    run_input_bank(rt, alloc, crew, &Gates::new(Plan::Open))
+    run_input_bank(rt, alloc, pool, &Gates::new(Plan::Open))
 }
 
 /// The run of these arguments.

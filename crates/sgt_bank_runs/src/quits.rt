@@ -1,7 +1,7 @@
-//! A session that quits what it has started. After its first line of output, only further starts allocate. So from
+//! A session that aborts what it has started. After its first line of output, only further starts allocate. So from
 //! there on every allocation may be made to fail from outside.
 ghost use Rattle.std.specs.Prelude.{◌≡◌, [], IfOk};
-ghost use Rattle.sgt_engine.specs.EngineView.{setting_of};
+ghost use Rattle.sgt_engine.specs.EngineView.{configuration_of};
 
 use sgt_access::{Accesses, PerKey};
 use sgt_engine::Engine;
@@ -25,7 +25,7 @@ const LIMITS: Limits = Limits {
     asks: Asks::AtStep,
 };
 
-/// The text for a transaction that was started, and for one that was quit with nothing aborted in cascade.
+/// The text for a transaction that was started, and for one that was aborted with nothing in cascade.
 const STARTED: &str = "started";
 
 const QUIT: &str = "aborted quit fell none";
@@ -96,7 +96,7 @@ fn start_many<N: Named, R: Records, A: Accesses, G: Graph, W: Wait>(
     (LIMITS.begins, STARTED)
 }
 
-/// Quits this many transactions from this number on, and returns how many were quit.
+/// Aborts this many transactions from this number on, and returns how many were aborted.
 fn quit_many<N: Named, R: Records, A: Accesses, G: Graph, W: Wait>(
     rt: &W,
     shared: &Shared<N, R, A, G>,
@@ -120,7 +120,7 @@ fn play<N: Named, R: Records, A: Accesses, G: Graph, W: Wait + Print>(
     engine: Box<Engine<R, A, G>>,
     blank: Blank,
 ) -> io::Result<()>
-    requires setting { setting_of engine.value ≡ N.setting }
+    requires configuration { configuration_of engine.value ≡ N.configuration }
     requires empty { engine.value.past ≡ [] }
     requires blank { (blank.name ≡ N.name) × (blank.parts ≡ N.parts) × (blank.parts ≡ 1) }
     requires sessions { N.sessions ≡ 1 }
@@ -143,7 +143,7 @@ fn run_first<N: Named, R: Records, A: Accesses, G: Graph, W: Wait + Print>(
     }
 }
 
-/// Starts a transaction and quits it. Then starts and quits as many as it can.
+/// Starts a transaction and aborts it. Then starts and aborts as many as it can.
 fn run_session<N: Named, R: Records, A: Accesses, G: Graph, W: Wait + Print>(
     rt: &W,
     shared: &Shared<N, R, A, G>,
@@ -156,7 +156,7 @@ fn run_session<N: Named, R: Records, A: Accesses, G: Graph, W: Wait + Print>(
     println!(rt; "{} quit", quit_many(rt, shared, session, 1, started))
 }
 
-/// Prints the replies of a session that starts a transaction and quits it.
+/// Prints the replies of a session that starts a transaction and aborts it.
 pub fn run_quits<W: Wait + Print>(rt: &W, alloc: Global) -> io::Result<()> {
     match new_engine(alloc) {
         Ok(engine) => play::<Brand, _, _, _, _>(rt, alloc, engine, Blank::new(1)),

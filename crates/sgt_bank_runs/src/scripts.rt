@@ -51,11 +51,11 @@ pub fn run_scripts<R: Print + Input>(rt: &R, alloc: Global) -> io::Result<()> {
 fn run_each<R: Print>(rt: &R, alloc: Global, scripts: &[u8]) -> io::Result<()> {
     let mut rest = scripts;
     for _ in 0..scripts.len() {
-        let Some((script, behind)) = first(rest) else {
+        let Some((script, following)) = first(rest) else {
             break;
         };
         print_script(rt, alloc, script)?;
-        rest = behind;
+        rest = following;
     }
     Ok(())
 }

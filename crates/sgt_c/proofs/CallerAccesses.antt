@@ -17,20 +17,20 @@ use Rattle.sgt_model.specs.Fates.{ending_in, fate_of, live, start_count}
 use Rattle.sgt_model.specs.Legality.{Legal, LegalReply}
 use Rattle.sgt_model.specs.Progress.{Call, call_at, call_in, caller_access_in, caller_accesses, with_caller_accesses}
 use Rattle.sgt_model.specs.Questions.{started_in}
-use Rattle.sgt_model.specs.Replay.{told, told_call_in, told_calls, told_in}
-use Rattle.sgt_model.specs.Settings.{Setting}
+use Rattle.sgt_model.specs.Replay.{reported, reported_call_in, reported_calls, reported_in}
+use Rattle.sgt_model.specs.Configurations.{Configuration}
 use Rattle.sgt_model.proofs.Effects.{effect}
 use Rattle.sgt_model.proofs.Facts.{access-live, commits_or_not, fate-final, legal_older, live-no_fate, live-started, starts-grow}
 use Rattle.sgt_model.proofs.Plays.{caller_access_if, caller_access_if-none, caller_access_if-other, caller_access_in-is}
 use Rattle.sgt_c.specs.declared.call_struct.SgtCall.{SgtCall}
 use Rattle.sgt_c.specs.AccessStructs.{listed}
-use Rattle.sgt_c.specs.ReplayedCalls.{CountsAccesses, IsToldAt, bare_call, call_in as called_in, ends_by, ends_in, past_at, result_in, told_ends}
+use Rattle.sgt_c.specs.ReplayedCalls.{CountsAccesses, IsReportedAt, bare_call, call_in as called_in, ends_by, ends_in, past_at, result_in, reported_ends}
 use Rattle.sgt_c.proofs.Runs.{start_number}
 
 -- ---- positions of a history
 
 -- the entries up to a position are a legal history too
-pub legal_to : (s : Setting) (entries : List Entry) (place : ℕ) → Legal s (reverse entries) → Legal s (past_at entries place)
+pub legal_to : (s : Configuration) (entries : List Entry) (place : ℕ) → Legal s (reverse entries) → Legal s (past_at entries place)
 legal_to s entries place legal = legal_older s (reverse (drop place entries)) (past_at entries place) (subst (Legal s) parts legal)
   where
     parts : reverse entries ≡ reverse (drop place entries) ++ past_at entries place
@@ -43,7 +43,7 @@ past_next entries place e next = ap reverse next ∙ reverse-append (take place 
 
 -- ---- only what is live makes accesses
 
-none_unless_live : (s : Setting) (past : List Entry) (event : Event) (r : Reply) → LegalReply s past event r → (t : ℕ)
+none_unless_live : (s : Configuration) (past : List Entry) (event : Event) (r : Reply) → LegalReply s past event r → (t : ℕ)
     → (live past t ≡ true → ⊥) → caller_access_in event r t ≡ []
 none_unless_live s past event r legal t dead = caller_access_in-is event r t ∙ by_access (access_in event r) refl
   where
@@ -55,7 +55,7 @@ none_unless_live s past event r legal t dead = caller_access_in-is event r t ∙
     by_access (Some a) is = ap (λ y. caller_access_if event y t) is ∙ caller_access_if-other event a t (apart a is)
 
 -- a transaction that was not started has made none
-none_unstarted : (s : Setting) (past : List Entry) (t : ℕ) → Legal s past → start_count past ≤ t → caller_accesses past t ≡ []
+none_unstarted : (s : Configuration) (past : List Entry) (t : ℕ) → Legal s past → start_count past ≤ t → caller_accesses past t ≡ []
 none_unstarted s [] t h unstarted = refl
 none_unstarted s (e ∷ past) t h unstarted =
     let grow = starts-grow e past in
@@ -65,7 +65,7 @@ none_unstarted s (e ∷ past) t h unstarted =
     ∙ none_unstarted s past t h.0 before
 
 -- so there is none before its start
-pub none_before_start : (s : Setting) (entries : List Entry) (place t : ℕ) (e : Entry) → Legal s (reverse entries)
+pub none_before_start : (s : Configuration) (entries : List Entry) (place t : ℕ) (e : Entry) → Legal s (reverse entries)
     → take (place + 1) entries ≡ take place entries ++ e ∷ [] → started_in e.event e.reply ≡ Some t → caller_accesses (past_at entries place) t ≡ []
 none_before_start s entries place t e legal next starts =
     let both = subst (Legal s) (past_next entries place e next) (legal_to s entries (place + 1) legal) in
@@ -87,7 +87,7 @@ call_starts event (reply.Started u) t c is = absurd (none (nat_eq u t) is)
     none false is = cc is
 call_starts event _ t c is = absurd cc
 
-pub none_to_start : (s : Setting) (entries : List Entry) (place t : ℕ) (e : Entry) (c : Call) → Legal s (reverse entries)
+pub none_to_start : (s : Configuration) (entries : List Entry) (place t : ℕ) (e : Entry) (c : Call) → Legal s (reverse entries)
     → take (place + 1) entries ≡ take place entries ++ e ∷ [] → call_in e.event e.reply t ≡ Some c → caller_accesses (past_at entries (place + 1)) t ≡ []
 none_to_start s entries place t e c legal next starts =
     let both = call_starts e.event e.reply t c starts in
@@ -97,7 +97,7 @@ none_to_start s entries place t e c legal next starts =
 
 -- ---- none follows the end
 
-kept_after : (s : Setting) (newer older : List Entry) (t : ℕ) (f : Fate) → Legal s (newer ++ older) → fate_of older t ≡ Some f
+kept_after : (s : Configuration) (newer older : List Entry) (t : ℕ) (f : Fate) → Legal s (newer ++ older) → fate_of older t ≡ Some f
     → (caller_accesses (newer ++ older) t ≡ caller_accesses older t) × (fate_of (newer ++ older) t ≡ Some f)
 kept_after s [] older t f legal ended = (refl, ended)
 kept_after s (e ∷ newer) older t f legal ended =
@@ -116,7 +116,7 @@ first : (t k u n : ℕ) → ◌≡◌ {A = List (ℕ × ℕ)} ((u, n) ∷ []) ((
 first t k u n e = ap first_of e
 
 -- an entry that commits or refuses a transaction ends it, and makes no access
-ended_at : (s : Setting) (past : List Entry) (event : Event) (r : Reply) (t k : ℕ) → LegalReply s past event r → ends_by event r ≡ (t, k) ∷ []
+ended_at : (s : Configuration) (past : List Entry) (event : Event) (r : Reply) (t k : ℕ) → LegalReply s past event r → ends_by event r ≡ (t, k) ∷ []
     → (f : Fate) × (ending_in event r t ≡ Some f)
 ended_at s past event r t k legal is = elim (commits_or_not (effect s past event r legal)) [
   | inl c ↦ let who = first t k c.t 13 (sym (ap₂ ends_by c.event_is c.reply_is) ∙ is) in (
@@ -128,10 +128,10 @@ ended_at s past event r t k legal is = elim (commits_or_not (effect s past event
     ap₂ (λ e y. ending_in e y t) x.event_is x.reply_is
         ∙ cond-true (nat_eq x.undoing.t t) (Some (fate.Aborted (cause.Asked x.code))) _ (eq-eqb x.undoing.t t who),
   )
-  | inr (inr u) ↦ absurd (neither r is u.tells_none)
+  | inr (inr u) ↦ absurd (neither r is u.reports_none)
 ]
   where
-    neither : (r : Reply) → ends_by event r ≡ (t, k) ∷ [] → told_in r ≡ [] → ⊥
+    neither : (r : Reply) → ends_by event r ≡ (t, k) ∷ [] → reported_in r ≡ [] → ⊥
     neither (reply.Committed answers) a b = cc b
     neither (reply.Refused code fell) a b = cc b
     neither (reply.Started u) a b = cc a
@@ -149,7 +149,7 @@ ended_at s past event r t k legal is = elim (commits_or_not (effect s past event
     neither (reply.Aborted why fell) a b = cc a
 
 -- so the accesses of a transaction that an entry commits or refuses are those before this entry
-pub kept_from_end : (s : Setting) (entries : List Entry) (place t k : ℕ) (e : Entry) → Legal s (reverse entries)
+pub kept_from_end : (s : Configuration) (entries : List Entry) (place t k : ℕ) (e : Entry) → Legal s (reverse entries)
     → take (place + 1) entries ≡ take place entries ++ e ∷ [] → ends_by e.event e.reply ≡ (t, k) ∷ []
     → caller_accesses (past_at entries place) t ≡ caller_accesses (reverse entries) t
 kept_from_end s entries place t k e legal next ends = sym (ap (λ l. caller_accesses l t) parts ∙ kept)
@@ -189,7 +189,7 @@ kept_from_end s entries place t k e legal next ends = sym (ap (λ l. caller_acce
 
 -- ---- the struct of a call
 
-module _ (s : Setting) (entries : List Entry) (place : ℕ) (e : Entry) (legal : Legal s (reverse entries))
+module _ (s : Configuration) (entries : List Entry) (place : ℕ) (e : Entry) (legal : Legal s (reverse entries))
     (next : take (place + 1) entries ≡ take place entries ++ e ∷ []) where
   same_call : (call : Option SgtCall) → ends_by e.event e.reply ≡ listed ends_in call
       → listed (called_in (past_at entries place)) call ≡ listed (called_in (reverse entries)) call
@@ -198,12 +198,12 @@ module _ (s : Setting) (entries : List Entry) (place : ℕ) (e : Entry) (legal :
       ap (λ xs. with_caller_accesses xs (bare_call c) ∷ []) (kept_from_end s entries place c.tid c.kind e legal next ends)
 
   -- of the entries before its end, and so of all
-  pub told_by_all : (call : Option SgtCall) → told_call_in (past_at entries place) e.event e.reply ≡ listed (called_in (past_at entries place)) call
-      → told_in e.reply ≡ listed result_in call → ends_by e.event e.reply ≡ listed ends_in call → IsToldAt entries place call
-  told_by_all call calls results ends = record {
-    calls = ap told_calls (past_next entries place e next) ∙ ap (λ l. l ++ told_calls (past_at entries place)) (calls ∙ same_call call ends);
-    results = ap told (past_next entries place e next) ∙ ap (λ l. l ++ told (past_at entries place)) results;
-    ends = ap told_ends (past_next entries place e next) ∙ ap (λ l. l ++ told_ends (past_at entries place)) ends;
+  pub reported_by_all : (call : Option SgtCall) → reported_call_in (past_at entries place) e.event e.reply ≡ listed (called_in (past_at entries place)) call
+      → reported_in e.reply ≡ listed result_in call → ends_by e.event e.reply ≡ listed ends_in call → IsReportedAt entries place call
+  reported_by_all call calls results ends = record {
+    calls = ap reported_calls (past_next entries place e next) ∙ ap (λ l. l ++ reported_calls (past_at entries place)) (calls ∙ same_call call ends);
+    results = ap reported (past_next entries place e next) ∙ ap (λ l. l ++ reported (past_at entries place)) results;
+    ends = ap reported_ends (past_next entries place e next) ∙ ap (λ l. l ++ reported_ends (past_at entries place)) ends;
   }
 
   pub counts_by_all : (call : Option SgtCall) → ends_by e.event e.reply ≡ listed ends_in call → IfSome call (CountsAccesses (past_at entries place))

@@ -17,7 +17,7 @@ use Rattle.sgt_desk.specs.declared.making.Asked.TheVariants.{Step, Access, Quit}
 use Rattle.sgt_desk.specs.Runs.{IsOutcome}
 use Rattle.sgt_c.specs.declared.reply_struct.SgtReply.{SgtReply}
 use Rattle.sgt_c.specs.DeskStructs.{asked_in}
-use Rattle.sgt_c.specs.DeskTurns.{IsAsked, TellsNewest, status_of}
+use Rattle.sgt_c.specs.DeskTurns.{IsRunnable, ReportsNewest, status_of}
 use Rattle.sgt_c.specs.ReplyStructs.{HoldsReply}
 
 -- the status 0 is that of a call that is done
@@ -29,10 +29,10 @@ done_of (Ok Again) status is e = absurd (cc (sym is ∙ e))
 done_of (Ok Stale) status is e = absurd (cc (sym is ∙ e))
 done_of (Err x) status is e = absurd (cc (sym is ∙ e))
 
-pub tells_outcome : (short : ShortReply) (ticket : Option ℕ) (past : List Entry) (lists : ReplyLists) (told : SgtReply)
-    → IsOutcome short ticket past → HasLists past lists → HoldsReply told (reply_with short lists) → TellsNewest told past
-tells_outcome short ticket [] lists told it has holds = absurd it
-tells_outcome short ticket (e ∷ past) lists told it has holds = subst (HoldsReply told) (sym (has ∙ ap (λ r. reply_with r lists) it.0)) holds
+pub reports_outcome : (short : ShortReply) (ticket : Option ℕ) (past : List Entry) (lists : ReplyLists) (reported : SgtReply)
+    → IsOutcome short ticket past → HasLists past lists → HoldsReply reported (reply_with short lists) → ReportsNewest reported past
+reports_outcome short ticket [] lists reported it has holds = absurd it
+reports_outcome short ticket (e ∷ past) lists reported it has holds = subst (HoldsReply reported) (sym (has ∙ ap (λ r. reply_with r lists) it.0)) holds
 
 -- what is asked, by which of the numbers it is
 abbrev one_of : Key → ℤ → Bool → Bool → Bool → Bool → Bool → Option Asked
@@ -58,11 +58,11 @@ joined : {A B C : Type 0} → A × B → C → A × B × C
 joined p c = (p.0, p.1, c)
 
 -- of a record, the numbers ask something, or not
-pub none_asked : (kind table : ℕ) (number v : ℤ) (asked : Option Asked) → asked ≡ asked_in kind (table, number) v
-    → (¬ (¬ ((table ≤ 7) × IsValue number))) → IsNone asked ↔ (¬ IsAsked kind table number)
-none_asked kind table number v None is record_of =
+pub none_requested : (kind table : ℕ) (number v : ℤ) (requested : Option Asked) → requested ≡ asked_in kind (table, number) v
+    → (¬ (¬ ((table ≤ 7) × IsValue number))) → IsNone requested ↔ (¬ IsRunnable kind table number)
+none_requested kind table number v None is record_of =
     (λ u it. absurd (cc (subst IsSome (sym is) (asked_always kind (table, number) (pos 0) v (third it)))), λ f. refl)
-none_asked kind table number v (Some a) is record_of =
+none_requested kind table number v (Some a) is record_of =
     (λ u. absurd (cc u), λ f. absurd (record_of (λ r. f (joined r (asked_always kind (table, number) v (pos 0) (subst IsSome is refl))))))
 
 -- a status is none of these

@@ -40,7 +40,7 @@ kept_next (b ∷ before) (x ∷ outcomes) zero d n less rest one all =
 kept_next (b ∷ before) (x ∷ outcomes) (suc i) d n less rest one all =
     (all.0, kept_next before outcomes i d n (omega (arith, less)) rest one all.1)
 
--- a blank outcome
+-- an outcome of zeros
 abbrev pub no_outcome : SgtOutcome
 no_outcome = record {
   tid = 0;

@@ -6,26 +6,26 @@ use Rattle.std.specs.List.{All}
 use Rattle.sgt_engine.specs.EngineView.{EngineView}
 use Rattle.sgt_c.specs.declared.call_struct.SgtCall.{SgtCall}
 use Rattle.sgt_c.specs.declared.outcome_struct.SgtOutcome.{SgtOutcome}
-use Rattle.sgt_c.specs.ManyRuns.{IsAsked, RanAll, RanOne}
+use Rattle.sgt_c.specs.ManyRuns.{IsRunnable, RanAll, RanOne}
 
 one_more : (calls : List SgtCall) (outcomes : List SgtOutcome) (i : ℕ) (c : SgtCall) (o : SgtOutcome) (e between after : EngineView)
     → length calls ≡ i → i < length outcomes → RanAll calls outcomes e between → RanOne c o between after
     → RanAll (calls ++ c ∷ []) (set outcomes i o) e after
-one_more [] [] i c o e between after same room all one = absurd (omega (arith, room))
-one_more [] (x ∷ outcomes) zero c o e between after same room all one = (after, subst (λ v. RanOne c o v after) all one, refl)
-one_more [] (x ∷ outcomes) (suc i) c o e between after same room all one = absurd (omega (arith, same))
-one_more (d ∷ calls) [] i c o e between after same room all one = absurd (omega (arith, room))
-one_more (d ∷ calls) (x ∷ outcomes) zero c o e between after same room all one = absurd (omega (arith, same))
-one_more (d ∷ calls) (x ∷ outcomes) (suc i) c o e between after same room all one =
-    (all.0, all.1, one_more calls outcomes i c o all.0 between after (omega (arith, same)) (omega (arith, room)) all.2 one)
+one_more [] [] i c o e between after same capacity all one = absurd (omega (arith, capacity))
+one_more [] (x ∷ outcomes) zero c o e between after same capacity all one = (after, subst (λ v. RanOne c o v after) all one, refl)
+one_more [] (x ∷ outcomes) (suc i) c o e between after same capacity all one = absurd (omega (arith, same))
+one_more (d ∷ calls) [] i c o e between after same capacity all one = absurd (omega (arith, capacity))
+one_more (d ∷ calls) (x ∷ outcomes) zero c o e between after same capacity all one = absurd (omega (arith, same))
+one_more (d ∷ calls) (x ∷ outcomes) (suc i) c o e between after same capacity all one =
+    (all.0, all.1, one_more calls outcomes i c o all.0 between after (omega (arith, same)) (omega (arith, capacity)) all.2 one)
 
 pub ran_next : (calls : List SgtCall) (outcomes : List SgtOutcome) (i : ℕ) (d : SgtCall) (o : SgtOutcome) (e between after : EngineView)
     → i < length calls → length calls ≤ length outcomes → RanAll (take i calls) outcomes e between → RanOne (get_or calls i d) o between after
     → RanAll (take (i + 1) calls) (set outcomes i o) e after
-ran_next calls outcomes i d o e between after within room all one =
+ran_next calls outcomes i d o e between after within capacity all one =
     rw (take_more calls i d within)
     (one_more (take i calls) outcomes i (get_or calls i d) o e between after (length-take-le i calls (omega (arith, within)))
-    (omega (arith, within, room)) all one)
+    (omega (arith, within, capacity)) all one)
 
 -- outcomes after these calls do not count
 ran_whatever : (calls : List SgtCall) (outcomes : List SgtOutcome) (i : ℕ) (o : SgtOutcome) (e after : EngineView) → length calls ≤ i
@@ -51,15 +51,15 @@ rest_next outcomes before i o same =
 -- ---- calls that may be asked for
 
 -- one more
-pub asked_next : (calls : List SgtCall) (i : ℕ) (d : SgtCall) → i < length calls → IsAsked (get_or calls i d) → All IsAsked (take i calls)
-    → All IsAsked (take (i + 1) calls)
-asked_next calls i d within good so_far = rw (take_more calls i d within) (All-push IsAsked (take i calls) (get_or calls i d) so_far good)
+pub runnable_next : (calls : List SgtCall) (i : ℕ) (d : SgtCall) → i < length calls → IsRunnable (get_or calls i d) → All IsRunnable (take i calls)
+    → All IsRunnable (take (i + 1) calls)
+runnable_next calls i d within good so_far = rw (take_more calls i d within) (All-push IsRunnable (take i calls) (get_or calls i d) so_far good)
 
 -- all of them
-pub all_asked : (calls : List SgtCall) (i : ℕ) → length calls ≤ i → All IsAsked (take i calls) → All IsAsked calls
-all_asked calls i behind so_far = subst (All IsAsked) (take_all i calls behind) so_far
+pub all_runnable : (calls : List SgtCall) (i : ℕ) → length calls ≤ i → All IsRunnable (take i calls) → All IsRunnable calls
+all_runnable calls i following so_far = subst (All IsRunnable) (take_all i calls following) so_far
 
--- a blank call
+-- a call of zeros
 abbrev pub no_call : SgtCall
 no_call = record {
   kind = 0;

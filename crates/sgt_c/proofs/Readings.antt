@@ -39,40 +39,40 @@ module _ (s : SgtReply) where
       ∙ ap₂ (λ t n. Some (t, n)) t n
 
   found_reads : (value : Option ℤ) → HoldsFound s value → found_in s ≡ Some value
-  found_reads None told = ap (slice_get (None ∷ Some s.value ∷ [])) told
-  found_reads (Some value) told = ap (slice_get (None ∷ Some s.value ∷ [])) told.0 ∙ ap (λ v. Some (Some v)) told.1
+  found_reads None reported = ap (slice_get (None ∷ Some s.value ∷ [])) reported
+  found_reads (Some value) reported = ap (slice_get (None ∷ Some s.value ∷ [])) reported.0 ∙ ap (λ v. Some (Some v)) reported.1
 
   cause_at : (n : ℕ) → s.cause ≡ n → cause_in s ≡ joined (slice_get (causes_in s) n)
   cause_at n is = ap (λ n. joined (slice_get (causes_in s) n)) is
 
   cause_reads : (why : Cause) → HoldsCause s why → IsCause why → cause_in s ≡ Some why
-  cause_reads (cause.Cycle walk) told fits = cause_at 1 told.0 ∙ ap (λ w. Some (cause.Cycle w)) told.1
-  cause_reads (cause.Asked code) told fits = cause_at 2 told.0 ∙ ap (option_map cause.Asked) (code_reads code told.1 fits)
-  cause_reads cause.Quit told fits = cause_at 3 told
+  cause_reads (cause.Cycle walk) reported fits = cause_at 1 reported.0 ∙ ap (λ w. Some (cause.Cycle w)) reported.1
+  cause_reads (cause.Asked code) reported fits = cause_at 2 reported.0 ∙ ap (option_map cause.Asked) (code_reads code reported.1 fits)
+  cause_reads cause.Quit reported fits = cause_at 3 reported
 
   fate_at : (n : ℕ) → s.cause ≡ n → fate_in s ≡ fate_by n s
   fate_at n is = ap (λ n. fate_by n s) is
 
   fate_reads : (how : Fate) → HoldsFate s how → IsFate how → fate_in s ≡ Some how
-  fate_reads fate.Committed told fits = fate_at 0 told
-  fate_reads (fate.Aborted (cause.Cycle walk)) told fits = fate_at 1 told.0
-      ∙ ap (option_map fate.Aborted) (cause_reads (cause.Cycle walk) told fits)
-  fate_reads (fate.Aborted (cause.Asked code)) told fits = fate_at 2 told.0
-      ∙ ap (option_map fate.Aborted) (cause_reads (cause.Asked code) told fits)
-  fate_reads (fate.Aborted cause.Quit) told fits = fate_at 3 told ∙ ap (option_map fate.Aborted) (cause_reads cause.Quit told fits)
-  fate_reads (fate.Fell first) told fits = fate_at 4 told.0 ∙ ap (λ t. Some (fate.Fell t)) told.1
+  fate_reads fate.Committed reported fits = fate_at 0 reported
+  fate_reads (fate.Aborted (cause.Cycle walk)) reported fits = fate_at 1 reported.0
+      ∙ ap (option_map fate.Aborted) (cause_reads (cause.Cycle walk) reported fits)
+  fate_reads (fate.Aborted (cause.Asked code)) reported fits = fate_at 2 reported.0
+      ∙ ap (option_map fate.Aborted) (cause_reads (cause.Asked code) reported fits)
+  fate_reads (fate.Aborted cause.Quit) reported fits = fate_at 3 reported ∙ ap (option_map fate.Aborted) (cause_reads cause.Quit reported fits)
+  fate_reads (fate.Fell first) reported fits = fate_at 4 reported.0 ∙ ap (λ t. Some (fate.Fell t)) reported.1
 
   reply_at : (n : ℕ) → s.kind ≡ n → reply_in s ≡ joined (slice_get (replies_in s) n)
   reply_at n is = ap (λ n. joined (slice_get (replies_in s) n)) is
 
   pub reply_reads : (r : Reply) → HoldsValidReply s r → reply_in s ≡ Some r
-  reply_reads (reply.Started t) told = reply_at 1 told.0.0 ∙ ap (λ t. Some (reply.Started t)) told.0.1
-  reply_reads reply.NoProcedure told = reply_at 2 told.0
-  reply_reads reply.BadArgs told = reply_at 3 told.0
-  reply_reads reply.Spent told = reply_at 4 told.0
-  reply_reads reply.Full told = reply_at 5 told.0
-  reply_reads reply.Unknown told = reply_at 6 told.0
-  reply_reads (reply.Over how) told = reply_at 7 told.0.0 ∙ ap (option_map reply.Over) (fate_reads how told.0.1 told.1)
+  reply_reads (reply.Started t) reported = reply_at 1 reported.0.0 ∙ ap (λ t. Some (reply.Started t)) reported.0.1
+  reply_reads reply.NoProcedure reported = reply_at 2 reported.0
+  reply_reads reply.BadArgs reported = reply_at 3 reported.0
+  reply_reads reply.Spent reported = reply_at 4 reported.0
+  reply_reads reply.Full reported = reply_at 5 reported.0
+  reply_reads reply.Unknown reported = reply_at 6 reported.0
+  reply_reads (reply.Over how) reported = reply_at 7 reported.0.0 ∙ ap (option_map reply.Over) (fate_reads how reported.0.1 reported.1)
   reply_reads (reply.Looked (table, number) value) ((kind, of_table, of_number, found), key) =
       reply_at 8 kind
       ∙ ap (option_and_then (λ key. option_map (reply.Looked key) (found_in s))) (key_reads table number of_table of_number key)
@@ -81,10 +81,10 @@ module _ (s : SgtReply) where
       reply_at 9 kind
       ∙ ap (option_and_then (λ key. option_map (reply.Wrote key) (found_in s))) (key_reads table number of_table of_number key)
       ∙ ap (option_map (reply.Wrote (table, number))) (found_reads value found)
-  reply_reads reply.Ended told = reply_at 10 told.0
-  reply_reads reply.NotEnded told = reply_at 11 told.0
-  reply_reads (reply.Waits first) told = reply_at 12 told.0.0 ∙ ap (λ t. Some (reply.Waits t)) told.0.1
-  reply_reads (reply.Committed answers) told = reply_at 13 told.0.0 ∙ ap (λ a. Some (reply.Committed a)) told.0.1
+  reply_reads reply.Ended reported = reply_at 10 reported.0
+  reply_reads reply.NotEnded reported = reply_at 11 reported.0
+  reply_reads (reply.Waits first) reported = reply_at 12 reported.0.0 ∙ ap (λ t. Some (reply.Waits t)) reported.0.1
+  reply_reads (reply.Committed answers) reported = reply_at 13 reported.0.0 ∙ ap (λ a. Some (reply.Committed a)) reported.0.1
   reply_reads (reply.Aborted why fell) ((kind, cause, fallen), fits) =
       reply_at 14 kind
       ∙ ap (option_map (λ why. reply.Aborted why (take s.fallen s.fell))) (cause_reads why cause fits)

@@ -8,20 +8,20 @@ use Rattle.sgt_model.specs.declared.reply.Reply.{Reply}
 use Rattle.sgt_model.specs.declared.reply.Reply.TheVariants as reply
 use Rattle.sgt_model.specs.declared.short_reply.ShortReply.TheVariants as bare
 use Rattle.sgt_model.specs.Fates.{is_start}
-use Rattle.sgt_model.specs.ShortReplies.{answers_in, cause_walk, fate_walk, fell_in, full_cause, full_fate, full_reply, short_cause, short_fate, short_reply, walk_in}
+use Rattle.sgt_model.specs.ShortReplies.{answers_in, cause_cycle, fate_cycle, fell_in, full_cause, full_fate, full_reply, short_cause, short_fate, short_reply, cycle_of_reply}
 
-whole_cause : (c : Cause) → full_cause (short_cause c) (cause_walk c) ≡ c
+whole_cause : (c : Cause) → full_cause (short_cause c) (cause_cycle c) ≡ c
 whole_cause (cause.Cycle walk) = refl
 whole_cause (cause.Asked code) = refl
 whole_cause cause.Quit = refl
 
-whole_fate : (f : Fate) → full_fate (short_fate f) (fate_walk f) ≡ f
+whole_fate : (f : Fate) → full_fate (short_fate f) (fate_cycle f) ≡ f
 whole_fate fate.Committed = refl
 whole_fate (fate.Aborted c) = ap fate.Aborted (whole_cause c)
 whole_fate (fate.Fell t) = refl
 
 -- a reply is its short form with its lists
-pub whole : (r : Reply) → full_reply (short_reply r) (answers_in r) (walk_in r) (fell_in r) ≡ r
+pub whole : (r : Reply) → full_reply (short_reply r) (answers_in r) (cycle_of_reply r) (fell_in r) ≡ r
 whole (reply.Started t) = refl
 whole reply.NoProcedure = refl
 whole reply.BadArgs = refl
@@ -40,7 +40,7 @@ whole (reply.Refused code fell) = refl
 
 -- a reply whose short form starts a transaction
 pub started_in_short : (r : Reply) (t : ℕ) → short_reply r ≡ bare.Started t → r ≡ reply.Started t
-started_in_short r t is = sym (whole r) ∙ ap (λ s. full_reply s (answers_in r) (walk_in r) (fell_in r)) is
+started_in_short r t is = sym (whole r) ∙ ap (λ s. full_reply s (answers_in r) (cycle_of_reply r) (fell_in r)) is
 
 -- whether a reply starts a transaction does not depend on its lists
 pub start_without : (r : Reply) → is_start r ≡ is_start (full_reply (short_reply r) [] [] [])

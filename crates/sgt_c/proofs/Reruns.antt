@@ -15,15 +15,15 @@ use Rattle.sgt_model.specs.Fates.{ending_in, is_start}
 use Rattle.sgt_model.specs.Legality.{Legal, LegalReply}
 use Rattle.sgt_model.specs.Progress.{caller_accesses, with_caller_accesses}
 use Rattle.sgt_model.specs.Questions.{is_ending}
-use Rattle.sgt_model.specs.Replay.{RunResult, GaveAnswers, AskedCode, told, told_calls, told_in}
+use Rattle.sgt_model.specs.Replay.{RunResult, GaveAnswers, RaisedCode, reported, reported_calls, reported_in}
 use Rattle.sgt_model.specs.Runs.{CallerAccess}
-use Rattle.sgt_model.specs.Settings.{Setting}
+use Rattle.sgt_model.specs.Configurations.{Configuration}
 use Rattle.sgt_model.specs.ShortReplies.{short_reply}
 use Rattle.sgt_model.proofs.Facts.{legal_older}
-use Rattle.sgt_engine.specs.EngineView.{EngineView, setting_of, with_entry}
+use Rattle.sgt_engine.specs.EngineView.{EngineView, configuration_of, with_entry}
 use Rattle.sgt_progress.specs.Alone.{IsAlone, NoneLive}
-use Rattle.sgt_progress.specs.GivenCalls.{GivenCall, GivenCallsAreTold, given_calls, given_of}
-use Rattle.sgt_progress.specs.Reruns.{IsOneByOne, TellTheSame}
+use Rattle.sgt_progress.specs.GivenCalls.{GivenCall, GivenCallsAreReported, given_calls, given_of}
+use Rattle.sgt_progress.specs.Reruns.{IsOneByOne, ReportTheSame}
 use Rattle.sgt_progress.proofs.Alone.{started_alone, stays_alone}
 use Rattle.sgt_progress.proofs.RunAlone.{StepsSo, commit_ends, none_after_end, none_at_first, none_stays, step_so}
 use Rattle.sgt_c.specs.declared.call_struct.SgtCall.{SgtCall}
@@ -31,10 +31,10 @@ use Rattle.sgt_c.specs.declared.held.Held.{Held}
 use Rattle.sgt_c.specs.declared.outcome_struct.SgtOutcome.{SgtOutcome}
 use Rattle.sgt_c.specs.declared.reply_struct.SgtReply.{SgtReply}
 use Rattle.sgt_c.specs.AccessStructs.{accesses_of}
-use Rattle.sgt_c.specs.ManyRuns.{IsAsked, RanAll, args_in}
-use Rattle.sgt_c.specs.ReplayedCalls.{ArePassed, AreTold, CountsAccesses, bare_call, call_in, past_at, result_in}
+use Rattle.sgt_c.specs.ManyRuns.{IsRunnable, RanAll, args_in}
+use Rattle.sgt_c.specs.ReplayedCalls.{ArePassed, AreReported, CountsAccesses, bare_call, call_in, past_at, result_in}
 use Rattle.sgt_c.specs.ReplyStructs.{HoldsReply}
-use Rattle.sgt_c.specs.Reruns.{CanBeRerun, GivenTellTheSame, HoldResults, HoldsResult, RerunTellsTheSame, RunsTellTheSame, given_by}
+use Rattle.sgt_c.specs.Reruns.{CanBeRerun, GivenReportTheSame, HoldResults, HoldsResult, RerunReportsTheSame, RunsReportTheSame, given_by}
 use Rattle.sgt_c.specs.Runs.{CommitsIf, IsAccess, Runs, RunsOn, is_access, is_end, with_entries}
 use Rattle.sgt_c.proofs.CallerAccesses.{legal_to}
 
@@ -52,11 +52,11 @@ record Amid (past : List Entry) (t : ℕ) (given : List GivenCall) : Type 0 wher
   alone : IsAlone past t
   calls : given_calls past ≡ given
 
--- a reply that starts none, ends none and tells none its end
+-- a reply that starts none, ends none and reports no end
 record IsPlain (event : Event) (t : ℕ) (r : Reply) : Type 0 where
   no_start : is_start r ≡ false
   no_end : ending_in event r t ≡ None
-  no_result : told_in r ≡ []
+  no_result : reported_in r ≡ []
 
 access_plain : (event : Event) (t : ℕ) (r : Reply) → is_access (short_reply r) ≡ true → IsPlain event t r
 access_plain event t (reply.Looked k v) a = record { no_start = refl; no_end = refl; no_result = refl }
@@ -82,17 +82,17 @@ step_goes past t given r plain amid = record {
 -- the accesses of the only live one
 record Went (past after : List Entry) (t : ℕ) (given : List GivenCall) : Type 0 where
   amid : Amid after t given
-  told_same : told after ≡ told past
+  reported_same : reported after ≡ reported past
 
 accesses_go : (past : List Entry) (t : ℕ) (given : List GivenCall) (steps : List Entry) → All (IsAccess t) steps → Amid past t given → Went past (steps ++ past) t given
-accesses_go past t given [] all amid = record { amid = amid; told_same = refl }
+accesses_go past t given [] all amid = record { amid = amid; reported_same = refl }
 accesses_go past t given (e ∷ steps) all amid =
     let one = All-head (IsAccess t) e steps all in
     let before = accesses_go past t given steps (All-tail (IsAccess t) e steps all) amid in
     let plain = access_plain (Step t) t e.reply one.1 in record {
       amid = subst (λ (v : Event). Amid (record { event = v; reply = e.reply } ∷ steps ++ past) t given) (sym one.0)
           (step_goes (steps ++ past) t given e.reply plain before.amid);
-      told_same = ap (λ l. l ++ told (steps ++ past)) plain.no_result ∙ before.told_same;
+      reported_same = ap (λ l. l ++ reported (steps ++ past)) plain.no_result ∙ before.reported_same;
     }
 
 -- the last step, if it is neither an access nor the procedure's end
@@ -115,12 +115,12 @@ ends_else (reply.Refused code fell) a b so = so
 
 -- ---- one call
 
--- a call was run from its start to its end, after which nothing is live; of it this reply was told
-record RanTo (s : Setting) (past after : List Entry) (given : List GivenCall) (c : GivenCall) (last : Reply) : Type 0 where
+-- a call was run from its start to its end, after which nothing is live; this reply was reported for it
+record RanTo (s : Configuration) (past after : List Entry) (given : List GivenCall) (c : GivenCall) (last : Reply) : Type 0 where
   between : Between after (c ∷ given)
-  told_more : told after ≡ told_in last ++ told past
+  reported_more : reported after ≡ reported_in last ++ reported past
 
-module _ (s : Setting) (past : List Entry) (given : List GivenCall) (so_far : Between past given) (p : ℕ) (args : List ℤ) where
+module _ (s : Configuration) (past : List Entry) (given : List GivenCall) (so_far : Between past given) (p : ℕ) (args : List ℤ) where
   abbrev own : GivenCall
   own = record { procedure = p; args = args; requests = [] }
 
@@ -131,7 +131,7 @@ module _ (s : Setting) (past : List Entry) (given : List GivenCall) (so_far : Be
       none = none_stays past (record { event = Start p args; reply = last }) no_start so_far.none;
       calls = ap (λ l. own ∷ l) so_far.calls;
     };
-    told_more = refl;
+    reported_more = refl;
   }
 
   module _ (t : ℕ) (steps : List Entry) (all : All (IsAccess t) steps) (r : Reply) (last_step : is_access (short_reply r) ≡ false) where
@@ -160,7 +160,7 @@ module _ (s : Setting) (past : List Entry) (given : List GivenCall) (so_far : Be
                 (ends_else r last_step no_end (step_so s walked legal.0 t w.amid.alone r legal.1));
             calls = w.amid.calls;
           };
-          told_more = ap (λ l. told_in r ++ l) w.told_same;
+          reported_more = ap (λ l. reported_in r ++ l) w.reported_same;
         }
 
     ended : (last : Reply) → Legal s (record { event = Commit t; reply = last } ∷ stepped) → is_end (short_reply r) ≡ true
@@ -179,18 +179,18 @@ module _ (s : Setting) (past : List Entry) (given : List GivenCall) (so_far : Be
             none = none_after_end s stepped (record { event = Commit t; reply = last }) t legal amid.alone ending;
             calls = amid.calls;
           };
-          told_more = ap (λ l. told_in last ++ l) (ap (λ l. l ++ told walked) plain.no_result ∙ w.told_same);
+          reported_more = ap (λ l. reported_in last ++ l) (ap (λ l. l ++ reported walked) plain.no_result ∙ w.reported_same);
         }
 
 -- ---- as the engine's view has it
 
--- what is so of the engine before a call, if it is so of the engine after it
-record Follows (s : Setting) (e after : EngineView) (given : List GivenCall) (c : GivenCall) (last : Reply) : Type 0 where
+-- what holds of the engine before a call, if it holds of the engine after it
+record Follows (s : Configuration) (e after : EngineView) (given : List GivenCall) (c : GivenCall) (last : Reply) : Type 0 where
   legal : Legal s e.past
-  same : setting_of after ≡ setting_of e
+  same : configuration_of after ≡ configuration_of e
   ran : Between e.past given → RanTo s e.past after.past given c last
 
-module _ (s : Setting) (e : EngineView) (given : List GivenCall) (p : ℕ) (args : List ℤ) where
+module _ (s : Configuration) (e : EngineView) (given : List GivenCall) (p : ℕ) (args : List ℤ) where
   abbrev requested : GivenCall
   requested = record { procedure = p; args = args; requests = [] }
 
@@ -239,7 +239,7 @@ started_by c = given_of (bare_call c)
 -- the results that these replies report, the last one first
 abbrev results_of : List Reply → List RunResult
 results_of [] = []
-results_of (r ∷ replies) = results_of replies ++ told_in r
+results_of (r ∷ replies) = results_of replies ++ reported_in r
 
 -- these are the last replies of the calls
 abbrev Said : List SgtCall → List SgtOutcome → List Reply → Type 0
@@ -249,16 +249,16 @@ Said (c ∷ calls) [] replies = ⊥
 Said (c ∷ calls) (o ∷ outcomes) [] = ⊥
 Said (c ∷ calls) (o ∷ outcomes) (r ∷ replies) = HoldsReply o.reply r × Said calls outcomes replies
 
-legal_before : (s : Setting) (calls : List SgtCall) (outcomes : List SgtOutcome) (e after : EngineView) → RanAll calls outcomes e after
+legal_before : (s : Configuration) (calls : List SgtCall) (outcomes : List SgtOutcome) (e after : EngineView) → RanAll calls outcomes e after
     → Legal s after.past → Legal s e.past
 legal_before s [] outcomes e after is legal = subst (λ (v : EngineView). Legal s v.past) is legal
 legal_before s (c ∷ calls) [] e after ran legal = absurd ran
 legal_before s (c ∷ calls) (o ∷ outcomes) e after (between, (started, wrote, last, one, _, _, _), rest) legal =
     (runs s e [] c.procedure (args_in c) started wrote last between one (legal_before s calls outcomes between after rest legal)).legal
 
-same_before : (s : Setting) (calls : List SgtCall) (outcomes : List SgtOutcome) (e after : EngineView) → RanAll calls outcomes e after
-    → Legal s after.past → setting_of after ≡ setting_of e
-same_before s [] outcomes e after is legal = ap setting_of is
+same_before : (s : Configuration) (calls : List SgtCall) (outcomes : List SgtOutcome) (e after : EngineView) → RanAll calls outcomes e after
+    → Legal s after.past → configuration_of after ≡ configuration_of e
+same_before s [] outcomes e after is legal = ap configuration_of is
 same_before s (c ∷ calls) [] e after ran legal = absurd ran
 same_before s (c ∷ calls) (o ∷ outcomes) e after (between, (started, wrote, last, one, _, _, _), rest) legal =
     same_before s calls outcomes between after rest legal
@@ -268,12 +268,12 @@ record RanAllTo (past after : List Entry) (given : List GivenCall) (calls : List
   replies : List Reply
   said : Said calls outcomes replies
   between : Between after (reverse (map started_by calls) ++ given)
-  told_more : told after ≡ results_of replies ++ told past
+  reported_more : reported after ≡ results_of replies ++ reported past
 
-all_ran : (s : Setting) (calls : List SgtCall) (outcomes : List SgtOutcome) (e after : EngineView) (given : List GivenCall) → RanAll calls outcomes e after
+all_ran : (s : Configuration) (calls : List SgtCall) (outcomes : List SgtOutcome) (e after : EngineView) (given : List GivenCall) → RanAll calls outcomes e after
     → Legal s after.past → Between e.past given → RanAllTo e.past after.past given calls outcomes
 all_ran s [] outcomes e after given is legal so_far =
-    subst (λ (v : EngineView). RanAllTo e.past v.past given [] outcomes) (sym is) (record { replies = []; said = tt; between = so_far; told_more = refl })
+    subst (λ (v : EngineView). RanAllTo e.past v.past given [] outcomes) (sym is) (record { replies = []; said = tt; between = so_far; reported_more = refl })
 all_ran s (c ∷ calls) [] e after given ran legal so_far = absurd ran
 all_ran s (c ∷ calls) (o ∷ outcomes) e after given (between, (started, wrote, last, one, _, _, holds), rest) legal so_far =
     let first = (runs s e given c.procedure (args_in c) started wrote last between one (legal_before s calls outcomes between after rest legal)).ran so_far in
@@ -283,13 +283,13 @@ all_ran s (c ∷ calls) (o ∷ outcomes) e after given (between, (started, wrote
       between = subst (Between after.past)
           (sym (ap (λ l. l ++ given) (reverse_onto (map started_by calls) (started_by c) []) ∙ append_assoc (reverse (map started_by calls)) (started_by c ∷ []) given))
           others.between;
-      told_more = others.told_more ∙ ap (λ l. results_of others.replies ++ l) first.told_more
-          ∙ sym (append_assoc (results_of others.replies) (told_in last) (told e.past));
+      reported_more = others.reported_more ∙ ap (λ l. results_of others.replies ++ l) first.reported_more
+          ∙ sym (append_assoc (results_of others.replies) (reported_in last) (reported e.past));
     }
 
 -- ---- results
 
-one_at_most : (r : Reply) → length (told_in r) ≤ 1
+one_at_most : (r : Reply) → length (reported_in r) ≤ 1
 one_at_most (reply.Committed answers) = omega arith
 one_at_most (reply.Refused code fell) = omega arith
 one_at_most _ = omega arith
@@ -297,7 +297,7 @@ one_at_most _ = omega arith
 results_few : (replies : List Reply) → length (results_of replies) ≤ length replies
 results_few [] = omega arith
 results_few (r ∷ replies) =
-    let a = length-append (results_of replies) (told_in r) in let b = one_at_most r in let c = results_few replies in omega (arith, a, b, c)
+    let a = length-append (results_of replies) (reported_in r) in let b = one_at_most r in let c = results_few replies in omega (arith, a, b, c)
 
 said_length : (calls : List SgtCall) (outcomes : List SgtOutcome) (replies : List Reply) → Said calls outcomes replies → length replies ≡ length calls
 said_length [] outcomes [] said = refl
@@ -306,14 +306,14 @@ said_length (c ∷ calls) [] replies said = absurd said
 said_length (c ∷ calls) (o ∷ outcomes) [] said = absurd said
 said_length (c ∷ calls) (o ∷ outcomes) (r ∷ replies) said = ap suc (said_length calls outcomes replies said.1)
 
-holds_result : (s : SgtReply) (r : Reply) (x : RunResult) → HoldsReply s r → told_in r ≡ x ∷ [] → HoldsResult s x
+holds_result : (s : SgtReply) (r : Reply) (x : RunResult) → HoldsReply s r → reported_in r ≡ x ∷ [] → HoldsResult s x
 holds_result s (reply.Committed answers) x holds is = subst (HoldsResult s) (first is) holds
   where
     first : GaveAnswers answers ∷ [] ≡ x ∷ [] → GaveAnswers answers ≡ x
     first e = cc
 holds_result s (reply.Refused code fell) x holds is = subst (HoldsResult s) (first is) (holds.0, holds.1)
   where
-    first : AskedCode code ∷ [] ≡ x ∷ [] → AskedCode code ≡ x
+    first : RaisedCode code ∷ [] ≡ x ∷ [] → RaisedCode code ≡ x
     first e = cc
 holds_result s _ x holds is = absurd cc
 
@@ -352,15 +352,15 @@ same_results [] outcomes (r ∷ replies) said same = absurd said
 same_results (c ∷ calls) [] replies said same = absurd said
 same_results (c ∷ calls) (o ∷ outcomes) [] said same = absurd said
 same_results (c ∷ calls) (o ∷ outcomes) (r ∷ replies) said same =
-    by_result (same_results calls outcomes replies said.1) (told_in r) refl (one_at_most r)
+    by_result (same_results calls outcomes replies said.1) (reported_in r) refl (one_at_most r)
   where
     others : List RunResult
     others = reverse (map result_in calls)
 
-    all_same : results_of replies ++ told_in r ≡ others ++ result_in c ∷ []
+    all_same : results_of replies ++ reported_in r ≡ others ++ result_in c ∷ []
     all_same = same ∙ reverse_onto (map result_in calls) (result_in c) []
 
-    by_result : (results_of replies ≡ others → HoldResults outcomes calls) → (l : List RunResult) → told_in r ≡ l → length (told_in r) ≤ 1 → HoldResults (o ∷ outcomes) (c ∷ calls)
+    by_result : (results_of replies ≡ others → HoldResults outcomes calls) → (l : List RunResult) → reported_in r ≡ l → length (reported_in r) ≤ 1 → HoldResults (o ∷ outcomes) (c ∷ calls)
     by_result rest [] none few =
         let a = results_few replies in
         let b = said_length calls outcomes replies said.1 in
@@ -388,11 +388,11 @@ module _ (now : List Entry) where
   bare_given : (c : SgtCall) → CountsAccesses now c → c.accesses ≡ 0 → given_by now c ≡ started_by c
   bare_given c counts none = ap (λ xs. given_of (with_caller_accesses xs (bare_call c))) (no_access c.tid (sym none ∙ counts))
 
-  all_bare : (calls : List SgtCall) → All (CountsAccesses now) calls → All IsAsked calls → map (given_by now) calls ≡ map started_by calls
-  all_bare [] counts asked = refl
-  all_bare (c ∷ calls) counts asked =
-      ap₂ (λ g l. g ∷ l) (bare_given c (All-head (CountsAccesses now) c calls counts) (All-head IsAsked c calls asked).1)
-      (all_bare calls (All-tail (CountsAccesses now) c calls counts) (All-tail IsAsked c calls asked))
+  all_bare : (calls : List SgtCall) → All (CountsAccesses now) calls → All IsRunnable calls → map (given_by now) calls ≡ map started_by calls
+  all_bare [] counts runnable = refl
+  all_bare (c ∷ calls) counts runnable =
+      ap₂ (λ g l. g ∷ l) (bare_given c (All-head (CountsAccesses now) c calls counts) (All-head IsRunnable c calls runnable).1)
+      (all_bare calls (All-tail (CountsAccesses now) c calls counts) (All-tail IsRunnable c calls runnable))
 
 reversed : {A B : Type 0} (f : A → B) (l : List A) → map f (reverse l) ≡ reverse (map f l)
 reversed f [] = refl
@@ -401,25 +401,25 @@ reversed f (x ∷ l) =
     ∙ sym (reverse_onto (map f l) (f x) [])
 
 -- calls that were requested again, each with its accesses
-given_tell_the_same : GivenCallsAreTold → (s : Setting) (past now : List Entry) (calls : List SgtCall) → Legal s past
-    → told_calls past ≡ reverse (map (call_in now) calls) → GivenTellTheSame s past (map (given_by now) calls)
-given_tell_the_same law s past now calls legal calls_are after same legal_then one_by_one none given =
+given_report_the_same : GivenCallsAreReported → (s : Configuration) (past now : List Entry) (calls : List SgtCall) → Legal s past
+    → reported_calls past ≡ reverse (map (call_in now) calls) → GivenReportTheSame s past (map (given_by now) calls)
+given_report_the_same law s past now calls legal calls_are after same legal_then one_by_one none given =
     law s past legal after.past legal_then one_by_one none (given ∙ sym were)
   where
-    were : map given_of (told_calls past) ≡ reverse (map (given_by now) calls)
+    were : map given_of (reported_calls past) ≡ reverse (map (given_by now) calls)
     were = ap (map given_of) calls_are ∙ reversed given_of (map (call_in now) calls)
         ∙ ap reverse (map-map given_of (call_in now) calls)
 
 -- calls without accesses that were run again
-runs_tell_the_same : (s : Setting) (past : List Entry) (calls : List SgtCall) → GivenTellTheSame s past (map started_by calls)
-    → told past ≡ reverse (map result_in calls) → RunsTellTheSame s past calls
-runs_tell_the_same s past calls law results_are fresh after outcomes (same, new) (ran, headline, _) = (
-  same_results calls outcomes all.replies all.said (sym told_all ∙ agrees.1.told_same ∙ results_are),
+runs_report_the_same : (s : Configuration) (past : List Entry) (calls : List SgtCall) → GivenReportTheSame s past (map started_by calls)
+    → reported past ≡ reverse (map result_in calls) → RunsReportTheSame s past calls
+runs_report_the_same s past calls law results_are fresh after outcomes (same, new) (ran, headline, _) = (
+  same_results calls outcomes all.replies all.said (sym reported_all ∙ agrees.1.reported_same ∙ results_are),
   agrees.1,
 )
   where
-    same_then : setting_of after.engine ≡ s
-    same_then = same_before (setting_of after.engine) calls outcomes fresh.engine after.engine ran headline.0 ∙ same
+    same_then : configuration_of after.engine ≡ s
+    same_then = same_before (configuration_of after.engine) calls outcomes fresh.engine after.engine ran headline.0 ∙ same
 
     legal_then : Legal s after.engine.past
     legal_then = subst (λ x. Legal x after.engine.past) same_then headline.0
@@ -431,28 +431,28 @@ runs_tell_the_same s past calls law results_are fresh after outcomes (same, new)
       calls = refl;
     }))
 
-    told_all : told after.engine.past ≡ results_of all.replies
-    told_all = all.told_more ∙ ap (λ l. results_of all.replies ++ told l) new ∙ append-nil (results_of all.replies)
+    reported_all : reported after.engine.past ≡ results_of all.replies
+    reported_all = all.reported_more ∙ ap (λ l. results_of all.replies ++ reported l) new ∙ append-nil (results_of all.replies)
 
-    agrees : (told_calls after.engine.past ≡ told_calls past) × TellTheSame s after.engine.past past
+    agrees : (reported_calls after.engine.past ≡ reported_calls past) × ReportTheSame s after.engine.past past
     agrees = law after.engine same_then legal_then all.between.by all.between.none
         (all.between.calls ∙ append-nil (reverse (map started_by calls)))
 
 -- calls that were read from a history can be requested and run again
-rerun_tells_the_same : GivenCallsAreTold → (s : Setting) (past now : List Entry) (calls : List SgtCall) → Legal s past
-    → told_calls past ≡ reverse (map (call_in now) calls) → told past ≡ reverse (map result_in calls) → All (CountsAccesses now) calls
-    → RerunTellsTheSame s past now calls
-rerun_tells_the_same law s past now calls legal calls_are results_are counts = record {
+rerun_reports_the_same : GivenCallsAreReported → (s : Configuration) (past now : List Entry) (calls : List SgtCall) → Legal s past
+    → reported_calls past ≡ reverse (map (call_in now) calls) → reported past ≡ reverse (map result_in calls) → All (CountsAccesses now) calls
+    → RerunReportsTheSame s past now calls
+rerun_reports_the_same law s past now calls legal calls_are results_are counts = record {
   given = given;
-  runs = λ asked. runs_tell_the_same s past calls (subst (GivenTellTheSame s past) (all_bare now calls counts asked) given) results_are;
+  runs = λ runnable. runs_report_the_same s past calls (subst (GivenReportTheSame s past) (all_bare now calls counts runnable) given) results_are;
 }
   where
-    given : GivenTellTheSame s past (map (given_by now) calls)
-    given = given_tell_the_same law s past now calls legal calls_are
+    given : GivenReportTheSame s past (map (given_by now) calls)
+    given = given_report_the_same law s past now calls legal calls_are
 
 -- ---- the calls up to a position of a history
 
-legal_at : (s : Setting) (past : List Entry) (next : ℕ) → Legal s past → Legal s (past_at (reverse past) next)
+legal_at : (s : Configuration) (past : List Entry) (next : ℕ) → Legal s past → Legal s (past_at (reverse past) next)
 legal_at s past next legal = legal_to s (reverse past) next (subst (Legal s) (sym (reverse-reverse past)) legal)
 
 -- what was read earlier, and then these
@@ -464,23 +464,23 @@ module _ {X : Type 0} (read : List Entry → List X) (field : SgtCall → X) (en
       ∙ append-nil _ ∙ ap (λ l. reverse (map field l)) (take_all (length earlier) earlier (omega arith)))
       ∙ sym (ap reverse (map-append field earlier now) ∙ reverse-append (map field earlier) (map field now))
 
-pub can_be_rerun : GivenCallsAreTold → (h : Held) (from : ℕ) (to : List SgtCall) (count next : ℕ) → Legal (setting_of h.engine) h.engine.past
-    → AreTold (reverse h.engine.past) from to count next → CanBeRerun (Some h) from to count next
+pub can_be_rerun : GivenCallsAreReported → (h : Held) (from : ℕ) (to : List SgtCall) (count next : ℕ) → Legal (configuration_of h.engine) h.engine.past
+    → AreReported (reverse h.engine.past) from to count next → CanBeRerun (Some h) from to count next
 can_be_rerun law h from to count next legal now earlier before =
-    rerun_tells_the_same law (setting_of h.engine) (past_at (reverse h.engine.past) next) h.engine.past (earlier ++ take count to)
-    (legal_at (setting_of h.engine) h.engine.past next legal)
-    (subst (λ l. told_calls (past_at (reverse h.engine.past) next) ≡ reverse (map (call_in l) (earlier ++ take count to))) (reverse-reverse h.engine.past)
-    (joined told_calls (call_in (reverse (reverse h.engine.past))) (reverse h.engine.past) from next earlier (take count to) refl before.calls now.calls))
-    (joined told result_in (reverse h.engine.past) from next earlier (take count to) refl before.results now.results)
+    rerun_reports_the_same law (configuration_of h.engine) (past_at (reverse h.engine.past) next) h.engine.past (earlier ++ take count to)
+    (legal_at (configuration_of h.engine) h.engine.past next legal)
+    (subst (λ l. reported_calls (past_at (reverse h.engine.past) next) ≡ reverse (map (call_in l) (earlier ++ take count to))) (reverse-reverse h.engine.past)
+    (joined reported_calls (call_in (reverse (reverse h.engine.past))) (reverse h.engine.past) from next earlier (take count to) refl before.calls now.calls))
+    (joined reported result_in (reverse h.engine.past) from next earlier (take count to) refl before.results now.results)
     (subst (λ l. All (CountsAccesses l) (earlier ++ take count to)) (reverse-reverse h.engine.past)
     (All-append (CountsAccesses (reverse (reverse h.engine.past))) earlier (take count to)
     (subst (All (CountsAccesses (reverse (reverse h.engine.past)))) (take_all (length earlier) earlier (omega arith)) before.accesses) now.accesses))
 
 -- the same of the engine that a call has taken out of its handle
-pub taken_can_be_rerun : GivenCallsAreTold → (held : Option Held) (h lent : Held) (entries : List Entry) (from : ℕ) (to : List SgtCall) (count next : ℕ)
-    → Some h ≡ held → lent ≡ h → reverse entries ≡ lent.engine.past → Legal (setting_of lent.engine) lent.engine.past
+pub taken_can_be_rerun : GivenCallsAreReported → (held : Option Held) (h lent : Held) (entries : List Entry) (from : ℕ) (to : List SgtCall) (count next : ℕ)
+    → Some h ≡ held → lent ≡ h → reverse entries ≡ lent.engine.past → Legal (configuration_of lent.engine) lent.engine.past
     → ArePassed entries from to count next → CanBeRerun held from to count next
 taken_can_be_rerun law held h lent entries from to count next taken same is legal passed =
     subst (λ o. CanBeRerun o from to count next) taken (subst (λ (x : Held). CanBeRerun (Some x) from to count next) same
     (can_be_rerun law lent from to count next legal
-    (subst (λ l. AreTold l from to count next) (sym (reverse-reverse entries) ∙ ap reverse is) passed.told)))
+    (subst (λ l. AreReported l from to count next) (sym (reverse-reverse entries) ∙ ap reverse is) passed.reported)))

@@ -10,7 +10,7 @@ use Rattle.sgt_c.specs.Rows.{IsRow, row_of, rows_from, with_rows}
 
 -- ---- rows put in
 
--- a blank row
+-- a row of zeros
 abbrev pub none : SgtRow
 none = record { table = 0; spare = 0; number = pos 0; value = pos 0 }
 
@@ -32,13 +32,13 @@ rows_next before after contents rows i d within same put k =
 -- ---- rows written
 
 -- one more row is written
-pub tell_row : (to : List SgtRow) (rows : List Row) (i : ℕ) (d : Row) (x : SgtRow) → i < length to → i < length rows
+pub report_row : (to : List SgtRow) (rows : List Row) (i : ℕ) (d : Row) (x : SgtRow) → i < length to → i < length rows
     → row_of x ≡ get_or rows i d
     → take i (map row_of to) ≡ take i rows → take (i + 1) (map row_of (set to i x)) ≡ take (i + 1) rows
-tell_row to rows i d x room within is told =
+report_row to rows i d x capacity within is reported =
     ap (take (i + 1)) (map-set row_of to i x)
-    ∙ take_more_set (map row_of to) i (row_of x) (omega (arith, length-map to row_of, room))
-    ∙ ap₂ (λ told r. told ++ r ∷ []) told is
+    ∙ take_more_set (map row_of to) i (row_of x) (omega (arith, length-map to row_of, capacity))
+    ∙ ap₂ (λ reported r. reported ++ r ∷ []) reported is
     ∙ sym (take_more rows i d within)
 
 -- and those after it are unchanged
@@ -68,7 +68,7 @@ ranged_next rows i d within good so_far = rw (take_more rows i d within) (All-pu
 
 -- all of them
 pub all_ranged : (rows : List SgtRow) (i : ℕ) → length rows ≤ i → All IsRow (take i rows) → All IsRow rows
-all_ranged rows i behind so_far = subst (All IsRow) (take_all i rows behind) so_far
+all_ranged rows i following so_far = subst (All IsRow) (take_all i rows following) so_far
 
 -- their values are values
 pub ranged_values : (rows : List SgtRow) → All IsRow rows → HasValues (map row_of rows)

@@ -16,11 +16,11 @@ use Rattle.sgt_model.specs.declared.short_reply.ShortReply.TheVariants as bare
 use Rattle.sgt_model.specs.Fates.{fate_of, is_start, live, live_ones, start_count}
 use Rattle.sgt_model.specs.Legality.{Legal, LegalReply}
 use Rattle.sgt_model.specs.Questions.{started_in}
-use Rattle.sgt_model.specs.Settings.{Setting, takes}
+use Rattle.sgt_model.specs.Configurations.{Configuration, takes}
 use Rattle.sgt_model.specs.ShortReplies.{full_reply, reply_with, short_reply}
-use Rattle.sgt_model.specs.StartReply.{args_fit, room_reply, taken_reply}
+use Rattle.sgt_model.specs.StartReply.{args_fit, capacity_reply, taken_reply}
 use Rattle.sgt_model.proofs.Facts.{unstarted-no_fate}
-use Rattle.sgt_engine.specs.EngineView.{Answers, EngineView, HasLists, newest_reply, setting_of, with_entry}
+use Rattle.sgt_engine.specs.EngineView.{Answers, EngineView, HasLists, newest_reply, configuration_of, with_entry}
 use Rattle.sgt_c.specs.Runs.{CommitsIf, GivesUp, IsAccess, IsStep, Runs, RunsOn, RunsOnTo, RunsTo, StepsTo, StopsLive, any_write, is_access, is_end, is_write, with_entries}
 use Rattle.sgt_c.proofs.Replies.{started_in_short, start_without}
 
@@ -28,13 +28,13 @@ use Rattle.sgt_c.proofs.Replies.{started_in_short, start_without}
 
 -- the reply to a start is the number of earlier starts
 module _ (limits : Limits) (begun living t : ℕ) where
-  room_number : (spent full : Bool) → cond spent reply.Spent (cond full reply.Full (reply.Started begun)) ≡ reply.Started t → t ≡ begun
-  room_number true full e = absurd cc
-  room_number false true e = absurd cc
-  room_number false false e = cc
+  capacity_number : (spent full : Bool) → cond spent reply.Spent (cond full reply.Full (reply.Started begun)) ≡ reply.Started t → t ≡ begun
+  capacity_number true full e = absurd cc
+  capacity_number false true e = absurd cc
+  capacity_number false false e = cc
 
-  fit_number : (fits : Bool) → cond fits (room_reply limits begun living) reply.BadArgs ≡ reply.Started t → t ≡ begun
-  fit_number true e = room_number (nat_eq begun limits.begins) (nat_eq living limits.live) e
+  fit_number : (fits : Bool) → cond fits (capacity_reply limits begun living) reply.BadArgs ≡ reply.Started t → t ≡ begun
+  fit_number true e = capacity_number (nat_eq begun limits.begins) (nat_eq living limits.live) e
   fit_number false e = absurd cc
 
   taken_number : (taken : Option ℕ) (args : List ℤ) → taken_reply limits begun living taken args ≡ reply.Started t → t ≡ begun
@@ -42,30 +42,30 @@ module _ (limits : Limits) (begun living t : ℕ) where
   taken_number (Some count) args e = fit_number (args_fit count args) e
 
 -- the reply to a start, again: whatever the event is
-pub start_number : (s : Setting) (past : List Entry) (event : Event) (r : Reply) (t : ℕ) → LegalReply s past event r → started_in event r ≡ Some t
+pub start_number : (s : Configuration) (past : List Entry) (event : Event) (r : Reply) (t : ℕ) → LegalReply s past event r → started_in event r ≡ Some t
     → t ≡ start_count past
-start_number s past (Start p args) (reply.Started u) t told is =
+start_number s past (Start p args) (reply.Started u) t reported is =
     taken_number s.rules.limits (start_count past) (length (live_ones past)) t (takes s.rules p) args
-    (sym told ∙ ap reply.Started (one u t is))
+    (sym reported ∙ ap reply.Started (one u t is))
   where
     one : (u t : ℕ) → Some u ≡ Some t → u ≡ t
     one u t e = cc
-start_number s past (Start p args) _ t told is = absurd cc
-start_number s past _ r t told is = absurd cc
+start_number s past (Start p args) _ t reported is = absurd cc
+start_number s past _ r t reported is = absurd cc
 
 both_true : (a b : Bool) → a ≡ true → b ≡ true → (a && b) ≡ true
 both_true a b p q = rw (p, q) refl
 
 -- a transaction that was started is live
-pub started_live : (s : Setting) (past : List Entry) (p : ℕ) (args : List ℤ) (t : ℕ) → Legal s past
+pub started_live : (s : Configuration) (past : List Entry) (p : ℕ) (args : List ℤ) (t : ℕ) → Legal s past
     → LegalReply s past (Start p args) (reply.Started t)
     → live (record { event = Start p args; reply = reply.Started t } ∷ past) t ≡ true
-started_live s past p args t legal told =
+started_live s past p args t legal reported =
     both_true (nat_lt t (start_count past + 1)) (is_none (fate_of past t)) (lt-ltb t (start_count past + 1) (omega (arith, n)))
     (ap is_none (unstarted-no_fate s past legal t (omega (arith, n))))
   where
     n : t ≡ start_count past
-    n = taken_number s.rules.limits (start_count past) (length (live_ones past)) t (takes s.rules p) args (sym told)
+    n = taken_number s.rules.limits (start_count past) (length (live_ones past)) t (takes s.rules p) args (sym reported)
 
 -- a step that makes an access, or finds the procedure ended, ends no transaction
 module _ (past : List Entry) (t : ℕ) where
@@ -174,15 +174,15 @@ err_holds (Err e) a = a
 
 -- a transaction that was started is live
 pub run_live : (e after : EngineView) (p : ℕ) (args : List ℤ) (t : ℕ) → Answers (Start p args) e (bare.Started t) after
-    → Legal (setting_of after) after.past → live after.past t ≡ true
+    → Legal (configuration_of after) after.past → live after.past t ≡ true
 run_live e after p args t a legal =
-    ap (λ (v : EngineView). live v.past t) told ∙ started_live (setting_of e) e.past p args t all.0 all.1
+    ap (λ (v : EngineView). live v.past t) reported ∙ started_live (configuration_of e) e.past p args t all.0 all.1
   where
-    told : after ≡ with_entry (Start p args) (reply.Started t) e
-    told = a.adds ∙ ap (λ r. with_entry (Start p args) r e) (started_in_short a.reply t a.is_short)
+    reported : after ≡ with_entry (Start p args) (reply.Started t) e
+    reported = a.adds ∙ ap (λ r. with_entry (Start p args) r e) (started_in_short a.reply t a.is_short)
 
-    all : Legal (setting_of e) (record { event = Start p args; reply = reply.Started t } ∷ e.past)
-    all = subst (λ (v : EngineView). Legal (setting_of v) v.past) told legal
+    all : Legal (configuration_of e) (record { event = Start p args; reply = reply.Started t } ∷ e.past)
+    all = subst (λ (v : EngineView). Legal (configuration_of v) v.past) reported legal
 
 -- a start, some steps and an abort (`quit`)
 pub gave_up : (start : Event) (t : ℕ) (e begun stopped after : EngineView) → Answers start e (bare.Started t) begun

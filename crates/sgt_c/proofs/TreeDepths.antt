@@ -97,8 +97,8 @@ most_deep b = 2 * block_depth b + exprs_depth b
 
 first_depth : (n : ℕ) (shape : Shape) (rest : Items → Type 0) → ((tree : Data) → shape tree → depth tree ≤ n)
     → ((items : Items) → rest items → items_depth items ≤ n) → (items : Items) → First shape rest items → items_depth items ≤ n
-first_depth n shape rest here behind no_items e = absurd e
-first_depth n shape rest here behind (item tree items) e = omega (arith, here tree e.0, behind items e.1)
+first_depth n shape rest here following no_items e = absurd e
+first_depth n shape rest here following (item tree items) e = omega (arith, here tree e.0, following items e.1)
 
 listed_depth : (n : ℕ) (so : Items → Type 0) → ((items : Items) → so items → items_depth items ≤ n) → (tree : Data) → Listed so tree
     → depth tree ≤ n + 1

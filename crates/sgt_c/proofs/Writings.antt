@@ -20,9 +20,9 @@ shape_words before after s kind is = is ∙ ap (λ k. before ++ text_by k s) (sy
 
 -- the fields of a fault that was written have its text
 pub fault_words : (s : SgtFault) (e : OpeningError) → HoldsFault s e → text_by s.kind s ≡ fault_text e
-fault_words s NotJson told = ap (λ k. text_by k s) told
-fault_words s BadLine told = ap (λ k. text_by k s) told
-fault_words s BadLimits told = ap (λ k. text_by k s) told
+fault_words s NotJson reported = ap (λ k. text_by k s) reported
+fault_words s BadLine reported = ap (λ k. text_by k s) reported
+fault_words s BadLimits reported = ap (λ k. text_by k s) reported
 fault_words s (BadOpening fault) (kind, flaw) = ap (λ k. text_by k s) kind ∙ ap (λ n. codes "bad opening " ++ decimal n) flaw
 fault_words s (ProcShape procedure place) (kind, of_procedure, of_place) =
     ap (λ k. text_by k s) kind
@@ -30,4 +30,4 @@ fault_words s (ProcShape procedure place) (kind, of_procedure, of_place) =
 fault_words s (ProcFlaw procedure flaw) (kind, of_procedure, of_flaw) =
     ap (λ k. text_by k s) kind
     ∙ ap₂ (λ p n. codes "procedure " ++ decimal p ++ codes " flaw " ++ decimal n) of_procedure of_flaw
-fault_words s NoMemory told = ap (λ k. text_by k s) told
+fault_words s NoMemory reported = ap (λ k. text_by k s) reported

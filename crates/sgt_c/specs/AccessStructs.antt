@@ -3,7 +3,7 @@ use Rattle.std.specs.Prelude.{◌≡◌, ℕ, ℤ, cond, nat_eq, length, map, ta
 use Rattle.sgt_model.specs.declared.entry.Entry.{Entry}
 use Rattle.sgt_model.specs.Contents.{Key}
 use Rattle.sgt_model.specs.Progress.{caller_accesses}
-use Rattle.sgt_model.specs.Runs.{CallerAccess, told, wrote}
+use Rattle.sgt_model.specs.Runs.{CallerAccess, reported, wrote}
 use Rattle.sgt_c.specs.declared.access_struct.SgtAccess.{SgtAccess}
 use Rattle.sgt_c.specs.declared.held.Held.{Held}
 
@@ -15,13 +15,13 @@ value_in s = cond (nat_eq s.found 1) (Some s.value) None
 abbrev pub key_of : SgtAccess → Key
 key_of s = (s.table, s.number)
 
--- kind 5 is a read with what the caller was told; else it is a write of a value, or of none
+-- kind 5 is a read with the value that was returned to the caller; else it is a write of a value, or of none
 abbrev pub access_in : SgtAccess → CallerAccess
-access_in s = cond (nat_eq s.kind 5) (told (key_of s) (value_in s)) (wrote (key_of s) (value_in s))
+access_in s = cond (nat_eq s.kind 5) (reported (key_of s) (value_in s)) (wrote (key_of s) (value_in s))
 
 -- the kind of an access: 5 a read, 6 a write of a value, 7 a removal
 abbrev pub kind_of : CallerAccess → ℕ
-kind_of (told k v) = 5
+kind_of (reported k v) = 5
 kind_of (wrote k (Some v)) = 6
 kind_of (wrote k None) = 7
 

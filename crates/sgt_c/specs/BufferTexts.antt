@@ -14,7 +14,7 @@ with_text text before = cond (nat_le (length text) (length before)) (text ++ dro
 
 -- the text is written if it fits, and its length is returned
 abbrev pub IsWritten : List ℕ → List ℕ → List ℕ → ℕ → Type 0
-IsWritten text before after told = (after ≡ with_text text before) × (told ≡ length text)
+IsWritten text before after reported = (after ≡ with_text text before) × (reported ≡ length text)
 
 -- positions, each after a space, or the word `top`
 abbrev pub place_text : List ℕ → List ℕ

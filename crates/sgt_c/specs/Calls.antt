@@ -10,37 +10,37 @@ use Rattle.sgt_model.specs.Legality.{Legal, LegalReply}
 use Rattle.sgt_model.specs.Pairs.{Pair}
 use Rattle.sgt_model.specs.Questions.{is_ending}
 use Rattle.sgt_model.specs.Replay.{ReplayAgrees}
-use Rattle.sgt_model.specs.Walks.{Acyclic}
+use Rattle.sgt_model.specs.Paths.{Acyclic}
 use Rattle.sgt_progress.specs.Progress.{MakesProgress}
 use Rattle.sgt_progress.specs.RealTime.{KeepsRealTime}
-use Rattle.sgt_engine.specs.EngineView.{EngineView, setting_of, with_entry}
+use Rattle.sgt_engine.specs.EngineView.{EngineView, configuration_of, with_entry}
 use Rattle.sgt_c.specs.declared.held.Held.{Held}
 use Rattle.sgt_c.specs.declared.reply_struct.SgtReply.{SgtReply}
 use Rattle.sgt_c.specs.ReplyStructs.{HoldsReply}
 
 -- the history is legal, each part of the headline holds, commit order keeps real time, and the history makes progress
 abbrev pub Headline : EngineView → Type 0
-Headline e = Legal (setting_of e) e.past
-    × ReplayAgrees (setting_of e) e.past
+Headline e = Legal (configuration_of e) e.past
+    × ReplayAgrees (configuration_of e) e.past
     × Acyclic (Pair e.past)
-    × AbortsHaveCause (setting_of e) e.past
+    × AbortsHaveCause (configuration_of e) e.past
     × CommitsInOrder e.past
-    × KeepsRealTime (setting_of e) e.past
-    × MakesProgress (setting_of e) e.past
+    × KeepsRealTime (configuration_of e) e.past
+    × MakesProgress (configuration_of e) e.past
 
 -- the reply to the event is legal and is returned; history and replies each grow by one entry
 abbrev pub AnsweredBy : Event → Held → Option Held → SgtReply → Reply → Type 0
-AnsweredBy event h new told r = (new ≡ Some (record { engine = with_entry event r h.engine; part = h.part }))
-    × LegalReply (setting_of h.engine) h.engine.past event r × HoldsReply told r × Headline (with_entry event r h.engine)
+AnsweredBy event h new reported r = (new ≡ Some (record { engine = with_entry event r h.engine; part = h.part }))
+    × LegalReply (configuration_of h.engine) h.engine.past event r × HoldsReply reported r × Headline (with_entry event r h.engine)
 
 -- the same for some reply
 abbrev pub Answered : Event → Option Held → Option Held → SgtReply → Type 0
-Answered event None new told = ⊥
-Answered event (Some h) new told = (r : Reply) × AnsweredBy event h new told r
+Answered event None new reported = ⊥
+Answered event (Some h) new reported = (r : Reply) × AnsweredBy event h new reported r
 
 -- an event that ends a live transaction succeeds
 abbrev pub EndsSucceed : Event → Option Held → ℕ → Type 0
-EndsSucceed event held status = IfSome held (λ h. (r : Reply) → LegalReply (setting_of h.engine) h.engine.past event r → is_ending r ≡ true → status ≡ 0)
+EndsSucceed event held status = IfSome held (λ h. (r : Reply) → LegalReply (configuration_of h.engine) h.engine.past event r → is_ending r ≡ true → status ≡ 0)
 
 -- an abort (`quit`) of a live transaction succeeds
 abbrev pub QuitsSucceed : Event → Option Held → ℕ → Type 0

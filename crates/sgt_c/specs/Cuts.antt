@@ -6,7 +6,7 @@ use Rattle.sgt_model.specs.Fates.{live_ones}
 use Rattle.sgt_model.specs.Replay.{folded}
 use Rattle.sgt_model.specs.Values.{settled}
 use Rattle.sgt_engine.specs.Cuts.{GoesOn, NobodyLive}
-use Rattle.sgt_engine.specs.EngineView.{EngineView, setting_of}
+use Rattle.sgt_engine.specs.EngineView.{EngineView, configuration_of}
 use Rattle.sgt_c.specs.declared.cutting.Uncut.{Uncut}
 use Rattle.sgt_c.specs.declared.cutting.Uncut.TheVariants.{StillLive, LastPart, NoMemory}
 use Rattle.sgt_c.specs.declared.held.Held.{Held}
@@ -20,7 +20,7 @@ CommitsAreKept before after = (k : Key) → settled (contents_of after.opening) 
 -- headline holds of the past
 abbrev pub IsCut : EngineView → EngineView → Type 0
 IsCut before after = GoesOn before after × CommitsAreKept before after × IsByKey after.opening
-    × ((k : Key) → contents_of after.opening k ≡ (folded (setting_of before) before.past).last k)
+    × ((k : Key) → contents_of after.opening k ≡ (folded (configuration_of before) before.past).last k)
     × Headline before
 
 -- the same for the content of a handle
@@ -35,9 +35,9 @@ IsSomeoneLive None = ⊥
 IsSomeoneLive (Some h) = ¬ NobodyLive h.engine.past
 
 -- there is an engine, and it has this many live transactions
-abbrev pub TellsLive : Option Held → ℕ → Type 0
-TellsLive None count = ⊥
-TellsLive (Some h) count = count ≡ length (live_ones h.engine.past)
+abbrev pub ReportsLive : Option Held → ℕ → Type 0
+ReportsLive None count = ⊥
+ReportsLive (Some h) count = count ≡ length (live_ones h.engine.past)
 
 -- no transaction is live, and no number is left for another part
 abbrev pub HasNoPart : Held → Type 0

@@ -4,7 +4,7 @@ use Rattle.sgt_model.specs.Contents.{Key}
 use Rattle.sgt_model.specs.declared.event.Request.TheVariants.{Read, Write}
 use Rattle.sgt_model.specs.declared.short_reply.ShortReply.{ShortReply}
 use Rattle.sgt_model.specs.declared.short_reply.ShortReply.TheVariants as bare
-use Rattle.sgt_engine.specs.EngineView.{setting_of}
+use Rattle.sgt_engine.specs.EngineView.{configuration_of}
 use Rattle.sgt_desk.specs.declared.ask.Ask.{Ask}
 use Rattle.sgt_desk.specs.declared.ask.Deadline.{Deadline}
 use Rattle.sgt_desk.specs.declared.ask.Deadline.TheVariants.{Never, AtOnce, At}
@@ -26,16 +26,16 @@ use Rattle.sgt_c.specs.declared.shared.run_struct.SgtRun.{SgtRun}
 
 -- the configuration and the history of an engine that a handle has lent
 abbrev pub lent_state : Lent → EngineState
-lent_state l = record { setting = setting_of l.held.value.engine; past = l.held.value.engine.past }
+lent_state l = record { configuration = configuration_of l.held.value.engine; past = l.held.value.engine.past }
 
 -- the desk of the engine in a handle, with what its threads know of each other
 abbrev pub desk_in : SgtDesk → Held → DeskState
 desk_in d h = record {
-  setting = setting_of h.engine;
+  configuration = configuration_of h.engine;
   past = h.engine.past;
   part = h.part;
   ended = d.ended;
-  told = d.told;
+  reported = d.reported;
   committing = d.committing;
   cutters = d.cutters;
 }

@@ -16,7 +16,7 @@ use Rattle.sgt_desk.specs.declared.reason.Reason.TheVariants.{Busy}
 use Rattle.sgt_desk.specs.declared.running.Run.{Run}
 use Rattle.sgt_desk.specs.Asks.{CommitsWhy, IsNotFull, IsNoWait, Rests, SawCut, StartsWhy, event_of, has_come, saw_cut}
 use Rattle.sgt_desk.specs.Desks.{DeskState, Adds, AddsEntry, IsCutOff, MayAdd, MayAddEntry, SameHistory, StaysLive, Wakes, is_busy, with_call, without_call}
-use Rattle.sgt_desk.specs.Runs.{AsksOnly, Begins, IsOutcome, LeavesOnly, RunsWhy, is_conflict, is_over, named}
+use Rattle.sgt_desk.specs.Runs.{RequestsOnly, Begins, IsOutcome, LeavesOnly, RunsWhy, is_conflict, is_over, named}
 use Rattle.sgt_c.specs.declared.held.Held.{Held}
 use Rattle.sgt_c.specs.declared.reply_struct.SgtReply.{SgtReply}
 use Rattle.sgt_c.specs.DeskStructs.{asked_in}
@@ -35,8 +35,8 @@ status_of (Ok Stale) = 13
 status_of (Err e) = 1
 
 -- the newest reply of the history is returned
-abbrev pub TellsNewest : SgtReply → List Entry → Type 0
-TellsNewest told past = IfSome (newest_reply past) (HoldsReply told)
+abbrev pub ReportsNewest : SgtReply → List Entry → Type 0
+ReportsNewest reported past = IfSome (newest_reply past) (HoldsReply reported)
 
 -- both handles hold an engine, and of these it is so
 abbrev pub OfBoth : Option Held → Option Held → (Held → Held → Type 0) → Type 0
@@ -49,8 +49,8 @@ abbrev pub cuts_now : Ask → DeskState → Bool
 cuts_now a d = not (saw_cut a.reason d.part) && not (is_busy d)
 
 -- the numbers ask something of a transaction
-abbrev pub IsAsked : ℕ → ℕ → ℤ → Type 0
-IsAsked kind table number = (table ≤ 7) × IsValue number × IsSome (asked_in kind (table, number) (pos 0))
+abbrev pub IsRunnable : ℕ → ℕ → ℤ → Type 0
+IsRunnable kind table number = (table ≤ 7) × IsValue number × IsSome (asked_in kind (table, number) (pos 0))
 
 -- ---- turns
 
@@ -89,9 +89,9 @@ pub record RunTurn (procedure : ℕ) (args : List ℤ) (now : ℕ) (before : Des
   pub outcome : turn ≡ Ok Done → IsOutcome next.ask.reply (named next.ticket) after.past
   pub done : turn ≡ Ok Done → is_conflict next.ask.reply ≡ true → next.most ≤ next.tries
   pub call : Begins procedure args before run after next
-  pub others : AsksOnly (named next.ticket) before.past after.past
+  pub others : RequestsOnly (named next.ticket) before.past after.past
   pub part : after.part ≡ before.part
-  pub setting : after.setting ≡ before.setting
+  pub configuration : after.configuration ≡ before.configuration
   pub left : LeavesOnly run.attempt (start_count before.past) after.past next.attempt
   pub only : turn ≢ Ok Rest → next.attempt ≡ None
   pub over : is_over run.ask.deadline run.tries now ≡ true → start_count after.past ≡ start_count before.past
@@ -121,8 +121,8 @@ pub record CutTurn (now : ℕ) (before : DeskState) (ask : Ask) (after : DeskSta
   pub deadline : next.deadline ≡ ask.deadline
 
 -- an event of a transaction that never rests
-pub record MakeTurn (ticket : Ticket) (asked : Asked) (before : DeskState) (short : ShortReply) (after : DeskState)
+pub record MakeTurn (ticket : Ticket) (requested : Asked) (before : DeskState) (short : ShortReply) (after : DeskState)
     (turn : Result Turn NoMemory) : Type 0 where
-  pub done : turn ≡ Ok Done → Adds (event_of asked ticket.tid) before short after
+  pub done : turn ≡ Ok Done → Adds (event_of requested ticket.tid) before short after
   pub stale : (turn ≡ Ok Stale) ↔ (ticket.part ≢ before.part)
   pub unchanged : turn ≢ Ok Done → after ≡ before

@@ -9,12 +9,12 @@ use Rattle.sgt_c.specs.ReplyStructs.{HoldsReply}
 
 -- both parts of the entry are returned
 abbrev pub HoldsEntry : SgtEvent → SgtReply → Entry → Type 0
-HoldsEntry asked told e = HoldsEvent asked e.event × HoldsReply told e.reply
+HoldsEntry requested reported e = HoldsEvent requested e.event × HoldsReply reported e.reply
 
 -- the entry at a position of the history is returned; the oldest is at 0
 abbrev pub ReturnsEntry : Option Held → ℕ → SgtEvent → SgtReply → Type 0
-ReturnsEntry None place asked told = ⊥
-ReturnsEntry (Some h) place asked told = (e : Entry) × (slice_get (reverse h.engine.past) place ≡ Some e) × HoldsEntry asked told e
+ReturnsEntry None place requested reported = ⊥
+ReturnsEntry (Some h) place requested reported = (e : Entry) × (slice_get (reverse h.engine.past) place ≡ Some e) × HoldsEntry requested reported e
 
 -- there is a history, and it has no entry at this position
 abbrev pub HasNoEntry : Option Held → ℕ → Type 0

@@ -8,15 +8,15 @@ use Rattle.sgt_c.specs.declared.held.Held.{Held}
 use Rattle.sgt_c.specs.declared.outcome_struct.SgtOutcome.{SgtOutcome}
 use Rattle.sgt_c.specs.Calls.{Headline}
 use Rattle.sgt_c.specs.ReplyStructs.{HoldsReply}
-use Rattle.sgt_c.specs.Runs.{Runs, GivesUp, IsNumberTold}
+use Rattle.sgt_c.specs.Runs.{Runs, GivesUp, IsNumberReported}
 
 -- the procedure number fits 16 bits, and there are at most 4 arguments
 abbrev pub IsStartable : SgtCall → Type 0
 IsStartable c = (c.procedure < 2 ^ 16) × (c.args ≤ 4)
 
 -- the same, and its caller decided on no access: such a call can be run from its start to its commit
-abbrev pub IsAsked : SgtCall → Type 0
-IsAsked c = IsStartable c × (c.accesses ≡ 0)
+abbrev pub IsRunnable : SgtCall → Type 0
+IsRunnable c = IsStartable c × (c.accesses ≡ 0)
 
 -- the arguments of a call
 abbrev pub args_in : SgtCall → List ℤ
@@ -27,7 +27,7 @@ args_in c = take c.args c.arg
 abbrev pub RanOne : SgtCall → SgtOutcome → EngineView → EngineView → Type 0
 RanOne c o e after = (started : Option ℕ) × (wrote : Bool) × (last : Reply)
     × Runs (Start c.procedure (args_in c)) started wrote last e after
-    × IsNumberTold started 0 o.tid × (o.wrote ≡ cond wrote 1 0) × HoldsReply o.reply last
+    × IsNumberReported started 0 o.tid × (o.wrote ≡ cond wrote 1 0) × HoldsReply o.reply last
 
 -- each call ran, one after another, and its outcome is at its index
 abbrev pub RanAll : List SgtCall → List SgtOutcome → EngineView → EngineView → Type 0

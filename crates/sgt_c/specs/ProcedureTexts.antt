@@ -13,9 +13,9 @@ SpellsAt procedures number (Some line) = (p : ProcedureText) × (slice_get proce
 
 -- a line that spells the procedure of this number is returned
 abbrev pub ReturnsProcedure : Option Held → ℕ → List ℕ → List ℕ → ℕ → Type 0
-ReturnsProcedure None number before after told = ⊥
-ReturnsProcedure (Some h) number before after told = (p : ProcedureText) × (slice_get h.engine.procedures number ≡ Some p)
-    × (line : List ℕ) × SpellsProcedure line p × IsWritten line before after told
+ReturnsProcedure None number before after reported = ⊥
+ReturnsProcedure (Some h) number before after reported = (p : ProcedureText) × (slice_get h.engine.procedures number ≡ Some p)
+    × (line : List ℕ) × SpellsProcedure line p × IsWritten line before after reported
 
 -- there is an engine, and none of its procedures has this number
 abbrev pub HasNoProcedure : Option Held → ℕ → Type 0

@@ -69,5 +69,5 @@ HasNoNumber (Some h) = (h.engine.past ≡ []) × (65535 ≤ length h.engine.proc
 
 -- the text spells no procedure, for the reason that is returned with the number that it was to get
 abbrev pub IsTextRefused : Option Held → List ℕ → SgtFault → Type 0
-IsTextRefused None text told = ⊥
-IsTextRefused (Some h) text told = (e : OpeningError) × RefusesProcedure (length h.engine.procedures) text e × HoldsFault told e
+IsTextRefused None text reported = ⊥
+IsTextRefused (Some h) text reported = (e : OpeningError) × RefusesProcedure (length h.engine.procedures) text e × HoldsFault reported e

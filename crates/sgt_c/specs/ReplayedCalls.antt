@@ -8,8 +8,8 @@ use Rattle.sgt_model.specs.declared.reply.Reply.TheVariants as reply
 use Rattle.sgt_model.specs.Fates.{subject}
 use Rattle.sgt_model.specs.Legality.{Legal}
 use Rattle.sgt_model.specs.Progress.{Call, caller_accesses, with_caller_accesses}
-use Rattle.sgt_model.specs.Replay.{RunResult, GaveAnswers, AskedCode, told, told_calls}
-use Rattle.sgt_model.specs.Settings.{Setting}
+use Rattle.sgt_model.specs.Replay.{RunResult, GaveAnswers, RaisedCode, reported, reported_calls}
+use Rattle.sgt_model.specs.Configurations.{Configuration}
 use Rattle.sgt_c.specs.declared.call_struct.SgtCall.{SgtCall}
 use Rattle.sgt_c.specs.declared.call_struct.Started.{Started}
 use Rattle.sgt_c.specs.declared.held.Held.{Held}
@@ -36,7 +36,7 @@ CountsAccesses past s = s.accesses ≡ length (accesses_of past s.tid)
 
 -- its result: the answers if the kind is a commit, else the code
 abbrev pub result_in : SgtCall → RunResult
-result_in s = cond (nat_eq s.kind 13) (GaveAnswers (take s.answers s.answer)) (AskedCode s.code)
+result_in s = cond (nat_eq s.kind 13) (GaveAnswers (take s.answers s.answer)) (RaisedCode s.code)
 
 -- the transaction, and the kind of the reply that ended it
 abbrev pub ends_in : SgtCall → ℕ × ℕ
@@ -46,7 +46,7 @@ ends_in s = (s.tid, s.kind)
 
 -- the entries, oldest first, are a legal history
 abbrev pub IsLegal : List Entry → Type 0
-IsLegal entries = (s : Setting) × Legal s (reverse entries)
+IsLegal entries = (s : Configuration) × Legal s (reverse entries)
 
 -- the transaction that an entry commits or refuses, if any, with 13 for a commit and 15 for a refusal
 abbrev pub ends_by : Event → Reply → List (ℕ × ℕ)
@@ -55,9 +55,9 @@ ends_by event (reply.Refused code fell) = (subject event, 15) ∷ []
 ends_by event _ = []
 
 -- the committed and refused transactions, each with the kind of its reply; the last reply comes first
-abbrev pub told_ends : List Entry → List (ℕ × ℕ)
-told_ends [] = []
-told_ends (e ∷ past) = ends_by e.event e.reply ++ told_ends past
+abbrev pub reported_ends : List Entry → List (ℕ × ℕ)
+reported_ends [] = []
+reported_ends (e ∷ past) = ends_by e.event e.reply ++ reported_ends past
 
 -- the entries before a position, newest first; the given list is oldest first
 abbrev pub past_at : List Entry → ℕ → List Entry
@@ -69,19 +69,19 @@ Adds read field entries from to count next = read (past_at entries next) ≡ rev
 
 -- the first `count` structs are the calls between the two positions of the history, in reply order, with their results and with
 -- how many accesses their callers made
-pub record AreTold (entries : List Entry) (from : ℕ) (to : List SgtCall) (count next : ℕ) : Type 0 where
-  pub calls : Adds told_calls (call_in (reverse entries)) entries from to count next
-  pub results : Adds told result_in entries from to count next
-  pub ends : Adds told_ends ends_in entries from to count next
+pub record AreReported (entries : List Entry) (from : ℕ) (to : List SgtCall) (count next : ℕ) : Type 0 where
+  pub calls : Adds reported_calls (call_in (reverse entries)) entries from to count next
+  pub results : Adds reported result_in entries from to count next
+  pub ends : Adds reported_ends ends_in entries from to count next
   pub accesses : All (CountsAccesses (reverse entries)) (take count to)
 
 -- the same; each can be started again; and no entry follows them unless all structs are filled
 pub record ArePassed (entries : List Entry) (from : ℕ) (to : List SgtCall) (count next : ℕ) : Type 0 where
-  pub told : AreTold entries from to count next
-  pub asked : All IsStartable (take count to)
+  pub reported : AreReported entries from to count next
+  pub startable : All IsStartable (take count to)
   pub onward : from ≤ next
   pub within : next ≤ length entries
-  pub room : count ≤ length to
+  pub capacity : count ≤ length to
   pub whole : next < length entries → count ≡ length to
 
 -- the same for the engine in a handle
@@ -90,7 +90,7 @@ ReturnsCalls None from to count next = ⊥
 ReturnsCalls (Some h) from to count next = ArePassed (reverse h.engine.past) from to count next
 
 -- the struct is the call that the entry at a position ends; there is none if the entry ends none
-pub record IsToldAt (entries : List Entry) (place : ℕ) (told_call : Option SgtCall) : Type 0 where
-  pub calls : told_calls (past_at entries (place + 1)) ≡ listed (call_in (reverse entries)) told_call ++ told_calls (past_at entries place)
-  pub results : told (past_at entries (place + 1)) ≡ listed result_in told_call ++ told (past_at entries place)
-  pub ends : told_ends (past_at entries (place + 1)) ≡ listed ends_in told_call ++ told_ends (past_at entries place)
+pub record IsReportedAt (entries : List Entry) (place : ℕ) (reported_call : Option SgtCall) : Type 0 where
+  pub calls : reported_calls (past_at entries (place + 1)) ≡ listed (call_in (reverse entries)) reported_call ++ reported_calls (past_at entries place)
+  pub results : reported (past_at entries (place + 1)) ≡ listed result_in reported_call ++ reported (past_at entries place)
+  pub ends : reported_ends (past_at entries (place + 1)) ≡ listed ends_in reported_call ++ reported_ends (past_at entries place)

@@ -5,7 +5,7 @@ use Rattle.sgt_model.specs.Databases.{Row, contents_of, key_lt, IsByKey}
 use Rattle.sgt_model.specs.Numbers.{IsValue}
 use Rattle.sgt_model.specs.Replay.{folded}
 use Rattle.sgt_model.specs.Values.{settled}
-use Rattle.sgt_engine.specs.EngineView.{EngineView, setting_of}
+use Rattle.sgt_engine.specs.EngineView.{EngineView, configuration_of}
 use Rattle.sgt_engine.specs.Puts.{with_rows as with_keyed}
 use Rattle.sgt_c.specs.declared.held.Held.{Held}
 use Rattle.sgt_c.specs.declared.row_struct.SgtRow.{SgtRow}
@@ -35,7 +35,7 @@ HoldRows to rows = take (length rows) (map row_of to) ≡ take (length to) rows
 abbrev pub IsCommitted : EngineView → List Row → Type 0
 IsCommitted e rows = IsByKey rows
     × ((k : Key) → contents_of rows k ≡ settled (contents_of e.opening) e.past k)
-    × ((k : Key) → contents_of rows k ≡ (folded (setting_of e) e.past).last k)
+    × ((k : Key) → contents_of rows k ≡ (folded (configuration_of e) e.past).last k)
 
 -- the committed database is written from a key on, and has this number of rows from there
 abbrev pub AreWritten : EngineView → Key → List SgtRow → ℕ → Type 0

@@ -81,17 +81,17 @@ abbrev pub RunsTo : Event → Option ℕ → Bool → ShortReply → EngineView 
 RunsTo start started wrote short e after = (last : Reply) × (short_reply last ≡ short) × Runs start started wrote last e after
 
 -- the number is returned, if there is one; else what was there before is unchanged
-abbrev pub IsNumberTold : Option ℕ → ℕ → ℕ → Type 0
-IsNumberTold None before told = told ≡ before
-IsNumberTold (Some t) before told = told ≡ t
+abbrev pub IsNumberReported : Option ℕ → ℕ → ℕ → Type 0
+IsNumberReported None before reported = reported ≡ before
+IsNumberReported (Some t) before reported = reported ≡ t
 
 -- the run is in the history, the number of its transaction and its last reply are returned, and each part of the headline
 -- holds
 abbrev pub Ran : Event → Option Held → Option Held → ℕ → ℕ → SgtReply → Type 0
-Ran start None new before tid told = ⊥
-Ran start (Some h) None before tid told = ⊥
-Ran start (Some h) (Some h') before tid told = (started : Option ℕ) × (wrote : Bool) × (last : Reply)
-    × Runs start started wrote last h.engine h'.engine × IsNumberTold started before tid × HoldsReply told last
+Ran start None new before tid reported = ⊥
+Ran start (Some h) None before tid reported = ⊥
+Ran start (Some h) (Some h') before tid reported = (started : Option ℕ) × (wrote : Bool) × (last : Reply)
+    × Runs start started wrote last h.engine h'.engine × IsNumberReported started before tid × HoldsReply reported last
     × Headline h'.engine × (h'.part ≡ h.part)
 
 -- the transaction made some steps, and is live

@@ -29,7 +29,7 @@ pub extern "C" fn sgt_accesses(
 ) -> u32
     ensures returned { result ≡ 0 → ReturnsAccesses engine.old.slot.held t accesses.new count.new }
     ensures rest { drop count.new accesses.new ≡ drop count.new accesses.old }
-    ensures room { length accesses.new ≡ length accesses.old }
+    ensures capacity { length accesses.new ≡ length accesses.old }
     ensures busy { (result ≡ 10) ↔ IsBusy engine.old.state }
     ensures closed { (result ≡ 2) ↔ IsClosed engine.old.state engine.old.slot.held }
     ensures statuses { result ≢ 10 → result ≢ 0 → result ≡ 2 }
@@ -56,7 +56,7 @@ fn write_accesses(to: &mut [SgtAccess], history: &History, t: Tid) -> usize
     ensures returned { HoldAccesses to.new (accesses_of (reverse history.now.entries) t) }
     ensures count { result ≡ length (accesses_of (reverse history.now.entries) t) }
     ensures rest { drop result to.new ≡ drop result to.old }
-    ensures room { length to.new ≡ length to.old }
+    ensures capacity { length to.new ≡ length to.old }
 {
     let mut count = 0;
     for place in start_of(history, t)..history.len() {
@@ -72,7 +72,7 @@ fn put(to: &mut [SgtAccess], count: usize, access: Option<SgtAccess>) -> usize
     ensures put { AddsAccess access count to.old result to.new }
     ensures step { (count ≤ result) × (result ≤ count + 1) }
     ensures rest { drop result to.new ≡ drop result to.old }
-    ensures room { length to.new ≡ length to.old }
+    ensures capacity { length to.new ≡ length to.old }
 {
     let Some(access) = access else {
         return count;

@@ -1,6 +1,6 @@
 //! The struct of an access for C, as a journal keeps it.
 ghost use Rattle.std.specs.Prelude.{◌≡◌};
-ghost use Rattle.sgt_model.specs.Runs.{told, wrote};
+ghost use Rattle.sgt_model.specs.Runs.{reported, wrote};
 ghost use Rattle.sgt_c.specs.AccessStructs.{kinded, said, value_in};
 
 use sgt_model::Key;
@@ -23,7 +23,7 @@ pub struct SgtAccess {
 impl SgtAccess {
     /// A read, with what it found.
     pub fn read(key: Key, value: Option<i64>) -> SgtAccess
-        ensures { said result ≡ kinded (told key value) }
+        ensures { said result ≡ kinded (reported key value) }
     {
         SgtAccess::new(5, key, value)
     }

@@ -120,11 +120,11 @@ fn append_shape(line: &mut Vec<u8>, fault: &SgtFault) -> Result<(), AllocError>
 {
     append_numbered(line, b"procedure ", fault.procedure)?;
     line.extend_from_slice(b" shape")?;
-    append_place(line, told_place(fault))
+    append_place(line, reported_place(fault))
 }
 
 /// The positions that the text names.
-fn told_place(fault: &SgtFault) -> &[u64]
+fn reported_place(fault: &SgtFault) -> &[u64]
     ensures { result.now ≡ take fault.now.depth fault.now.place }
 {
     let depth = (fault.depth as usize).min(128);

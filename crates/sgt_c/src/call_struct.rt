@@ -1,6 +1,6 @@
 //! The struct of a call for C: what ran, and its result.
 ghost use Rattle.std.specs.Prelude.{◌≡◌, ◌≤◌, length};
-ghost use Rattle.sgt_model.specs.Replay.{GaveAnswers, AskedCode};
+ghost use Rattle.sgt_model.specs.Replay.{GaveAnswers, RaisedCode};
 ghost use Rattle.sgt_c.specs.ManyRuns.{IsStartable};
 ghost use Rattle.sgt_c.specs.ReplayedCalls.{bare_call, called, ends_in, result_in};
 
@@ -38,32 +38,32 @@ impl SgtCall {
     /// The call of a transaction that was committed with these answers.
     pub fn committed(t: Tid, started: &Started, accesses: usize, answers: &[i64]) -> SgtCall
         requires { length answers.now ≤ 8 }
-        ensures asked { IsStartable result }
+        ensures startable { IsStartable result }
         ensures ends { ends_in result ≡ (t, 13) }
         ensures call { bare_call result ≡ called started.now }
         ensures accesses { result.accesses ≡ accesses }
-        ensures told { result_in result ≡ GaveAnswers answers.now }
+        ensures reported { result_in result ≡ GaveAnswers answers.now }
     {
-        let mut call = SgtCall::untold(13, t, started, accesses);
+        let mut call = SgtCall::without_result(13, t, started, accesses);
         call.answers = write_answers(&mut call.answer, answers);
         call
     }
 
     /// The call of a transaction that was refused with this code.
     pub fn refused(t: Tid, started: &Started, accesses: usize, code: u16) -> SgtCall
-        ensures asked { IsStartable result }
+        ensures startable { IsStartable result }
         ensures ends { ends_in result ≡ (t, 15) }
         ensures call { bare_call result ≡ called started.now }
         ensures accesses { result.accesses ≡ accesses }
-        ensures told { result_in result ≡ AskedCode code }
+        ensures reported { result_in result ≡ RaisedCode code }
     {
-        let mut call = SgtCall::untold(15, t, started, accesses);
+        let mut call = SgtCall::without_result(15, t, started, accesses);
         call.code = u32::from(code);
         call
     }
 
-    fn untold(kind: u32, t: Tid, started: &Started, accesses: usize) -> SgtCall
-        ensures asked { IsStartable result }
+    fn without_result(kind: u32, t: Tid, started: &Started, accesses: usize) -> SgtCall
+        ensures startable { IsStartable result }
         ensures ends { ends_in result ≡ (t, kind) }
         ensures call { bare_call result ≡ called started.now }
         ensures accesses { result.accesses ≡ accesses }

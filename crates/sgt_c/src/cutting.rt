@@ -2,7 +2,7 @@
 ghost use Rattle.std.specs.Prelude.{◌≡◌, ◌+◌, ◌≢◌, ◌≤◌, ◌↔◌, IfErr, IfSome, OnOk, OnErr, length};
 ghost use Rattle.sgt_model.specs.Fates.{live_ones};
 ghost use Rattle.sgt_engine.specs.Cuts.{NobodyLive};
-ghost use Rattle.sgt_c.specs.Cuts.{Cut, HasNoPart, IsCut, IsLastPart, IsSomeoneLive, IsTooEarly, TellsLive};
+ghost use Rattle.sgt_c.specs.Cuts.{Cut, HasNoPart, IsCut, IsLastPart, IsSomeoneLive, IsTooEarly, ReportsLive};
 ghost use Rattle.sgt_c.specs.Handles.{IsBusy, IsClosed};
 
 use crate::handle::Handle;
@@ -25,7 +25,7 @@ pub extern "C" fn sgt_cut(alloc: Global, engine: &mut Handle, live: &mut u64) ->
     ensures cut { result ≡ 0 → Cut engine.old.slot.held engine.new.slot.held }
     ensures unchanged { result ≢ 0 → engine.new.slot.held ≡ engine.old.slot.held }
     ensures still_live { (result ≡ 6) ↔ IsSomeoneLive engine.old.slot.held }
-    ensures live { result ≡ 6 → TellsLive engine.old.slot.held live.new }
+    ensures live { result ≡ 6 → ReportsLive engine.old.slot.held live.new }
     ensures kept { result ≢ 6 → live.new ≡ live.old }
     ensures busy { (result ≡ 10) ↔ IsBusy engine.old.state }
     ensures closed { (result ≡ 2) ↔ IsClosed engine.old.state engine.old.slot.held }

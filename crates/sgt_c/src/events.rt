@@ -5,17 +5,17 @@ ghost use Rattle.sgt_model.specs.declared.reply.Reply.{Reply};
 ghost use Rattle.sgt_model.specs.Fates.{live};
 ghost use Rattle.sgt_model.specs.Legality.{LegalReply};
 ghost use Rattle.sgt_model.specs.Questions.{is_ending};
-ghost use Rattle.sgt_engine.specs.EngineView.{setting_of};
+ghost use Rattle.sgt_engine.specs.EngineView.{configuration_of};
 ghost use Rattle.sgt_model.specs.declared.event.Event.TheVariants.{Start, Step, Commit, Quit};
 ghost use Rattle.sgt_c.specs.Calls.{Answered, EndsSucceed, QuitsSucceed};
 ghost use Rattle.sgt_c.specs.Asked.{IsCall};
 ghost use Rattle.sgt_c.specs.Handles.{IsBusy, IsClosed};
 ghost use Rattle.sgt_c.specs.KeptFields.{KeepsOtherFields};
 
-use crate::asked::{arguments, is_call};
 use crate::handle::Handle;
 use crate::held::Held;
 use crate::reply_struct::{SgtReply, write_reply};
+use crate::requested::{arguments, is_call};
 use crate::status;
 use sgt_model::{Event, NoMemory, ShortReply, Tid};
 use std::alloc::Global;
@@ -48,7 +48,7 @@ pub extern "C" fn sgt_start(
     }
     let procedure = procedure as u16;
     let args = arguments(args);
-    ask(alloc, engine, Event::Start { procedure, args }, reply)
+    apply_event(alloc, engine, Event::Start { procedure, args }, reply)
 }
 
 /// Runs the transaction up to and including its next access.
@@ -67,7 +67,7 @@ pub extern "C" fn sgt_step(alloc: Global, engine: &mut Handle, t: u32, reply: &m
     ensures leaves { IsBusy engine.new.state → IsBusy engine.old.state }
     ensures stays { IsBusy engine.old.state → engine.new.state ≡ engine.old.state }
 {
-    ask(alloc, engine, Event::Step(Tid(t)), reply)
+    apply_event(alloc, engine, Event::Step(Tid(t)), reply)
 }
 
 /// Commits the transaction.
@@ -91,7 +91,7 @@ pub extern "C" fn sgt_commit(
     ensures leaves { IsBusy engine.new.state → IsBusy engine.old.state }
     ensures stays { IsBusy engine.old.state → engine.new.state ≡ engine.old.state }
 {
-    ask(alloc, engine, Event::Commit(Tid(t)), reply)
+    apply_event(alloc, engine, Event::Commit(Tid(t)), reply)
 }
 
 /// Aborts the transaction for its caller (`quit`). If it is live, this succeeds.
@@ -110,12 +110,12 @@ pub extern "C" fn sgt_quit(alloc: Global, engine: &mut Handle, t: u32, reply: &m
     ensures leaves { IsBusy engine.new.state → IsBusy engine.old.state }
     ensures stays { IsBusy engine.old.state → engine.new.state ≡ engine.old.state }
 {
-    ask(alloc, engine, Event::Quit(Tid(t)), reply)
+    apply_event(alloc, engine, Event::Quit(Tid(t)), reply)
 }
 
 /// Runs an event on the engine in a handle, and writes the reply.
 #[inline(always)]
-pub fn ask(alloc: Global, engine: &mut Handle, event: Event, reply: &mut SgtReply) -> u32
+pub fn apply_event(alloc: Global, engine: &mut Handle, event: Event, reply: &mut SgtReply) -> u32
     ensures ok { result ≡ 0 → Answered event engine.old.slot.held engine.new.slot.held reply.new }
     ensures unchanged { result ≢ 0 → engine.new.slot.held ≡ engine.old.slot.held }
     ensures unwritten { result ≢ 0 → reply.new ≡ reply.old }
@@ -150,7 +150,7 @@ fn answer(held: &mut Held, event: Event, reply: &mut SgtReply) -> Result<(), NoM
     ensures ok { OnOk result (Answered event (Some held.old) (Some held.new) reply.new) }
     ensures kept { OnOk result (KeepsOtherFields reply.old reply.new) }
     ensures unchanged { OnErr result ((held.new ≡ held.old) × (reply.new ≡ reply.old)) }
-    ensures ends { (r : Reply) → LegalReply (setting_of held.old.engine) held.old.engine.past event r
+    ensures ends { (r : Reply) → LegalReply (configuration_of held.old.engine) held.old.engine.past event r
         → is_ending r ≡ true
         → IsOk result }
     ensures quits { (t : ℕ) → event ≡ Quit t → live held.old.engine.past t ≡ true → IsOk result }

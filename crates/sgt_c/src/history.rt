@@ -101,7 +101,7 @@ fn lists_of(entry: &EntryRef<'_>) -> ReplyLists
 {
     ReplyLists {
         answers: answers_of(entry.answers()),
-        walk: tids_of(entry.walk()),
+        cycle: tids_of(entry.cycle()),
         fell: tids_of(entry.fell()),
     }
 }

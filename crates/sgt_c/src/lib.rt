@@ -36,7 +36,6 @@ mod slot;
 
 // The calls.
 mod access_list;
-mod asked;
 mod cutting;
 mod events;
 mod explanations;
@@ -51,6 +50,7 @@ mod procedures;
 mod putting;
 mod reading;
 mod replayed_calls;
+mod requested;
 mod rows;
 mod run;
 mod run_many;

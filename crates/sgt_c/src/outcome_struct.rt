@@ -3,7 +3,7 @@ ghost use Rattle.std.specs.Prelude.{◌≡◌, cond};
 ghost use Rattle.sgt_model.specs.ShortReplies.{reply_with};
 ghost use Rattle.sgt_c.specs.KeptFields.{KeepsOtherFields};
 ghost use Rattle.sgt_c.specs.ReplyStructs.{HoldsReply};
-ghost use Rattle.sgt_c.specs.Runs.{IsNumberTold};
+ghost use Rattle.sgt_c.specs.Runs.{IsNumberReported};
 
 use crate::reply_struct::{SgtReply, write_reply};
 use crate::run::Outcome;
@@ -21,7 +21,7 @@ pub struct SgtOutcome {
 
 /// Writes an outcome for C, with the lists of its last reply.
 pub fn write_outcome(into: &mut SgtOutcome, outcome: &Outcome, lists: &ReplyLists)
-    ensures tid { IsNumberTold outcome.now.started 0 into.new.tid }
+    ensures tid { IsNumberReported outcome.now.started 0 into.new.tid }
     ensures wrote { into.new.wrote ≡ cond outcome.now.wrote 1 0 }
     ensures reply { HoldsReply into.new.reply (reply_with outcome.now.last lists.now) }
     ensures kept { KeepsOtherFields into.old.reply into.new.reply }
@@ -32,7 +32,7 @@ pub fn write_outcome(into: &mut SgtOutcome, outcome: &Outcome, lists: &ReplyList
 }
 
 fn number_or_0(t: Option<Tid>) -> u32
-    ensures { IsNumberTold t 0 result }
+    ensures { IsNumberReported t 0 result }
 {
     match t {
         Some(t) => t.0,

@@ -7,10 +7,10 @@ ghost use Rattle.sgt_c.specs.Calls.{Answered, EndsSucceed};
 ghost use Rattle.sgt_c.specs.Handles.{IsBusy, IsClosed};
 ghost use Rattle.sgt_c.specs.KeptFields.{KeepsOtherFields};
 
-use crate::asked::keyed;
-use crate::events::ask;
+use crate::events::apply_event;
 use crate::handle::Handle;
 use crate::reply_struct::SgtReply;
+use crate::requested::keyed;
 use crate::status;
 use sgt_model::{Args, EMPTY_PROCEDURE, Event, Request, Tid};
 use std::alloc::Global;
@@ -35,7 +35,7 @@ pub extern "C" fn sgt_begin(alloc: Global, engine: &mut Handle, reply: &mut SgtR
         procedure: EMPTY_PROCEDURE,
         args: Args::new(),
     };
-    ask(alloc, engine, start, reply)
+    apply_event(alloc, engine, start, reply)
 }
 
 /// Reads a record for a transaction whose procedure is at its end.
@@ -67,7 +67,7 @@ pub extern "C" fn sgt_read(
         return status::BAD_CALL;
     };
     let read = Event::Access(Tid(t), Request::Read(key));
-    ask(alloc, engine, read, reply)
+    apply_event(alloc, engine, read, reply)
 }
 
 /// Writes a value to a record, in the same way. If the value is out of its range, the reply says so.
@@ -100,7 +100,7 @@ pub extern "C" fn sgt_write(
         return status::BAD_CALL;
     };
     let write = Event::Access(Tid(t), Request::Write(key, Some(value)));
-    ask(alloc, engine, write, reply)
+    apply_event(alloc, engine, write, reply)
 }
 
 /// Removes a record, in the same way: a write of no value.
@@ -132,5 +132,5 @@ pub extern "C" fn sgt_remove(
         return status::BAD_CALL;
     };
     let removal = Event::Access(Tid(t), Request::Write(key, None));
-    ask(alloc, engine, removal, reply)
+    apply_event(alloc, engine, removal, reply)
 }

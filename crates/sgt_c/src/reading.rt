@@ -4,11 +4,11 @@ ghost use Rattle.sgt_model.specs.Databases.{contents_of};
 ghost use Rattle.sgt_model.specs.Numbers.{IsValue};
 ghost use Rattle.sgt_model.specs.Replay.{folded};
 ghost use Rattle.sgt_model.specs.Values.{settled};
-ghost use Rattle.sgt_engine.specs.EngineView.{setting_of};
+ghost use Rattle.sgt_engine.specs.EngineView.{configuration_of};
 ghost use Rattle.sgt_c.specs.Handles.{IsBusy};
 
-use crate::asked::keyed;
 use crate::handle::Handle;
+use crate::requested::keyed;
 use crate::status;
 use std::alloc::Global;
 
@@ -28,7 +28,7 @@ pub extern "C" fn sgt_get(
     ensures found { result ≡ 0 → IfSome engine.old.slot.held (λ h.
         settled (contents_of h.engine.opening) h.engine.past (table, number) ≡ Some value.new) }
     ensures replayed { result ≡ 0 → IfSome engine.old.slot.held (λ h.
-        (folded (setting_of h.engine) h.engine.past).last (table, number) ≡ Some value.new) }
+        (folded (configuration_of h.engine) h.engine.past).last (table, number) ≡ Some value.new) }
     ensures none { result ≡ 4 → IfSome engine.old.slot.held (λ h.
         settled (contents_of h.engine.opening) h.engine.past (table, number) ≡ None) }
     ensures open { result ≢ 2 → result ≢ 5 → result ≢ 10 → IsSome engine.old.slot.held }

@@ -5,11 +5,11 @@ ghost use Rattle.std.specs.Option.{option_map};
 ghost use Rattle.sgt_model.specs.declared.entry.Entry.{Entry};
 ghost use Rattle.sgt_model.specs.Fates.{subject};
 ghost use Rattle.sgt_model.specs.Progress.{call_in as started_in, call_of, caller_access_in, caller_accesses};
-ghost use Rattle.sgt_model.specs.Replay.{told_call_in, told_in};
+ghost use Rattle.sgt_model.specs.Replay.{reported_call_in, reported_in};
 ghost use Rattle.sgt_c.specs.AccessStructs.{listed};
 ghost use Rattle.sgt_c.specs.Entries.{HasNoPlace};
 ghost use Rattle.sgt_c.specs.ManyRuns.{IsStartable};
-ghost use Rattle.sgt_c.specs.ReplayedCalls.{ArePassed, CountsAccesses, IsLegal, IsToldAt, ReturnsCalls, call_in, called, ends_by, ends_in, past_at, result_in};
+ghost use Rattle.sgt_c.specs.ReplayedCalls.{ArePassed, CountsAccesses, IsLegal, IsReportedAt, ReturnsCalls, call_in, called, ends_by, ends_in, past_at, result_in};
 ghost use Rattle.sgt_c.specs.Reruns.{CanBeRerun};
 ghost use Rattle.sgt_c.specs.Handles.{IsBusy, IsClosed};
 
@@ -43,7 +43,7 @@ pub extern "C" fn sgt_calls(
     ensures returned { result ≡ 0 → ReturnsCalls engine.old.slot.held from calls.new count.new next.new }
     ensures again { result ≡ 0 → CanBeRerun engine.old.slot.held from calls.new count.new next.new }
     ensures rest { drop count.new calls.new ≡ drop count.new calls.old }
-    ensures room { length calls.new ≡ length calls.old }
+    ensures capacity { length calls.new ≡ length calls.old }
     ensures none { (result ≡ 4) ↔ HasNoPlace engine.old.slot.held from }
     ensures busy { (result ≡ 10) ↔ IsBusy engine.old.state }
     ensures closed { (result ≡ 2) ↔ IsClosed engine.old.state engine.old.slot.held }
@@ -54,7 +54,7 @@ pub extern "C" fn sgt_calls(
     ensures leaves { IsBusy engine.new.state → IsBusy engine.old.state }
     ensures stays { IsBusy engine.old.state → engine.new.state ≡ engine.old.state }
 {
-    // Given one after another to a new engine, the calls that a history told are told the same.
+    // If the calls that a history reports run one after another on a new engine, each gets the same result.
     reruns_agree();
     if engine.is_busy() {
         return status::BUSY;
@@ -88,7 +88,7 @@ fn pass(history: &History, from: u64, to: &mut [SgtCall]) -> Option<Passed>
     ensures rest { IfSome result (λ p. drop p.count to.new ≡ drop p.count to.old) }
     ensures none { IsNone result ↔ (length history.now.entries < from) }
     ensures unwritten { IfNone result (to.new ≡ to.old) }
-    ensures room { length to.new ≡ length to.old }
+    ensures capacity { length to.new ≡ length to.old }
 {
     if from > history.len() as u64 {
         return None;
@@ -102,12 +102,12 @@ fn pass_from(history: &History, from: usize, to: &mut [SgtCall]) -> Passed
     requires legal { IsLegal history.now.entries }
     ensures passed { ArePassed history.now.entries from to.new result.count result.next }
     ensures rest { drop result.count to.new ≡ drop result.count to.old }
-    ensures room { length to.new ≡ length to.old }
+    ensures capacity { length to.new ≡ length to.old }
 {
     let mut count = 0;
     let mut next = from;
     while next < history.len() && count < to.len() {
-        count = put(to, count, told_at(history, next));
+        count = put(to, count, reported_at(history, next));
         next += 1;
     }
     Passed { count, next }
@@ -117,11 +117,11 @@ fn pass_from(history: &History, from: usize, to: &mut [SgtCall]) -> Passed
 fn put(to: &mut [SgtCall], count: usize, call: Option<SgtCall>) -> usize
     requires { count < length to.old }
     ensures put { take result to.new ≡ take count to.old ++ listed (λ call. call) call }
-    ensures asked { All IsStartable (take count to.old) → IfSome call IsStartable → All IsStartable (take result to.new) }
+    ensures requested { All IsStartable (take count to.old) → IfSome call IsStartable → All IsStartable (take result to.new) }
     ensures accesses { (past : List Entry) → All (CountsAccesses past) (take count to.old) → IfSome call (CountsAccesses past)
         → All (CountsAccesses past) (take result to.new) }
     ensures rest { drop result to.new ≡ drop result to.old }
-    ensures room { length to.new ≡ length to.old }
+    ensures capacity { length to.new ≡ length to.old }
     ensures within { (count ≤ result) × (result ≤ length to.new) }
 {
     match call {
@@ -134,28 +134,28 @@ fn put(to: &mut [SgtCall], count: usize, call: Option<SgtCall>) -> usize
 }
 
 /// The call of the transaction that the entry at a position commits or refuses, if any.
-fn told_at(history: &History, place: usize) -> Option<SgtCall>
+fn reported_at(history: &History, place: usize) -> Option<SgtCall>
     requires within { place < length history.now.entries }
     requires legal { IsLegal history.now.entries }
-    ensures told { IsToldAt history.now.entries place result }
+    ensures reported { IsReportedAt history.now.entries place result }
     ensures accesses { IfSome result (CountsAccesses (reverse history.now.entries)) }
-    ensures asked { IfSome result IsStartable }
+    ensures requested { IfSome result IsStartable }
 {
     let entry = history.entry(place);
-    told_by(history, place, &entry)
+    reported_by(history, place, &entry)
 }
 
 /// The call of the transaction that an entry commits or refuses, if any. The entry follows those before a position.
 #[tactic(auto, using(crate::proofs::Replies::whole))]
-fn told_by(history: &History, place: usize, entry: &EntryRef<'_>) -> Option<SgtCall>
+fn reported_by(history: &History, place: usize, entry: &EntryRef<'_>) -> Option<SgtCall>
     requires within { place ≤ length history.now.entries }
     requires legal { IsLegal history.now.entries }
-    ensures calls { told_call_in (past_at history.now.entries place) entry.now.event entry.now.reply
+    ensures calls { reported_call_in (past_at history.now.entries place) entry.now.event entry.now.reply
         ≡ listed (call_in (past_at history.now.entries place)) result }
-    ensures results { told_in entry.now.reply ≡ listed result_in result }
+    ensures results { reported_in entry.now.reply ≡ listed result_in result }
     ensures ends { ends_by entry.now.event entry.now.reply ≡ listed ends_in result }
     ensures accesses { IfSome result (CountsAccesses (past_at history.now.entries place)) }
-    ensures asked { IfSome result IsStartable }
+    ensures requested { IfSome result IsStartable }
 {
     let t = subject(entry);
     match entry.short() {

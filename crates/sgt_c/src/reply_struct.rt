@@ -35,8 +35,8 @@ pub struct SgtReply {
 }
 
 impl SgtReply {
-    /// A blank struct, which says no reply.
-    pub fn blank() -> SgtReply
+    /// A struct of zeros, which holds no reply.
+    pub fn zeroed() -> SgtReply
         ensures { result.kind ≡ 0 }
     {
         SgtReply {
@@ -75,7 +75,7 @@ pub fn write_reply(into: &mut SgtReply, reply: &ShortReply, lists: &ReplyLists)
         ShortReply::Spent => into.kind = 4,
         ShortReply::Full => into.kind = 5,
         ShortReply::Unknown => into.kind = 6,
-        ShortReply::Over(fate) => write_over(into, *fate, &lists.walk),
+        ShortReply::Over(fate) => write_over(into, *fate, &lists.cycle),
         ShortReply::Looked { key, value } => write_access(into, 8, *key, *value),
         ShortReply::Wrote { key, value } => write_access(into, 9, *key, *value),
         ShortReply::Ended => into.kind = 10,
@@ -126,11 +126,11 @@ fn write_committed(into: &mut SgtReply, answers: &Answers)
 
 #[inline(never)]
 fn write_aborted(into: &mut SgtReply, cause: ShortCause, lists: &ReplyLists)
-    ensures reply { HoldsReply into.new (reply.Aborted (full_cause cause lists.now.walk) lists.now.fell) }
+    ensures reply { HoldsReply into.new (reply.Aborted (full_cause cause lists.now.cycle) lists.now.fell) }
     ensures kept { KeepsOtherFields into.old into.new }
 {
     into.kind = 14;
-    write_cause(into, cause, &lists.walk);
+    write_cause(into, cause, &lists.cycle);
     into.fallen = write_tids(&mut into.fell, &lists.fell);
 }
 

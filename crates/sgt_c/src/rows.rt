@@ -5,8 +5,8 @@ ghost use Rattle.sgt_model.specs.Numbers.{IsValue};
 ghost use Rattle.sgt_c.specs.Rows.{AreCounted, AreWritten, CountsRows, HoldRows, ReturnsRows, row_of, rows_from};
 ghost use Rattle.sgt_c.specs.Handles.{IsBusy, IsClosed};
 
-use crate::asked::keyed;
 use crate::handle::Handle;
+use crate::requested::keyed;
 use crate::row_struct::SgtRow;
 use crate::status;
 use sgt_assembly::SgtEngine;
@@ -33,7 +33,7 @@ pub extern "C" fn sgt_rows(
 ) -> u32
     ensures returned { result ≡ 0 → ReturnsRows engine.old.slot.held (table, number) rows.new count.new }
     ensures rest { drop count.new rows.new ≡ drop count.new rows.old }
-    ensures room { length rows.new ≡ length rows.old }
+    ensures capacity { length rows.new ≡ length rows.old }
     ensures bad_call { (result ≡ 5) ↔ (¬ ((table ≤ 7) × IsValue number)) }
     ensures busy { (result ≡ 10) ↔ (((table ≤ 7) × IsValue number) × IsBusy engine.old.state) }
     ensures closed { (result ≡ 2) ↔ (((table ≤ 7) × IsValue number) × IsClosed engine.old.state engine.old.slot.held) }
@@ -104,7 +104,7 @@ fn write_committed(
 ) -> Result<usize, NoMemory>
     ensures returned { IfOk result (λ count. AreWritten engine.old key to.new count) }
     ensures rest { IfOk result (λ count. drop count to.new ≡ drop count to.old) }
-    ensures room { length to.new ≡ length to.old }
+    ensures capacity { length to.new ≡ length to.old }
     ensures unwritten { OnErr result (to.new ≡ to.old) }
     ensures same { engine.new ≡ engine.old }
 {
@@ -137,7 +137,7 @@ fn write_from(rows: &[(Key, i64)], key: Key, to: &mut [SgtRow]) -> usize
     ensures written { HoldRows to.new (rows_from key rows.now) }
     ensures count { result ≡ length (rows_from key rows.now) }
     ensures rest { drop result to.new ≡ drop result to.old }
-    ensures room { length to.new ≡ length to.old }
+    ensures capacity { length to.new ≡ length to.old }
 {
     let from_key = rows_from(rows, key);
     write_rows(to, from_key);
@@ -166,15 +166,15 @@ fn rows_from(rows: &[(Key, i64)], key: Key) -> &[(Key, i64)]
 fn write_rows(to: &mut [SgtRow], rows: &[(Key, i64)])
     ensures returned { HoldRows to.new rows.now }
     ensures rest { drop (length rows.now) to.new ≡ drop (length rows.now) to.old }
-    ensures room { length to.new ≡ length to.old }
+    ensures capacity { length to.new ≡ length to.old }
 {
     let count = to.len().min(rows.len());
     for i in 0..count {
-        to[i] = told_row(&rows[i]);
+        to[i] = reported_row(&rows[i]);
     }
 }
 
-fn told_row(row: &(Key, i64)) -> SgtRow
+fn reported_row(row: &(Key, i64)) -> SgtRow
     ensures { row_of result ≡ row.now }
 {
     let (key, value) = *row;

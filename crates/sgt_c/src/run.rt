@@ -9,10 +9,10 @@ ghost use Rattle.sgt_c.specs.KeptFields.{KeepsOtherFields};
 ghost use Rattle.sgt_c.specs.Runs.{Ran, GaveUp, RunsTo, GivesUp, RunsOnTo, StepsTo, StopsLive, is_access, is_end, is_write};
 ghost use Rattle.sgt_c.specs.Handles.{IsBusy, IsClosed};
 
-use crate::asked::{arguments, is_call};
 use crate::handle::Handle;
 use crate::held::Held;
 use crate::reply_struct::{SgtReply, write_reply};
+use crate::requested::{arguments, is_call};
 use crate::status;
 use sgt_assembly::SgtEngine;
 use sgt_model::{Args, Event, NoMemory, ShortReply, Tid};
@@ -173,7 +173,7 @@ fn step_on(engine: &mut SgtEngine, t: Tid) -> Result<Steps, NoMemory>
         }
         wrote = is_write(&last) || wrote;
     }
-    // No memory can hold a history of so many entries.
+    // No memory can hold a history of that many entries.
     Err(NoMemory)
 }
 

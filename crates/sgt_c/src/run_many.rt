@@ -3,14 +3,14 @@ ghost use Rattle.std.specs.Prelude.{◌≡◌, ◌≢◌, ◌≤◌, ◌↔◌, 
 ghost use Rattle.std.specs.List.{All};
 ghost use Rattle.sgt_model.specs.declared.event.Event.TheVariants.{Start};
 ghost use Rattle.sgt_c.specs.KeptFields.{KeepOtherFields, KeepsOtherFields};
-ghost use Rattle.sgt_c.specs.ManyRuns.{GaveUpAt, IsAsked, RanAll, RanMany, RanOne, StoppedAt, args_in};
+ghost use Rattle.sgt_c.specs.ManyRuns.{GaveUpAt, IsRunnable, RanAll, RanMany, RanOne, StoppedAt, args_in};
 ghost use Rattle.sgt_c.specs.Runs.{GivesUp};
 ghost use Rattle.sgt_c.specs.Handles.{IsBusy, IsClosed};
 
-use crate::asked::arguments;
 use crate::call_struct::SgtCall;
 use crate::handle::Handle;
 use crate::outcome_struct::{SgtOutcome, write_outcome};
+use crate::requested::arguments;
 use crate::run::run;
 use crate::status;
 use sgt_assembly::SgtEngine;
@@ -39,19 +39,19 @@ pub extern "C" fn sgt_run_many(
         GaveUpAt done.new engine.old.slot.held calls.now outcomes.new engine.new.slot.held }
     ensures kept { result ≤ 1 → KeepOtherFields outcomes.old outcomes.new }
     ensures rest { result ≤ 1 → drop done.new outcomes.new ≡ drop done.new outcomes.old }
-    ensures room { length outcomes.new ≡ length outcomes.old }
+    ensures capacity { length outcomes.new ≡ length outcomes.old }
     ensures unchanged { 2 ≤ result → engine.new.slot.held ≡ engine.old.slot.held }
     ensures unwritten { 2 ≤ result → (outcomes.new ≡ outcomes.old) × (done.new ≡ done.old) }
-    ensures bad_call { (result ≡ 5) ↔ (¬ (All IsAsked calls.now × (length calls.now ≤ length outcomes.old))) }
-    ensures busy { (result ≡ 10) ↔ ((All IsAsked calls.now × (length calls.now ≤ length outcomes.old))
+    ensures bad_call { (result ≡ 5) ↔ (¬ (All IsRunnable calls.now × (length calls.now ≤ length outcomes.old))) }
+    ensures busy { (result ≡ 10) ↔ ((All IsRunnable calls.now × (length calls.now ≤ length outcomes.old))
         × IsBusy engine.old.state) }
-    ensures closed { (result ≡ 2) ↔ ((All IsAsked calls.now × (length calls.now ≤ length outcomes.old))
+    ensures closed { (result ≡ 2) ↔ ((All IsRunnable calls.now × (length calls.now ≤ length outcomes.old))
         × IsClosed engine.old.state engine.old.slot.held) }
     ensures statuses { result ≢ 10 → result ≢ 5 → result ≤ 2 }
     ensures leaves { IsBusy engine.new.state → IsBusy engine.old.state }
     ensures stays { IsBusy engine.old.state → engine.new.state ≡ engine.old.state }
 {
-    if !are_asked(calls) || calls.len() > outcomes.len() {
+    if !are_runnable(calls) || calls.len() > outcomes.len() {
         return status::BAD_CALL;
     }
     if engine.is_busy() {
@@ -76,19 +76,19 @@ pub extern "C" fn sgt_run_many(
 }
 
 /// Whether each call can be run: its procedure number and its number of arguments are in range, and it has no accesses.
-fn are_asked(calls: &[SgtCall]) -> bool
-    ensures { IsTrue result ↔ All IsAsked calls.now }
+fn are_runnable(calls: &[SgtCall]) -> bool
+    ensures { IsTrue result ↔ All IsRunnable calls.now }
 {
     for call in calls {
-        if !is_asked(call) {
+        if !is_runnable(call) {
             return false;
         }
     }
     true
 }
 
-fn is_asked(call: &SgtCall) -> bool
-    ensures { IsTrue result ↔ IsAsked call.now }
+fn is_runnable(call: &SgtCall) -> bool
+    ensures { IsTrue result ↔ IsRunnable call.now }
 {
     call.procedure <= 65_535 && call.args <= 4 && call.accesses == 0
 }
@@ -99,14 +99,14 @@ fn run_each(
     calls: &[SgtCall],
     outcomes: &mut [SgtOutcome],
 ) -> Result<(), usize>
-    requires asked { All IsAsked calls.now }
-    requires room { length calls.now ≤ length outcomes.old }
+    requires runnable { All IsRunnable calls.now }
+    requires capacity { length calls.now ≤ length outcomes.old }
     ensures ran { OnOk result (RanAll calls.now outcomes.new engine.old engine.new) }
     ensures rest_ok { OnOk result (drop (length calls.now) outcomes.new ≡ drop (length calls.now) outcomes.old) }
     ensures stopped { IfErr result (λ at. StoppedAt at calls.now outcomes.new engine.old engine.new) }
     ensures rest_err { IfErr result (λ at. drop at outcomes.new ≡ drop at outcomes.old) }
     ensures kept { KeepOtherFields outcomes.old outcomes.new }
-    ensures room { length outcomes.new ≡ length outcomes.old }
+    ensures capacity { length outcomes.new ≡ length outcomes.old }
 {
     for (index, call) in calls.iter().enumerate() {
         match run_one(engine, call, &mut outcomes[index]) {
@@ -119,7 +119,7 @@ fn run_each(
 
 /// Runs a call, and writes its outcome for C.
 fn run_one(engine: &mut SgtEngine, call: &SgtCall, into: &mut SgtOutcome) -> Result<(), NoMemory>
-    requires { IsAsked call.now }
+    requires { IsRunnable call.now }
     ensures ran { OnOk result (RanOne call.now into.new engine.old engine.new) }
     ensures gave_up { OnErr result ((started : Option ℕ)
         × GivesUp (Start call.now.procedure (args_in call.now)) started engine.old engine.new) }
@@ -137,7 +137,7 @@ fn run_one(engine: &mut SgtEngine, call: &SgtCall, into: &mut SgtOutcome) -> Res
 
 /// The arguments of a call.
 fn args(call: &SgtCall) -> Args
-    requires { IsAsked call.now }
+    requires { IsRunnable call.now }
     ensures { result ≡ args_in call.now }
 {
     arguments(&call.arg[..call.args as usize])

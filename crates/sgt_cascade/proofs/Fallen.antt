@@ -3,7 +3,7 @@ use Rattle.std.proofs.Common.{◌≡◌, ◌≢◌, ℕ, suc, ◌<◌, ◌≤◌
 use Rattle.std.proofs.lemmas.Bool.{true≢false, eq-eqb, eqb-true, and_parts, or_cases}
 use Rattle.std.specs.List.{filter}
 use Rattle.sgt_model.specs.State.{Has}
-use Rattle.sgt_model.specs.Walks.{Member, PathOf, last_of, Reaches}
+use Rattle.sgt_model.specs.Paths.{Member, PathOf, last_of, Reaches}
 use Rattle.sgt_model.proofs.Listed.{kept_member, member_kept}
 use Rattle.sgt_model.proofs.Paths.{last_of-append}
 use Rattle.sgt_cascade.specs.Standing.{stands, has_read}

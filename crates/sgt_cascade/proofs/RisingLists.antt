@@ -3,9 +3,9 @@ use Rattle.std.proofs.Common.{◌≡◌, ◌↔◌, ℕ, ◌+◌, ◌<◌, ◌�
 use Rattle.std.proofs.lemmas.Bool.{true≢false, eqb-true}
 use Rattle.std.proofs.lemmas.Bool.Decides.{nat_tests}
 use Rattle.std.proofs.lemmas.List.{take_more}
-use Rattle.sgt_model.specs.Walks.{Member, Rising}
+use Rattle.sgt_model.specs.Paths.{Member, Rising}
 use Rattle.sgt_model.proofs.Listed.{member_added}
-use Rattle.sgt_model.proofs.Room.{member_append}
+use Rattle.sgt_model.proofs.Capacity.{member_append}
 use Rattle.sgt_cascade.specs.Standing.{stands, with_member}
 
 -- the members are those of the list, and t

@@ -1,7 +1,7 @@
 //! Cascading aborts: which transactions abort with one that they have read from.
 ghost use Rattle.std.specs.Prelude.{◌≡◌, ◌≢◌, ◌↔◌, ℕ};
 ghost use Rattle.sgt_model.specs.State.{Has};
-ghost use Rattle.sgt_model.specs.Walks.{Member, Reaches, Rising};
+ghost use Rattle.sgt_model.specs.Paths.{Member, Reaches, Rising};
 
 use crate::standing::{fallen, has_reader, next_fall, without};
 use sgt_model::{Tid, Tids};

@@ -1,7 +1,7 @@
 //! The live transactions that still stand: those not yet known to be aborted in cascade.
 ghost use Rattle.std.specs.Prelude.{◌≡◌, ◌↔◌, ◌<◌, ◌≤◌, ℕ, true, false, not, nat_eq, IfSome, IsNone, ◌∷◌, ◌++◌, length, take, drop};
 ghost use Rattle.std.specs.List.{filter};
-ghost use Rattle.sgt_model.specs.Walks.{Member, Rising};
+ghost use Rattle.sgt_model.specs.Paths.{Member, Rising};
 ghost use Rattle.sgt_cascade.specs.Standing.{stands, has_read, with_member};
 
 use sgt_model::{Tid, Tids};
@@ -82,7 +82,7 @@ fn add(list: &mut Tids, t: Tid)
 
 /// The list with the transaction inserted at this index.
 fn inserted(list: &Tids, at: usize, t: Tid) -> Tids
-    requires room { length list.now < 32 }
+    requires capacity { length list.now < 32 }
     requires within { at ≤ length list.now }
     ensures { result ≡ take at list.now ++ t ∷ drop at list.now }
 {

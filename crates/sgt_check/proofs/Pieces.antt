@@ -31,9 +31,9 @@ on_ok (Ok x) P Q f p = f p
 on_ok (Err e) P Q f p = tt
 
 -- a class that is broken
-pub told_no : (name : List ℕ) (why : Violation → List ℕ) (o : Option Violation) (v : Violation) → o ≡ Some v
+pub reported_no : (name : List ℕ) (why : Violation → List ℕ) (o : Option Violation) (v : Violation) → o ≡ Some v
     → name ++ codes " no: " ++ why v ≡ class_text name why o
-told_no name why o v is = sym (ap (class_text name why) is)
+reported_no name why o v is = sym (ap (class_text name why) is)
 
 -- the text of an operation that there is
 pub placed_there : (h : History) (i : ℕ) (op : Operation) → slice_get h.operations.items i ≡ Some op

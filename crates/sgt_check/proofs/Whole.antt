@@ -8,21 +8,21 @@ use Rattle.sgt_check.specs.declared.fault.CheckFault.{CheckFault}
 use Rattle.sgt_check.specs.declared.fault.CheckFault.TheVariants.{Notation, NoOperations, TooLong, Reading, Writing, NoMemory}
 
 -- the lines of what was read are written
-pub is_told : (Tells : List ℕ → List ℕ → Bool → Type 0) (rest held held' : Option (List ℕ)) (text lines : List ℕ) (sound : Bool)
-    → IfSome rest (λ bytes. bytes ≡ text) → Tells text lines sound → Appends held held' lines
-    → IfSome rest (λ input. (output : List ℕ) × Appends held held' output × Tells input output sound)
-is_told Tells None held held' text lines sound same told appended = tt
-is_told Tells (Some bytes) held held' text lines sound same told appended =
-    (lines, appended, subst (λ t. Tells t lines sound) (sym same) told)
+pub is_reported : (Says : List ℕ → List ℕ → Bool → Type 0) (rest held held' : Option (List ℕ)) (text lines : List ℕ) (sound : Bool)
+    → IfSome rest (λ bytes. bytes ≡ text) → Says text lines sound → Appends held held' lines
+    → IfSome rest (λ input. (output : List ℕ) × Appends held held' output × Says input output sound)
+is_reported Says None held held' text lines sound same reported appended = tt
+is_reported Says (Some bytes) held held' text lines sound same reported appended =
+    (lines, appended, subst (λ t. Says t lines sound) (sym same) reported)
 
 -- the first bytes of those lines are written
-pub is_begun : (Tells : List ℕ → List ℕ → Bool → Type 0) (rest held held' : Option (List ℕ)) (text lines : List ℕ) (sound : Bool)
-    → IfSome rest (λ bytes. bytes ≡ text) → Tells text lines sound → ((k : ℕ) × Appends held held' (take k lines))
-    → IfSome rest (λ input. (output : List ℕ) × (sound : Bool) × (k : ℕ) × Tells input output sound
+pub is_begun : (Says : List ℕ → List ℕ → Bool → Type 0) (rest held held' : Option (List ℕ)) (text lines : List ℕ) (sound : Bool)
+    → IfSome rest (λ bytes. bytes ≡ text) → Says text lines sound → ((k : ℕ) × Appends held held' (take k lines))
+    → IfSome rest (λ input. (output : List ℕ) × (sound : Bool) × (k : ℕ) × Says input output sound
     × Appends held held' (take k output))
-is_begun Tells None held held' text lines sound same told part = tt
-is_begun Tells (Some bytes) held held' text lines sound same told part =
-    (lines, sound, part.0, subst (λ t. Tells t lines sound) (sym same) told, part.1)
+is_begun Says None held held' text lines sound same reported part = tt
+is_begun Says (Some bytes) held held' text lines sound same reported part =
+    (lines, sound, part.0, subst (λ t. Says t lines sound) (sym same) reported, part.1)
 
 -- an error of the text is an error of the input
 pub text_fault : (rest : Option (List ℕ)) (text : List ℕ) (f : CheckFault) → IfSome rest (λ bytes. bytes ≡ text) → IsFaultOf text f

@@ -13,7 +13,7 @@ use std::alloc::{AllocError, Global};
 pub(crate) const LONGEST_INPUT: usize = 268_435_456;
 
 /// How many bytes one read requests.
-const ROOM: usize = 65_536;
+const BUFFER: usize = 65_536;
 
 /// Reads all bytes of the source.
 ///
@@ -34,9 +34,9 @@ pub fn read_input<S: Source>(alloc: Global, source: &mut S) -> Result<Vec<u8>, C
     ensures no_other { result ≢ Err CheckFault.Writing }
 {
     let mut text = Vec::new(alloc);
-    let mut room = new_room(alloc)?;
+    let mut buffer = new_buffer(alloc)?;
     loop {
-        let Ok(count) = source.read(&mut room) else {
+        let Ok(count) = source.read(&mut buffer) else {
             return Err(CheckFault::Reading);
         };
         if count == 0 {
@@ -45,15 +45,15 @@ pub fn read_input<S: Source>(alloc: Global, source: &mut S) -> Result<Vec<u8>, C
         if count > LONGEST_INPUT - text.len() {
             return Err(CheckFault::TooLong);
         }
-        append(&mut text, &room[..count])?;
+        append(&mut text, &buffer[..count])?;
     }
 }
 
 /// A buffer for one read.
-fn new_room(alloc: Global) -> Result<Vec<u8>, NoMemory>
-    ensures { IfOk result (λ room. length room.items ≡ 65536) }
+fn new_buffer(alloc: Global) -> Result<Vec<u8>, NoMemory>
+    ensures { IfOk result (λ buffer. length buffer.items ≡ 65536) }
 {
-    Ok(vec![in alloc; 0; ROOM]?)
+    Ok(vec![in alloc; 0; BUFFER]?)
 }
 
 /// Appends bytes to a text.

@@ -36,7 +36,7 @@ order_begins h left are = record {
   later = λ t c is. omega arith;
 }
 
--- one that is left commits where it is said
+-- one that is left commits at the stated position
 commits_there : (h : List Operation) (p : ℕ) (order : List ℕ) (left : ℕ → Option ℕ) (t c : ℕ) → IsCommitOrder h p order left
     → left t ≡ Some c → IsFirstCommit h (length h) t (Some c)
 commits_there h p order left t c is at = (is.ordered [] (no_edges h)).first_commits t c at
@@ -122,7 +122,7 @@ pub none_of : (o : Option ℕ) → is_some o ≡ false → o ≡ None
 none_of None no_one = refl
 none_of (Some c) one = absurd (grind (arith, common_steps, one))
 
--- at the end nobody is left, and the order is a serial one
+-- at the end no transaction is left, and the order is a serial one
 pub order_serial : (h : List Operation) (p : ℕ) (order : List ℕ) (left : ℕ → Option ℕ) → length h ≤ p → IsCommitOrder h p order left
     → IsSerialOrder h order × TakesFirst h order
 order_serial h p order left whole is = (

@@ -12,7 +12,7 @@ use Rattle.sgt_classes.specs.Serializability.{Commits, Conflict, IsEdge, IsPath,
 use Rattle.sgt_classes.specs.Equivalence.{is_commit, has_committed, IsSerializable, serial_history, SerializabilityTheorem, SerialOrdersAreEnough, CyclesAreEnough, CommitOrderedAreSerializable}
 use Rattle.sgt_classes.proofs.Places.{before_next, does_at, does_same, uses_within}
 use Rattle.sgt_classes.proofs.EdgeChains.{same_at}
-use Rattle.sgt_classes.proofs.ClosedWalks.{nothing_there}
+use Rattle.sgt_classes.proofs.ClosedPaths.{nothing_there}
 use Rattle.sgt_classes.proofs.Filters.{kept_there, kept_found}
 use Rattle.sgt_classes.proofs.Insertions.{IsPathBy, StandsIn, ordered_by}
 use Rattle.sgt_classes.proofs.CommitOrder.{commit_ordered_acyclic}

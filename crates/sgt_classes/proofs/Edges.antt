@@ -14,7 +14,7 @@ use Rattle.sgt_classes.specs.Seen.{IsLastWrite, AreLastWrites, IsLastRead, IsOve
 use Rattle.sgt_classes.proofs.Places.{doer_at, operation_at, done_at, done_by, before_next, does_same, uses_item, item_uses}
 use Rattle.sgt_classes.proofs.Sources.{same_doer, same_action}
 
--- what stands in a list with one more at the end
+-- the members of a list with one more at the end
 pub pushed : {X : Type 0} (xs : List X) (new x : X) (k : ℕ) → slice_get (xs ++ new ∷ []) k ≡ Some x
     → ((k < length xs) × (slice_get xs k ≡ Some x)) ⊎ ((k ≡ length xs) × (new ≡ x))
 pushed [] new x zero at = inr (refl, grind (arith, common_steps, at))

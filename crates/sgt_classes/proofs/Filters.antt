@@ -3,7 +3,7 @@ use Rattle.std.proofs.Common.{◌≡◌, ◌<◌, ◌+◌, ◌⊎◌, ℕ, zero,
 use Rattle.std.specs.Prelude.{slice_get, filter}
 use Rattle.std.specs.List.{list_any}
 use Rattle.std.proofs.lemmas.Bool.{cases_eq, cases_lt, or_left, or_right, or_cases, both_ways}
-use Rattle.sgt_classes.proofs.ClosedWalks.{nothing_there}
+use Rattle.sgt_classes.proofs.ClosedPaths.{nothing_there}
 
 -- the element at 0 is the first
 front_is : {X : Type 0} (y : X) (ys : List X) (x : X) → slice_get (y ∷ ys) 0 ≡ Some x → y ≡ x

@@ -13,8 +13,8 @@ use Rattle.sgt_classes.specs.declared.first_accesses.Kind.TheVariants.{Any, Writ
 use Rattle.sgt_classes.specs.Histories.{Does, Uses, item_of}
 use Rattle.sgt_classes.specs.Serializability.{Conflict, IsProjectionInPlace}
 use Rattle.sgt_classes.specs.Seen.{HasEdge, IsConflictBy, height}
-use Rattle.sgt_classes.specs.FirstConflicts.{IsNoLater, IsToldBefore, IsFirstConflict, AreFirstConflicts}
-use Rattle.sgt_classes.specs.FirstAccesses.{IsAccess, IsFirstAccess, IsLastFirst, IsSomeAccess, AreRivals, IsRepeated, IsFirstBy, ArePairs, AreConflicts, IsFirstRival, AreToldAbove}
+use Rattle.sgt_classes.specs.FirstConflicts.{IsNoLater, IsReportedBefore, IsFirstConflict, AreFirstConflicts}
+use Rattle.sgt_classes.specs.FirstAccesses.{IsAccess, IsFirstAccess, IsLastFirst, IsSomeAccess, AreRivals, IsRepeated, IsFirstBy, ArePairs, AreConflicts, IsFirstRival, AreReportedAbove}
 use Rattle.sgt_classes.proofs.Places.{before_next, uses_item, uses_within, there, does_at}
 use Rattle.sgt_classes.proofs.Sources.{same_doer, same_action}
 use Rattle.sgt_classes.proofs.Edges.{pushed, has_kept, has_new}
@@ -25,21 +25,21 @@ pub conflicts_lower : (q : List Operation) (p n m : ℕ) (es : List Edge) (pairs
     → AreConflicts q p m es pairs
 conflicts_lower q p n m es pairs most are = record {
   are_first = are.are_first;
-  are_told = are.are_told;
+  are_reported = are.are_reported;
   are_pairs = are.are_pairs;
   order = are.order;
-  tellable = λ k e at. elim (are.tellable k e at) [
+  reportable = λ k e at. elim (are.reportable k e at) [
     | inl before ↦ inl before
     | inr here ↦ inr (here.0, omega (arith, most, here.1))
   ];
 }
 
--- one more is told
-pub conflicts_told : (q : List Operation) (p i t u : ℕ) (es : List Edge) (pairs pairs' : ℕ × ℕ → Option ℕ) → t ≢ u → i < p
+-- one more is reported
+pub conflicts_reported : (q : List Operation) (p i t u : ℕ) (es : List Edge) (pairs pairs' : ℕ × ℕ → Option ℕ) → t ≢ u → i < p
     → Conflict q i t p u → ((k : ℕ) → k < i → ¬ Conflict q k t p u) → pairs (t, u) ≡ None → pairs' (t, u) ≡ Some p
     → ((r : ℕ × ℕ) → r ≢ (t, u) → pairs' r ≡ pairs r) → AreConflicts q p (i + 1) es pairs
     → AreConflicts q p i (es ++ record { from = t; to = u; earlier = i; later = p } ∷ []) pairs'
-conflicts_told q p i t u es pairs pairs' differ order conflict no_earlier none here others are = record {
+conflicts_reported q p i t u es pairs pairs' differ order conflict no_earlier none here others are = record {
   are_first = λ k e at. elim (pushed es new e k at) [
     | inl w ↦ are.are_first k e w.1
     | inr w ↦ subst (λ f. IsFirstBy q f) w.1 (record {
@@ -47,11 +47,11 @@ conflicts_told q p i t u es pairs pairs' differ order conflict no_earlier none h
       first = first;
     })
   ];
-  are_told = λ j v k w less before apart made. has_kept es new v w (are.are_told j v k w less before apart made);
+  are_reported = λ j v k w less before apart made. has_kept es new v w (are.are_reported j v k w less before apart made);
   are_pairs = are_pairs;
-  order = told_before;
-  tellable = λ k e at. elim (pushed es new e k at) [
-    | inl w ↦ elim (are.tellable k e w.1) [
+  order = reported_before;
+  reportable = λ k e at. elim (pushed es new e k at) [
+    | inl w ↦ elim (are.reportable k e w.1) [
       | inl before ↦ inl before
       | inr same ↦ inr (same.0, omega (arith, same.1))
     ]
@@ -62,15 +62,15 @@ conflicts_told q p i t u es pairs pairs' differ order conflict no_earlier none h
     new : Edge
     new = record { from = t; to = u; earlier = i; later = p }
 
-    untold : ¬ HasEdge es t u
-    untold has = let some = (are.are_pairs t u).1 has in grind (arith, common_steps, none, some)
+    without_result : ¬ HasEdge es t u
+    without_result has = let some = (are.are_pairs t u).1 has in grind (arith, common_steps, none, some)
 
     first : (f : Edge) → IsConflictBy q f → f.from ≡ t → f.to ≡ u → IsNoLater new f
     first f made from to =
         let between : Conflict q f.earlier t f.later u =
         subst (λ w. Conflict q f.earlier t f.later w) to (subst (λ v. Conflict q f.earlier v f.later f.to) from made.conflict) in
         elim (cases_lt f.later p) [
-          | inl before ↦ absurd (untold (are.are_told f.earlier t f.later u before made.order differ between))
+          | inl before ↦ absurd (without_result (are.are_reported f.earlier t f.later u before made.order differ between))
           | inr most ↦ elim (cases_eq p f.later) [
             | inl same ↦ elim (cases_lt f.earlier i) [
               | inl less ↦ absurd (no_earlier f.earlier less (subst (λ n. Conflict q f.earlier t n u) (sym same) between))
@@ -104,12 +104,12 @@ conflicts_told q p i t u es pairs pairs' differ order conflict no_earlier none h
       | inr apart ↦ other_pair v w (λ one. apart (ap (λ (r : ℕ × ℕ). r.0) one)) (λ one. apart (sym one.0))
     ]
 
-    told_before : (j k : ℕ) (e f : Edge) → j < k → slice_get (es ++ new ∷ []) j ≡ Some e → slice_get (es ++ new ∷ []) k ≡ Some f
-        → IsToldBefore e f
-    told_before j k e f less at other = elim (pushed es new e j at) [
+    reported_before : (j k : ℕ) (e f : Edge) → j < k → slice_get (es ++ new ∷ []) j ≡ Some e → slice_get (es ++ new ∷ []) k ≡ Some f
+        → IsReportedBefore e f
+    reported_before j k e f less at other = elim (pushed es new e j at) [
       | inl old ↦ elim (pushed es new f k other) [
         | inl its ↦ are.order j k e f less old.1 its.1
-        | inr one ↦ subst (λ g. IsToldBefore e g) one.1 (elim (are.tellable j e old.1) [
+        | inr one ↦ subst (λ g. IsReportedBefore e g) one.1 (elim (are.reportable j e old.1) [
           | inl before ↦ inl before
           | inr same ↦ inr (same.0, omega (arith, same.1))
         ])
@@ -132,20 +132,20 @@ use_does : (q : List Operation) (p u x : ℕ) → Uses q p u x → (b : Action) 
 use_does q p u x (inl read) = (Read x, read)
 use_does q p u x (inr wrote) = (Write x, wrote)
 
--- all conflicts of the operation are told
+-- all conflicts of the operation are reported
 pub conflicts_after : (kind : Kind) (q : List Operation) (p n x : ℕ) (es : List Edge) (pairs : ℕ × ℕ → Option ℕ)
     → AreConflicts q p n es pairs → AreRivals q p x kind
     → ((u k t : ℕ) (b : Action) → Does q p u b → k < p → t ≢ u → IsFirstAccess kind q k t x → HasEdge es t u)
     → AreConflicts q (p + 1) (p + 1) es pairs
-conflicts_after kind q p n x es pairs are rivals told = record {
+conflicts_after kind q p n x es pairs are rivals reported = record {
   are_first = are.are_first;
-  are_told = λ i t k u less order differ conflict. elim (before_next k p less) [
-    | inl earlier ↦ are.are_told i t k u earlier order differ conflict
+  are_reported = λ i t k u less order differ conflict. elim (before_next k p less) [
+    | inl earlier ↦ are.are_reported i t k u earlier order differ conflict
     | inr same ↦ here i t u (subst (λ m. i < m) same order) differ (subst (λ m. Conflict q i t m u) same conflict)
   ];
   are_pairs = are.are_pairs;
   order = are.order;
-  tellable = λ k e at. elim (are.tellable k e at) [
+  reportable = λ k e at. elim (are.reportable k e at) [
     | inl before ↦ inl (omega (arith, before))
     | inr same ↦ inl (omega (arith, same.0))
   ];
@@ -160,7 +160,7 @@ conflicts_after kind q p n x es pairs are rivals told = record {
         by : (o : Option ℕ) → pairs (t, u) ≡ o → HasEdge es t u
         by (Some m) is = (are.are_pairs t u).0 (subst (λ o. IsSome o) (sym is) refl)
         by None is = absurd (no_access kind q p t x
-            (λ k within first. let some = (are.are_pairs t u).1 (told u k t does.0 does.1 within differ first) in
+            (λ k within first. let some = (are.are_pairs t u).1 (reported u k t does.0 does.1 within differ first) in
             grind (arith, common_steps, is, some))
             (i + 1) i (omega arith) less ((rivals i t u does.0 does.1).0 conflict))
 
@@ -169,8 +169,8 @@ pub conflicts_end : (q : List Operation) (p n w : ℕ) (a : Action) (es : List E
     → item_of a ≡ None → AreConflicts q p n es pairs → AreConflicts q (p + 1) (p + 1) es pairs
 conflicts_end q p n w a es pairs does none are = record {
   are_first = are.are_first;
-  are_told = λ i t k u less order differ conflict. elim (before_next k p less) [
-    | inl earlier ↦ are.are_told i t k u earlier order differ conflict
+  are_reported = λ i t k u less order differ conflict. elim (before_next k p less) [
+    | inl earlier ↦ are.are_reported i t k u earlier order differ conflict
     | inr same ↦
         let used : Uses q p u conflict.0 = subst (λ m. Uses q m u conflict.0) same conflict.2 in
         let at = (uses_item q p (record { transaction = w; action = a }) u conflict.0 does used).1 in
@@ -178,7 +178,7 @@ conflicts_end q p n w a es pairs does none are = record {
   ];
   are_pairs = are.are_pairs;
   order = are.order;
-  tellable = λ k e at. elim (are.tellable k e at) [
+  reportable = λ k e at. elim (are.reportable k e at) [
     | inl before ↦ inl (omega (arith, before))
     | inr same ↦ inl (omega (arith, same.0))
   ];
@@ -225,23 +225,23 @@ repeated_write q p w x s (Some m) same does is i t u b less at used =
     (omega (arith, same, is.0), (x, used, inr mine, inr mine))
 
 -- above the last first access there is none
-pub told_from_last : (kind : Kind) (q : List Operation) (es : List Edge) (p x u : ℕ) (o : Option ℕ) → IsLastFirst kind q p x o
-    → AreToldAbove kind q es p x u o
-told_from_last kind q es p x u None none = λ k t less differ first. absurd (none k t less first)
-told_from_last kind q es p x u (Some i) is = (is.0, is.1, λ k t after less differ first. absurd (is.2 k t after less first))
+pub reported_from_last : (kind : Kind) (q : List Operation) (es : List Edge) (p x u : ℕ) (o : Option ℕ) → IsLastFirst kind q p x o
+    → AreReportedAbove kind q es p x u o
+reported_from_last kind q es p x u None none = λ k t less differ first. absurd (none k t less first)
+reported_from_last kind q es p x u (Some i) is = (is.0, is.1, λ k t after less differ first. absurd (is.2 k t after less first))
 
 -- the last first access is before the place
 pub last_within : (kind : Kind) (q : List Operation) (p x : ℕ) (o : Option ℕ) → IsLastFirst kind q p x o → height o ≤ p
 last_within kind q p x None none = omega arith
 last_within kind q p x (Some i) is = omega (arith, is.0)
 
--- the first access from which on all are told
-pub told_from : (kind : Kind) (q : List Operation) (es : List Edge) (p x i : ℕ) (o : Option ℕ) → p < length q → o ≡ Some i
-    → ((u : ℕ) (b : Action) → Does q p u b → AreToldAbove kind q es p x u o) → (i < p) × ((t : ℕ) × IsFirstAccess kind q i t x)
-told_from kind q es p x i o within is above =
+-- the first access from which on all are reported
+pub reported_from : (kind : Kind) (q : List Operation) (es : List Edge) (p x i : ℕ) (o : Option ℕ) → p < length q → o ≡ Some i
+    → ((u : ℕ) (b : Action) → Does q p u b → AreReportedAbove kind q es p x u o) → (i < p) × ((t : ℕ) × IsFirstAccess kind q i t x)
+reported_from kind q es p x i o within is above =
     let op : Operation = slice_index_or q p (record { transaction = 0; action = Read 0 }) in
-    let at : AreToldAbove kind q es p x op.transaction (Some i) =
-    subst (λ s. AreToldAbove kind q es p x op.transaction s) is
+    let at : AreReportedAbove kind q es p x op.transaction (Some i) =
+    subst (λ s. AreReportedAbove kind q es p x op.transaction s) is
     (above op.transaction op.action (does_at q p op op.action (there q p within) refl)) in
     (at.0, at.1)
 
@@ -256,17 +256,17 @@ first_rival kind q p x i v rivals first t u a b does at =
     accessor Any (inr wrote) = same_doer q i v t _ _ wrote does
     accessor Writes wrote = same_doer q i v t _ _ wrote does
 
--- below one that is told is the next
-pub told_further : (kind : Kind) (q : List Operation) (es es' : List Edge) (p x u i : ℕ) (b : Action) (o : Option ℕ) → Does q p u b
-    → AreToldAbove kind q es p x u (Some i) → ((t w : ℕ) → HasEdge es t w → HasEdge es' t w)
+-- the next one is below one that is reported
+pub reported_further : (kind : Kind) (q : List Operation) (es es' : List Edge) (p x u i : ℕ) (b : Action) (o : Option ℕ) → Does q p u b
+    → AreReportedAbove kind q es p x u (Some i) → ((t w : ℕ) → HasEdge es t w → HasEdge es' t w)
     → ((t w : ℕ) (c d : Action) → Does q i t c → Does q p w d → t ≢ w → HasEdge es' t w) → IsLastFirst kind q i x o
-    → AreToldAbove kind q es' p x u o
-told_further kind q es es' p x u i b o does above kept told lower = go o lower
+    → AreReportedAbove kind q es' p x u o
+reported_further kind q es es' p x u i b o does above kept reported lower = go o lower
   where
     here : (c : Kind) (t : ℕ) → IsAccess c q i t x → t ≢ u → HasEdge es' t u
-    here Any t (inl read) differ = told t u _ b read does differ
-    here Any t (inr wrote) differ = told t u _ b wrote does differ
-    here Writes t wrote differ = told t u _ b wrote does differ
+    here Any t (inl read) differ = reported t u _ b read does differ
+    here Any t (inr wrote) differ = reported t u _ b wrote does differ
+    here Writes t wrote differ = reported t u _ b wrote does differ
 
     rest : (k t : ℕ) → ¬ (k < i) → k < p → t ≢ u → IsFirstAccess kind q k t x → HasEdge es' t u
     rest k t not_under less differ first = elim (cases_lt i k) [
@@ -277,7 +277,7 @@ told_further kind q es es' p x u i b o does above kept told lower = go o lower
       ]
     ]
 
-    go : (s : Option ℕ) → IsLastFirst kind q i x s → AreToldAbove kind q es' p x u s
+    go : (s : Option ℕ) → IsLastFirst kind q i x s → AreReportedAbove kind q es' p x u s
     go None none = λ k t less differ first. rest k t (λ under. none k t under first) less differ first
     go (Some n) is = (
       omega (arith, above.0, is.0),
@@ -285,25 +285,25 @@ told_further kind q es es' p x u i b o does above kept told lower = go o lower
       λ k t after less differ first. rest k t (λ under. is.2 k t after under first) less differ first,
     )
 
--- the rest are told by the operation that is repeated
-pub told_by_repeated : (kind : Kind) (q : List Operation) (p n x i s w : ℕ) (es : List Edge) (pairs : ℕ × ℕ → Option ℕ)
-    → AreConflicts q p n es pairs → IsRepeated q p x kind s → i < s → AreToldAbove kind q es p x w (Some i)
+-- the rest are reported by the operation that is repeated
+pub reported_by_repeated : (kind : Kind) (q : List Operation) (p n x i s w : ℕ) (es : List Edge) (pairs : ℕ × ℕ → Option ℕ)
+    → AreConflicts q p n es pairs → IsRepeated q p x kind s → i < s → AreReportedAbove kind q es p x w (Some i)
     → (k t : ℕ) (b : Action) → Does q p w b → k < p → t ≢ w → IsFirstAccess kind q k t x → HasEdge es t w
-told_by_repeated kind q p n x i s w es pairs are repeated less above k t b does within differ first = elim (cases_lt i k) [
+reported_by_repeated kind q p n x i s w es pairs are repeated less above k t b does within differ first = elim (cases_lt i k) [
   | inl after ↦ above.2 k t after within differ first
   | inr most ↦
       let under : k < s = omega (arith, most, less) in
-      let made = repeated k t w b under does first.0 in are.are_told k t s w made.0 under differ made.1
+      let made = repeated k t w b under does first.0 in are.are_reported k t s w made.0 under differ made.1
 ]
 
--- of two edges of the same two transactions none is told before the other
-pub told_once : (h : List Operation) (e f : Edge) → IsFirstConflict h e → IsFirstConflict h f → e.from ≡ f.from → e.to ≡ f.to
-    → ¬ IsToldBefore e f
-told_once h e f one other from to before =
+-- of two edges of the same two transactions, neither is reported before the other
+pub reported_once : (h : List Operation) (e f : Edge) → IsFirstConflict h e → IsFirstConflict h f → e.from ≡ f.from → e.to ≡ f.to
+    → ¬ IsReportedBefore e f
+reported_once h e f one other from to before =
     let ahead = one.first f other.edge (sym from) (sym to) in
-    let behind = other.first e one.edge from to in
+    let following = other.first e one.edge from to in
     elim before [
-      | inl less ↦ elim behind [
+      | inl less ↦ elim following [
         | inl more ↦ omega (arith, less, more)
         | inr same ↦ omega (arith, less, same.0)
       ]
@@ -328,12 +328,12 @@ first_conflicts_of h q n es pairs is are = record {
         conflict = edge.conflict;
       }) in
       let within = uses_within q edge.later u made.conflict.0 made.conflict.2 in
-      are.are_told edge.place t edge.later u within edge.order edge.differ made.conflict;
+      are.are_reported edge.place t edge.later u within edge.order edge.differ made.conflict;
   once = λ i j e f at other from to. elim (cases_lt i j) [
-    | inl less ↦ absurd (told_once h e f (are_first i e at) (are_first j f other) from to (are.order i j e f less at other))
+    | inl less ↦ absurd (reported_once h e f (are_first i e at) (are_first j f other) from to (are.order i j e f less at other))
     | inr most ↦ elim (cases_eq i j) [
       | inl same ↦ same
-      | inr apart ↦ absurd (told_once h f e (are_first j f other) (are_first i e at) (sym from) (sym to)
+      | inr apart ↦ absurd (reported_once h f e (are_first j f other) (are_first i e at) (sym from) (sym to)
           (are.order j i f e (omega (arith, most, apart)) other at))
     ]
   ];

@@ -2,7 +2,7 @@
 use Rattle.std.proofs.Common.{◌≡◌, ◌<◌, ◌≤◌, ◌+◌, ◌⊎◌, ◌↔◌, ℕ, zero, suc, List, [], ◌∷◌, length, Some, refl, sym, ap, ◌∙◌, subst, inl, inr, arith}
 use Rattle.std.specs.Prelude.{slice_get}
 use Rattle.std.proofs.lemmas.Bool.{cases_eq}
-use Rattle.sgt_classes.proofs.ClosedWalks.{nothing_there}
+use Rattle.sgt_classes.proofs.ClosedPaths.{nothing_there}
 
 -- the relation has a path from t through the others to u
 abbrev pub IsPathBy : (ℕ → ℕ → Type 0) → ℕ → List ℕ → ℕ → Type 0

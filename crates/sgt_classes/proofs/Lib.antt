@@ -11,7 +11,7 @@ pub mod Sources
 pub mod DirtyReads
 pub mod Rigorousness
 pub mod EdgeChains
-pub mod ClosedWalks
+pub mod ClosedPaths
 pub mod Orderings
 pub mod Waiting
 pub mod FirstWaits

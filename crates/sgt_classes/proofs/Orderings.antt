@@ -13,7 +13,7 @@ use Rattle.sgt_classes.specs.SerialOrders.{MayComeAt, TakesFirst}
 use Rattle.sgt_classes.specs.Seen.{IsFirstCommit, AreFirstCommits}
 use Rattle.sgt_classes.specs.Sorting.{IsFree, IsFirstFree}
 use Rattle.sgt_classes.proofs.Edges.{pushed, kept_pushed, at_end}
-use Rattle.sgt_classes.proofs.ClosedWalks.{nothing_there}
+use Rattle.sgt_classes.proofs.ClosedPaths.{nothing_there}
 
 -- what is kept of the order so far, and of those that are left, with where they commit
 pub record AreOrdered (h : List Operation) (es : List Edge) (order : List ℕ) (left : ℕ → Option ℕ) : Type 0 where

@@ -65,7 +65,7 @@ pub does_at : (h : List Operation) (i : ℕ) (op : Operation) (a : Action) → s
     → Does h i op.transaction a
 does_at h i op a at same = at ∙ ap (λ (b : Action). Some (record { transaction = op.transaction; action = b })) same
 
--- what is done at a place within the history, and by nobody else
+-- what is done at a place within the history, and by no other transaction
 pub done_at : (h : List Operation) (i : ℕ) (a : Action) → i < length h → (operation_at h i).action ≡ a → Does h i (doer_at h i) a
 done_at h i a within same = does_at h i (operation_at h i) a (there h i within) same
 

@@ -12,7 +12,7 @@ use Rattle.sgt_classes.specs.Serializability.{Commits, Conflict, IsEdge, IsPath,
 use Rattle.sgt_classes.specs.Equivalence.{Aborts, is_commit, has_committed, committed_projection, operations_of, IsSameOperation, IsWhollyBefore, IsSerialHistory, IsSerialRun, IsSerializable, serial_history}
 use Rattle.sgt_classes.proofs.Places.{does_at}
 use Rattle.sgt_classes.proofs.EdgeChains.{same_at}
-use Rattle.sgt_classes.proofs.ClosedWalks.{nothing_there}
+use Rattle.sgt_classes.proofs.ClosedPaths.{nothing_there}
 use Rattle.sgt_classes.proofs.Filters.{kept_there, kept_rises, kept_apart, kept_found, same_filtered, none_filtered, joined_cases, any_at, any_found}
 
 -- the test for a commit accepts only a commit

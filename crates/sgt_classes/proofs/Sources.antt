@@ -288,7 +288,7 @@ pub no_source : (h : List Operation) (p t x : ℕ) (o : Option ℕ) → Does h p
 no_source h p t x None does top none = reads_none h p t x does top
 no_source h p t x (Some i) does top none = absurd (cc)
 
--- what is kept, after the top of an item is looked up and set
+-- the invariant, after the newest version of an item is read and set
 pub sources_found : (h : List Operation) (p x : ℕ) (tops below commits aborts tops' : ℕ → Option ℕ) (o : Option ℕ)
     → AreSources h p tops below commits aborts → IsTopWrite h p x o → tops' x ≡ o → ((y : ℕ) → y ≢ x → tops' y ≡ tops y)
     → AreSources h p tops' below commits aborts

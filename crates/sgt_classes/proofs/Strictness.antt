@@ -26,7 +26,7 @@ strict_no_item h p op at none before = strict_next h p before go
     go : (i : ℕ) → ¬ BreaksStrictness h i p
     go i broken = let used = uses_item h p op broken.user broken.item at broken.used in grind (arith, common_steps, none, used.1)
 
--- an operation on an item that nobody has written
+-- an operation on an item that no transaction has written
 pub strict_no_write : (h : List Operation) (p : ℕ) (op : Operation) (x : ℕ) → slice_get h p ≡ Some op → item_of op.action ≡ Some x
     → IsLastWrite h p x None → IsStrictBefore h p → IsStrictBefore h (p + 1)
 strict_no_write h p op x at item last before = strict_next h p before go

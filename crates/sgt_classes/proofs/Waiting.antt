@@ -124,7 +124,7 @@ pub waits_still : (es : List Edge) (left tops tops' : ℕ → Option ℕ) (below
     → IsTopEdge es left t top → (tops t ≡ None → top ≡ None) → tops' t ≡ top → ((u : ℕ) → u ≢ t → tops' u ≡ tops u) → below' ≡ below
     → ((d u : ℕ) → ready' d ≡ Some u → (ready d ≡ Some u) ⊎ ((d ≡ c) × (u ≡ t) × (top ≡ None))) → KnowsWatched watched'
     → AreWaits es left tops' (link_of below') ready' watched'
-waits_still es left tops tops' below below' ready ready' watched watched' t c top waits is found stays here others same told knows =
+waits_still es left tops tops' below below' ready ready' watched watched' t c top waits is found stays here others same reported knows =
     record {
       apart = waits.apart;
       tops_are = λ u. elim (cases_eq u t) [
@@ -137,7 +137,7 @@ waits_still es left tops tops' below below' ready ready' watched watched' t c to
       ];
       below_are = subst (λ b. (k : ℕ) (e : Edge) → slice_get es k ≡ Some e → IsLastEdge To es k e.to (link_of b k)) (sym same)
           waits.below_are;
-      ready_are = λ d u at. elim (told d u at) [
+      ready_are = λ d u at. elim (reported d u at) [
         | inl old ↦ let before = waits.ready_are d u old in (
           before.0,
           elim (cases_eq u t) [

@@ -16,7 +16,7 @@ use Rattle.sgt_classes.specs.Serializability.{Conflict}
 use Rattle.sgt_classes.specs.Seen.{IsConflictBy, HasEdge}
 use Rattle.sgt_classes.specs.Links.{link_of}
 use Rattle.sgt_classes.specs.Tables.{entry_of}
-use Rattle.sgt_classes.specs.FirstConflicts.{IsNoLater, IsToldBefore}
+use Rattle.sgt_classes.specs.FirstConflicts.{IsNoLater, IsReportedBefore}
 
 -- two numbers, ordered by the first, and by the second if the first are equal
 abbrev pub pair_cmp : ℕ × ℕ → ℕ × ℕ → Ordering
@@ -76,12 +76,12 @@ pub record IsFirstBy (q : List Operation) (e : Edge) : Type 0 where
   pub first : (f : Edge) → IsConflictBy q f → f.from ≡ e.from → f.to ≡ e.to → IsNoLater e f
 
 -- the conflicts whose later operation is before position j have edges
-abbrev pub AreTold : List Operation → List Edge → ℕ → Type 0
-AreTold q edges j = (i t k u : ℕ) → k < j → i < k → t ≢ u → Conflict q i t k u → HasEdge edges t u
+abbrev pub AreReported : List Operation → List Edge → ℕ → Type 0
+AreReported q edges j = (i t k u : ℕ) → k < j → i < k → t ≢ u → Conflict q i t k u → HasEdge edges t u
 
 -- the edges have their later operation before position j, or at it and the earlier one from position n on
-abbrev pub AreTellable : List Edge → ℕ → ℕ → Type 0
-AreTellable edges j n = (k : ℕ) (e : Edge) → slice_get edges k ≡ Some e → (e.later < j) ⊎ ((e.later ≡ j) × (n ≤ e.earlier))
+abbrev pub AreReportable : List Edge → ℕ → ℕ → Type 0
+AreReportable edges j n = (k : ℕ) (e : Edge) → slice_get edges k ≡ Some e → (e.later < j) ⊎ ((e.later ≡ j) × (n ≤ e.earlier))
 
 -- two transactions have an entry exactly if an edge leads from the first to the second
 abbrev pub ArePairs : List Edge → (ℕ × ℕ → Option ℕ) → Type 0
@@ -90,14 +90,14 @@ ArePairs edges pairs = (t u : ℕ) → IsSome (pairs (t, u)) ↔ HasEdge edges t
 -- the stored conflicts before position j, and those of the operation at j with operations from position n on
 pub record AreConflicts (q : List Operation) (j n : ℕ) (edges : List Edge) (pairs : ℕ × ℕ → Option ℕ) : Type 0 where
   pub are_first : (k : ℕ) (e : Edge) → slice_get edges k ≡ Some e → IsFirstBy q e
-  pub are_told : AreTold q edges j
+  pub are_reported : AreReported q edges j
   pub are_pairs : ArePairs edges pairs
-  pub order : (i k : ℕ) (e f : Edge) → i < k → slice_get edges i ≡ Some e → slice_get edges k ≡ Some f → IsToldBefore e f
-  pub tellable : AreTellable edges j n
+  pub order : (i k : ℕ) (e f : Edge) → i < k → slice_get edges i ≡ Some e → slice_get edges k ≡ Some f → IsReportedBefore e f
+  pub reportable : AreReportable edges j n
 
 -- the same, of its list and its map
 abbrev pub KnowsConflicts : List Operation → ℕ → ℕ → Conflicts → Type 0
-KnowsConflicts q j n s = AreConflicts q j n s.edges.items (get pair_cmp s.told)
+KnowsConflicts q j n s = AreConflicts q j n s.edges.items (get pair_cmp s.reported)
 
 -- the operations at positions i and j conflict, and none before position i by the same transaction conflicts with the
 -- one at position j
@@ -107,7 +107,7 @@ IsFirstRival q i j = (t u : ℕ) (a b : Action) → Does q i t a → Does q j u 
 
 -- of the first accesses to x before position j, each after the given position has its edge; at the given position is
 -- one
-abbrev pub AreToldAbove : Kind → List Operation → List Edge → ℕ → ℕ → ℕ → Option ℕ → Type 0
-AreToldAbove kind q edges j x u None = (k t : ℕ) → k < j → t ≢ u → IsFirstAccess kind q k t x → HasEdge edges t u
-AreToldAbove kind q edges j x u (Some i) = (i < j) × ((t : ℕ) × IsFirstAccess kind q i t x)
+abbrev pub AreReportedAbove : Kind → List Operation → List Edge → ℕ → ℕ → ℕ → Option ℕ → Type 0
+AreReportedAbove kind q edges j x u None = (k t : ℕ) → k < j → t ≢ u → IsFirstAccess kind q k t x → HasEdge edges t u
+AreReportedAbove kind q edges j x u (Some i) = (i < j) × ((t : ℕ) × IsFirstAccess kind q i t x)
     × ((k t : ℕ) → i < k → k < j → t ≢ u → IsFirstAccess kind q k t x → HasEdge edges t u)

@@ -18,8 +18,8 @@ pub record IsFirstConflict (h : List Operation) (e : Edge) : Type 0 where
 
 -- e comes before f in the list: its later operation comes first, or they share it and the earlier one of e comes
 -- after that of f
-abbrev pub IsToldBefore : Edge → Edge → Type 0
-IsToldBefore e f = (e.later < f.later) ⊎ ((e.later ≡ f.later) × (f.earlier < e.earlier))
+abbrev pub IsReportedBefore : Edge → Edge → Type 0
+IsReportedBefore e f = (e.later < f.later) ⊎ ((e.later ≡ f.later) × (f.earlier < e.earlier))
 
 -- The edges of the serialization graph, each once and by the first two operations that make it. They are ordered by
 -- their later operations, and those of one later operation from the last earlier one back.
@@ -27,4 +27,4 @@ pub record AreFirstConflicts (h : List Operation) (edges : List Edge) : Type 0 w
   pub are_first : (k : ℕ) (e : Edge) → slice_get edges k ≡ Some e → IsFirstConflict h e
   pub are_all : (t u : ℕ) → IsEdge h t u → HasEdge edges t u
   pub once : (i j : ℕ) (e f : Edge) → slice_get edges i ≡ Some e → slice_get edges j ≡ Some f → e.from ≡ f.from → e.to ≡ f.to → i ≡ j
-  pub order : (i j : ℕ) (e f : Edge) → i < j → slice_get edges i ≡ Some e → slice_get edges j ≡ Some f → IsToldBefore e f
+  pub order : (i j : ℕ) (e f : Edge) → i < j → slice_get edges i ≡ Some e → slice_get edges j ≡ Some f → IsReportedBefore e f

@@ -117,18 +117,18 @@ LeadBack es tops = (u k : ℕ) → tops u ≡ Some k → (e : Edge) × (slice_ge
 
 -- the edges of a path are among the others
 abbrev pub AreAmong : List Edge → List Edge → Type 0
-AreAmong walk es = (i : ℕ) (e : Edge) → slice_get walk i ≡ Some e → (k : ℕ) × (slice_get es k ≡ Some e)
+AreAmong path es = (i : ℕ) (e : Edge) → slice_get path i ≡ Some e → (k : ℕ) × (slice_get es k ≡ Some e)
 
 -- one of the edges leads to the transaction
 abbrev pub Passes : List Edge → ℕ → Type 0
-Passes walk t = (i : ℕ) × (e : Edge) × (slice_get walk i ≡ Some e) × (e.to ≡ t)
+Passes path t = (i : ℕ) × (e : Edge) × (slice_get path i ≡ Some e) × (e.to ≡ t)
 
 -- each edge leads to the transaction that the one before it leads from, the last leads from t, and no two lead to one
 -- transaction
-pub record IsWalkBack (walk : List Edge) (t : ℕ) : Type 0 where
-  pub follow : (i : ℕ) (e f : Edge) → slice_get walk i ≡ Some e → slice_get walk (i + 1) ≡ Some f → e.from ≡ f.to
-  pub ends : (i : ℕ) (e : Edge) → slice_get walk i ≡ Some e → length walk ≡ i + 1 → e.from ≡ t
-  pub once : (i j : ℕ) (e f : Edge) → slice_get walk i ≡ Some e → slice_get walk j ≡ Some f → e.to ≡ f.to → i ≡ j
+pub record IsPathBack (path : List Edge) (t : ℕ) : Type 0 where
+  pub follow : (i : ℕ) (e f : Edge) → slice_get path i ≡ Some e → slice_get path (i + 1) ≡ Some f → e.from ≡ f.to
+  pub ends : (i : ℕ) (e : Edge) → slice_get path i ≡ Some e → length path ≡ i + 1 → e.from ≡ t
+  pub once : (i j : ℕ) (e f : Edge) → slice_get path i ≡ Some e → slice_get path j ≡ Some f → e.to ≡ f.to → i ≡ j
 
 -- a cycle of each history whose serialization graph has these edges
 abbrev pub IsCycleOf : List Edge → List Edge → Type 0

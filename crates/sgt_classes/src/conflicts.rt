@@ -43,7 +43,7 @@ pub struct Conflicts {
     /// The conflicts, as edges of the serialization graph, in the order in which they were found.
     edges: Vec<Edge>,
     /// For two transactions with an edge, the position of its later operation.
-    told: BTreeMap<(u32, u32), usize>,
+    reported: BTreeMap<(u32, u32), usize>,
 }
 
 impl Conflicts {
@@ -53,16 +53,16 @@ impl Conflicts {
     {
         let mut conflicts = Conflicts {
             edges: Vec::new(alloc),
-            told: BTreeMap::new(alloc),
+            reported: BTreeMap::new(alloc),
         };
         let mut accesses = FirstAccesses::new(alloc, Kind::Any, operations.len());
         let mut writes = FirstAccesses::new(alloc, Kind::Writes, operations.len());
-        conflicts.tell_all(operations, &mut accesses, &mut writes)?;
+        conflicts.report_all(operations, &mut accesses, &mut writes)?;
         Ok(conflicts)
     }
 
     /// Adds the first conflicts of the committed projection. No conflict and no operation may be recorded yet.
-    fn tell_all(
+    fn report_all(
         &mut self,
         operations: &[Operation],
         accesses: &mut FirstAccesses,
@@ -76,7 +76,7 @@ impl Conflicts {
         ensures { OnOk result (KnowsConflicts operations.now (length operations.now) (length operations.now) self.new) }
     {
         for place in 0..operations.len() {
-            self.tell_at(operations, place, accesses, writes)?;
+            self.report_at(operations, place, accesses, writes)?;
             accesses.note(operations, place)?;
             writes.note(operations, place)?;
         }
@@ -84,7 +84,7 @@ impl Conflicts {
     }
 
     /// Adds the first conflicts whose later operation is the one at the position.
-    fn tell_at(
+    fn report_at(
         &mut self,
         operations: &[Operation],
         place: usize,
@@ -102,47 +102,47 @@ impl Conflicts {
         let operation = operations[place];
         match operation.action {
             Action::Read(item) => {
-                let told = accesses.latest(operation.transaction, item).unwrap_or(0);
-                self.tell_back(operations, place, item, writes, told)
+                let reported = accesses.latest(operation.transaction, item).unwrap_or(0);
+                self.report_back(operations, place, item, writes, reported)
             }
             Action::Write(item) => {
-                let told = writes.latest(operation.transaction, item).unwrap_or(0);
-                self.tell_back(operations, place, item, accesses, told)
+                let reported = writes.latest(operation.transaction, item).unwrap_or(0);
+                self.report_back(operations, place, item, accesses, reported)
             }
             Action::Commit | Action::Abort => Ok(()),
         }
     }
 
     /// Adds the conflicts of the operation at the position with the first accesses to the item, from the last one
-    /// back. Those before `told` were added with an earlier operation of its transaction.
-    fn tell_back(
+    /// back. Those before `reported` were added with an earlier operation of its transaction.
+    fn report_back(
         &mut self,
         operations: &[Operation],
         place: usize,
         item: u32,
         rivals: &FirstAccesses,
-        told: usize,
+        reported: usize,
     ) -> Result<(), NoMemory>
         requires within { place < length operations.now }
         requires firsts { KnowsFirsts operations.now place rivals.now }
         requires rivals { AreRivals operations.now place item rivals.now.kind }
-        requires repeated { IsRepeated operations.now place item rivals.now.kind told }
+        requires repeated { IsRepeated operations.now place item rivals.now.kind reported }
         requires conflicts { KnowsConflicts operations.now place place self.old }
         ensures { OnOk result (KnowsConflicts operations.now (place + 1) (place + 1) self.new) }
     {
         let mut rival = rivals.last(item);
         while let Some(earlier) = rival {
-            if earlier < told {
+            if earlier < reported {
                 return Ok(());
             }
-            self.tell(operations, earlier, place)?;
+            self.report(operations, earlier, place)?;
             rival = rivals.before(earlier);
         }
         Ok(())
     }
 
     /// Adds the conflict of two operations, if they belong to different transactions without an edge.
-    fn tell(
+    fn report(
         &mut self,
         operations: &[Operation],
         earlier: usize,
@@ -159,10 +159,10 @@ impl Conflicts {
     {
         let from = operations[earlier].transaction;
         let to = operations[later].transaction;
-        if from == to || self.told.contains_key(&(from, to)) {
+        if from == to || self.reported.contains_key(&(from, to)) {
             return Ok(());
         }
-        set_pair(&mut self.told, (from, to), later)?;
+        set_pair(&mut self.reported, (from, to), later)?;
         self.edges.push(Edge {
             from,
             to,

@@ -4,7 +4,7 @@ ghost use Rattle.sgt_classes.specs.declared.operation.Operation.{Operation};
 ghost use Rattle.sgt_classes.specs.declared.graph.Edge.{Edge};
 ghost use Rattle.sgt_classes.specs.Serializability.{IsCycle, IsEdgeBy};
 ghost use Rattle.sgt_classes.specs.Tables.{entry_of};
-ghost use Rattle.sgt_classes.specs.Sorting.{LeadBack, IsWalkBack, Passes, AreAmong, IsCycleOf};
+ghost use Rattle.sgt_classes.specs.Sorting.{LeadBack, IsPathBack, Passes, AreAmong, IsCycleOf};
 
 use crate::chains::Chains;
 use crate::graph::Edge;
@@ -25,12 +25,12 @@ pub fn cycle_back(
     requires start { IsSome (entry_of incoming.old.tops start) }
     ensures { IfOk result (λ cycle. IsCycleOf edges.now cycle.items) }
 {
-    let (walk, met) = walk_back(alloc, edges, incoming, start)?;
-    closed_walk(alloc, walk.as_slice(), met)
+    let (path, met) = path_back(alloc, edges, incoming, start)?;
+    closed_path(alloc, path.as_slice(), met)
 }
 
 /// The edges on the backward path from the transaction until one is met again, and that one.
-fn walk_back(
+fn path_back(
     alloc: Global,
     edges: &[Edge],
     incoming: &mut Chains,
@@ -39,28 +39,28 @@ fn walk_back(
     requires back { LeadBack edges.now (entry_of incoming.old.tops) }
     requires start { IsSome (entry_of incoming.old.tops start) }
     ensures among { IfOk result (λ r. AreAmong r.0.items edges.now) }
-    ensures walk { IfOk result (λ r. IsWalkBack r.0.items r.1) }
+    ensures path { IfOk result (λ r. IsPathBack r.0.items r.1) }
     ensures met { IfOk result (λ r. Passes r.0.items r.1) }
 {
-    let mut walk = Vec::new(alloc);
+    let mut path = Vec::new(alloc);
     let mut transaction = start;
     while let Some(place) = incoming.take(transaction) {
         let edge = edges[place];
-        walk.push(edge)?;
+        path.push(edge)?;
         transaction = edge.from;
     }
-    Ok((walk, transaction))
+    Ok((path, transaction))
 }
 
 /// The edges of the path from its end until the transaction that it has met again.
-fn closed_walk(alloc: Global, walk: &[Edge], met: u32) -> Result<Vec<Edge>, NoMemory>
-    requires walk { IsWalkBack walk.now met }
-    requires met { Passes walk.now met }
-    ensures { IfOk result (λ cycle. IsCycleOf walk.now cycle.items) }
+fn closed_path(alloc: Global, path: &[Edge], met: u32) -> Result<Vec<Edge>, NoMemory>
+    requires path { IsPathBack path.now met }
+    requires met { Passes path.now met }
+    ensures { IfOk result (λ cycle. IsCycleOf path.now cycle.items) }
 {
     let mut cycle = Vec::new(alloc);
-    for passed in 0..walk.len() {
-        let edge = walk[walk.len() - 1 - passed];
+    for passed in 0..path.len() {
+        let edge = path[path.len() - 1 - passed];
         cycle.push(edge)?;
         if edge.to == met {
             return Ok(cycle);

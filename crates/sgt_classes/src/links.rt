@@ -42,7 +42,7 @@ impl Links {
         ensures at { OnOk result (link_of self.new place ≡ Some earlier) }
         ensures others { OnOk result ((i : ℕ) → i ≢ place → link_of self.new i ≡ link_of self.old i) }
     {
-        self.make_room(place)?;
+        self.ensure_capacity(place)?;
         self.earlier[place] = Some(earlier);
         Ok(())
     }
@@ -65,8 +65,8 @@ impl Links {
 
     /// Makes the list long enough for the position.
     #[tactic(auto, unfolding(crate::specs::Links::link_of))]
-    fn make_room(&mut self, place: usize) -> Result<(), NoMemory>
-        ensures room { OnOk result (place < length self.new.earlier.items) }
+    fn ensure_capacity(&mut self, place: usize) -> Result<(), NoMemory>
+        ensures capacity { OnOk result (place < length self.new.earlier.items) }
         ensures same { OnOk result ((i : ℕ) → link_of self.new i ≡ link_of self.old i) }
     {
         while self.earlier.len() <= place {

@@ -9,4 +9,4 @@ pub mod Scans
 pub mod Spelled
 pub mod Stored
 pub mod Texts
-pub mod Told
+pub mod Reported

@@ -13,7 +13,7 @@ use Rattle.sgt_clients.specs.declared.finding.Why.TheVariants.{Observed, RealTim
 use Rattle.sgt_clients.specs.Findings.{EndedBefore, KeepsTime, IsOrder, HasOrder, Shows}
 use Rattle.sgt_clients.specs.Times.{ComesAfter}
 
--- whoever stands before u, if u stands in the order, has a smaller index
+-- a transaction before u in the order has a smaller index
 time_first : (order : List ℕ) (t u : ℕ) → IsOnce order → Has order t → t ≢ u → (Has order u → StandsBefore order t u)
     → place_of order t < place_of order u
 time_first [] t u once has differ stands = absurd has

@@ -48,7 +48,7 @@ open_more text a b d n from within is =
     ap (λ l. after l (get_or text b d)) is ∙ sym (open_one outside (take (b - a) (drop a text)) (get_or text b d))
     ∙ ap (after_all outside) (sym (slice_more text a b d from within))
 
--- up to so many bytes something is open
+-- something is open up to this many bytes
 abbrev pub StaysOpen : List ℕ → ℕ → Type 0
 StaysOpen bytes n = (k : ℕ) → 0 < k → k ≤ n → is_closed (after_all outside (take k bytes)) ≡ false
 

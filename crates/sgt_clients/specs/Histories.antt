@@ -148,7 +148,7 @@ with_answer status e t p = record {
   skipped = p.skipped;
 }
 
--- A process invokes a transaction. Its end is unknown, unless an entry of the process tells it later.
+-- A process invokes a transaction. Its end is unknown, unless a later entry of the process reports it.
 abbrev pub invoked : Entry → Past → Past
 invoked e p =
     with_active e.process (record { transaction = length p.transactions; accesses = e.accesses }) (begun Unknown e.operations p)

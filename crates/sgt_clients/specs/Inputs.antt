@@ -24,7 +24,7 @@ SpellEach keys processes (o ∷ os) (e ∷ es) = Spells keys processes o.bytes e
 abbrev pub AreApart : List (List ℕ) → Type 0
 AreApart names = (k l : ℕ) (text : List ℕ) → slice_get names k ≡ Some text → slice_get names l ≡ Some text → k ≡ l
 
--- whether the number of each object, after so many, is that of its line
+-- whether the number of each object, after this many, is that of its line
 abbrev pub are_by_line : ℕ → List Object → Bool
 are_by_line n [] = true
 are_by_line n (o ∷ os) = o.line == n + 1 && are_by_line (n + 1) os

@@ -58,7 +58,7 @@ ground_word (Missed read append) = codes "missed"
 abbrev pub tie_object : Clients → Tie → List ℕ
 tie_object c tie = ends_text c tie.from tie.to (ground_word tie.ground) ++ ground_text c tie.from tie.to tie.ground ++ codes "\"}"
 
--- the member with ties that go round
+-- the member with a cycle of ties
 abbrev pub ties_member : Clients → List Tie → List ℕ
 ties_member c ties = codes ",\"cycle\":[" ++ items_text (tie_object c) ties ++ codes "]"
 

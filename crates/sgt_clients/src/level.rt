@@ -12,7 +12,7 @@ pub enum Level {
     SnapshotIsolation,
     /// As if the transactions ran one after another.
     Serializable,
-    /// The same, and whoever ended before another began comes first.
+    /// The same, and a transaction that ended before another began comes first.
     StrictSerializable,
 }
 

@@ -196,7 +196,7 @@ fn append_partial_why(
     Ok(())
 }
 
-/// Appends the member with ties that go round.
+/// Appends the member with a cycle of ties.
 fn append_cycle(text: &mut Vec<u8>, clients: &Clients, ties: &[Tie]) -> Result<(), NoMemory>
     ensures { OnOk result (text.new.items ≡ text.old.items ++ ties_member clients.now ties.now) }
 {

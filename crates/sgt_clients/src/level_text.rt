@@ -171,7 +171,7 @@ fn append_committed_open(text: &mut Vec<u8>) -> Result<(), NoMemory>
     Ok(())
 }
 
-/// Appends that a level does not hold, and ties that go round.
+/// Appends that a level does not hold, and a cycle of ties.
 fn append_not_ties(
     text: &mut Vec<u8>,
     clients: &Clients,

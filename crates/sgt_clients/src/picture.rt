@@ -103,7 +103,7 @@ fn edges_of(alloc: Global, scene: &Scene) -> Result<Vec<Edge>, NoMemory> {
     Ok(edges)
 }
 
-/// Adds the operations of the serial order, up to so many.
+/// Adds the operations of the serial order, up to this many.
 fn add_order(scene: &mut Scene, clients: &Clients, order: &[usize]) -> Result<(), NoMemory> {
     for transaction in order {
         let Some(one) = clients.transactions.get(*transaction) else {

@@ -26,7 +26,7 @@ pub(crate) fn history_of(
     Ok(history)
 }
 
-/// Adds the operation. Of a transaction with an unknown end no end is drawn.
+/// Adds the operation. A transaction with an unknown end is drawn without an end.
 fn add_stroke(
     alloc: Global,
     history: &mut History,

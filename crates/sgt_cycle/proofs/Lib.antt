@@ -3,4 +3,4 @@ pub mod Links
 pub mod Searched
 pub mod Walked
 pub mod Bits
-pub mod RowWalks
+pub mod RowPaths

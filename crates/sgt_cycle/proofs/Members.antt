@@ -2,7 +2,7 @@
 use Rattle.std.specs.Prelude.{◌≡◌, ◌≢◌, ℕ, ◌<◌, ◌+◌, ◌⊎◌, ◌↔◌, List, [], ◌∷◌, ◌++◌, length, slice_index, slice_index_or}
 use Rattle.std.proofs.Common.{take, add-one, zero, suc, refl, sym, subst, inl, inr, arith}
 use Rattle.std.proofs.Math.Seq.{take-suc}
-use Rattle.sgt_model.specs.Walks.{Member, Distinct}
+use Rattle.sgt_model.specs.Paths.{Member, Distinct}
 
 -- a member has some index
 pub member_at : (x : ℕ) (xs : List ℕ) → Member x xs → (i : ℕ) × (i < length xs) × ((d : ℕ) → slice_index_or xs i d ≡ x)

@@ -5,10 +5,10 @@ use Rattle.std.proofs.lemmas.Bool.{cases_lt}
 use Rattle.std.proofs.lemmas.List.{take-append-le}
 use Rattle.std.proofs.Math.ListN.{get_or-append}
 use Rattle.std.proofs.Math.Seq.{get_or-append_seam}
-use Rattle.sgt_model.specs.Walks.{PathOf, last_of, Member, AtMost, Distinct}
+use Rattle.sgt_model.specs.Paths.{PathOf, last_of, Member, AtMost, Distinct}
 use Rattle.sgt_model.proofs.Paths.{Within}
 use Rattle.sgt_cycle.specs.Links.{is_link, is_end}
-use Rattle.sgt_cycle.specs.Walk.{Holds, NoWalk}
+use Rattle.sgt_cycle.specs.Path.{Holds, NoPath}
 use Rattle.sgt_cycle.specs.Search.{LeadsBack}
 use Rattle.sgt_model.proofs.Conditions.{distinct_fits}
 use Rattle.sgt_cycle.proofs.Members.{member_at, at_member, any_default, member_append, member_push, member_take, distinct_push}
@@ -99,9 +99,9 @@ module _ (links : List (ℕ × ℕ)) (targets : List ℕ) where
       ])
 
   -- so there is capacity for one more
-  pub searched_room : (few : AtMost 32 (is_end links)) (first seen : List ℕ) (at a to : ℕ) → Within targets first → length first ≤ 32
+  pub searched_capacity : (few : AtMost 32 (is_end links)) (first seen : List ℕ) (at a to : ℕ) → Within targets first → length first ≤ 32
       → Searched links targets at seen → is_link links a to ≡ true → (Member a seen → ⊥) → length seen < 64
-  searched_room few first seen at a to known short s link new =
+  searched_capacity few first seen at a to known short s link new =
       let fits : length (a ∷ seen) ≤ length (first ++ few.among) = distinct_fits (a ∷ seen) (first ++ few.among) (new, s.distinct) within in
       omega (arith, length-append first few.among, few.few)
     where
@@ -146,7 +146,7 @@ closed_path step inside closed t [] i p = i
 closed_path step inside closed t (u ∷ path) i p = closed_path step inside closed u path (closed t u i p.0) p.1
 
 -- no path leads from outside a list that has the targets and each source of its numbers
-pub no_walk : (test : ℕ → ℕ → Bool) (source : ℕ) (targets seen : List ℕ) → Within targets seen
-    → ((a b : ℕ) → Holds test a b → Member b seen → Member a seen) → (Member source seen → ⊥) → NoWalk test source targets
-no_walk test source targets seen known closed out rest w =
+pub no_path : (test : ℕ → ℕ → Bool) (source : ℕ) (targets seen : List ℕ) → Within targets seen
+    → ((a b : ℕ) → Holds test a b → Member b seen → Member a seen) → (Member source seen → ⊥) → NoPath test source targets
+no_path test source targets seen known closed out rest w =
     closed_path (Holds test) (λ x. Member x seen → ⊥) (λ a b off link m. off (closed a b link m)) source rest out w.goes (known _ w.ends)

@@ -2,10 +2,10 @@
 use Rattle.std.specs.Prelude.{◌≡◌, ℕ, ◌<◌, ◌≤◌, ◌+◌, ◌↔◌, Bool, nat_eq, List, [], ◌∷◌, ◌++◌, length, slice_index, slice_index_or}
 use Rattle.std.proofs.Common.{take, zero, suc, add-one, refl, sym, ◌∙◌, ap, subst, inl, inr, arith, length-take, get_or-take}
 use Rattle.std.proofs.lemmas.Bool.{eq-eqb, or_left, or_right}
-use Rattle.sgt_model.specs.Walks.{PathOf, last_of, Member, AtMost, Distinct}
+use Rattle.sgt_model.specs.Paths.{PathOf, last_of, Member, AtMost, Distinct}
 use Rattle.sgt_model.proofs.Paths.{Within, path-append, last_of-append}
 use Rattle.sgt_cycle.specs.Links.{is_link, occurs}
-use Rattle.sgt_cycle.specs.Walk.{Holds, Follows}
+use Rattle.sgt_cycle.specs.Path.{Holds, Follows}
 use Rattle.sgt_cycle.specs.Search.{LeadsBack}
 use Rattle.sgt_model.proofs.Conditions.{distinct_fits}
 use Rattle.sgt_cycle.proofs.Members.{at_member, any_default, member_push, distinct_apart, distinct_push}
@@ -18,7 +18,7 @@ pub record Walked (test : ℕ → ℕ → Bool) (source : ℕ) (seen : List ℕ)
   pub goes : PathOf (Holds test) source rest
   pub distinct : Distinct (source ∷ rest)
   pub ends : last_of source rest ≡ slice_index seen at
-  pub behind : (x : ℕ) → Member x (source ∷ rest) → (i : ℕ) × (at ≤ i) × (i < length seen) × (slice_index seen i ≡ x)
+  pub following : (x : ℕ) → Member x (source ∷ rest) → (i : ℕ) × (at ≤ i) × (i < length seen) × (slice_index seen i ≡ x)
 
 module _ (test : ℕ → ℕ → Bool) (source : ℕ) (seen : List ℕ) where
   -- a step to an index before
@@ -27,7 +27,7 @@ module _ (test : ℕ → ℕ → Bool) (source : ℕ) (seen : List ℕ) where
   walked_push at path i distinct w below less link =
       let u : ℕ = slice_index seen i in
       let new : Member u (source ∷ w.rest) → ⊥ = λ m.
-      let (j, over, within, same) = w.behind u m in
+      let (j, over, within, same) = w.following u m in
       distinct_apart seen distinct i j (omega arith) within (sym same) in
       record {
         rest = w.rest ++ u ∷ [];
@@ -35,8 +35,8 @@ module _ (test : ℕ → ℕ → Bool) (source : ℕ) (seen : List ℕ) where
         goes = path-append (Holds test) source w.rest (u ∷ []) w.goes (rw w.ends link, tt);
         distinct = distinct_push (source ∷ w.rest) u w.distinct new;
         ends = last_of-append source w.rest (u ∷ []);
-        behind = λ x m. elim ((member_push x (source ∷ w.rest) u).0 m) [
-          | inl k ↦ let (j, over, within, same) = w.behind x k in (j, omega arith, within, same)
+        following = λ x m. elim ((member_push x (source ∷ w.rest) u).0 m) [
+          | inl k ↦ let (j, over, within, same) = w.following x k in (j, omega arith, within, same)
           | inr e ↦ (i, omega arith, omega arith, sym e)
         ];
       }

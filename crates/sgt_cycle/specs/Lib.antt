@@ -1,4 +1,4 @@
 pub mod Links
-pub mod Walk
+pub mod Path
 pub mod Search
 pub mod Indices

@@ -1,7 +1,7 @@
 -- What the search for a path finds, going back from the targets.
 use Rattle.std.specs.Prelude.{ℕ, ◌<◌, ◌⊎◌, Bool, List, length, slice_index}
-use Rattle.sgt_model.specs.Walks.{Member}
-use Rattle.sgt_cycle.specs.Walk.{Holds}
+use Rattle.sgt_model.specs.Paths.{Member}
+use Rattle.sgt_cycle.specs.Path.{Holds}
 
 -- each number of the list is a target, or is related to one before it in the list
 abbrev pub LeadsBack : (ℕ → ℕ → Bool) → List ℕ → List ℕ → Type 0

@@ -15,9 +15,9 @@
 
 pub mod indices;
 mod list;
+mod paths;
 mod rows;
 mod search;
-mod walks;
 
+pub use paths::{is_walk, walk};
 pub use rows::walk_rows;
-pub use walks::{is_walk, walk};

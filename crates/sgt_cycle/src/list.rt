@@ -1,6 +1,6 @@
 //! The position of a number in a list.
 ghost use Rattle.std.specs.Prelude.{◌≡◌, ◌<◌, ◌↔◌, IsTrue, IsNone, IfSome, length, slice_index};
-ghost use Rattle.sgt_model.specs.Walks.{Member};
+ghost use Rattle.sgt_model.specs.Paths.{Member};
 
 use sgt_model::Tid;
 

@@ -1,7 +1,7 @@
 //! A path in a graph given as rows of bits.
 ghost use Rattle.std.specs.Prelude.{◌≡◌, ◌<◌, IfSome, IsNone};
 ghost use Rattle.sgt_cycle.specs.Indices.{is_bit, indices};
-ghost use Rattle.sgt_cycle.specs.Walk.{IsWalk, NoWalk};
+ghost use Rattle.sgt_cycle.specs.Path.{IsPath, NoPath};
 
 use crate::indices::{common, complement, has, least, minus, only};
 use arrayvec::ArrayVec;
@@ -13,8 +13,8 @@ use sgt_model::Bounded;
 /// Depth first (Tarjan, "Depth-first search and linear graph algorithms", 1972).
 pub fn walk_rows(rows: &[u32; 32], source: u8, targets: u32) -> Option<Bounded<u8, 32>>
     requires index { source < 32 }
-    ensures some { IfSome result (IsWalk (is_bit rows.now) source (indices targets)) }
-    ensures none { IsNone result → NoWalk (is_bit rows.now) source (indices targets) }
+    ensures some { IfSome result (IsPath (is_bit rows.now) source (indices targets)) }
+    ensures none { IsNone result → NoPath (is_bit rows.now) source (indices targets) }
 {
     let mut path: ArrayVec<u8, 32> = ArrayVec::new();
     path.push(source);

@@ -1,6 +1,6 @@
 //! The parts of the search for a path along links: the ancestors of the targets, and the next step.
 ghost use Rattle.std.specs.Prelude.{◌≡◌, ◌<◌, ◌≤◌, ◌↔◌, ℕ, true, IsTrue, IfSome, IsNone, length, slice_index};
-ghost use Rattle.sgt_model.specs.Walks.{AtMost, Member, Distinct};
+ghost use Rattle.sgt_model.specs.Paths.{AtMost, Member, Distinct};
 ghost use Rattle.sgt_cycle.specs.Links.{is_link, is_end};
 ghost use Rattle.sgt_cycle.specs.Search.{LeadsBack};
 

@@ -43,7 +43,7 @@ filter_longer p (t ∷ l) n = go (p t) (filter_longer p l n)
     go true rest = omega arith
     go false rest = rest
 
--- an entry that ends nobody leaves as many live as before, or one more
+-- an entry that ends no transaction leaves as many live as before, or one more
 pub live_more : (past : List Entry) (e : Entry) → is_ending e.reply ≡ false → length (live_ones past) ≤ length (live_ones (e ∷ past))
 live_more past e is = go (is_start e.reply)
   where
@@ -83,7 +83,7 @@ not_less a b c le h = go (nat_lt a c) refl h
 more_than : (a b c : ℕ) → b ≤ c → nat_lt a b ≡ true → nat_lt a c ≡ true
 more_than a b c le h = lt-ltb a c (let l = ltb-true a b h in omega arith)
 
--- two states: whoever is live stays so, and as many calls or more are counted
+-- two states: live transactions stay live, and as many calls or more are counted
 module _ (a b : DeskState) (part : b.part ≡ a.part) (ended : b.ended ≡ a.ended) (committing : a.committing ≤ b.committing)
     (cutters : a.cutters ≤ b.cutters) (alive : (t : ℕ) → live a.past t ≡ true → live b.past t ≡ true)
     (count : length (live_ones a.past) ≤ length (live_ones b.past)) where
@@ -103,8 +103,8 @@ module _ (a b : DeskState) (part : b.part ≡ a.part) (ended : b.ended ≡ a.end
 no_less : {m n : ℕ} → n ≡ m → m ≤ n
 no_less e = omega (arith, e)
 
--- an event that ends nobody
-pub answered_stays : (a b : DeskState) (event : Event) (short : ShortReply) → Answered a.setting event a.past short b.past
+-- an event that ends no transaction
+pub answered_stays : (a b : DeskState) (event : Event) (short : ShortReply) → Answered a.configuration event a.past short b.past
     → ends_short short ≡ false → b.part ≡ a.part → b.ended ≡ a.ended → b.committing ≡ a.committing → b.cutters ≡ a.cutters
     → (r : Reason) → holds r a ≡ true → holds r b ≡ true
 answered_stays a b event short it none part ended committing cutters = reason_stays a b part ended (no_less committing) (no_less cutters)

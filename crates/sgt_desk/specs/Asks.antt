@@ -75,7 +75,7 @@ IsNotFull _ = Unit {0}
 
 -- why a start may rest: as before, for a cut, or since as many are live as the limits allow
 abbrev pub StartsWhy : DeskState → Option Reason → Option Reason → Type 0
-StartsWhy d before (Some (Full n)) = (before ≡ Some (Full n)) ⊎ (n ≡ d.setting.rules.limits.live)
+StartsWhy d before (Some (Full n)) = (before ≡ Some (Full n)) ⊎ (n ≡ d.configuration.rules.limits.live)
 StartsWhy d before (Some (Turn t u)) = before ≡ Some (Turn t u)
 StartsWhy d before (Some (End n)) = before ≡ Some (End n)
 StartsWhy d before (Some (Busy n)) = before ≡ Some (Busy n)

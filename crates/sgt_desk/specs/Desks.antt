@@ -5,8 +5,8 @@ use Rattle.sgt_model.specs.declared.event.Event.{Event}
 use Rattle.sgt_model.specs.declared.short_reply.ShortReply.{ShortReply}
 use Rattle.sgt_model.specs.declared.short_reply.ShortReply.TheVariants as bare
 use Rattle.sgt_model.specs.Fates.{live, live_ones}
-use Rattle.sgt_model.specs.Settings.{Setting}
-use Rattle.sgt_desk.specs.Engines.{Answered, EngineState, setting_behind}
+use Rattle.sgt_model.specs.Configurations.{Configuration}
+use Rattle.sgt_desk.specs.Engines.{Answered, EngineState, configuration_after}
 use Rattle.sgt_desk.specs.declared.desk.Desk.{Desk}
 use Rattle.sgt_desk.specs.declared.reason.Reason.{Reason}
 use Rattle.sgt_desk.specs.declared.reason.Reason.TheVariants.{Turn, Full, End, Busy, Cut}
@@ -15,29 +15,29 @@ use Rattle.sgt_desk.specs.declared.reason.Reason.TheVariants.{Turn, Full, End, B
 
 -- its engine's configuration and history, and what the threads know of each other
 pub record DeskState : Type 0 where
-  pub setting : Setting
+  pub configuration : Configuration
   pub past : List Entry
   pub part : ℕ
   pub ended : ℕ
-  pub told : ℕ
+  pub reported : ℕ
   pub committing : ℕ
   pub cutters : ℕ
 
 -- that of a desk, by the state of its engine
 abbrev pub state : {E : Type 0} → (E → EngineState) → Desk E → DeskState
 state engine d = record {
-  setting = (engine d.engine).setting;
+  configuration = (engine d.engine).configuration;
   past = (engine d.engine).past;
   part = d.part;
   ended = d.ended;
-  told = d.told;
+  reported = d.reported;
   committing = d.committing;
   cutters = d.cutters;
 }
 
 -- a desk that was just opened
 abbrev pub opened : EngineState → DeskState
-opened e = record { setting = e.setting; past = e.past; part = 0; ended = 0; told = 0; committing = 0; cutters = 0 }
+opened e = record { configuration = e.configuration; past = e.past; part = 0; ended = 0; reported = 0; committing = 0; cutters = 0 }
 
 -- the number after this one, and 0 after the last
 abbrev pub next_number : ℕ → ℕ
@@ -51,18 +51,18 @@ ends_short (bare.Refused code) = true
 ends_short _ = false
 
 -- the reply commits or refuses a call
-abbrev pub tells_short : ShortReply → Bool
-tells_short bare.Committed = true
-tells_short (bare.Refused code) = true
-tells_short _ = false
+abbrev pub reports_short : ShortReply → Bool
+reports_short bare.Committed = true
+reports_short (bare.Refused code) = true
+reports_short _ = false
 
 -- an event was answered, with this reply, and its end is counted if it is one
 pub record AddsEntry (event : Event) (before : DeskState) (short : ShortReply) (after : DeskState) : Type 0 where
-  pub answered : Answered before.setting event before.past short after.past
-  pub setting : after.setting ≡ before.setting
+  pub answered : Answered before.configuration event before.past short after.past
+  pub configuration : after.configuration ≡ before.configuration
   pub part : after.part ≡ before.part
   pub ended : after.ended ≡ cond (ends_short short) (next_number before.ended) before.ended
-  pub told : after.told ≡ cond (tells_short short) (next_number before.told) before.told
+  pub reported : after.reported ≡ cond (reports_short short) (next_number before.reported) before.reported
 
 -- as many calls rest as before
 pub record SameCounts (before after : DeskState) : Type 0 where
@@ -92,11 +92,11 @@ without_call is_counted n = cond is_counted (n - 1) n
 
 -- all but the counts of calls that rest is the same
 pub record SameHistory (before after : DeskState) : Type 0 where
-  pub setting : after.setting ≡ before.setting
+  pub configuration : after.configuration ≡ before.configuration
   pub past : after.past ≡ before.past
   pub part : after.part ≡ before.part
   pub ended : after.ended ≡ before.ended
-  pub told : after.told ≡ before.told
+  pub reported : after.reported ≡ before.reported
 
 -- nothing has happened, or this event was answered with this reply; the counts of calls that rest may differ
 abbrev pub MayAddEntry : Event → DeskState → ShortReply → DeskState → Type 0
@@ -109,10 +109,10 @@ StaysLive before after = (t : ℕ) → live before.past t ≡ true → live afte
 -- the history was cut off, and the next part has begun
 pub record IsCutOff (before after : DeskState) : Type 0 where
   pub past : after.past ≡ []
-  pub setting : after.setting ≡ setting_behind before.setting before.past
+  pub configuration : after.configuration ≡ configuration_after before.configuration before.past
   pub part : after.part ≡ next_number before.part
   pub ended : after.ended ≡ before.ended
-  pub told : after.told ≡ before.told
+  pub reported : after.reported ≡ before.reported
 
 -- ---- reasons to rest
 

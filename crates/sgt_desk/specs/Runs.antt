@@ -69,14 +69,14 @@ events_of [] t = []
 events_of (e ∷ past) t = cond (is_named (named_by e.event) t) (e.event ∷ events_of past t) (events_of past t)
 
 -- of all transactions but this one, nothing more was asked
-abbrev pub AsksOnly : Option ℕ → List Entry → List Entry → Type 0
-AsksOnly t before after = (u : ℕ) → is_named t u ≡ false → events_of after u ≡ events_of before u
+abbrev pub RequestsOnly : Option ℕ → List Entry → List Entry → Type 0
+RequestsOnly t before after = (u : ℕ) → is_named t u ≡ false → events_of after u ≡ events_of before u
 
 -- why a run may rest: as before; since its attempt waits for another transaction; since as many are live as the limits allow; until a
 -- transaction ends, counted from now; or for a cut
 abbrev pub RunsWhy : DeskState → Option Reason → Option ℕ → ShortReply → Option Reason → Type 0
 RunsWhy d before attempt short (Some (Turn t u)) = (before ≡ Some (Turn t u)) ⊎ ((attempt ≡ Some t) × (short ≡ bare.Waits u))
-RunsWhy d before attempt short (Some (Full n)) = (before ≡ Some (Full n)) ⊎ (n ≡ d.setting.rules.limits.live)
+RunsWhy d before attempt short (Some (Full n)) = (before ≡ Some (Full n)) ⊎ (n ≡ d.configuration.rules.limits.live)
 RunsWhy d before attempt short (Some (End n)) = (before ≡ Some (End n)) ⊎ (n ≡ d.ended)
 RunsWhy d before attempt short (Some (Busy n)) = before ≡ Some (Busy n)
 RunsWhy d before attempt short (Some Cut) = Unit {0}

@@ -4,7 +4,7 @@ ghost use Rattle.std.specs.Result.{IsOk};
 ghost use Rattle.sgt_model.specs.declared.event.Event.TheVariants.{Quit};
 ghost use Rattle.sgt_model.specs.Fates.{live, live_ones};
 ghost use Rattle.sgt_model.specs.Legality.{Legal};
-ghost use Rattle.sgt_desk.specs.Engines.{EngineState, Answered, setting_behind};
+ghost use Rattle.sgt_desk.specs.Engines.{EngineState, Answered, configuration_after};
 
 use sgt_model::{Event, NoMemory, ShortReply, Tid};
 use std::alloc::Global;
@@ -17,13 +17,13 @@ pub trait Answering: Drop {
 
     /// Answers an event, and adds both to the history. The reply is written without its lists.
     ///
-    /// `NoMemory` if an allocation failed; then nothing has changed. A quit of a live transaction allocates nothing.
+    /// `NoMemory` if an allocation failed; then nothing has changed. To abort a live transaction allocates nothing.
     fn answer(&mut self, event: &Event, reply: &mut ShortReply) -> Result<(), NoMemory>
         ensures adds { OnOk result
-            (Answered (state self.old).setting event.now (state self.old).past reply.new (state self.new).past) }
+            (Answered (state self.old).configuration event.now (state self.old).past reply.new (state self.new).past) }
         ensures unchanged { OnErr result ((state self.new).past ≡ (state self.old).past) }
-        ensures setting { (state self.new).setting ≡ (state self.old).setting }
-        ensures legal { Legal (state self.new).setting (state self.new).past }
+        ensures configuration { (state self.new).configuration ≡ (state self.old).configuration }
+        ensures legal { Legal (state self.new).configuration (state self.new).past }
         ensures quits { (t : ℕ) → event.now ≡ Quit t → live (state self.old).past t ≡ true → IsOk result };
 
     /// Whether the transaction is live.
@@ -40,8 +40,8 @@ pub trait Answering: Drop {
     fn cut(&mut self, alloc: Global) -> Result<(), NoMemory>
         requires { live_ones (state self.old).past ≡ [] }
         ensures past { OnOk result ((state self.new).past ≡ []) }
-        ensures setting { OnOk result
-            ((state self.new).setting ≡ setting_behind (state self.old).setting (state self.old).past) }
+        ensures configuration { OnOk result
+            ((state self.new).configuration ≡ configuration_after (state self.old).configuration (state self.old).past) }
         ensures unchanged { OnErr result ((state self.new).past ≡ (state self.old).past) }
-        ensures kept { OnErr result ((state self.new).setting ≡ (state self.old).setting) };
+        ensures kept { OnErr result ((state self.new).configuration ≡ (state self.old).configuration) };
 }

@@ -88,7 +88,7 @@ impl Ask {
         }
     }
 
-    /// What a call does that has to rest: it is late if its deadline has come.
+    /// A call that has to rest does this: it is late if its deadline has come.
     pub fn turn(&self, now: u64) -> Turn
         ensures { result ≡ cond (has_come self.now.deadline now) Turn.Late Turn.Rest }
     {

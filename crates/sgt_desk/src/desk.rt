@@ -7,12 +7,12 @@ ghost use Rattle.sgt_model.specs.Legality.{Legal};
 ghost use Rattle.sgt_desk.specs.Asks.{holds_up, is_held, is_of_cut, SameButCount};
 ghost use Rattle.sgt_desk.specs.declared.reason.Reason.{Reason};
 ghost use Rattle.sgt_desk.specs.Desks.{state, opened, Adds, Wakes, SameHistory, IsCutOff, holds, is_busy};
-ghost use Rattle.sgt_desk.specs.Desks.{next_number, ends_short, tells_short, with_call, without_call, SameCounts};
+ghost use Rattle.sgt_desk.specs.Desks.{next_number, ends_short, reports_short, with_call, without_call, SameCounts};
 
 use crate::answering::Answering;
 use crate::ask::{Ask, Ticket, count, uncount};
 use crate::reason::Reason;
-use sgt_model::{Event, NoMemory, ShortReply, Tid, replies_tell_who_is_live};
+use sgt_model::{Event, NoMemory, ShortReply, Tid, replies_report_who_is_live};
 use std::alloc::Global;
 
 /// An engine that threads share under a lock of theirs, with what they have to know of each other.
@@ -24,7 +24,7 @@ pub struct Desk<E: Answering> {
     /// How often a transaction has ended. After the last number of 64 bits it begins again at 0.
     pub ended: u64,
     /// How many calls were committed or refused, counted in the same way. So each of them has a number.
-    pub told: u64,
+    pub reported: u64,
     /// The calls that rest in a commit.
     pub committing: u64,
     /// The calls that wait for a cut.
@@ -40,7 +40,7 @@ impl<E: Answering> Desk<E> {
             engine,
             part: 0,
             ended: 0,
-            told: 0,
+            reported: 0,
             committing: 0,
             cutters: 0,
         }
@@ -97,19 +97,19 @@ impl<E: Answering> Desk<E> {
     ) -> Result<(), NoMemory>
         ensures adds { OnOk result (Adds event.now (state E.state self.old) reply.new (state E.state self.new)) }
         ensures unchanged { OnErr result (state E.state self.new ≡ state E.state self.old) }
-        ensures legal { Legal (state E.state self.new).setting (state E.state self.new).past }
+        ensures legal { Legal (state E.state self.new).configuration (state E.state self.new).past }
         ensures wakes { Wakes (state E.state self.old) (state E.state self.new) wakes.new }
         ensures woken { wakes.old ≡ true → wakes.new ≡ true }
         ensures quits { (t : ℕ) → event.now ≡ Quit t → live (state E.state self.old).past t ≡ true → IsOk result }
     {
-        replies_tell_who_is_live();
+        replies_report_who_is_live();
         self.engine.answer(event, reply)?;
         if ends(reply) {
             self.ended = next_number(self.ended);
             *wakes = true;
         }
-        if tells(reply) {
-            self.told = next_number(self.told);
+        if reports(reply) {
+            self.reported = next_number(self.reported);
         }
         Ok(())
     }
@@ -205,8 +205,8 @@ fn ends(reply: &ShortReply) -> bool
 }
 
 /// Whether a reply commits or refuses a call, so that it is one of those that the serial run has.
-fn tells(reply: &ShortReply) -> bool
-    ensures { result ≡ tells_short reply.now }
+fn reports(reply: &ShortReply) -> bool
+    ensures { result ≡ reports_short reply.now }
 {
     matches!(reply, ShortReply::Committed | ShortReply::Refused(_))
 }

@@ -6,7 +6,7 @@ use sgt_model::Tid;
 pub enum Reason {
     /// The commit of the first transaction waits for the second, and both are live.
     Turn(Tid, Tid),
-    /// So many transactions are live: as many as the limits allow.
+    /// This many transactions are live, which is as many as the limits allow.
     Full(usize),
     /// No transaction has ended since `Desk::ended` was this number, and some transaction is live.
     End(u64),

@@ -4,7 +4,7 @@ ghost use Rattle.sgt_model.specs.Fates.{live, start_count};
 ghost use Rattle.sgt_model.specs.declared.event.Event.TheVariants.{Start};
 ghost use Rattle.sgt_desk.specs.Asks.{has_come, is_of_cut, Rests, SameButReply};
 ghost use Rattle.sgt_desk.specs.Desks.{state, with_call, without_call, SameCounts, Wakes};
-ghost use Rattle.sgt_desk.specs.Runs.{is_conflict, is_over, named, AsksOnly, Begins, IsOutcome, KeepsCalls, LeavesOnly, RunsWhy};
+ghost use Rattle.sgt_desk.specs.Runs.{is_conflict, is_over, named, RequestsOnly, Begins, IsOutcome, KeepsCalls, LeavesOnly, RunsWhy};
 
 use crate::answering::Answering;
 use crate::ask::{Ask, Deadline, Ticket, Turn};
@@ -12,7 +12,7 @@ use crate::committing::commit_turn;
 use crate::desk::Desk;
 use crate::reason::Reason;
 use sgt_model::{
-    Args, Event, NoMemory, ShortCause, ShortFate, ShortReply, Tid, replies_tell_who_is_live,
+    Args, Event, NoMemory, ShortCause, ShortFate, ShortReply, Tid, replies_report_who_is_live,
 };
 
 /// A run under way.
@@ -31,7 +31,7 @@ pub struct Run {
 }
 
 impl Run {
-    /// A run that has not begun. It makes so many attempts at most.
+    /// A run that has not begun. It makes at most this many attempts.
     pub fn new(deadline: Deadline, most: u64) -> Self
         ensures attempt { (result.attempt ≡ None) × (result.ticket ≡ None) }
         ensures tries { (result.tries ≡ 0) × (result.most ≡ most) }
@@ -77,14 +77,14 @@ fn end<E: Answering>(desk: &mut Desk<E>, ask: &mut Ask, t: Tid, wakes: &mut bool
         → IsOutcome ask.new.reply (Some t) (state E.state desk.new).past }
     ensures starts { start_count (state E.state desk.new).past ≡ start_count (state E.state desk.old).past }
     ensures calls { KeepsCalls (state E.state desk.old).past (state E.state desk.new).past }
-    ensures others { AsksOnly (Some t) (state E.state desk.old).past (state E.state desk.new).past }
+    ensures others { RequestsOnly (Some t) (state E.state desk.old).past (state E.state desk.new).past }
     ensures part { (state E.state desk.new).part ≡ (state E.state desk.old).part }
-    ensures setting { (state E.state desk.new).setting ≡ (state E.state desk.old).setting }
+    ensures configuration { (state E.state desk.new).configuration ≡ (state E.state desk.old).configuration }
     ensures counts { SameCounts (state E.state desk.old) (state E.state desk.new) }
     ensures wakes { Wakes (state E.state desk.old) (state E.state desk.new) wakes.new }
     ensures woken { wakes.old ≡ true → wakes.new ≡ true }
 {
-    replies_tell_who_is_live();
+    replies_report_who_is_live();
     if desk.engine.is_live(t) {
         let mut reply = ShortReply::Unknown;
         match desk.answer(&Event::Quit(t), &mut reply, wakes) {
@@ -104,9 +104,9 @@ fn step_on<E: Answering>(
     ensures outcome { IfOk result (λ r. IsOutcome r (Some t) (state E.state desk.new).past) }
     ensures starts { start_count (state E.state desk.new).past ≡ start_count (state E.state desk.old).past }
     ensures calls { KeepsCalls (state E.state desk.old).past (state E.state desk.new).past }
-    ensures others { AsksOnly (Some t) (state E.state desk.old).past (state E.state desk.new).past }
+    ensures others { RequestsOnly (Some t) (state E.state desk.old).past (state E.state desk.new).past }
     ensures part { (state E.state desk.new).part ≡ (state E.state desk.old).part }
-    ensures setting { (state E.state desk.new).setting ≡ (state E.state desk.old).setting }
+    ensures configuration { (state E.state desk.new).configuration ≡ (state E.state desk.old).configuration }
     ensures counts { SameCounts (state E.state desk.old) (state E.state desk.new) }
     ensures wakes { Wakes (state E.state desk.old) (state E.state desk.new) wakes.new }
     ensures woken { wakes.old ≡ true → wakes.new ≡ true }
@@ -119,7 +119,7 @@ fn step_on<E: Answering>(
             return Ok(reply);
         }
     }
-    // No memory can hold a history of so many entries.
+    // No memory can hold a history of that many entries.
     Err(NoMemory)
 }
 
@@ -130,7 +130,7 @@ fn is_access(reply: &ShortReply) -> bool {
 
 /// Ends an attempt, whose newest reply this is: the run is done, or tries again, at once or after another transaction has ended.
 #[inline(always)]
-fn settle<E: Answering>(
+fn end_attempt<E: Answering>(
     desk: &mut Desk<E>,
     run: &mut Run,
     t: Tid,
@@ -143,9 +143,9 @@ fn settle<E: Answering>(
     ensures gone { live (state E.state desk.new).past t ≡ false }
     ensures starts { start_count (state E.state desk.new).past ≡ start_count (state E.state desk.old).past }
     ensures calls { KeepsCalls (state E.state desk.old).past (state E.state desk.new).past }
-    ensures others { AsksOnly (Some t) (state E.state desk.old).past (state E.state desk.new).past }
+    ensures others { RequestsOnly (Some t) (state E.state desk.old).past (state E.state desk.new).past }
     ensures part { (state E.state desk.new).part ≡ (state E.state desk.old).part }
-    ensures setting { (state E.state desk.new).setting ≡ (state E.state desk.old).setting }
+    ensures configuration { (state E.state desk.new).configuration ≡ (state E.state desk.old).configuration }
     ensures counts { SameCounts (state E.state desk.old) (state E.state desk.new) }
     ensures kept { (run.new.tries ≡ run.old.tries) × (run.new.most ≡ run.old.most) × (run.new.ticket ≡ run.old.ticket) }
     ensures deadline { run.new.ask.deadline ≡ run.old.ask.deadline }
@@ -193,9 +193,9 @@ fn commit_attempt<E: Answering>(
     ensures only { result ≢ Ok Turn.Rest → run.new.attempt ≡ None }
     ensures starts { start_count (state E.state desk.new).past ≡ start_count (state E.state desk.old).past }
     ensures calls { KeepsCalls (state E.state desk.old).past (state E.state desk.new).past }
-    ensures others { AsksOnly (Some t) (state E.state desk.old).past (state E.state desk.new).past }
+    ensures others { RequestsOnly (Some t) (state E.state desk.old).past (state E.state desk.new).past }
     ensures part { (state E.state desk.new).part ≡ (state E.state desk.old).part }
-    ensures setting { (state E.state desk.new).setting ≡ (state E.state desk.old).setting }
+    ensures configuration { (state E.state desk.new).configuration ≡ (state E.state desk.old).configuration }
     ensures counts { SameCounts (state E.state desk.old) (state E.state desk.new) }
     ensures kept { (run.new.tries ≡ run.old.tries) × (run.new.most ≡ run.old.most) × (run.new.ticket ≡ run.old.ticket) }
     ensures deadline { run.new.ask.deadline ≡ run.old.ask.deadline }
@@ -212,7 +212,7 @@ fn commit_attempt<E: Answering>(
 {
     let made = commit_turn(desk, &mut run.ask, t, now, wakes);
     match made {
-        Ok(Turn::Done) => Ok(settle(desk, run, t, now, wakes)),
+        Ok(Turn::Done) => Ok(end_attempt(desk, run, t, now, wakes)),
         Ok(Turn::Rest) => {
             run.attempt = Some(t);
             Ok(Turn::Rest)
@@ -241,9 +241,9 @@ fn try_once<E: Answering>(
     ensures left { LeavesOnly None (start_count (state E.state desk.old).past) (state E.state desk.new).past run.new.attempt }
     ensures only { result ≢ Ok Turn.Rest → run.new.attempt ≡ None }
     ensures call { Begins procedure args.now (state E.state desk.old) run.old (state E.state desk.new) run.new }
-    ensures others { AsksOnly (named run.new.ticket) (state E.state desk.old).past (state E.state desk.new).past }
+    ensures others { RequestsOnly (named run.new.ticket) (state E.state desk.old).past (state E.state desk.new).past }
     ensures part { (state E.state desk.new).part ≡ (state E.state desk.old).part }
-    ensures setting { (state E.state desk.new).setting ≡ (state E.state desk.old).setting }
+    ensures configuration { (state E.state desk.new).configuration ≡ (state E.state desk.old).configuration }
     ensures over { is_over run.old.ask.deadline run.old.tries now ≡ true → state E.state desk.new ≡ state E.state desk.old }
     ensures cut { 0 < (state E.state desk.old).cutters → state E.state desk.new ≡ state E.state desk.old }
     ensures most { run.new.most ≡ run.old.most }
@@ -307,9 +307,9 @@ fn attempt<E: Answering>(
     ensures only { result ≢ Ok Turn.Rest → run.new.attempt ≡ None }
     ensures starts { start_count (state E.state desk.new).past ≡ start_count (state E.state desk.old).past }
     ensures calls { KeepsCalls (state E.state desk.old).past (state E.state desk.new).past }
-    ensures others { AsksOnly (Some t) (state E.state desk.old).past (state E.state desk.new).past }
+    ensures others { RequestsOnly (Some t) (state E.state desk.old).past (state E.state desk.new).past }
     ensures part { (state E.state desk.new).part ≡ (state E.state desk.old).part }
-    ensures setting { (state E.state desk.new).setting ≡ (state E.state desk.old).setting }
+    ensures configuration { (state E.state desk.new).configuration ≡ (state E.state desk.old).configuration }
     ensures counts { SameCounts (state E.state desk.old) (state E.state desk.new) }
     ensures kept { (run.new.tries ≡ run.old.tries) × (run.new.most ≡ run.old.most) × (run.new.ticket ≡ run.old.ticket) }
     ensures deadline { run.new.ask.deadline ≡ run.old.ask.deadline }
@@ -329,7 +329,7 @@ fn attempt<E: Answering>(
         Ok(ShortReply::Ended) => commit_attempt(desk, run, t, now, wakes),
         Ok(reply) => {
             run.ask.reply = reply;
-            Ok(settle(desk, run, t, now, wakes))
+            Ok(end_attempt(desk, run, t, now, wakes))
         }
         Err(NoMemory) => {
             end(desk, &mut run.ask, t, wakes);
@@ -357,9 +357,9 @@ pub fn run_procedure<E: Answering>(
     ensures outcome { result ≡ Ok Turn.Done → IsOutcome run.new.ask.reply (named run.new.ticket) (state E.state desk.new).past }
     ensures done { result ≡ Ok Turn.Done → is_conflict run.new.ask.reply ≡ true → run.new.most ≤ run.new.tries }
     ensures call { Begins procedure args.now (state E.state desk.old) run.old (state E.state desk.new) run.new }
-    ensures others { AsksOnly (named run.new.ticket) (state E.state desk.old).past (state E.state desk.new).past }
+    ensures others { RequestsOnly (named run.new.ticket) (state E.state desk.old).past (state E.state desk.new).past }
     ensures part { (state E.state desk.new).part ≡ (state E.state desk.old).part }
-    ensures setting { (state E.state desk.new).setting ≡ (state E.state desk.old).setting }
+    ensures configuration { (state E.state desk.new).configuration ≡ (state E.state desk.old).configuration }
     ensures left { LeavesOnly run.old.attempt (start_count (state E.state desk.old).past) (state E.state desk.new).past
         run.new.attempt }
     ensures only { result ≢ Ok Turn.Rest → run.new.attempt ≡ None }
@@ -404,9 +404,9 @@ fn run_turn<E: Answering>(
     ensures outcome { result ≡ Ok Turn.Done → IsOutcome run.new.ask.reply (named run.new.ticket) (state E.state desk.new).past }
     ensures done { result ≡ Ok Turn.Done → is_conflict run.new.ask.reply ≡ true → run.new.most ≤ run.new.tries }
     ensures call { Begins procedure args.now (state E.state desk.old) run.old (state E.state desk.new) run.new }
-    ensures others { AsksOnly (named run.new.ticket) (state E.state desk.old).past (state E.state desk.new).past }
+    ensures others { RequestsOnly (named run.new.ticket) (state E.state desk.old).past (state E.state desk.new).past }
     ensures part { (state E.state desk.new).part ≡ (state E.state desk.old).part }
-    ensures setting { (state E.state desk.new).setting ≡ (state E.state desk.old).setting }
+    ensures configuration { (state E.state desk.new).configuration ≡ (state E.state desk.old).configuration }
     ensures left { LeavesOnly run.old.attempt (start_count (state E.state desk.old).past) (state E.state desk.new).past
         run.new.attempt }
     ensures only { result ≢ Ok Turn.Rest → run.new.attempt ≡ None }

@@ -1,4 +1,4 @@
--- Facts and sums over the logs of a feed (queue), of which a step changes or adds one.
+-- Facts and sums over the logs of a queue, of which a step changes or adds one.
 use Rattle.std.proofs.Common.{◌≡◌, ◌≢◌, ℕ, zero, suc, ◌+◌, ◌≤◌, ⊎_elim, List, [], ◌∷◌, ◌++◌, set, refl, ap, sym, subst, arith}
 use Rattle.std.specs.List.{sum_by}
 use Rattle.std.proofs.lemmas.List.Sums.{sum_by-cons, sum_by-append}

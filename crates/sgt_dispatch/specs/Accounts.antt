@@ -3,7 +3,7 @@ use Rattle.std.specs.Prelude.{◌≡◌, ◌≤◌, Bool, List, ◌++◌, All, s
 use Rattle.sgt_dispatch.specs.declared.item.Item.{Item}
 use Rattle.sgt_dispatch.specs.Subsequences.{IsSubsequence}
 
--- The first of the items sent have left the feed, and it holds the others. Each joined taker received some of those
+-- The first of the items sent have left the queue, and it holds the others. Each joined taker received some of those
 -- that left, in their order. None was received more often than it left. With all takers joined, exactly these were
 -- received
 pub record AccountsForItems (put : List Item) (joined : List (List Item)) (held : List Item) (all : Type 0) : Type 0 where

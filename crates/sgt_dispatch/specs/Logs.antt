@@ -5,17 +5,17 @@ use lib.ListN.{get_elem?}
 use Rattle.sgt_dispatch.specs.declared.item.Item.{Item}
 use Rattle.sgt_dispatch.specs.declared.log.Log.{Log}
 
--- the putter's log of a new feed, with every share
+-- the producer's log of a new queue, with every share
 abbrev pub first_log : Log
-first_log = record { parts = 17; is_putter = true; put = []; taken = []; joined = [] }
+first_log = record { parts = 17; is_producer = true; put = []; taken = []; joined = [] }
 
 -- a new taker's log
-abbrev pub taker_log : Log
-taker_log = record { parts = 1; is_putter = false; put = []; taken = []; joined = [] }
+abbrev pub consumer_log : Log
+consumer_log = record { parts = 1; is_producer = false; put = []; taken = []; joined = [] }
 
 -- what remains of a log that was joined to another
 abbrev pub spent_log : Log
-spent_log = record { parts = 0; is_putter = false; put = []; taken = []; joined = [] }
+spent_log = record { parts = 0; is_producer = false; put = []; taken = []; joined = [] }
 
 -- P holds of each log and its number
 abbrev pub EachLog : (ℕ → Log → Type 0) → List Log → Type 0

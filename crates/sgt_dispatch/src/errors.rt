@@ -1,14 +1,14 @@
-//! Why a feed could not be made.
+//! Why a queue could not be made.
 use std::alloc::AllocError;
 use thiserror::Error;
 
-/// Why a feed could not be made.
+/// Why a queue could not be made.
 #[derive(Clone, Copy, Debug, PartialEq, Eq, Error)]
 pub enum FeedError {
-    /// The capacity is not from 1 to [`MOST_ROOM`](crate::MOST_ROOM).
+    /// The capacity is not from 1 to [`MOST_CAPACITY`](crate::MOST_CAPACITY).
     #[error("the room is out of its range")]
     BadRoom,
-    /// The number of takers is not from 1 to [`MOST_TAKERS`](crate::MOST_TAKERS).
+    /// The number of consumers is not from 1 to [`MOST_CONSUMERS`](crate::MOST_CONSUMERS).
     #[error("the number of takers is out of its range")]
     BadTakers,
     /// An allocation failed.

@@ -1,13 +1,13 @@
-//! The rule of the feed, and how each step changes the log of its end.
+//! The rule of the queue, and how each step changes the log of its end.
 ghost use Rattle.std.specs.Prelude.{◌≡◌, ◌+◌, ◌-◌, ◌++◌, [], ◌∷◌};
-ghost use Rattle.sgt_dispatch.specs.Logs.{first_log, taker_log, spent_log};
-ghost use Rattle.sgt_dispatch.specs.Fifo.{IsFifo, IsTold};
+ghost use Rattle.sgt_dispatch.specs.Logs.{first_log, consumer_log, spent_log};
+ghost use Rattle.sgt_dispatch.specs.Fifo.{IsFifo, IsLearned};
 
 use crate::item::Item;
 use crate::log::Log;
 use crossbeam_channel::protocol::{Join, Lesson, Outcome, Protocol, Split};
 
-/// First in, first out, and each item to one taker.
+/// First in, first out, and each item to one consumer.
 pub(crate) struct Fifo;
 
 impl Protocol<Item, Log> for Fifo {
@@ -38,16 +38,16 @@ impl Lesson<Item, Log> for TakeStep {
     ghost fact = { λ log items. Unit {0} };
 }
 
-/// Splits a taker's pass off the putter's.
+/// Splits a consumer's pass off the producer's.
 pub(crate) struct CutStep;
 
 impl Split<Log> for CutStep {
     ghost left = { λ log. record log { parts = log.parts - 1 } };
 
-    ghost right = { λ log. taker_log };
+    ghost right = { λ log. consumer_log };
 }
 
-/// Joins a taker's pass to the putter's.
+/// Joins a consumer's pass to the producer's.
 pub(crate) struct JoinStep;
 
 impl Join<Log> for JoinStep {
@@ -57,5 +57,5 @@ impl Join<Log> for JoinStep {
 }
 
 impl Lesson<Item, Log> for JoinStep {
-    ghost fact = { IsTold };
+    ghost fact = { IsLearned };
 }

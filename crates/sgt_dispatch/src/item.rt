@@ -1,10 +1,10 @@
-//! The items of a feed.
+//! The items of a queue.
 
-/// An item of a feed.
+/// An item of a queue.
 #[derive(Debug, Drop, PartialEq, Eq)]
 pub enum Item {
-    /// The number of a job, for the taker that receives it.
+    /// The number of a job, for the consumer that receives it.
     Job(u32),
-    /// A stop: no job is left for the taker that receives it.
+    /// A stop: no job is left for the consumer that receives it.
     Stop,
 }

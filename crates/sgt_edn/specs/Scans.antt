@@ -73,7 +73,7 @@ free_text s x =
     else (if is_open x then open_text s x
     else (if is_close x then close_text s x else []))))
 
--- after a byte behind a hash, which starts a set, a tag, a string or a number like ##Inf
+-- after the byte that follows a hash, which starts a set, a tag, a string or a number like ##Inf
 abbrev pub after_hash : Scan → ℕ → Scan
 after_hash s x =
     if x == 35 then in_mode Token s

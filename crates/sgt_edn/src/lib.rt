@@ -13,7 +13,7 @@
 //! Brackets that stand in nothing become spaces, and comments vanish. Each newline outside of strings stays, so lines keep
 //! their numbers. What is not EDN becomes what is not JSON: nothing is promised of it.
 //!
-//! [`is_edn`] tells a text in EDN from one in JSON by its first bytes.
+//! [`is_edn`] decides by its first bytes whether a text is EDN or JSON.
 //!
 //! `specs/Scans.antt` defines the text byte by byte. Tested, not proved: that it is the same data.
 //!

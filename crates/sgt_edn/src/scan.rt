@@ -130,7 +130,7 @@ impl Scan {
         }
     }
 
-    /// After a byte behind a hash.
+    /// After the byte that follows a hash.
     fn after_hash(self, byte: u8) -> Scan
         ensures { result ≡ after_hash self byte }
     {
@@ -303,7 +303,7 @@ fn append_free(json: &mut Vec<u8>, scan: Scan, byte: u8) -> Result<(), NoMemory>
     Ok(())
 }
 
-/// Appends the text of a byte behind a hash.
+/// Appends the text of the byte that follows a hash.
 fn append_hash(json: &mut Vec<u8>, scan: Scan, byte: u8) -> Result<(), NoMemory>
     ensures { OnOk result (json.new.items ≡ json.old.items ++ hash_text scan byte) }
 {
@@ -342,7 +342,7 @@ fn start_token(token: &mut Vec<u8>, byte: u8) -> Result<(), NoMemory>
     Ok(())
 }
 
-/// Starts a number like ##Inf, if the byte behind a hash does.
+/// Starts a number like ##Inf, if the byte that follows a hash does.
 fn start_number(token: &mut Vec<u8>, byte: u8) -> Result<(), NoMemory>
     ensures { OnOk result (token.new.items ≡ hash_token byte) }
 {

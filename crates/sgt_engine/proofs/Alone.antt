@@ -10,11 +10,11 @@ use Rattle.sgt_model.specs.declared.short_reply.ShortReply.{ShortReply}
 use Rattle.sgt_model.specs.declared.short_reply.ShortReply.TheVariants as short
 use Rattle.sgt_model.specs.declared.short_reply.ShortCause.TheVariants as short_cause
 use Rattle.sgt_model.specs.Legality.{Legal, LegalReply}
-use Rattle.sgt_model.specs.Settings.{Setting}
+use Rattle.sgt_model.specs.Configurations.{Configuration}
 use Rattle.sgt_model.specs.ShortReplies.{short_reply}
 use Rattle.sgt_progress.specs.Alone.{IsAlone, IsNoQuitOf, is_hindered}
 use Rattle.sgt_progress.proofs.Alone.{alone_is_not_aborted}
-use Rattle.sgt_engine.specs.EngineView.{EngineView, setting_of}
+use Rattle.sgt_engine.specs.EngineView.{EngineView, configuration_of}
 
 -- a short reply says whether it hinders
 abbrev hinders : ShortReply → Bool
@@ -36,16 +36,16 @@ hinders_alike reply.Ended = refl
 hinders_alike reply.NotEnded = refl
 hinders_alike (reply.Waits t) = refl
 hinders_alike (reply.Committed answers) = refl
-hinders_alike (reply.Aborted (cause.Cycle walk) fell) = refl
+hinders_alike (reply.Aborted (cause.Cycle cycle) fell) = refl
 hinders_alike (reply.Aborted (cause.Asked code) fell) = refl
 hinders_alike (reply.Aborted cause.Quit fell) = refl
 hinders_alike (reply.Refused code fell) = refl
 
-pub undisturbed : (s : Setting) (past : List Entry) → Legal s past → (t : ℕ) → IsAlone past t → (event : Event) → IsNoQuitOf event t
-    → (told r : Reply) → short_reply told ≡ short_reply r → LegalReply s past event told → is_hindered r ≡ false
-undisturbed s past legal t alone event of_t told r same h = hinders_alike r ∙ ap hinders (sym same) ∙ sym (hinders_alike told)
-    ∙ alone_is_not_aborted s past legal t alone event of_t told h
+pub undisturbed : (s : Configuration) (past : List Entry) → Legal s past → (t : ℕ) → IsAlone past t → (event : Event) → IsNoQuitOf event t
+    → (reported r : Reply) → short_reply reported ≡ short_reply r → LegalReply s past event reported → is_hindered r ≡ false
+undisturbed s past legal t alone event of_t reported r same h = hinders_alike r ∙ ap hinders (sym same) ∙ sym (hinders_alike reported)
+    ∙ alone_is_not_aborted s past legal t alone event of_t reported h
 
 -- what holds of the parts holds of the view
-pub legal_before : {e e' : EngineView} → e ≡ e' → Legal (setting_of e) e.past → Legal (setting_of e') e'.past
-legal_before same legal = subst (λ (e : EngineView). Legal (setting_of e) e.past) same legal
+pub legal_before : {e e' : EngineView} → e ≡ e' → Legal (configuration_of e) e.past → Legal (configuration_of e') e'.past
+legal_before same legal = subst (λ (e : EngineView). Legal (configuration_of e) e.past) same legal

@@ -15,20 +15,20 @@ use Rattle.sgt_model.specs.declared.reply.Reply.{Reply}
 use Rattle.sgt_model.specs.declared.reply.Reply.TheVariants as reply
 use Rattle.sgt_model.specs.Traces.{Next, Looks, Puts, Ends, Raises}
 use Rattle.sgt_model.specs.Fates.{start_count, fate_of, live, live_ones}
-use Rattle.sgt_model.specs.Settings.{Setting, takes}
+use Rattle.sgt_model.specs.Configurations.{Configuration, takes}
 use Rattle.sgt_model.specs.Progress.{next_of, requested, is_fit}
 use Rattle.sgt_model.specs.Left.{next_left}
 use Rattle.sgt_model.specs.Legality.{Legal, LegalReply, StepReply, OfFit, RequestReply, CommitReply, OfStarted, RaisedStep, RaisedCommit, HasNoLivePredecessor}
-use Rattle.sgt_model.specs.StartReply.{args_fit, room_reply, taken_reply}
+use Rattle.sgt_model.specs.StartReply.{args_fit, capacity_reply, taken_reply}
 use Rattle.sgt_model.specs.State.{State}
 use Rattle.sgt_model.specs.StateAfter.{IsStateAfter}
 use Rattle.sgt_model.specs.CallEffects.{CallEffect}
 use Rattle.sgt_model.specs.Refinement.{NextsAgree, StatesAreSound, VerdictsAgree}
-use Rattle.sgt_model.specs.Walks.{Member}
+use Rattle.sgt_model.specs.Paths.{Member}
 use Rattle.sgt_sched.specs.Steps.{IsUnended}
 use Rattle.sgt_model.specs.Questions.{is_ending}
 use Rattle.sgt_sched.specs.Endings.{StepEnds, RequestEnds, CommitEnds, EndsOne, RepliesEndWhere, CallsCount, AtItsStep, AtItsCommit, IsFirst}
-use Rattle.sgt_engine.specs.EngineView.{EngineView, setting_of}
+use Rattle.sgt_engine.specs.EngineView.{EngineView, configuration_of}
 
 -- what is true of a state that belongs to a legal history, and of calls on it
 pub record StateLaws : Type 0 where
@@ -65,11 +65,11 @@ start_quiet limits begun living (Some count) args = fits (args_fit count args) w
   spent true = refl
   spent false = full (nat_eq living limits.live)
 
-  fits : (b : Bool) → is_ending (cond b (room_reply limits begun living) reply.BadArgs) ≡ false
+  fits : (b : Bool) → is_ending (cond b (capacity_reply limits begun living) reply.BadArgs) ≡ false
   fits true = spent (nat_eq begun limits.begins)
   fits false = refl
 
-module _ (laws : StateLaws) (s : Setting) (past : List Entry) (legal : Legal s past) (c : State) (i : IsStateAfter s past c) where
+module _ (laws : StateLaws) (s : Configuration) (past : List Entry) (legal : Legal s past) (c : State) (i : IsStateAfter s past c) where
   -- a transaction that was started and has not ended is listed as live
   pub unended_listed : (t : ℕ) → IsUnended c t → Member t c.live
   unended_listed t u = ((laws.sound s past legal c i).listed t).0
@@ -83,11 +83,11 @@ module _ (laws : StateLaws) (s : Setting) (past : List Entry) (legal : Legal s p
         ∙ live-no_fate past t alive;
   }
 
-  -- an event that has got its capacity leaves capacity for one end of each that is live then
-  pub room_left : (event : Event) (after : State) (r : Reply) (room : ℕ) → CallEffect s.rules event c r after → length c.live ≤ room
-      → ((EndsOne s.rules.limits.asks event c → ⊥) → length c.live + 2 ≤ room) → length after.live + 1 ≤ room
-  room_left event after r room done kept more = both (is_ending r) refl where
-    both : (b : Bool) → is_ending r ≡ b → length after.live + 1 ≤ room
+  -- an event for which capacity was provided leaves capacity for one end of each that is live then
+  pub spare_left : (event : Event) (after : State) (r : Reply) (spare : ℕ) → CallEffect s.rules event c r after → length c.live ≤ spare
+      → ((EndsOne s.rules.limits.asks event c → ⊥) → length c.live + 2 ≤ spare) → length after.live + 1 ≤ spare
+  spare_left event after r spare done kept more = both (is_ending r) refl where
+    both : (b : Bool) → is_ending r ≡ b → length after.live + 1 ≤ spare
     both true e = omega (arith, kept, (laws.counts s.rules event c r after unended_listed done).fewer e)
     both false e = omega (
       arith,
@@ -104,9 +104,9 @@ module _ (laws : StateLaws) (s : Setting) (past : List Entry) (legal : Legal s p
   opened r X true (Some f) x e = absurd (quiet r _ x refl e)
   opened r X true None x e = (refl, refl, x)
 
-  asked_step_ends : (asks : Asks) (t code : ℕ) (r : Reply) → RaisedStep asks past t code r → is_ending r ≡ true → AtItsStep asks
-  asked_step_ends AtStep t code r x e = tt
-  asked_step_ends AtCommit t code r x e = absurd (quiet r _ x refl e)
+  raised_step_ends : (asks : Asks) (t code : ℕ) (r : Reply) → RaisedStep asks past t code r → is_ending r ≡ true → AtItsStep asks
+  raised_step_ends AtStep t code r x e = tt
+  raised_step_ends AtCommit t code r x e = absurd (quiet r _ x refl e)
 
   step_ends : (t : ℕ) (n : Next) (r : Reply) → live past t ≡ true → StepReply s past t n r → is_ending r ≡ true
       → StepEnds s.rules.limits.asks t n c
@@ -115,7 +115,7 @@ module _ (laws : StateLaws) (s : Setting) (past : List Entry) (legal : Legal s p
   step_ends t (Puts k v) r l (inl x) e = (x.rest, (laws.verdicts s past legal c i t k Store x.rest l).1 x.closes)
   step_ends t (Puts k v) r l (inr x) e = absurd (quiet r _ x.is refl e)
   step_ends t (Ends answers) r l x e = absurd (quiet r _ x refl e)
-  step_ends t (Raises code) r l x e = asked_step_ends s.rules.limits.asks t code r x e
+  step_ends t (Raises code) r l x e = raised_step_ends s.rules.limits.asks t code r x e
 
   fit_ends : (t : ℕ) (d : Request) (fit : Bool) (r : Reply) → is_fit d ≡ fit → live past t ≡ true
       → OfFit fit r (StepReply s past t (requested d) r) → is_ending r ≡ true
@@ -134,18 +134,18 @@ module _ (laws : StateLaws) (s : Setting) (past : List Entry) (legal : Legal s p
   first_in : (t : ℕ) → HasNoLivePredecessor past t → IsFirst t c
   first_in t none u p = let pair = (i.pairs u t).0 p in none u (record { is_live = pair.first_live; pair = pair.pair })
 
-  asked_commit_ends : (asks : Asks) (t code : ℕ) (r : Reply) → RaisedCommit asks past t code r → is_ending r ≡ true
+  raised_commit_ends : (asks : Asks) (t code : ℕ) (r : Reply) → RaisedCommit asks past t code r → is_ending r ≡ true
       → AtItsCommit asks × IsFirst t c
-  asked_commit_ends AtStep t code r x e = absurd (quiet r _ x refl e)
-  asked_commit_ends AtCommit t code r (inl x) e = absurd (quiet r _ x.is refl e)
-  asked_commit_ends AtCommit t code r (inr x) e = (tt, first_in t x.none_live)
+  raised_commit_ends AtStep t code r x e = absurd (quiet r _ x refl e)
+  raised_commit_ends AtCommit t code r (inl x) e = absurd (quiet r _ x.is refl e)
+  raised_commit_ends AtCommit t code r (inr x) e = (tt, first_in t x.none_live)
 
   commit_ends : (t : ℕ) (n : Next) (r : Reply) → CommitReply s past t n r → is_ending r ≡ true → CommitEnds s.rules.limits.asks t n c
   commit_ends t (Ends answers) r (inl x) e = absurd (quiet r _ x.is refl e)
   commit_ends t (Ends answers) r (inr x) e = first_in t x.none_live
   commit_ends t (Looks k) r x e = absurd (quiet r _ x refl e)
   commit_ends t (Puts k v) r x e = absurd (quiet r _ x refl e)
-  commit_ends t (Raises code) r x e = asked_commit_ends s.rules.limits.asks t code r x e
+  commit_ends t (Raises code) r x e = raised_commit_ends s.rules.limits.asks t code r x e
 
   next_same : (t : ℕ) → live past t ≡ true → next_of s past t ≡ next_left (c.left t)
   next_same t l = sym (laws.nexts s past legal c i t l)
@@ -174,8 +174,8 @@ module _ (laws : StateLaws) (s : Setting) (past : List Entry) (legal : Legal s p
       live_unended t (live_from past t o.0 o.1)
 
 -- the same, as callers see an engine
-pub ends_seen : StateLaws → (before now : EngineView) → before ≡ now → (c : State) → Legal (setting_of before) before.past
-    → IsStateAfter (setting_of before) before.past c → (event : Event) (r : Reply) → LegalReply (setting_of now) now.past event r
+pub ends_seen : StateLaws → (before now : EngineView) → before ≡ now → (c : State) → Legal (configuration_of before) before.past
+    → IsStateAfter (configuration_of before) before.past c → (event : Event) (r : Reply) → LegalReply (configuration_of now) now.past event r
     → is_ending r ≡ true → EndsOne before.limits.asks event c
-ends_seen laws before now seen c legal i event r l e = legal_ends laws (setting_of before) before.past legal c i event r
-    (subst (λ (v : EngineView). LegalReply (setting_of v) v.past event r) (sym seen) l) e
+ends_seen laws before now seen c legal i event r l e = legal_ends laws (configuration_of before) before.past legal c i event r
+    (subst (λ (v : EngineView). LegalReply (configuration_of v) v.past event r) (sym seen) l) e

@@ -18,19 +18,19 @@ use Rattle.sgt_model.specs.ShortReplies.{full_cause, full_fate, reply_with, shor
 use Rattle.sgt_model.specs.Contents.{Contents}
 use Rattle.sgt_model.specs.Databases.{Row}
 use Rattle.sgt_model.specs.Syntax.{ProcedureText}
-use Rattle.sgt_model.specs.Settings.{Setting, setting}
+use Rattle.sgt_model.specs.Configurations.{Configuration, configuration}
 use Rattle.sgt_model.specs.Legality.{Legal, LegalReply}
 use Rattle.sgt_model.specs.State.{State}
 use Rattle.sgt_model.specs.StateAfter.{IsStateAfter}
 use Rattle.sgt_model.specs.CallEffects.{CallEffect}
-use Rattle.sgt_engine.specs.EngineView.{EngineView, setting_of, made_of, with_entry, newest_reply, Answers, HasLists}
+use Rattle.sgt_engine.specs.EngineView.{EngineView, configuration_of, made_of, with_entry, newest_reply, Answers, HasLists}
 use Rattle.sgt_engine.specs.Snapshots.{IsSnapshot}
 use Rattle.sgt_engine.specs.declared.engine.snapshot.Snapshot.{Snapshot}
 use Rattle.sgt_model.specs.Histories.{events_of}
 use Rattle.sgt_model.specs.Refinement.{CallsSimulate}
 
 -- what an engine keeps: a legal history, and a scheduler whose state is the one after it
-abbrev pub Kept : Setting → List Entry → State → Type 0
+abbrev pub Kept : Configuration → List Entry → State → Type 0
 Kept s past c = Legal s past × IsStateAfter s past c
 
 -- the entry in front of the past, where it was added at the end of the history
@@ -38,23 +38,23 @@ pub longer : (items new : List Entry) (e : Entry) → new ≡ items ++ e ∷ [] 
 longer items new e is = ap reverse is ∙ reverse-append items (e ∷ [])
 
 -- two configurations are the same if their parts are
-pub same_setting : (opening : Contents) (procedures procedures' : List ProcedureText) (limits limits' : Limits) → procedures' ≡ procedures
-    → limits' ≡ limits → setting opening procedures limits ≡ setting opening procedures' limits'
-same_setting opening procedures procedures' limits limits' p l = ap₂ (setting opening) (sym p) (sym l)
+pub same_configuration : (opening : Contents) (procedures procedures' : List ProcedureText) (limits limits' : Limits) → procedures' ≡ procedures
+    → limits' ≡ limits → configuration opening procedures limits ≡ configuration opening procedures' limits'
+same_configuration opening procedures procedures' limits limits' p l = ap₂ (configuration opening) (sym p) (sym l)
 
--- an entry that was added after making room
+-- an entry that was added after capacity was provided
 pub added : (items reserved new : List Entry) (event : Event) (r : Reply)
     → new ≡ reserved ++ record { event = event; reply = r } ∷ [] → reserved ≡ items → new ≡ items ++ record { event = event; reply = r }
     ∷ []
-added items reserved new event r pushed room = pushed ∙ ap (λ (l : List Entry). l ++ record { event = event; reply = r } ∷ []) room
+added items reserved new event r pushed spare = pushed ∙ ap (λ (l : List Entry). l ++ record { event = event; reply = r } ∷ []) spare
 
 -- a call that was answered keeps all that an engine keeps
-pub kept_entry : CallsSimulate → (s s' : Setting) (items new : List Entry) (before after : State) (event : Event) (r : Reply) → s ≡ s'
+pub kept_entry : CallsSimulate → (s s' : Configuration) (items new : List Entry) (before after : State) (event : Event) (r : Reply) → s ≡ s'
     → new ≡ items ++ record { event = event; reply = r } ∷ [] → Kept s (reverse items) before → CallEffect s.rules event before r after
     → Kept s' (reverse new) after
 kept_entry calls_simulate s s' items new before after event r same is kept done =
     let continues = calls_simulate s (reverse items) kept.0 before kept.1 event r after done in
-    subst₂ (λ (x : Setting) (l : List Entry). Kept x l after) same (sym (longer items new (record { event = event; reply = r }) is))
+    subst₂ (λ (x : Configuration) (l : List Entry). Kept x l after) same (sym (longer items new (record { event = event; reply = r }) is))
     ((kept.0, continues.0), continues.1)
 
 -- the engine has this entry more
@@ -75,10 +75,10 @@ entry_added opening procedures procedures' limits limits' items new event r now 
   }
 
 -- a short cause is what its full one is without the path
-cause_with : (c : ShortCause) (walk : List ℕ) → short_cause (full_cause c walk) ≡ c
-cause_with cause.Cycle walk = refl
-cause_with (cause.Asked code) walk = refl
-cause_with cause.Quit walk = refl
+cause_with : (c : ShortCause) (cycle : List ℕ) → short_cause (full_cause c cycle) ≡ c
+cause_with cause.Cycle cycle = refl
+cause_with (cause.Asked code) cycle = refl
+cause_with cause.Quit cycle = refl
 
 -- a short reply is what its full one is without the lists
 pub short_with : (r : ShortReply) (lists : ReplyLists) → short_reply (reply_with r lists) ≡ r
@@ -89,9 +89,9 @@ short_with short.Spent lists = refl
 short_with short.Full lists = refl
 short_with short.Unknown lists = refl
 short_with (short.Over f) lists = ap short.Over (fate_with f) where
-  fate_with : (f : ShortFate) → short_fate (full_fate f lists.walk) ≡ f
+  fate_with : (f : ShortFate) → short_fate (full_fate f lists.cycle) ≡ f
   fate_with fate.Committed = refl
-  fate_with (fate.Aborted c) = ap fate.Aborted (cause_with c lists.walk)
+  fate_with (fate.Aborted c) = ap fate.Aborted (cause_with c lists.cycle)
   fate_with (fate.Fell t) = refl
 short_with (short.Looked k v) lists = refl
 short_with (short.Wrote k v) lists = refl
@@ -99,7 +99,7 @@ short_with short.Ended lists = refl
 short_with short.NotEnded lists = refl
 short_with (short.Waits t) lists = refl
 short_with short.Committed lists = refl
-short_with (short.Aborted c) lists = ap short.Aborted (cause_with c lists.walk)
+short_with (short.Aborted c) lists = ap short.Aborted (cause_with c lists.cycle)
 short_with (short.Refused code) lists = refl
 
 -- its lists are those of the newest reply
@@ -125,16 +125,16 @@ answered_with event before r after lists a has =
     ∙ ap (λ s. reply_with s lists) a.is_short
 
 -- its reply is legal
-pub legal_reply : CallsSimulate → (s s' : Setting) (past past' : List Entry) (before after : State) (event : Event) (r : Reply) → s ≡ s'
+pub legal_reply : CallsSimulate → (s s' : Configuration) (past past' : List Entry) (before after : State) (event : Event) (r : Reply) → s ≡ s'
     → past ≡ past' → Kept s past before → CallEffect s.rules event before r after → LegalReply s' past' event r
 legal_reply calls_simulate s s' past past' before after event r same seen kept done =
-    subst₂ (λ (x : Setting) (l : List Entry). LegalReply x l event r) same seen
+    subst₂ (λ (x : Configuration) (l : List Entry). LegalReply x l event r) same seen
     (calls_simulate s past kept.0 before kept.1 event r after done).0
 
 -- the history of a new engine is legal
 pub legal_new : (e : EngineView) (opening : List Row) (procedures : List ProcedureText) (limits : Limits)
-    → e ≡ made_of opening procedures limits → Legal (setting_of e) e.past
-legal_new e opening procedures limits is = subst (λ (x : EngineView). Legal (setting_of x) x.past) (sym is) tt
+    → e ≡ made_of opening procedures limits → Legal (configuration_of e) e.past
+legal_new e opening procedures limits is = subst (λ (x : EngineView). Legal (configuration_of x) x.past) (sym is) tt
 
 -- the events of a history with one entry more
 pub events_of-entry : (e : Entry) (past : List Entry) → events_of (e ∷ past) ≡ events_of past ++ e.event ∷ []

@@ -20,15 +20,15 @@ use Rattle.sgt_model.specs.Values.{stores, newest_store, value_or, settled}
 use Rattle.sgt_model.proofs.Stores.{key_eq-true}
 use Rattle.sgt_model.specs.Databases.{Row, key_cmp, contents_of, IsByKey}
 use Rattle.sgt_model.proofs.Merges.{row_more}
-use Rattle.sgt_engine.specs.Writes.{tells_write, is_written}
+use Rattle.sgt_engine.specs.Writes.{reports_write, is_written}
 
 -- the next entry
 next_written : (k : Key) (entries : List Entry) (p : ℕ) (r : Reply) → option_map (λ (e : Entry). e.reply) (slice_get entries p) ≡ Some r
-    → is_written k (take (suc p) entries) ≡ is_written k (take p entries) || tells_write k r
+    → is_written k (take (suc p) entries) ≡ is_written k (take p entries) || reports_write k r
 next_written k [] p r at = absurd (cc)
-next_written k (e ∷ entries) zero r at = ap (tells_write k) (same_Some e.reply r at)
-next_written k (e ∷ entries) (suc p) r at = ap (λ b. b || tells_write k e.reply) (next_written k entries p r at)
-    ∙ swap (is_written k (take p entries)) (tells_write k r) (tells_write k e.reply)
+next_written k (e ∷ entries) zero r at = ap (reports_write k) (same_Some e.reply r at)
+next_written k (e ∷ entries) (suc p) r at = ap (λ b. b || reports_write k e.reply) (next_written k entries p r at)
+    ∙ swap (is_written k (take p entries)) (reports_write k r) (reports_write k e.reply)
   where
     swap : (a b c : Bool) → ((a || b) || c) ≡ ((a || c) || b)
     swap true b c = refl
@@ -39,9 +39,9 @@ next_written k (e ∷ entries) (suc p) r at = ap (λ b. b || tells_write k e.rep
 
 -- the same, as a loop counts
 pub written_at : (k : Key) (entries : List Entry) (p : ℕ) (r : Reply) → option_map (λ (e : Entry). e.reply) (slice_get entries p) ≡ Some r
-    → is_written k (take (p + 1) entries) ≡ is_written k (take p entries) || tells_write k r
+    → is_written k (take (p + 1) entries) ≡ is_written k (take p entries) || reports_write k r
 written_at k entries p r at =
-    subst (λ n. is_written k (take n entries) ≡ is_written k (take p entries) || tells_write k r) (sym (add-one p))
+    subst (λ n. is_written k (take n entries) ≡ is_written k (take p entries) || reports_write k r) (sym (add-one p))
     (next_written k entries p r at)
 
 none_left : (a b : Option Access) → option_or a b ≡ None → (a ≡ None) × (b ≡ None)
@@ -54,7 +54,7 @@ neither false b no_one = (refl, no_one)
 
 -- an entry that does not write the key stores nothing there
 module _ (counts : ℕ → Bool) (k : Key) where
-  unstored : (event : Event) (r : Reply) → tells_write k r ≡ false → stores counts k (access_in event r) ≡ None
+  unstored : (event : Event) (r : Reply) → reports_write k r ≡ false → stores counts k (access_in event r) ≡ None
   unstored (Step t) (reply.Wrote j v) other =
       ap (λ b. cond (b && counts t) (Some (record { by = t; key = j; kind = Store; value = v })) None) other
   unstored (event.Access t d) (reply.Wrote j v) other =
@@ -82,20 +82,20 @@ module _ (counts : ℕ → Bool) (k : Key) where
   unstored event (reply.Refused code fell) other = refl
 
   -- an older entry that stores nothing there
-  none_behind : (past : List Entry) (e : Entry) → newest_store counts k past ≡ None → stores counts k (access_of e) ≡ None
+  none_after : (past : List Entry) (e : Entry) → newest_store counts k past ≡ None → stores counts k (access_of e) ≡ None
       → newest_store counts k (past ++ e ∷ []) ≡ None
-  none_behind [] e none here = ap (λ o. option_or o None) here
-  none_behind (x ∷ past) e none here =
+  none_after [] e none here = ap (λ o. option_or o None) here
+  none_after (x ∷ past) e none here =
       let both = none_left (stores counts k (access_of x)) (newest_store counts k past) none in
-      ap (λ o. option_or o (newest_store counts k (past ++ e ∷ []))) both.0 ∙ none_behind past e both.1 here
+      ap (λ o. option_or o (newest_store counts k (past ++ e ∷ []))) both.0 ∙ none_after past e both.1 here
 
   -- where no entry writes the key, nothing is stored there
   unwritten : (entries : List Entry) → is_written k entries ≡ false → newest_store counts k (reverse entries) ≡ None
   unwritten [] none = refl
   unwritten (e ∷ entries) none =
-      let both = neither (is_written k entries) (tells_write k e.reply) none in
+      let both = neither (is_written k entries) (reports_write k e.reply) none in
       ap (newest_store counts k) (reverse_onto entries e [])
-      ∙ none_behind (reverse entries) e (unwritten entries both.0) (unstored e.event e.reply both.1)
+      ∙ none_after (reverse entries) e (unwritten entries both.0) (unstored e.event e.reply both.1)
 
 -- the committed values of the written keys, and else what was opened with: these are the committed values
 pub changed : (opening : Contents) (entries : List Entry) (k : Key) (value : Option ℤ) → value ≡ settled opening (reverse entries) k
@@ -106,10 +106,10 @@ changed opening entries k value same = go (is_written k entries) refl
     go true e = same
     go false e = ap (λ o. value_or o (opening k)) (sym (unwritten (committed (reverse entries)) k entries e))
 
--- the map of the values of the written keys, where so many were written before
+-- the map of the values of the written keys, if this many were written before
 
 -- a reply that is no write
-pub no_write : (k : Key) (r : Reply) → ((j : Key) (v : Option ℤ) → r ≡ reply.Wrote j v → ⊥) → tells_write k r ≡ false
+pub no_write : (k : Key) (r : Reply) → ((j : Key) (v : Option ℤ) → r ≡ reply.Wrote j v → ⊥) → reports_write k r ≡ false
 no_write k (reply.Wrote j v) other = absurd (other j v refl)
 no_write k (reply.Looked j v) other = refl
 no_write k (reply.Started t) other = refl

@@ -11,7 +11,7 @@ use Rattle.sgt_model.specs.Databases.{Row, contents_of}
 use Rattle.sgt_model.specs.Legality.{LegalReply}
 use Rattle.sgt_model.specs.ShortReplies.{reply_with, short_reply}
 use Rattle.sgt_model.specs.Syntax.{ProcedureText}
-use Rattle.sgt_model.specs.Settings.{Setting, setting}
+use Rattle.sgt_model.specs.Configurations.{Configuration, configuration}
 
 -- the initial database, the procedures, the limits, and the history, newest entry first
 pub record EngineView : Type 0 where
@@ -21,8 +21,8 @@ pub record EngineView : Type 0 where
   pub past : List Entry
 
 -- its configuration, as the definitions of histories use it
-abbrev pub setting_of : EngineView → Setting
-setting_of e = setting (contents_of e.opening) e.procedures e.limits
+abbrev pub configuration_of : EngineView → Configuration
+configuration_of e = configuration (contents_of e.opening) e.procedures e.limits
 
 -- a new engine
 abbrev pub made_of : List Row → List ProcedureText → Limits → EngineView
@@ -50,4 +50,4 @@ pub record Answers (event : Event) (before : EngineView) (short : ShortReply) (a
   pub reply : Reply
   pub is_short : short_reply reply ≡ short
   pub adds : after ≡ with_entry event reply before
-  pub legal : LegalReply (setting_of before) before.past event reply
+  pub legal : LegalReply (configuration_of before) before.past event reply

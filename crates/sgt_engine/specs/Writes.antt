@@ -8,14 +8,14 @@ use Rattle.sgt_model.specs.declared.short_reply.ShortReply.TheVariants as short
 use Rattle.sgt_model.specs.Contents.{Key, key_eq}
 
 -- the reply says that the key was written
-abbrev pub tells_write : Key → Reply → Bool
-tells_write k (Wrote key v) = key_eq key k
-tells_write k _ = false
+abbrev pub reports_write : Key → Reply → Bool
+reports_write k (Wrote key v) = key_eq key k
+reports_write k _ = false
 
 -- one of the entries does
 abbrev pub is_written : Key → List Entry → Bool
 is_written k [] = false
-is_written k (e ∷ entries) = is_written k entries || tells_write k e.reply
+is_written k (e ∷ entries) = is_written k entries || reports_write k e.reply
 
 -- the reply says that a record was removed
 abbrev pub is_removal : ShortReply → Bool

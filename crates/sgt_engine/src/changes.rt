@@ -46,7 +46,7 @@ pub fn note_removal(found: &mut bool, reply: &ShortReply)
 
 /// The keys that the history has writes of and that have no committed value.
 ///
-/// Nothing is promised of the list: a key too few keeps memory that nobody needs, and one too many is no harm.
+/// Nothing is promised of the list: a missing key keeps memory that is not needed, and an extra one does no harm.
 pub fn keys_without_value<R: Records>(
     alloc: Global,
     history: &History,

@@ -15,13 +15,13 @@ ghost use Rattle.sgt_model.specs.Replay.{folded, ReplayAgrees};
 ghost use Rattle.sgt_model.specs.ShortReplies.{short_reply};
 ghost use Rattle.sgt_model.specs.StateAfter.{IsStateAfter};
 ghost use Rattle.sgt_model.specs.Values.{settled};
-ghost use Rattle.sgt_model.specs.Walks.{Acyclic};
+ghost use Rattle.sgt_model.specs.Paths.{Acyclic};
 ghost use Rattle.sgt_model.specs.Questions.{is_ending};
 ghost use Rattle.sgt_progress.specs.Alone.{IsAlone, IsNoQuitOf, is_hindered};
 ghost use Rattle.sgt_progress.specs.Progress.{MakesProgress};
 ghost use Rattle.sgt_progress.specs.RealTime.{KeepsRealTime};
 ghost use Rattle.sgt_sched.specs.Scheduler.{parts, state};
-ghost use Rattle.sgt_engine.specs.EngineView.{setting_of, made_of, with_entry, newest_reply, Answers, HasLists};
+ghost use Rattle.sgt_engine.specs.EngineView.{configuration_of, made_of, with_entry, newest_reply, Answers, HasLists};
 
 mod cut;
 mod procedures;
@@ -30,7 +30,7 @@ mod snapshot;
 
 use crate::changes::{changed, note_removal};
 use crate::past::Past;
-use crate::room::make_room;
+use crate::spare::ensure_capacity;
 pub use cut::CutError;
 pub use procedures::AddError;
 pub use put::PutError;
@@ -62,7 +62,7 @@ use std::marker::Model;
 /// - its access would close a conflict cycle;
 /// - it read from an aborted transaction;
 /// - its procedure raised a code;
-/// - its caller quit it.
+/// - its caller aborted it.
 ///
 /// At every moment the history is legal: each reply is the one that the definitions of histories allow after the entries
 /// before it. Each answered event is one entry, refusals included. An event for which an allocation failed is no entry,
@@ -86,7 +86,7 @@ impl<R: Records, A: Accesses, G: Graph> Model for Engine<R, A, G> {
     ghost use Rattle.sgt_model.specs.Codes.{coded_procedure};
     ghost use Rattle.sgt_model.specs.Databases.{contents_of};
     ghost use Rattle.sgt_model.specs.Legality.{Legal};
-    ghost use Rattle.sgt_model.specs.Settings.{setting};
+    ghost use Rattle.sgt_model.specs.Configurations.{configuration};
     ghost use Rattle.sgt_model.specs.StateAfter.{IsStateAfter};
     ghost use Rattle.sgt_sched.specs.LiveList.{numbers};
     ghost use Rattle.sgt_sched.specs.Scheduler.{parts, state};
@@ -105,12 +105,12 @@ impl<R: Records, A: Accesses, G: Graph> Model for Engine<R, A, G> {
     } };
 
     ghost invariant = { λ e.
-        Legal (setting (contents_of e.opening) (parts e.sched).procedures (parts e.sched).limits)
+        Legal (configuration (contents_of e.opening) (parts e.sched).procedures (parts e.sched).limits)
         (reverse e.history.entries)
-        × IsStateAfter (setting (contents_of e.opening) (parts e.sched).procedures (parts e.sched).limits)
+        × IsStateAfter (configuration (contents_of e.opening) (parts e.sched).procedures (parts e.sched).limits)
         (reverse e.history.entries)
         (state e.sched)
-        × (length (numbers e.sched.live) ≤ e.history.room)
+        × (length (numbers e.sched.live) ≤ e.history.spare)
         × HasLists (reverse e.history.entries) e.lists
         × IsSnapshot e.opening (reverse e.history.entries) e.snapshot };
 }
@@ -139,8 +139,8 @@ impl<R: Records, A: Accesses, G: Graph> Engine<R, A, G> {
         })
     }
 
-    /// Allocates memory for so many more entries, and for one value in the lists of each. Until these are used up, the present
-    /// ones need not be moved. Nothing else changes.
+    /// Allocates memory for this many more entries, and for one value in the lists of each. Until these are used up,
+    /// the present ones need not be moved. Nothing else changes.
     ///
     /// `NoMemory` if the allocation failed.
     pub fn reserve(&mut self, entries: usize) -> Result<(), NoMemory>
@@ -159,22 +159,22 @@ impl<R: Records, A: Accesses, G: Graph> Engine<R, A, G> {
     /// No transaction waits for itself, also through others. The only live transaction neither waits nor is aborted for a
     /// cycle, whatever its caller asks for. The serial order keeps real time.
     ///
-    /// `NoMemory` if an allocation failed; then nothing has changed. A quit of a live transaction allocates nothing, nor does
-    /// any event whose reply ends a live transaction: the capacity for that entry was allocated at the start. The cost of an
-    /// event does not grow with the history, which is never read, except when a list grows now and then.
+    /// `NoMemory` if an allocation failed; then nothing has changed. Aborting a live transaction allocates nothing, nor
+    /// does any event whose reply ends a live transaction: the capacity for that entry was allocated at the start. The
+    /// cost of an event does not grow with the history, which is never read, except when a list has to grow.
     pub fn apply(&mut self, event: Event) -> Result<Reply, NoMemory>
         ensures adds { IfOk result (λ r. self.new ≡ with_entry event r self.old) }
-        ensures reply { IfOk result (LegalReply (setting_of self.old) self.old.past event) }
-        ensures legal { Legal (setting_of self.new) self.new.past }
-        ensures replay { ReplayAgrees (setting_of self.new) self.new.past }
+        ensures reply { IfOk result (LegalReply (configuration_of self.old) self.old.past event) }
+        ensures legal { Legal (configuration_of self.new) self.new.past }
+        ensures replay { ReplayAgrees (configuration_of self.new) self.new.past }
         ensures no_cycle { Acyclic (Pair self.new.past) }
-        ensures causes { AbortsHaveCause (setting_of self.new) self.new.past }
+        ensures causes { AbortsHaveCause (configuration_of self.new) self.new.past }
         ensures order { CommitsInOrder self.new.past }
-        ensures real_time { KeepsRealTime (setting_of self.new) self.new.past }
-        ensures progress { MakesProgress (setting_of self.new) self.new.past }
+        ensures real_time { KeepsRealTime (configuration_of self.new) self.new.past }
+        ensures progress { MakesProgress (configuration_of self.new) self.new.past }
         ensures alone { IfOk result (λ r. (t : ℕ) → IsAlone self.old.past t → IsNoQuitOf event t → is_hindered r ≡ false) }
         ensures unchanged { OnErr result (self.new ≡ self.old) }
-        ensures no_memory { (r : Reply) → LegalReply (setting_of self.old) self.old.past event r
+        ensures no_memory { (r : Reply) → LegalReply (configuration_of self.old) self.old.past event r
             → is_ending r ≡ true
             → IsOk result }
         ensures quits { (t : ℕ) → event ≡ Quit t → live self.old.past t ≡ true → IsOk result }
@@ -188,17 +188,17 @@ impl<R: Records, A: Accesses, G: Graph> Engine<R, A, G> {
     /// event.
     pub fn answer(&mut self, event: &Event, reply: &mut ShortReply) -> Result<(), NoMemory>
         ensures adds { OnOk result (Answers event.now self.old reply.new self.new) }
-        ensures legal { Legal (setting_of self.new) self.new.past }
-        ensures replay { ReplayAgrees (setting_of self.new) self.new.past }
+        ensures legal { Legal (configuration_of self.new) self.new.past }
+        ensures replay { ReplayAgrees (configuration_of self.new) self.new.past }
         ensures no_cycle { Acyclic (Pair self.new.past) }
-        ensures causes { AbortsHaveCause (setting_of self.new) self.new.past }
+        ensures causes { AbortsHaveCause (configuration_of self.new) self.new.past }
         ensures order { CommitsInOrder self.new.past }
-        ensures real_time { KeepsRealTime (setting_of self.new) self.new.past }
-        ensures progress { MakesProgress (setting_of self.new) self.new.past }
+        ensures real_time { KeepsRealTime (configuration_of self.new) self.new.past }
+        ensures progress { MakesProgress (configuration_of self.new) self.new.past }
         ensures alone { OnOk result ((t : ℕ) → IsAlone self.old.past t → IsNoQuitOf event.now t → (r : Reply)
             → short_reply r ≡ reply.new → is_hindered r ≡ false) }
         ensures unchanged { OnErr result (self.new ≡ self.old) }
-        ensures no_memory { (r : Reply) → LegalReply (setting_of self.old) self.old.past event.now r
+        ensures no_memory { (r : Reply) → LegalReply (configuration_of self.old) self.old.past event.now r
             → is_ending r ≡ true
             → IsOk result }
         ensures quits { (t : ℕ) → event.now ≡ Quit t → live self.old.past t ≡ true → IsOk result }
@@ -210,17 +210,17 @@ impl<R: Records, A: Accesses, G: Graph> Engine<R, A, G> {
     #[inline(always)]
     pub fn answer_inline(&mut self, event: &Event, reply: &mut ShortReply) -> Result<(), NoMemory>
         ensures adds { OnOk result (Answers event.now self.old reply.new self.new) }
-        ensures legal { Legal (setting_of self.new) self.new.past }
-        ensures replay { ReplayAgrees (setting_of self.new) self.new.past }
+        ensures legal { Legal (configuration_of self.new) self.new.past }
+        ensures replay { ReplayAgrees (configuration_of self.new) self.new.past }
         ensures no_cycle { Acyclic (Pair self.new.past) }
-        ensures causes { AbortsHaveCause (setting_of self.new) self.new.past }
+        ensures causes { AbortsHaveCause (configuration_of self.new) self.new.past }
         ensures order { CommitsInOrder self.new.past }
-        ensures real_time { KeepsRealTime (setting_of self.new) self.new.past }
-        ensures progress { MakesProgress (setting_of self.new) self.new.past }
+        ensures real_time { KeepsRealTime (configuration_of self.new) self.new.past }
+        ensures progress { MakesProgress (configuration_of self.new) self.new.past }
         ensures alone { OnOk result ((t : ℕ) → IsAlone self.old.past t → IsNoQuitOf event.now t → (r : Reply)
             → short_reply r ≡ reply.new → is_hindered r ≡ false) }
         ensures unchanged { OnErr result (self.new ≡ self.old) }
-        ensures no_memory { (r : Reply) → LegalReply (setting_of self.old) self.old.past event.now r
+        ensures no_memory { (r : Reply) → LegalReply (configuration_of self.old) self.old.past event.now r
             → is_ending r ≡ true
             → IsOk result }
         ensures quits { (t : ℕ) → event.now ≡ Quit t → live self.old.past t ≡ true → IsOk result }
@@ -233,7 +233,7 @@ impl<R: Records, A: Accesses, G: Graph> Engine<R, A, G> {
         endings_agree();
         headline_holds();
 
-        make_room(&mut self.history, &self.sched, event)?;
+        ensure_capacity(&mut self.history, &self.sched, event)?;
         self.sched.answer(event, &mut self.lists, reply)?;
         self.history.push(event, reply, &self.lists);
         note_removal(&mut self.has_removal, reply);
@@ -257,7 +257,7 @@ impl<R: Records, A: Accesses, G: Graph> Engine<R, A, G> {
     /// The scheduler with its layers. It holds exactly what the history says of the live transactions, how the others ended, and
     /// the committed values.
     pub fn sched(&self) -> &Sched<R, A, G>
-        ensures state { IsStateAfter (setting_of self.now) self.now.past
+        ensures state { IsStateAfter (configuration_of self.now) self.now.past
             (state result.now) }
         ensures procedures { (parts result.now).procedures ≡ self.now.procedures }
         ensures limits { (parts result.now).limits ≡ self.now.limits }
@@ -283,13 +283,13 @@ impl<R: Records, A: Accesses, G: Graph> Engine<R, A, G> {
     /// The history, oldest entry first. No entry is ever removed from it.
     pub fn history(&self) -> &History
         ensures entries { reverse result.now.entries ≡ self.now.past }
-        ensures legal { Legal (setting_of self.now) self.now.past }
-        ensures replay { ReplayAgrees (setting_of self.now) self.now.past }
+        ensures legal { Legal (configuration_of self.now) self.now.past }
+        ensures replay { ReplayAgrees (configuration_of self.now) self.now.past }
         ensures no_cycle { Acyclic (Pair self.now.past) }
-        ensures causes { AbortsHaveCause (setting_of self.now) self.now.past }
+        ensures causes { AbortsHaveCause (configuration_of self.now) self.now.past }
         ensures order { CommitsInOrder self.now.past }
-        ensures real_time { KeepsRealTime (setting_of self.now) self.now.past }
-        ensures progress { MakesProgress (setting_of self.now) self.now.past }
+        ensures real_time { KeepsRealTime (configuration_of self.now) self.now.past }
+        ensures progress { MakesProgress (configuration_of self.now) self.now.past }
     {
         headline_holds();
         replay_keeps_real_time();
@@ -301,7 +301,7 @@ impl<R: Records, A: Accesses, G: Graph> Engine<R, A, G> {
     /// what the committed transactions leave there, run one after another in commit order.
     pub fn committed(&self, key: Key) -> Option<i64>
         ensures value { result ≡ settled (contents_of self.now.opening) self.now.past key }
-        ensures replayed { result ≡ (folded (setting_of self.now) self.now.past).last key }
+        ensures replayed { result ≡ (folded (configuration_of self.now) self.now.past).last key }
     {
         replay_is_serial();
         self.sched.records().committed(key)
@@ -315,7 +315,7 @@ impl<R: Records, A: Accesses, G: Graph> Engine<R, A, G> {
         ensures values { IfOk result (λ d. (k : Key) →
             contents_of d k ≡ settled (contents_of self.now.opening) self.now.past k) }
         ensures replayed { IfOk result (λ d. (k : Key) →
-            contents_of d k ≡ (folded (setting_of self.now) self.now.past).last k) }
+            contents_of d k ≡ (folded (configuration_of self.now) self.now.past).last k) }
         ensures by_key { IfOk result IsByKey }
     {
         replay_is_serial();
@@ -349,13 +349,13 @@ impl<R: Records, A: Accesses, G: Graph> Engine<R, A, G> {
     pub fn into_past(self) -> Past
         ensures opening { result.opening ≡ self.opening }
         ensures entries { reverse result.history.entries ≡ self.past }
-        ensures legal { Legal (setting_of self) self.past }
-        ensures replay { ReplayAgrees (setting_of self) self.past }
+        ensures legal { Legal (configuration_of self) self.past }
+        ensures replay { ReplayAgrees (configuration_of self) self.past }
         ensures no_cycle { Acyclic (Pair self.past) }
-        ensures causes { AbortsHaveCause (setting_of self) self.past }
+        ensures causes { AbortsHaveCause (configuration_of self) self.past }
         ensures order { CommitsInOrder self.past }
-        ensures real_time { KeepsRealTime (setting_of self) self.past }
-        ensures progress { MakesProgress (setting_of self) self.past }
+        ensures real_time { KeepsRealTime (configuration_of self) self.past }
+        ensures progress { MakesProgress (configuration_of self) self.past }
     {
         headline_holds();
         replay_keeps_real_time();

@@ -18,8 +18,8 @@
 mod changes;
 mod engine;
 mod past;
-mod room;
 mod run;
+mod spare;
 
 pub use engine::{AddError, CutError, Engine, PutError};
 pub use past::Past;

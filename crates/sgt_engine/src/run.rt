@@ -6,12 +6,12 @@ ghost use Rattle.sgt_model.specs.CommitOrder.{CommitsInOrder};
 ghost use Rattle.sgt_model.specs.Legality.{Legal};
 ghost use Rattle.sgt_model.specs.Pairs.{Pair};
 ghost use Rattle.sgt_model.specs.Replay.{ReplayAgrees};
-ghost use Rattle.sgt_model.specs.Walks.{Acyclic};
+ghost use Rattle.sgt_model.specs.Paths.{Acyclic};
 ghost use Rattle.sgt_progress.specs.Progress.{MakesProgress};
 ghost use Rattle.sgt_progress.specs.RealTime.{KeepsRealTime};
 ghost use Rattle.sgt_model.specs.Databases.{contents_of};
-ghost use Rattle.sgt_model.specs.Settings.{setting};
-ghost use Rattle.sgt_engine.specs.EngineView.{setting_of};
+ghost use Rattle.sgt_model.specs.Configurations.{configuration};
+ghost use Rattle.sgt_engine.specs.EngineView.{configuration_of};
 ghost use Rattle.sgt_engine.specs.Stops.{StopsAtNoEnd};
 ghost use Rattle.sgt_model.specs.Histories.{events_of};
 
@@ -45,18 +45,18 @@ pub fn run_list<R: Records, A: Accesses, G: Graph>(
     limits: Limits,
     events: &[Event],
 ) -> Result<Ran<R, A, G>, MakeError>
-    ensures setting { IfOk result (λ ran.
-        setting_of ran.engine ≡ setting (contents_of opening) procedures.items limits) }
+    ensures configuration { IfOk result (λ ran.
+        configuration_of ran.engine ≡ configuration (contents_of opening) procedures.items limits) }
     ensures events { IfOk result (λ ran. events_of ran.engine.past ≡ take ran.done events.now) }
     ensures done { IfOk result (λ ran. ran.done ≤ length events.now) }
     ensures stops { IfOk result (λ ran. StopsAtNoEnd ran.engine ran.done events.now) }
-    ensures legal { IfOk result (λ ran. Legal (setting_of ran.engine) ran.engine.past) }
-    ensures replay { IfOk result (λ ran. ReplayAgrees (setting_of ran.engine) ran.engine.past) }
+    ensures legal { IfOk result (λ ran. Legal (configuration_of ran.engine) ran.engine.past) }
+    ensures replay { IfOk result (λ ran. ReplayAgrees (configuration_of ran.engine) ran.engine.past) }
     ensures no_cycle { IfOk result (λ ran. Acyclic (Pair ran.engine.past)) }
-    ensures causes { IfOk result (λ ran. AbortsHaveCause (setting_of ran.engine) ran.engine.past) }
+    ensures causes { IfOk result (λ ran. AbortsHaveCause (configuration_of ran.engine) ran.engine.past) }
     ensures order { IfOk result (λ ran. CommitsInOrder ran.engine.past) }
-    ensures real_time { IfOk result (λ ran. KeepsRealTime (setting_of ran.engine) ran.engine.past) }
-    ensures progress { IfOk result (λ ran. MakesProgress (setting_of ran.engine) ran.engine.past) }
+    ensures real_time { IfOk result (λ ran. KeepsRealTime (configuration_of ran.engine) ran.engine.past) }
+    ensures progress { IfOk result (λ ran. MakesProgress (configuration_of ran.engine) ran.engine.past) }
     ensures bad_limits { (result ≡ Err MakeError.BadLimits) ↔ (¬ AreInRange limits) }
 {
     let mut engine = Engine::new(alloc, opening, procedures, limits)?;

@@ -103,11 +103,11 @@ fn shorten(reply: &mut Reply) {
 }
 
 fn shorten_cause(cause: &mut Cause) {
-    if let Cause::Cycle(walk) = cause {
-        let first = walk.as_slice().first().copied();
-        *walk = Tids::new();
+    if let Cause::Cycle(cycle) = cause {
+        let first = cycle.as_slice().first().copied();
+        *cycle = Tids::new();
         if let Some(t) = first {
-            walk.push(t);
+            cycle.push(t);
         }
     }
 }

@@ -112,8 +112,8 @@ impl<'a, R: Records, A: Accesses, G: Graph> Clients<'a, R, A, G> {
         let live = self.engine.sched().live();
         let drawn = self.draws.next();
         let is_long = self.engine.history().len() >= MOST_ENTRIES;
-        let has_room = live.len() < LIMITS.live as usize && !is_long;
-        if live.is_empty() || has_room && drawn % 4 == 0 {
+        let has_capacity = live.len() < LIMITS.live as usize && !is_long;
+        if live.is_empty() || has_capacity && drawn % 4 == 0 {
             return start_drawn(&mut self.draws);
         }
         Event::Step(live.as_slice()[(drawn / 4) as usize % live.len()])

@@ -17,7 +17,7 @@ pub fn start(procedure: u16, name: i64, deposit: i64, other: i64) -> Event {
 }
 
 /// The event for a random number, with these transactions live. The lowest three bits decide its kind: a start, a step
-/// (five of eight), a commit or a quit. If nothing is live it is a start. The bits above select the transaction or
+/// (five of eight), a commit or an abort. If nothing is live it is a start. The bits above select the transaction or
 /// call.
 pub fn event_for(drawn: u32, live: &[Tid]) -> Event {
     if live.is_empty() || drawn % 8 == 0 {

@@ -85,7 +85,7 @@ fn print_replies(rt: &impl Print, digests: Result<Digests, NoMemory>) -> io::Res
     }
 }
 
-/// Prints the end of an engine after all have quit.
+/// Prints the end of an engine after all transactions were aborted.
 fn print_quit<R: Records, A: Accesses, G: Graph>(
     rt: &impl Print,
     engine: &Engine<R, A, G>,
@@ -95,7 +95,7 @@ fn print_quit<R: Records, A: Accesses, G: Graph>(
     println!(rt; "live when all have quit {live}\ncommitted total {total}")
 }
 
-/// Quits the live transactions, which allocates nothing. One aborted in cascade before its turn has ended already.
+/// Aborts the live transactions, which allocates nothing. One aborted in cascade before its turn has ended already.
 fn quit_all<R: Records, A: Accesses, G: Graph>(
     engine: &mut Engine<R, A, G>,
     refusals: &mut Refusals,

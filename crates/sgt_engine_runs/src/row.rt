@@ -42,9 +42,9 @@ const LIMITS: Limits = Limits {
 pub enum Plan {
     /// It repeats an event in which an allocation failed, and goes on.
     Again,
-    /// The same, and it cuts the history: after the row, then while a transaction is live, and then after its quit.
+    /// The same, and it cuts the history: after the row, then while a transaction is live, and then after its abort.
     Cut,
-    /// If an allocation failed in an event, it quits all live transactions, and applies no further event.
+    /// If an allocation failed in an event, it aborts all live transactions, and applies no further event.
     Quit(Order),
 }
 
@@ -52,7 +52,7 @@ pub enum Plan {
 const EVENTS: u32 = 18;
 
 /// The row's events: a deposit, an Amalgamate that reads its write, and a Balance that reads the Amalgamate's write.
-/// Then the deposit is quit.
+/// Then the deposit is aborted.
 fn event_at(place: u32) -> Event {
     match place {
         0 => start(1, 1, 10, 0),
@@ -106,7 +106,7 @@ fn carry_out<R: Records, A: Accesses, G: Graph>(
     run.print_end(rt)
 }
 
-/// Applies the row's events, but none after an event for which all live transactions were quit.
+/// Applies the row's events, but none after an event for which all live transactions were aborted.
 fn apply_all<R: Records, A: Accesses, G: Graph>(
     rt: &impl Print,
     run: &mut Run<'_, R, A, G>,
@@ -120,8 +120,8 @@ fn apply_all<R: Records, A: Accesses, G: Graph>(
     Ok(())
 }
 
-/// Applies an event. If an allocation fails, the plan decides: either all live transactions are quit and this returns
-/// false, or the event is repeated once.
+/// Applies an event. If an allocation fails, the plan decides: either all live transactions are aborted and this
+/// returns false, or the event is repeated once.
 fn apply<R: Records, A: Accesses, G: Graph>(
     rt: &impl Print,
     run: &mut Run<'_, R, A, G>,
@@ -139,7 +139,7 @@ fn apply<R: Records, A: Accesses, G: Graph>(
     Ok(true)
 }
 
-/// Cuts, starts one more transaction, tries to cut while it is live, quits it, and cuts again. If allocations of the
+/// Cuts, starts one more transaction, tries to cut while it is live, aborts it, and cuts again. If allocations of the
 /// first cut fail twice, it does nothing more.
 fn cut_and_go_on<R: Records, A: Accesses, G: Graph>(
     rt: &(impl AllocGlobal + Print),

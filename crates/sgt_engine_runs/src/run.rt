@@ -19,7 +19,7 @@ const MOST_ENTRIES: usize = 100;
 /// The records that the row's events access, by table and number.
 const RECORDS: [(u8, i64); 6] = [(0, 1), (0, 2), (1, 101), (1, 102), (2, 101), (2, 102)];
 
-/// Which live transaction is quit next.
+/// Which live transaction is aborted next.
 #[derive(Clone, Copy)]
 pub enum Order {
     Oldest,
@@ -96,7 +96,7 @@ impl<'a, R: Records, A: Accesses, G: Graph> Run<'a, R, A, G> {
         Ok(false)
     }
 
-    /// Quits the live transactions, in this order.
+    /// Aborts the live transactions, in this order.
     pub fn quit_all(&mut self, rt: &impl Print, order: Order) -> io::Result<()> {
         for _ in 0..MOST_LIVE {
             let Some(t) = self.next_live(order) else {

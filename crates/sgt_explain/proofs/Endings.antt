@@ -11,7 +11,7 @@ use Rattle.sgt_model.specs.declared.reply.Cause.{Cause}
 use Rattle.sgt_model.specs.declared.reply.Cause.TheVariants as cause
 use Rattle.sgt_model.specs.declared.reply.Fate.{Fate}
 use Rattle.sgt_model.specs.declared.reply.Fate.TheVariants as fate
-use Rattle.sgt_model.specs.Walks.{Member}
+use Rattle.sgt_model.specs.Paths.{Member}
 use Rattle.sgt_model.specs.Fates.{concerns, subject, undone_in, ending_in, has_aborted}
 use Rattle.sgt_model.specs.Questions.{named_by}
 use Rattle.sgt_model.proofs.Facts.{member_from, member_to}

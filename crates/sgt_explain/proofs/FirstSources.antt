@@ -2,7 +2,7 @@
 use Rattle.std.proofs.Common.{◌≡◌, ℕ, ◌+◌, ◌<◌, ◌≤◌, min, Bool, not, List, reverse, Option, Some, None, IfNone, IsSome, length, refl, sym, ap, subst, inl, inr, ◌∙◌, arith, slice_get}
 use Rattle.std.proofs.lemmas.Bool.{cases_eq}
 use Rattle.sgt_model.specs.declared.entry.Entry.{Entry}
-use Rattle.sgt_model.specs.Settings.{Setting}
+use Rattle.sgt_model.specs.Configurations.{Configuration}
 use Rattle.sgt_model.specs.Legality.{Legal}
 use Rattle.sgt_model.proofs.Facts.{some_is}
 use Rattle.sgt_model.specs.ShortReplies.{fell_in}
@@ -14,7 +14,7 @@ use Rattle.sgt_model.specs.Fates.{aborted}
 use Rattle.sgt_model.specs.Values.{newest_store}
 use Rattle.sgt_explain.specs.Places.{entries_before, listed_by, placed_access, placed_falls}
 use Rattle.sgt_explain.specs.Indexes.{IsUntouched}
-use Rattle.sgt_explain.specs.Sources.{IsUndoneAt, ReadsAt, ReadsUndoneAt, TellsLook, TellsSource}
+use Rattle.sgt_explain.specs.Sources.{IsUndoneAt, ReadsAt, ReadsUndoneAt, ReportsLook, ReportsSource}
 use Rattle.sgt_explain.proofs.LegalFalls.{source_there}
 use Rattle.sgt_explain.proofs.Untouched.{store_placed}
 
@@ -60,12 +60,12 @@ pub if_none : {P : Type 0} (o : Option Source) → P → IfNone o P
 if_none None h = h
 if_none (Some x) h = tt
 
-pub source_first : (entries : List Entry) (end t place : ℕ) (told : Source) → place < end → NoneBelow (ReadsUndoneAt entries end t) place
-    → TellsLook entries t place told → IsUndoneAt entries end told.source → TellsSource entries end t told
-source_first entries end t place told below none look undone = record {
+pub source_first : (entries : List Entry) (end t place : ℕ) (reported : Source) → place < end → NoneBelow (ReadsUndoneAt entries end t) place
+    → ReportsLook entries t place reported → IsUndoneAt entries end reported.source → ReportsSource entries end t reported
+source_first entries end t place reported below none look undone = record {
   first = subst (IsFirst (ReadsUndoneAt entries end t) end) (sym look.place_is)
-      (record { below = below; holds = (told.source, undone, look.reads); first = none });
-  look = subst (λ p. TellsLook entries t p told) (sym look.place_is) look;
+      (record { below = below; holds = (reported.source, undone, look.reads); first = none });
+  look = subst (λ p. ReportsLook entries t p reported) (sym look.place_is) look;
   undone = undone;
 }
 
@@ -88,6 +88,6 @@ some_source entries place number reader o at none t n at_t below reads =
 
 pub all_sources : (entries : List Entry) (place number reader : ℕ) (o : Option Source) → place < length entries
     → slice_get (placed_falls entries place) number ≡ Some reader → IfNone o (NoneBelow (ReadsUndoneAt entries place reader) place)
-    → (s : Setting) → Legal s (reverse entries) → IsSome o
+    → (s : Configuration) → Legal s (reverse entries) → IsSome o
 all_sources entries place number reader o within at none s legal =
     some_unless o _ none (λ h. source_there s entries place number reader within legal at h)

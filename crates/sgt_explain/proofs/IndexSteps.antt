@@ -19,7 +19,7 @@ use Rattle.sgt_model.specs.Fates.{ending_in}
 use Rattle.sgt_model.specs.Questions.{named_by}
 use Rattle.sgt_model.specs.ReadFrom.{IsBy}
 use Rattle.sgt_model.specs.ShortReplies.{fell_in}
-use Rattle.sgt_model.specs.Walks.{Member}
+use Rattle.sgt_model.specs.Paths.{Member}
 use Rattle.sgt_explain.specs.Places.{placed_access}
 use Rattle.sgt_explain.specs.Indexes.{IsNamedIn, IsUntouched, IsIndex}
 use Rattle.sgt_explain.proofs.Endings.{by_abort, ends_no_other}

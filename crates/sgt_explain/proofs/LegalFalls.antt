@@ -8,12 +8,12 @@ use Rattle.sgt_model.specs.declared.event.Event.TheVariants.{Start, Step, Access
 use Rattle.sgt_model.specs.declared.reply.Reply.{Reply}
 use Rattle.sgt_model.specs.declared.reply.Reply.TheVariants as reply
 use Rattle.sgt_model.specs.declared.entry.Entry.{Entry}
-use Rattle.sgt_model.specs.Walks.{PathOf, last_of, Member, Reaches}
+use Rattle.sgt_model.specs.Paths.{PathOf, last_of, Member, Reaches}
 use Rattle.sgt_model.specs.Fates.{subject, aborted, live}
 use Rattle.sgt_model.specs.ReadFrom.{LooksFrom, ReadFrom}
 use Rattle.sgt_model.specs.Falls.{Feeds, Falls}
 use Rattle.sgt_model.specs.Questions.{named_by, is_ending}
-use Rattle.sgt_model.specs.Settings.{Setting}
+use Rattle.sgt_model.specs.Configurations.{Configuration}
 use Rattle.sgt_model.specs.Legality.{Legal}
 use Rattle.sgt_model.specs.Aborts.{ReplyIsJustified}
 use Rattle.sgt_model.proofs.Aborts.{aborts_have_cause}
@@ -28,7 +28,7 @@ use Rattle.sgt_explain.proofs.Prefixes.{LooksBack, found_at, entry_there, legal_
 
 -- along a path of reads
 
-stands_back : (s : Setting) (past : List Entry) → Legal s past → (x : ℕ) (path : List ℕ) → PathOf (Feeds past) x path
+stands_back : (s : Configuration) (past : List Entry) → Legal s past → (x : ℕ) (path : List ℕ) → PathOf (Feeds past) x path
     → aborted past (last_of x path) ≡ false → aborted past x ≡ false
 stands_back s past legal x [] p h = h
 stands_back s past legal x (y ∷ path) p h = source_of_standing_stands s past legal y x (stands_back s past legal y path p.1 h) p.0
@@ -38,7 +38,7 @@ abbrev Undone : (t : ℕ) (fell : List ℕ) (x : ℕ) → Type 0
 Undone t fell x = (t ≡ x) ⊎ Member x fell
 
 -- the transaction that u, at the end of a path of reads from t, has read from last
-module _ (s : Setting) (past : List Entry) (legal : Legal s past) (t : ℕ) (fell : List ℕ) (falls : Falls past t fell) where
+module _ (s : Configuration) (past : List Entry) (legal : Legal s past) (t : ℕ) (fell : List ℕ) (falls : Falls past t fell) where
   -- the one after a live one that is aborted is live and aborted too, if a path leads on from it to one that is not
   next_undone : (x y : ℕ) (path : List ℕ) → live past x ≡ true → Reaches (Feeds past) t x → Feeds past x y → PathOf (Feeds past) y path
       → aborted past (last_of y path) ≡ false → (live past y ≡ true) × Undone t fell y
@@ -70,7 +70,7 @@ module _ (s : Setting) (past : List Entry) (legal : Legal s past) (t : ℕ) (fel
 
 -- at a position
 
-falls_by : (s : Setting) (past : List Entry) (event : Event) (r : Reply) → ReplyIsJustified s past event r → (n t : ℕ)
+falls_by : (s : Configuration) (past : List Entry) (event : Event) (r : Reply) → ReplyIsJustified s past event r → (n t : ℕ)
     → slice_get (fell_in r) n ≡ Some t → Falls past (subject event) (fell_in r) × (is_ending r ≡ true)
 falls_by s past event (reply.Aborted why fell) h n t is = (h.1, refl)
 falls_by s past event (reply.Refused code fell) h n t is = (h.1, refl)
@@ -92,7 +92,7 @@ reads_back : (t u : ℕ) → LooksBack (λ past. ReadFrom past t u) (λ past o. 
 reads_back t u = record { nowhere = λ h. h; here_or_before = λ e past h. h; here = λ e past h. inl h; more = λ e past h. inr h }
 
 -- each transaction aborted in cascade has read from one that is aborted there
-pub source_there : (s : Setting) (entries : List Entry) (place n u : ℕ) → place < length entries → Legal s (reverse entries)
+pub source_there : (s : Configuration) (entries : List Entry) (place n u : ℕ) → place < length entries → Legal s (reverse entries)
     → slice_get (placed_falls entries place) n ≡ Some u → NoneBelow (ReadsUndoneAt entries place u) place → ⊥
 source_there s entries place n u within legal at none =
     let (e, is) = entry_there entries place within in

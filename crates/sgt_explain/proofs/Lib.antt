@@ -1,6 +1,6 @@
 pub mod Prefixes
 pub mod Conflicts
-pub mod LegalWalks
+pub mod LegalCycles
 pub mod LegalFalls
 pub mod Steps
 pub mod Requests

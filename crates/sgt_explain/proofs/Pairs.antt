@@ -9,7 +9,7 @@ use Rattle.sgt_model.specs.Aborts.{IsAccessBy}
 use Rattle.sgt_model.specs.ReadFrom.{IsBy}
 use Rattle.sgt_explain.specs.declared.edge.Edge.{Edge}
 use Rattle.sgt_explain.specs.Places.{entries_before, placed_access}
-use Rattle.sgt_explain.specs.Edges.{ConflictsAt, FollowsAt, TellsAccess, TellsPair}
+use Rattle.sgt_explain.specs.Edges.{ConflictsAt, FollowsAt, ReportsAccess, ReportsPair}
 use Rattle.sgt_explain.proofs.Backward.{NoneFrom, IsFirstFrom, none_back}
 use Rattle.sgt_explain.proofs.Conflicts.{none_follows, follows_precede}
 
@@ -35,7 +35,7 @@ no_follow_from entries t u low end none m from below h = none m from below (foll
 pub record PairFirst (entries : List Entry) (end t u low : ℕ) (edge : Edge) : Type 0 where
   pub at : ℕ
   pub first : IsFirstFrom (FollowsAt entries t u) low end at
-  pub access : TellsAccess entries t u at edge
+  pub access : ReportsAccess entries t u at edge
 
 abbrev pub PairFrom : List Entry → (end t u low : ℕ) → Option Edge → Type 0
 PairFrom entries end t u low None = NoneFrom (FollowsAt entries t u) low end
@@ -59,7 +59,7 @@ pair_back entries end t u low rest (Some edge) some later here before = let firs
 }
 
 pub pair_here : (entries : List Entry) (end t u low rest : ℕ) (edge : Edge) → low - 1 < end → FollowsAt entries t u (low - 1)
-    → TellsAccess entries t u (low - 1) edge → NoneFrom (λ n. IsBy (placed_access entries n) u) rest (low - 1)
+    → ReportsAccess entries t u (low - 1) edge → NoneFrom (λ n. IsBy (placed_access entries n) u) rest (low - 1)
     → PairFrom entries end t u rest (Some edge)
 pair_here entries end t u low rest edge below holds access before = record {
   at = low - 1;
@@ -68,10 +68,10 @@ pair_here entries end t u low rest edge below holds access before = record {
 }
 
 -- the whole search
-pub pair_told : (entries : List Entry) (end t u low : ℕ) (o : Option Edge) → low ≤ 0 → PairFrom entries end t u low o
-    → IfSome o (TellsPair entries end t u)
-pair_told entries end t u low None zero found = tt
-pair_told entries end t u low (Some edge) zero found = let first = found.first in record {
+pub pair_reported : (entries : List Entry) (end t u low : ℕ) (o : Option Edge) → low ≤ 0 → PairFrom entries end t u low o
+    → IfSome o (ReportsPair entries end t u)
+pair_reported entries end t u low None zero found = tt
+pair_reported entries end t u low (Some edge) zero found = let first = found.first in record {
   at = found.at;
   first = record {
     below = first.below;

@@ -7,7 +7,7 @@ use Rattle.std.proofs.lemmas.List.{reverse-append, take-append-drop}
 use Rattle.sgt_log.proofs.Entries.{taken}
 use Rattle.sgt_model.specs.declared.entry.Entry.{Entry}
 use Rattle.sgt_model.specs.Accesses.{Access, access_of}
-use Rattle.sgt_model.specs.Settings.{Setting}
+use Rattle.sgt_model.specs.Configurations.{Configuration}
 use Rattle.sgt_model.specs.Legality.{Legal}
 use Rattle.sgt_model.proofs.Facts.{legal_older}
 use Rattle.sgt_explain.specs.Places.{entries_before, placed_access}
@@ -69,12 +69,12 @@ finds_at F G back entries (suc end) n within below at =
     ])
 
 -- the entries before a position of a legal history are legal, and so is the reply there
-pub legal_before : (s : Setting) (entries : List Entry) (place : ℕ) → Legal s (reverse entries) → Legal s (entries_before entries place)
+pub legal_before : (s : Configuration) (entries : List Entry) (place : ℕ) → Legal s (reverse entries) → Legal s (entries_before entries place)
 legal_before s entries place legal = legal_older s (reverse (drop place entries)) (entries_before entries place)
     (subst (λ l. Legal s l) (ap reverse (sym (take-append-drop place entries))
     ∙ reverse-append (take place entries) (drop place entries)) legal)
 
-pub legal_there : (s : Setting) (entries : List Entry) (place : ℕ) (e : Entry) → slice_get entries place ≡ Some e
+pub legal_there : (s : Configuration) (entries : List Entry) (place : ℕ) (e : Entry) → slice_get entries place ≡ Some e
     → Legal s (reverse entries) → Legal s (e ∷ entries_before entries place)
 legal_there s entries place e is legal = subst (λ l. Legal s l) (before_next entries place e is)
     (legal_before s entries (place + 1) legal)

@@ -7,12 +7,12 @@ use Rattle.sgt_model.specs.declared.event.Request.TheVariants.{Read, Write}
 use Rattle.sgt_model.specs.declared.kind.Kind.TheVariants.{Look, Store}
 use Rattle.sgt_model.specs.Aborts.{Wants}
 use Rattle.sgt_model.specs.Questions.{named_by}
-use Rattle.sgt_model.specs.Settings.{Setting}
+use Rattle.sgt_model.specs.Configurations.{Configuration}
 use Rattle.sgt_explain.specs.Places.{entries_before}
-use Rattle.sgt_explain.specs.WalkEdges.{requested_access, wanted_by, WasAbout}
+use Rattle.sgt_explain.specs.CycleEdges.{requested_access, wanted_by, WasAbout}
 
 pub requested_about : (entries : List Entry) (place : ℕ) (e : Entry) → slice_get entries place ≡ Some e → (event : Event) → e.event ≡ event
-    → IfSome (requested_access event) (λ p. (s : Setting) → WasAbout s entries place p.key p.kind)
+    → IfSome (requested_access event) (λ p. (s : Configuration) → WasAbout s entries place p.key p.kind)
 requested_about entries place e there (Access t (Read k)) same = λ s. record {
   entry = e;
   there = there;

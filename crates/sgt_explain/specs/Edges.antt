@@ -17,35 +17,35 @@ abbrev pub ConflictsAt : List Entry → ℕ → Key → (earlier later : Kind) �
 ConflictsAt entries t key earlier later place = IsAccessBy (placed_access entries place) t key earlier × (one_stores earlier later ≡ true)
 
 -- t's first read and its first write before the end that conflict with an access of that kind of the key
-pub record TellsEarlier (entries : List Entry) (end t : ℕ) (key : Key) (kind : Kind) (told : Earlier) : Type 0 where
-  pub looked : FirstOrNone (ConflictsAt entries t key Look kind) end told.looked
-  pub stored : FirstOrNone (ConflictsAt entries t key Store kind) end told.stored
-  pub one : IsSome told.looked ⊎ IsSome told.stored
+pub record ReportsEarlier (entries : List Entry) (end t : ℕ) (key : Key) (kind : Kind) (reported : Earlier) : Type 0 where
+  pub looked : FirstOrNone (ConflictsAt entries t key Look kind) end reported.looked
+  pub stored : FirstOrNone (ConflictsAt entries t key Store kind) end reported.stored
+  pub one : IsSome reported.looked ⊎ IsSome reported.stored
 
 -- at this position u has an access that an earlier one of t's conflicts with
 abbrev pub FollowsAt : List Entry → (t u place : ℕ) → Type 0
 FollowsAt entries t u place = FollowsIn (entries_before entries place) (placed_access entries place) t u
 
 -- u's access at this position, and those of t that come before it and conflict with it
-pub record TellsAccess (entries : List Entry) (t u place : ℕ) (edge : Edge) : Type 0 where
+pub record ReportsAccess (entries : List Entry) (t u place : ℕ) (edge : Edge) : Type 0 where
   pub from : edge.from ≡ t
   pub to : edge.to ≡ u
   pub place_is : edge.place ≡ Some place
   pub access : IsAccessBy (placed_access entries place) u edge.key edge.kind
-  pub earlier : TellsEarlier entries place t edge.key edge.kind edge.earlier
+  pub earlier : ReportsEarlier entries place t edge.key edge.kind edge.earlier
 
 -- why t comes before u in the entries before the end: u's first access that an earlier one of t's conflicts with
-pub record TellsPair (entries : List Entry) (end t u : ℕ) (edge : Edge) : Type 0 where
+pub record ReportsPair (entries : List Entry) (end t u : ℕ) (edge : Edge) : Type 0 where
   pub at : ℕ
   pub first : IsFirst (FollowsAt entries t u) end at
-  pub access : TellsAccess entries t u at edge
+  pub access : ReportsAccess entries t u at edge
 
 -- why t would come before u after the entries before the end: because of an access of that kind of the key, which u
 -- was about to make
-pub record TellsPending (entries : List Entry) (end t u : ℕ) (key : Key) (kind : Kind) (edge : Edge) : Type 0 where
+pub record ReportsPending (entries : List Entry) (end t u : ℕ) (key : Key) (kind : Kind) (edge : Edge) : Type 0 where
   pub from : edge.from ≡ t
   pub to : edge.to ≡ u
   pub key_is : edge.key ≡ key
   pub kind_is : edge.kind ≡ kind
   pub place_is : edge.place ≡ None
-  pub earlier : TellsEarlier entries end t key kind edge.earlier
+  pub earlier : ReportsEarlier entries end t key kind edge.earlier

@@ -7,7 +7,7 @@ use Rattle.sgt_model.specs.Fates.{ending_in}
 use Rattle.sgt_model.specs.Questions.{named_by}
 use Rattle.sgt_model.specs.ReadFrom.{IsBy}
 use Rattle.sgt_model.specs.ShortReplies.{fell_in}
-use Rattle.sgt_model.specs.Walks.{Member}
+use Rattle.sgt_model.specs.Paths.{Member}
 use Rattle.sgt_explain.specs.Places.{placed_access}
 
 -- an entry names a transaction by its event, or as one that it aborts in cascade

@@ -6,7 +6,7 @@ use Rattle.sgt_model.specs.declared.reply.Reply.{Reply}
 use Rattle.sgt_model.specs.declared.reply.Reply.TheVariants as reply
 use Rattle.sgt_model.specs.Accesses.{Access, access_of}
 use Rattle.sgt_model.specs.Questions.{named_by}
-use Rattle.sgt_model.specs.ShortReplies.{cause_walk, fell_in}
+use Rattle.sgt_model.specs.ShortReplies.{cause_cycle, fell_in}
 
 -- the history before the entry at this position, newest entry first
 abbrev pub entries_before : List Entry → ℕ → List Entry
@@ -18,7 +18,7 @@ placed_access entries place = option_and_then access_of (slice_get entries place
 
 -- the cycle of an abort by a cycle; empty for any other reply
 abbrev pub cycle_in : Reply → List ℕ
-cycle_in (reply.Aborted why fell) = cause_walk why
+cycle_in (reply.Aborted why fell) = cause_cycle why
 cycle_in _ = []
 
 -- the list of an entry, empty if there is none

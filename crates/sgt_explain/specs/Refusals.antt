@@ -11,7 +11,7 @@ use Rattle.sgt_model.specs.Questions.{named_by}
 use Rattle.sgt_explain.specs.declared.refusal.Refusal.{Refusal}
 use Rattle.sgt_explain.specs.declared.refusal.Refusal.TheVariants as refusal
 
--- the reason fits a call of procedure p with these arguments, of which p takes so many if that is known
+-- the reason fits a call of procedure p with these arguments; how many p takes is given if it is known
 abbrev pub IsBadCall : ℕ → List ℤ → Option ℕ → Refusal → Type 0
 IsBadCall p args takes (refusal.Count q count given) = (p ≡ q) × (takes ≡ Some count) × (given ≡ length args) × (count ≢ given)
 IsBadCall p args takes (refusal.Arguments q given) = (p ≡ q) × (given ≡ length args)
@@ -35,7 +35,7 @@ IsWriteOf (request.Read key) v = ⊥
 
 -- the event writes the value
 abbrev pub WritesValue : Event → ℤ → Type 0
-WritesValue (event.Access t asked) v = IsWriteOf asked v
+WritesValue (event.Access t requested) v = IsWriteOf requested v
 WritesValue _ v = ⊥
 
 -- the reason fits an event that got this reply

@@ -3,7 +3,7 @@
 use Rattle.std.specs.Prelude.{◌≡◌, ◌≢◌, ◌⊎◌, ℕ, List, Some}
 use Rattle.sgt_model.specs.declared.entry.Entry.{Entry}
 use Rattle.sgt_model.specs.declared.kind.Kind.TheVariants.{Look}
-use Rattle.sgt_model.specs.Walks.{Member}
+use Rattle.sgt_model.specs.Paths.{Member}
 use Rattle.sgt_model.specs.ReadFrom.{LooksFrom}
 use Rattle.sgt_model.specs.Aborts.{IsAccessBy}
 use Rattle.sgt_explain.specs.declared.source.Source.{Source}
@@ -23,14 +23,14 @@ abbrev pub ReadsUndoneAt : List Entry → (end t place : ℕ) → Type 0
 ReadsUndoneAt entries end t place = (v : ℕ) × IsUndoneAt entries end v × ReadsAt entries t v place
 
 -- t's read at this position, which is from another
-pub record TellsLook (entries : List Entry) (t place : ℕ) (told : Source) : Type 0 where
-  pub reader : told.reader ≡ t
-  pub place_is : told.place ≡ place
-  pub look : IsAccessBy (placed_access entries place) t told.key Look
-  pub reads : ReadsAt entries t told.source place
+pub record ReportsLook (entries : List Entry) (t place : ℕ) (reported : Source) : Type 0 where
+  pub reader : reported.reader ≡ t
+  pub place_is : reported.place ≡ place
+  pub look : IsAccessBy (placed_access entries place) t reported.key Look
+  pub reads : ReadsAt entries t reported.source place
 
 -- t's first read, before the end, from one that is aborted there
-pub record TellsSource (entries : List Entry) (end t : ℕ) (told : Source) : Type 0 where
-  pub first : IsFirst (ReadsUndoneAt entries end t) end told.place
-  pub look : TellsLook entries t told.place told
-  pub undone : IsUndoneAt entries end told.source
+pub record ReportsSource (entries : List Entry) (end t : ℕ) (reported : Source) : Type 0 where
+  pub first : IsFirst (ReadsUndoneAt entries end t) end reported.place
+  pub look : ReportsLook entries t reported.place reported
+  pub undone : IsUndoneAt entries end reported.source

@@ -3,7 +3,7 @@ ghost use Rattle.std.specs.Prelude.{◌≡◌, ◌≤◌, ◌<◌, ℕ, Some, le
 ghost use Rattle.sgt_model.specs.ReadFrom.{IsBy};
 ghost use Rattle.sgt_model.specs.Accesses.{access_of};
 ghost use Rattle.sgt_model.specs.Questions.{named_by};
-ghost use Rattle.sgt_model.specs.Walks.{Member};
+ghost use Rattle.sgt_model.specs.Paths.{Member};
 ghost use Rattle.sgt_explain.specs.Indexes.{IsNamedIn};
 
 use crate::made::made_in;

@@ -1,11 +1,11 @@
 //! The edges of the cycle that aborts a transaction, each with the accesses that make it.
 ghost use Rattle.std.specs.Prelude.{◌≡◌, ◌≤◌, ◌<◌, ◌+◌, ◌↔◌, true, length, reverse, IfSome, IfNone, IsSome, []};
-ghost use Rattle.sgt_model.specs.Settings.{Setting};
+ghost use Rattle.sgt_model.specs.Configurations.{Configuration};
 ghost use Rattle.sgt_model.specs.Legality.{Legal};
 ghost use Rattle.sgt_model.specs.Pairs.{has_conflicting, Precedes};
 ghost use Rattle.sgt_explain.specs.Places.{entries_before, placed_cycle};
-ghost use Rattle.sgt_explain.specs.Edges.{FollowsAt, TellsAccess, TellsPair, TellsPending};
-ghost use Rattle.sgt_explain.specs.WalkEdges.{TellsEdge, HasEdge, WasAbout, IsPairAt};
+ghost use Rattle.sgt_explain.specs.Edges.{FollowsAt, ReportsAccess, ReportsPair, ReportsPending};
+ghost use Rattle.sgt_explain.specs.CycleEdges.{ReportsEdge, HasEdge, WasAbout, IsPairAt};
 
 use crate::indexed_history::IndexedHistory;
 use crate::made::{accesses_before, made_at};
@@ -53,22 +53,22 @@ pub fn cycle_edge(
     key: Key,
     kind: Kind,
 ) -> Option<Edge>
-    ensures told { IfSome result
-        (TellsEdge history.now place key kind (placed_cycle history.now place) number) }
+    ensures reported { IfSome result
+        (ReportsEdge history.now place key kind (placed_cycle history.now place) number) }
     ensures some { IsSome result
         ↔ HasEdge history.now place key kind (placed_cycle history.now place) number }
-    ensures all { (s : Setting) → Legal s (reverse history.now) → WasAbout s history.now place key kind
+    ensures all { (s : Configuration) → Legal s (reverse history.now) → WasAbout s history.now place key kind
         → number < length (placed_cycle history.now place) → IsSome result }
-    ensures pairs { IfSome result (λ edge. (s : Setting) → Legal s (reverse history.now)
+    ensures pairs { IfSome result (λ edge. (s : Configuration) → Legal s (reverse history.now)
         → WasAbout s history.now place key kind → IsPairAt history.now place edge) }
 {
-    let walk = cycle_at(history, place)?;
-    walk_edge(history, place, walk.as_slice(), number, key, kind)
+    let cycle = cycle_at(history, place)?;
+    path_edge(history, place, cycle.as_slice(), number, key, kind)
 }
 
 // The cycle of the abort at a position, if there is one.
 fn cycle_at(history: &IndexedHistory, place: usize) -> Option<Tids>
-    ensures some { IfSome result (λ walk. walk ≡ placed_cycle history.now place) }
+    ensures some { IfSome result (λ cycle. cycle ≡ placed_cycle history.now place) }
     ensures within { IsSome result → place < length history.now }
     ensures none { IfNone result (placed_cycle history.now place ≡ []) }
 {
@@ -78,33 +78,33 @@ fn cycle_at(history: &IndexedHistory, place: usize) -> Option<Tids>
     }
     match entry.reply() {
         Reply::Aborted {
-            cause: Cause::Cycle(walk),
+            cause: Cause::Cycle(cycle),
             ..
-        } => Some(walk),
+        } => Some(cycle),
         _ => None,
     }
 }
 
 // An edge of a cycle that starts with the transaction aborted there.
-fn walk_edge(
+fn path_edge(
     history: &IndexedHistory,
     end: usize,
-    walk: &[Tid],
+    cycle: &[Tid],
     number: usize,
     key: Key,
     kind: Kind,
 ) -> Option<Edge>
     requires { end ≤ length history.now }
-    ensures told { IfSome result (TellsEdge history.now end key kind walk.now number) }
-    ensures some { IsSome result ↔ HasEdge history.now end key kind walk.now number }
+    ensures reported { IfSome result (ReportsEdge history.now end key kind cycle.now number) }
+    ensures some { IsSome result ↔ HasEdge history.now end key kind cycle.now number }
 {
-    if number >= walk.len() {
+    if number >= cycle.len() {
         return None;
     }
-    if number == walk.len() - 1 {
-        return pending_edge(history, end, walk[number], walk[0], key, kind);
+    if number == cycle.len() - 1 {
+        return pending_edge(history, end, cycle[number], cycle[0], key, kind);
     }
-    pair_edge(history, end, walk[number], walk[number + 1])
+    pair_edge(history, end, cycle[number], cycle[number + 1])
 }
 
 // Why one would come before another, because of an access that the other was about to make.
@@ -117,7 +117,7 @@ fn pending_edge(
     kind: Kind,
 ) -> Option<Edge>
     requires { end ≤ length history.now }
-    ensures told { IfSome result (TellsPending history.now end from to key kind) }
+    ensures reported { IfSome result (ReportsPending history.now end from to key kind) }
     ensures some { IsSome result ↔ (has_conflicting (entries_before history.now end) from key kind ≡ true) }
 {
     match earlier(history, end, from, key, kind) {
@@ -136,7 +136,7 @@ fn pending_edge(
 // Why one comes before another in the entries before `end`, if it does.
 fn pair_edge(history: &IndexedHistory, end: usize, from: Tid, to: Tid) -> Option<Edge>
     requires { end ≤ length history.now }
-    ensures told { IfSome result (TellsPair history.now end from to) }
+    ensures reported { IfSome result (ReportsPair history.now end from to) }
     ensures some { IsSome result ↔ Precedes (entries_before history.now end) from to }
 {
     let mut first = None;
@@ -156,7 +156,7 @@ fn pair_edge(history: &IndexedHistory, end: usize, from: Tid, to: Tid) -> Option
 // The access of the second at this position, and the conflicting ones of the first before it, if there are any.
 fn access_edge(history: &IndexedHistory, place: usize, from: Tid, to: Tid) -> Option<Edge>
     requires { place < length history.now }
-    ensures told { IfSome result (TellsAccess history.now from to place) }
+    ensures reported { IfSome result (ReportsAccess history.now from to place) }
     ensures some { IsSome result ↔ FollowsAt history.now from to place }
 {
     let made = made_at(history, place)?;

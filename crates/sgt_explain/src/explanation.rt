@@ -38,9 +38,9 @@ pub fn append_explanation(
     ensures kept { take (vec_len text.old) text.new.items ≡ text.old.items }
     ensures err { OnErr result (text.new.items ≡ text.old.items) }
 {
-    let mut told = Vec::new(*text.allocator());
-    append_all(&mut told, history, place, pending, lines)?;
-    text.extend_from_slice(told.as_slice())?;
+    let mut reported = Vec::new(*text.allocator());
+    append_all(&mut reported, history, place, pending, lines)?;
+    text.extend_from_slice(reported.as_slice())?;
     Ok(())
 }
 

@@ -12,9 +12,9 @@ use std::alloc::AllocError;
 pub enum Refusal {
     /// There is no procedure with this number.
     NoProcedure(u16),
-    /// The procedure of this number takes so many arguments, and was given so many.
+    /// The procedure of this number takes `takes` arguments, and was given `given`.
     Count(u16, u8, usize),
-    /// The procedure of this number was given so many arguments, and does not take them.
+    /// The procedure of this number was given this many arguments, and does not take them.
     Arguments(u16, usize),
     /// The argument at this index, from 0, is out of the range of values.
     Argument(usize, i64),
@@ -28,7 +28,7 @@ pub enum Refusal {
     Unknown(Tid),
 }
 
-/// Why the event is refused, if this reply refuses it. Its procedure takes so many arguments, if that is known.
+/// Why the event is refused, if this reply refuses it. How many arguments its procedure takes, if that is known.
 pub fn refusal_of(event: &Event, reply: &Reply, takes: Option<u8>) -> Option<Refusal>
     ensures { IfSome result (IsRefusal event.now reply.now takes) }
 {

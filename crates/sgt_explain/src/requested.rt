@@ -2,8 +2,8 @@
 ghost use Rattle.std.specs.Prelude.{◌≡◌, IfSome, slice_get};
 ghost use Rattle.std.specs.Option.{option_and_then};
 ghost use Rattle.sgt_model.specs.declared.entry.Entry.{Entry};
-ghost use Rattle.sgt_model.specs.Settings.{Setting};
-ghost use Rattle.sgt_explain.specs.WalkEdges.{requested_access, WasAbout};
+ghost use Rattle.sgt_model.specs.Configurations.{Configuration};
+ghost use Rattle.sgt_explain.specs.CycleEdges.{requested_access, WasAbout};
 
 use crate::explanation::Pending;
 use crate::indexed_history::IndexedHistory;
@@ -14,7 +14,7 @@ use sgt_model::{Event, Kind, Request};
 pub fn requested_at(history: &IndexedHistory, place: usize) -> Option<Pending>
     ensures access { result
         ≡ option_and_then (λ (e : Entry). requested_access e.event) (slice_get history.now place) }
-    ensures about { IfSome result (λ p. (s : Setting) → WasAbout s history.now place p.key p.kind) }
+    ensures about { IfSome result (λ p. (s : Configuration) → WasAbout s history.now place p.key p.kind) }
 {
     let entry = history.get_entry(place)?;
     requested_in(&entry.event())

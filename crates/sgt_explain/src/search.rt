@@ -4,7 +4,7 @@ ghost use Rattle.sgt_model.specs.Aborts.{IsAccessBy};
 ghost use Rattle.sgt_model.specs.Pairs.{one_stores, has_conflicting};
 ghost use Rattle.sgt_explain.specs.Firsts.{FirstOrNone};
 ghost use Rattle.sgt_explain.specs.Places.{entries_before, placed_access};
-ghost use Rattle.sgt_explain.specs.Edges.{ConflictsAt, TellsEarlier};
+ghost use Rattle.sgt_explain.specs.Edges.{ConflictsAt, ReportsEarlier};
 
 use crate::edge::Earlier;
 use crate::indexed_history::IndexedHistory;
@@ -21,7 +21,7 @@ pub(crate) fn earlier(
     kind: Kind,
 ) -> Option<Earlier>
     requires { end ≤ length history.now }
-    ensures told { IfSome result (TellsEarlier history.now end by key kind) }
+    ensures reported { IfSome result (ReportsEarlier history.now end by key kind) }
     ensures some { IsSome result ↔ (has_conflicting (entries_before history.now end) by key kind ≡ true) }
 {
     let looked = first_conflict(history, end, by, key, Kind::Look, kind);

@@ -1,13 +1,13 @@
 //! Why a transaction was aborted in cascade: its read from a transaction that was aborted.
 ghost use Rattle.std.specs.Prelude.{◌≡◌, ◌<◌, ◌≤◌, ◌↔◌, ℕ, Some, length, reverse, slice_get, IfSome, IfNone, IsSome, IsSomeAnd, IsTrue};
-ghost use Rattle.sgt_model.specs.Settings.{Setting};
+ghost use Rattle.sgt_model.specs.Configurations.{Configuration};
 ghost use Rattle.sgt_model.specs.Legality.{Legal};
 ghost use Rattle.sgt_explain.specs.Firsts.{NoneBelow};
 ghost use Rattle.sgt_model.specs.ReadFrom.{IsBy};
-ghost use Rattle.sgt_model.specs.Walks.{Member};
+ghost use Rattle.sgt_model.specs.Paths.{Member};
 ghost use Rattle.sgt_explain.specs.Indexes.{IsUntouched};
 ghost use Rattle.sgt_explain.specs.Places.{placed_access, placed_falls};
-ghost use Rattle.sgt_explain.specs.Sources.{IsUndoneAt, ReadsAt, ReadsUndoneAt, TellsLook, TellsSource};
+ghost use Rattle.sgt_explain.specs.Sources.{IsUndoneAt, ReadsAt, ReadsUndoneAt, ReportsLook, ReportsSource};
 
 use crate::indexed_history::IndexedHistory;
 use crate::made::made_at;
@@ -34,12 +34,12 @@ pub struct Source {
 /// None if no transaction is aborted there, if there is none of this number, or if there is no such read. In a legal
 /// history each has one.
 pub fn fall_source(history: &IndexedHistory, place: usize, number: usize) -> Option<Source>
-    ensures told { IfSome result (λ source. (t : ℕ) → slice_get (placed_falls history.now place) number ≡ Some t
-        → TellsSource history.now place t source) }
+    ensures reported { IfSome result (λ source. (t : ℕ) → slice_get (placed_falls history.now place) number ≡ Some t
+        → ReportsSource history.now place t source) }
     ensures one { IsSome result → number < length (placed_falls history.now place) }
     ensures some { (t n : ℕ) → slice_get (placed_falls history.now place) number ≡ Some t → n < place
         → ReadsUndoneAt history.now place t n → IsSome result }
-    ensures all { (s : Setting) → Legal s (reverse history.now)
+    ensures all { (s : Configuration) → Legal s (reverse history.now)
         → number < length (placed_falls history.now place) → IsSome result }
 {
     let fell = history.get_entry(place)?.fell();
@@ -53,7 +53,7 @@ pub fn fall_source(history: &IndexedHistory, place: usize, number: usize) -> Opt
 // The transaction's first read before the end from one that is aborted there.
 fn first_source(history: &IndexedHistory, end: usize, reader: Tid) -> Option<Source>
     requires { end < length history.now }
-    ensures told { IfSome result (TellsSource history.now end reader) }
+    ensures reported { IfSome result (ReportsSource history.now end reader) }
     ensures none { IfNone result (NoneBelow (ReadsUndoneAt history.now end reader) end) }
 {
     let low = first_undone(history, end);
@@ -111,7 +111,7 @@ fn is_undone(history: &IndexedHistory, end: usize, t: Tid) -> bool
 // The transaction that is read from at this position, if there is one, and its write is not before the low position.
 fn source_at(history: &IndexedHistory, low: usize, place: usize, reader: Tid) -> Option<Source>
     requires { place < length history.now }
-    ensures told { IfSome result (TellsLook history.now reader place) }
+    ensures reported { IfSome result (ReportsLook history.now reader place) }
     ensures some { IfSome result (λ source. (v : ℕ) → ReadsAt history.now reader v place → source.source ≡ v) }
     ensures none { IfNone result ((v : ℕ) → ReadsAt history.now reader v place
         → (n : ℕ) × (n < low) × IsBy (placed_access history.now n) v) }

@@ -5,7 +5,7 @@ ghost use Rattle.sgt_model.specs.declared.reply.Fate.{Fate};
 ghost use Rattle.sgt_model.specs.Accesses.{Access};
 ghost use Rattle.sgt_model.specs.Fates.{aborted, ending_in, has_aborted};
 ghost use Rattle.sgt_model.specs.Values.{stores, newest_store};
-ghost use Rattle.sgt_model.specs.Walks.{Member};
+ghost use Rattle.sgt_model.specs.Paths.{Member};
 ghost use Rattle.sgt_explain.specs.Places.{entries_before, placed_access};
 
 use crate::indexed_history::IndexedHistory;

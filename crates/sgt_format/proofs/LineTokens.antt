@@ -108,16 +108,16 @@ long : (texts : List (List ℕ)) → length (map number texts ++ end_array ∷ e
 long [] = refl
 long (s ∷ texts) = ap suc (long texts)
 
-room : (texts : List (List ℕ)) (rest : List Token) → length texts < length (map number texts ++ end_array ∷ rest)
-room [] rest = omega arith
-room (s ∷ texts) rest = omega (arith, room texts rest)
+capacity : (texts : List (List ℕ)) (rest : List Token) → length texts < length (map number texts ++ end_array ∷ rest)
+capacity [] rest = omega arith
+capacity (s ∷ texts) rest = omega (arith, capacity texts rest)
 
 -- a list of numbers, deep enough
 list_value : (d : ℕ) (texts : List (List ℕ)) (rest : List Token)
     → value (suc (suc d)) (begin_array ∷ (map number texts ++ end_array ∷ rest)) ≡ Some (json.array (texts_items texts), rest)
 unfolding value
 list_value d texts rest =
-    ap (json.parse_map json.array) (items_are d (length (map number texts ++ end_array ∷ rest)) texts rest (room texts rest))
+    ap (json.parse_map json.array) (items_are d (length (map number texts ++ end_array ∷ rest)) texts rest (capacity texts rest))
 
 -- three items
 three : (v : json.Parse json.Json) (k : ℕ) (w s : List ℕ) (rest : List Token) (j : json.Json)
@@ -215,9 +215,9 @@ spelled_call : {A : Type 0} (meaning : Data → Option A) (of_call : List ℕ �
     → old ≡ begin_array ∷ string w ∷ number s ∷ d → d ≡ begin_array ∷ (map number texts ++ end_array ∷ end_array ∷ [])
     → whole_number s ≡ Some n → whole_numbers texts ≡ Some args → length texts ≤ 4 → natural 16 n ≡ Some p
     → found ≡ of_call w p args
-    → IfSome found (λ asked. option_and_then meaning (tree_at old) ≡ Some asked)
+    → IfSome found (λ requested. option_and_then meaning (tree_at old) ≡ Some requested)
 spelled_call meaning of_call means old d w s n p texts args None one two is are few small found = tt
-spelled_call meaning of_call means old d w s n p texts args (Some asked) one two is are few small found =
+spelled_call meaning of_call means old d w s n p texts args (Some requested) one two is are few small found =
     let all : old ≡ call_tokens w s texts = cc in
     ap (λ ts. option_and_then meaning (tree_at ts)) all ∙ called meaning of_call means w s n texts args is are few
     ∙ ap (option_and_then (λ p. of_call w p args)) small ∙ sym found
@@ -240,17 +240,17 @@ spelled_job = spelled_call job_in job_call (λ w m trees. refl)
 
 -- a line means what its tokens mean
 line_means : {A : Type 0} (meaning : Data → Option A) (line text : List ℕ) (ts : List Token) (found : Option A) → IsUtf8 line
-    → text ≡ line → ts ≡ tokens text → IfSome found (λ asked. option_and_then meaning (tree_at ts) ≡ Some asked)
-    → IfSome found (λ asked. option_map_or (λ tree. ok_or (meaning tree) BadLine) (tree_of line) (Err NotJson) ≡ Ok asked)
+    → text ≡ line → ts ≡ tokens text → IfSome found (λ requested. option_and_then meaning (tree_at ts) ≡ Some requested)
+    → IfSome found (λ requested. option_map_or (λ tree. ok_or (meaning tree) BadLine) (tree_of line) (Err NotJson) ≡ Ok requested)
 line_means meaning line text ts None utf8 same are is = tt
-line_means {A} meaning line text ts (Some asked) utf8 same are is =
+line_means {A} meaning line text ts (Some requested) utf8 same are is =
     by_tree (read line) refl (ap (λ ts. option_and_then meaning (tree_at ts)) (sym (ap tokens same) ∙ sym are) ∙ is)
   where
-    by_tree : (o : Option Data) → read line ≡ o → option_and_then meaning (read line) ≡ Some asked
-        → option_map_or (λ tree. ok_or (meaning tree) BadLine) (tree_of line) (Err NotJson) ≡ Ok asked
+    by_tree : (o : Option Data) → read line ≡ o → option_and_then meaning (read line) ≡ Some requested
+        → option_map_or (λ tree. ok_or (meaning tree) BadLine) (tree_of line) (Err NotJson) ≡ Ok requested
     by_tree None e is = absurd (cc)
     by_tree (Some tree) e is =
-        let found : meaning tree ≡ Some asked = sym (ap (option_and_then meaning) e) ∙ is in
+        let found : meaning tree ≡ Some requested = sym (ap (option_and_then meaning) e) ∙ is in
         ap (λ o. option_map_or (λ tree. ok_or (meaning tree) BadLine) o (Err NotJson)) (tree_of_read line tree utf8 e)
         ∙ ap (λ o. ok_or o BadLine) found
 
@@ -269,8 +269,8 @@ by_test true other event is = ap (option_map ScriptLine.Event) is
 by_test false other event is = absurd (cc)
 
 -- a line that spells an event spells it as a script line
-pub asked_event : (line : List ℕ) (event : Event) → event_of line ≡ Ok event → script_line_of line ≡ Ok (ScriptLine.Event event)
-asked_event line event is = by_tree (tree_of line) refl
+pub requested_event : (line : List ℕ) (event : Event) → event_of line ≡ Ok event → script_line_of line ≡ Ok (ScriptLine.Event event)
+requested_event line event is = by_tree (tree_of line) refl
   where
     by_word : (w : Option (List ℕ)) → option_and_then EventLines.of_word w ≡ Some event
         → option_and_then ScriptLines.of_word w ≡ Some (ScriptLine.Event event)

@@ -37,10 +37,10 @@ whole_found text digits negative p n read scanned is fits same other =
     ∙ by_sign negative p is fits (λ below zero. other below (same ∙ zero)) ∙ ap Some (sym same)
 
 -- a text that begins with a minus
-pub behind_minus : (text : List ℕ) → slice_index text 0 ≡ 45
+pub after_minus : (text : List ℕ) → slice_index text 0 ≡ 45
     → number_of text ≡ number_from true (scan (take (length text - 1) (drop 1 text)))
 unfolding number_of
-behind_minus text first =
+after_minus text first =
     let digits : take (length text - 1) (drop 1 text) ≡ drop 1 text = take_all _ (drop 1 text) (omega (arith, length-drop 1 text)) in
     rw (first, digits) refl
 

@@ -144,18 +144,18 @@ plain_remove line gap text rest a b c t key is_gap begins are ends tid place =
 
 -- ---- a word and four
 
-write_is_spaced : (line gap text rest behind written last : List ℕ) (a b c d : ℤ) → IsGap gap → line ≡ codes "[\"write\"," ++ (gap ++ text)
-    → AreNumbers text rest a b c → IsGap behind → rest ≡ codes "," ++ (behind ++ written) → written ≡ signed_decimal d ++ last
+write_is_spaced : (line gap text rest following written last : List ℕ) (a b c d : ℤ) → IsGap gap → line ≡ codes "[\"write\"," ++ (gap ++ text)
+    → AreNumbers text rest a b c → IsGap following → rest ≡ codes "," ++ (following ++ written) → written ≡ signed_decimal d ++ last
     → last ≡ codes "]" → mag d < 1_000_000_000_000_000_000
     → IsSpaced line (key_tokens (codes "write") a b c (number (signed_decimal d) ∷ end_array ∷ []))
 unfolding print_spaced escape_byte ArePrintable
-write_is_spaced line gap text rest behind written last a b c d is_gap begins are is_behind next is ends small =
-    let place = key_spaced (codes "write") gap a are.before are.between b c ((behind, number (signed_decimal d)) ∷ ([], end_array) ∷ []) in
+write_is_spaced line gap text rest following written last a b c d is_gap begins are is_after next is ends small =
+    let place = key_spaced (codes "write") gap a are.before are.between b c ((following, number (signed_decimal d)) ∷ ([], end_array) ∷ []) in
     let whole : line ≡ print_spaced false place =
     begins ∙ ap (λ rest. codes "[\"write\"," ++ (gap ++ rest)) (are.is
     ∙ ap (λ rest. signed_decimal a ++ (44 ∷ (are.before ++ (signed_decimal b ++ (44 ∷ (are.between ++ (signed_decimal c ++ rest))))))) (next
-    ∙ ap (λ written. codes "," ++ (behind ++ written)) (is ∙ ap (λ last. signed_decimal d ++ last) ends))) in
-    is_spaced line _ place whole (tt, (tt, (is_gap, (are.is_gap, (are.is_gap_too, (is_behind, (tt, tt))))))) refl (
+    ∙ ap (λ written. codes "," ++ (following ++ written)) (is ∙ ap (λ last. signed_decimal d ++ last) ends))) in
+    is_spaced line _ place whole (tt, (tt, (is_gap, (are.is_gap, (are.is_gap_too, (is_after, (tt, tt))))))) refl (
       tt,
       (
         tt,
@@ -181,12 +181,12 @@ write_is_spaced line gap text rest behind written last a b c d is_gap begins are
       ),
     )
 
-pub plain_write : (line gap text rest behind written last : List ℕ) (a b c d : ℤ) (t : ℕ) (key : Key) → IsGap gap
-    → line ≡ codes "[\"write\"," ++ (gap ++ text) → AreNumbers text rest a b c → IsGap behind → rest ≡ codes "," ++ (behind ++ written)
+pub plain_write : (line gap text rest following written last : List ℕ) (a b c d : ℤ) (t : ℕ) (key : Key) → IsGap gap
+    → line ≡ codes "[\"write\"," ++ (gap ++ text) → AreNumbers text rest a b c → IsGap following → rest ≡ codes "," ++ (following ++ written)
     → written ≡ signed_decimal d ++ last → last ≡ codes "]" → mag d < 1_000_000_000_000_000_000 → natural 32 a ≡ Some t
     → key_of b c ≡ Some key → event_of line ≡ Ok (Access t (Write key (Some d)))
-plain_write line gap text rest behind written last a b c d t key is_gap begins are is_behind next is ends small tid place =
-    let all = write_is_spaced line gap text rest behind written last a b c d is_gap begins are is_behind next is ends small in
+plain_write line gap text rest following written last a b c d t key is_gap begins are is_after next is ends small tid place =
+    let all = write_is_spaced line gap text rest following written last a b c d is_gap begins are is_after next is ends small in
     let w = codes "write" in
     let means : event_at (key_tokens w a b c (number (signed_decimal d) ∷ end_array ∷ [])) ≡ Some (Access t (Write key (Some d))) =
     valued_means w (signed_decimal a) (signed_decimal b) (signed_decimal c) (signed_decimal d) a b c d (whole_signed a are.small.0)

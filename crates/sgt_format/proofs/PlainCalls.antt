@@ -19,7 +19,7 @@ use Rattle.sgt_format.specs.declared.call.JobCall.{JobCall}
 use Rattle.sgt_format.specs.EventLines.{event_of}
 use Rattle.sgt_format.specs.JobLines.{job_of}
 use Rattle.sgt_format.specs.LineTokens.{whole_number, whole_numbers}
-use Rattle.sgt_format.specs.PlainLines.{number_tokens, comma_behind, AreArguments, AreSmall, IsCall}
+use Rattle.sgt_format.specs.PlainLines.{number_tokens, comma_after, AreArguments, AreSmall, IsCall}
 use Rattle.sgt_format.proofs.LineTokens.{spelled_start, spelled_job, event_found, job_found}
 use Rattle.sgt_format.proofs.PlainLines.{whole_decimal, AreUtf8, IsSpaced, is_spaced, decimal_utf8}
 
@@ -32,10 +32,10 @@ two_brackets (x ∷ y ∷ z ∷ rest) many first second = absurd (omega arith)
 pub number_first : (text rest : List ℕ) (n digits : ℕ) → take digits text ≡ decimal n
     → rest ≡ take (length text - digits) (drop digits text) → text ≡ decimal n ++ rest
 number_first text rest n digits are is =
-    let behind : take (length text - digits) (drop digits text) ≡ drop digits text =
+    let following : take (length text - digits) (drop digits text) ≡ drop digits text =
     take_all _ (drop digits text) (omega (arith, length-drop digits text)) in
     sym (take-append-drop digits text) ∙ ap (λ front. front ++ drop digits text) are
-    ∙ ap (λ rest. decimal n ++ rest) (sym behind ∙ sym is)
+    ∙ ap (λ rest. decimal n ++ rest) (sym following ∙ sym is)
 
 -- ---- arguments
 
@@ -52,7 +52,7 @@ no_arguments text (n ∷ args) is = record { spaced = ([], end_array) ∷ ([], e
 
 -- one number before others
 pub one_before : (args : List ℤ) (gap rest more : List ℕ) (n : ℤ) (others : List ℤ) → IsGap gap
-    → rest ≡ comma_behind args ++ (gap ++ (signed_decimal n ++ more)) → AreArguments true more others
+    → rest ≡ comma_after args ++ (gap ++ (signed_decimal n ++ more)) → AreArguments true more others
     → AreArguments (some args) rest (n ∷ others)
 unfolding print_spaced
 one_before [] gap rest more n others is_gap is are = record {
@@ -77,12 +77,12 @@ some_more [] n = refl
 some_more (m ∷ args) n = refl
 
 pub one_argument_more : (text rest more gap : List ℕ) (args longer : List ℤ) (n : ℤ) → GoesOn text args rest → IsGap gap
-    → rest ≡ comma_behind args ++ (gap ++ (signed_decimal n ++ more)) → longer ≡ args ++ n ∷ [] → GoesOn text longer more
+    → rest ≡ comma_after args ++ (gap ++ (signed_decimal n ++ more)) → longer ≡ args ++ n ∷ [] → GoesOn text longer more
 one_argument_more text rest more gap args longer n goes_on is_gap next is others are =
-    let behind : AreArguments true more others =
+    let following : AreArguments true more others =
     subst (λ b. AreArguments b more others) (ap some is ∙ some_more args n) are in
     subst (λ all. AreArguments false text all) (sym (append_assoc args (n ∷ []) others) ∙ ap (λ args. args ++ others) (sym is))
-    (goes_on (n ∷ others) (one_before args gap rest more n others is_gap next behind))
+    (goes_on (n ∷ others) (one_before args gap rest more n others is_gap next following))
 
 pub arguments_end : (text rest : List ℕ) (args : List ℤ) → GoesOn text args rest → rest ≡ codes "]]" → AreArguments false text args
 arguments_end text rest args goes_on is =

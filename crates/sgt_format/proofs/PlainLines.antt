@@ -22,13 +22,13 @@ use Rattle.sgt_format.specs.LineTokens.{whole_number, event_at}
 use Rattle.sgt_format.proofs.LineTokens.{transaction, event_found}
 
 -- a text that begins with these words
-pub split_behind : (text words rest : List ℕ) (same : ℕ) → take same text ≡ take same words → length words ≤ same
+pub split_after : (text words rest : List ℕ) (same : ℕ) → take same text ≡ take same words → length words ≤ same
     → rest ≡ take (length text - same) (drop same text) → text ≡ words ++ rest
-split_behind text words rest same are whole is =
-    let behind : take (length text - same) (drop same text) ≡ drop same text =
+split_after text words rest same are whole is =
+    let following : take (length text - same) (drop same text) ≡ drop same text =
     take_all _ (drop same text) (omega (arith, length-drop same text)) in
     sym (take-append-drop same text) ∙ ap (λ front. front ++ drop same text) (are ∙ take_all same words whole)
-    ∙ ap (λ rest. words ++ rest) (sym behind ∙ sym is)
+    ∙ ap (λ rest. words ++ rest) (sym following ∙ sym is)
 
 -- one closing bracket
 pub one_bracket : (text : List ℕ) → length text ≡ 1 → slice_index text 0 ≡ 93 → text ≡ codes "]"

@@ -5,7 +5,7 @@ use Rattle.serde_json.specs.Data.{Data}
 use Rattle.serde_json.specs.View.{view}
 use Rattle.serde_json.specs.declared.value.Value.{Value}
 use Rattle.sgt_model.specs.Syntax.{ProcedureText}
-use Rattle.sgt_format.specs.Procedures.{IsProcedure, AreProcedures, HasMisfit, HasLeastFlaw, NextIs}
+use Rattle.sgt_format.specs.Procedures.{IsProcedure, AreProcedures, HasShapeError, HasLeastFlaw, NextIs}
 use Rattle.sgt_format.specs.Openings.{first_number, ProcedureIsRefused, IsRefusedAs}
 use Rattle.sgt_format.specs.declared.errors.OpeningError.{OpeningError}
 use Rattle.sgt_format.specs.declared.errors.OpeningError.TheVariants.{NotJson, BadLine, BadLimits, BadOpening, ProcShape, ProcFlaw, NoMemory}
@@ -42,7 +42,7 @@ next_refused trees i number v programs BadLine same h e are is = absurd is
 next_refused trees i number v programs BadLimits same h e are is = absurd is
 next_refused trees i number v programs (BadOpening fault) same h e are is = absurd is
 next_refused trees i number v programs (ProcShape n place) same h e are is =
-    (i, is.0 ∙ same, next_is (HasMisfit place) trees i v programs h e are is.1)
+    (i, is.0 ∙ same, next_is (HasShapeError place) trees i v programs h e are is.1)
 next_refused trees i number v programs (ProcFlaw n flaw) same h e are is =
     (i, is.0 ∙ same, next_is (HasLeastFlaw flaw) trees i v programs h e are is.1)
 next_refused trees i number v programs NoMemory same h e are is = tt

@@ -38,13 +38,13 @@ same_word text words long long_words marks =
 -- a line that begins with a word of eight bytes, and then with the rest of the words
 pub words_first : (line words rest : List ℕ) → take 8 line ≡ take 8 words → drop 8 line ≡ drop 8 words ++ rest
     → line ≡ words ++ rest
-words_first line words rest word behind =
-    sym (take-append-drop 8 line) ∙ ap (λ front. front ++ drop 8 line) word ∙ ap (λ more. take 8 words ++ more) behind
+words_first line words rest word following =
+    sym (take-append-drop 8 line) ∙ ap (λ front. front ++ drop 8 line) word ∙ ap (λ more. take 8 words ++ more) following
     ∙ sym (append_assoc (take 8 words) (drop 8 words) rest) ∙ ap (λ all. all ++ rest) (take-append-drop 8 words)
 
--- what is behind a front
-pub behind_front : (front rest line : List ℕ) → line ≡ front ++ rest → drop (length front) line ≡ rest
-behind_front front rest line is = ap (drop (length front)) is ∙ drop-append_seam front rest
+-- what follows a front
+pub after_front : (front rest line : List ℕ) → line ≡ front ++ rest → drop (length front) line ≡ rest
+after_front front rest line is = ap (drop (length front)) is ∙ drop-append_seam front rest
 
 -- a text from an index on
 pub one_then : (line : List ℕ) (at : ℕ) (byte : ℕ) → at < length line → slice_index line at ≡ byte

@@ -15,7 +15,7 @@ cut_off old chunk n most fewer =
 -- the text between `start` and 64
 pub written_is : (line text rest : List ℕ) (start : ℕ) → drop start line ≡ text ++ rest → length rest ≡ 32 → length line ≡ 96
     → start ≤ 64 → take (64 - start) (drop start line) ≡ text
-written_is line text rest start is behind whole within =
+written_is line text rest start is following whole within =
     let long : length text ≡ 64 - start = omega (arith, length-drop start line, ap length is, length-append text rest) in
     ap (λ n. take n (drop start line)) (sym long) ∙ ap (take (length text)) is ∙ take-append_seam text rest
 
@@ -31,36 +31,36 @@ cut_line old line longer new start before n most long added cut at fewer =
 pub adds_two : {T E : Type 0} (result : Result T E) (old line first second rest new : List ℕ) (start : ℕ)
     → OnOk result (new ≡ old ++ take (64 - start) (drop start line)) → drop start line ≡ first ++ (second ++ rest)
     → length rest ≡ 32 → length line ≡ 96 → start ≤ 64 → OnOk result (new ≡ (old ++ first) ++ second)
-adds_two (Ok value) old line first second rest new start added is behind whole within =
-    added ∙ ap (λ more. old ++ more) (written_is line (first ++ second) rest start (is ∙ sym (append_assoc first second rest)) behind whole within)
+adds_two (Ok value) old line first second rest new start added is following whole within =
+    added ∙ ap (λ more. old ++ more) (written_is line (first ++ second) rest start (is ∙ sym (append_assoc first second rest)) following whole within)
     ∙ sym (append_assoc old first second)
-adds_two (Err error) old line first second rest new start added is behind whole within = tt
+adds_two (Err error) old line first second rest new start added is following whole within = tt
 
 -- or three
 pub adds_three : {T E : Type 0} (result : Result T E) (old line first second third rest new : List ℕ) (start : ℕ)
     → OnOk result (new ≡ old ++ take (64 - start) (drop start line)) → drop start line ≡ first ++ (second ++ (third ++ rest))
     → length rest ≡ 32 → length line ≡ 96 → start ≤ 64 → OnOk result (new ≡ ((old ++ first) ++ second) ++ third)
-adds_three (Ok value) old line first second third rest new start added is behind whole within =
+adds_three (Ok value) old line first second third rest new start added is following whole within =
     adds_two {T = ℕ} {E = ℕ} (Ok 0) old line first (second ++ third) rest new start added
-    (is ∙ ap (λ more. first ++ more) (sym (append_assoc second third rest))) behind whole within
+    (is ∙ ap (λ more. first ++ more) (sym (append_assoc second third rest))) following whole within
     ∙ sym (append_assoc (old ++ first) second third)
-adds_three (Err error) old line first second third rest new start added is behind whole within = tt
+adds_three (Err error) old line first second third rest new start added is following whole within = tt
 
 -- of which the first two are one
 pub adds_grouped : {T E : Type 0} (result : Result T E) (old line first second third rest new : List ℕ) (start : ℕ)
     → OnOk result (new ≡ old ++ take (64 - start) (drop start line)) → drop start line ≡ first ++ (second ++ (third ++ rest))
     → length rest ≡ 32 → length line ≡ 96 → start ≤ 64 → OnOk result (new ≡ (old ++ (first ++ second)) ++ third)
-adds_grouped (Ok value) old line first second third rest new start added is behind whole within =
-    adds_three {T = ℕ} {E = ℕ} (Ok 0) old line first second third rest new start added is behind whole within
+adds_grouped (Ok value) old line first second third rest new start added is following whole within =
+    adds_three {T = ℕ} {E = ℕ} (Ok 0) old line first second third rest new start added is following whole within
     ∙ ap (λ more. more ++ third) (append_assoc old first second)
-adds_grouped (Err error) old line first second third rest new start added is behind whole within = tt
+adds_grouped (Err error) old line first second third rest new start added is following whole within = tt
 
 -- or four, of which the first three are one
 pub adds_all_grouped : {T E : Type 0} (result : Result T E) (old line first second third fourth rest new : List ℕ) (start : ℕ)
     → OnOk result (new ≡ old ++ take (64 - start) (drop start line))
     → drop start line ≡ first ++ (second ++ ((third ++ fourth) ++ rest)) → length rest ≡ 32 → length line ≡ 96 → start ≤ 64
     → OnOk result (new ≡ (old ++ ((first ++ second) ++ third)) ++ fourth)
-adds_all_grouped (Ok value) old line first second third fourth rest new start added is behind whole within =
-    adds_grouped {T = ℕ} {E = ℕ} (Ok 0) old line first second (third ++ fourth) rest new start added is behind whole within
+adds_all_grouped (Ok value) old line first second third fourth rest new start added is following whole within =
+    adds_grouped {T = ℕ} {E = ℕ} (Ok 0) old line first second (third ++ fourth) rest new start added is following whole within
     ∙ sym (append_assoc (old ++ (first ++ second)) third fourth) ∙ ap (λ more. more ++ fourth) (append_assoc old (first ++ second) third)
-adds_all_grouped (Err error) old line first second third fourth rest new start added is behind whole within = tt
+adds_all_grouped (Err error) old line first second third fourth rest new start added is following whole within = tt

@@ -49,9 +49,9 @@ from_right a b c d e f g =
     ∙ append_assoc (b ++ c) d (e ++ (f ++ g)) ∙ append_assoc b c (d ++ (e ++ (f ++ g))))
 
 -- and one more after them
-one_behind : (a b c d e f g h : List ℕ)
+one_after : (a b c d e f g h : List ℕ)
     → (a ++ (b ++ (c ++ (d ++ (e ++ (f ++ g)))))) ++ h ≡ a ++ (b ++ (c ++ (d ++ (e ++ (f ++ (g ++ h))))))
-one_behind a b c d e f g h =
+one_after a b c d e f g h =
     append_assoc a _ h ∙ ap (λ l. a ++ l) (append_assoc b _ h ∙ ap (λ l. b ++ l) (append_assoc c _ h
     ∙ ap (λ l. c ++ l) (append_assoc d _ h ∙ ap (λ l. d ++ l) (append_assoc e _ h ∙ ap (λ l. e ++ l) (append_assoc f g h)))))
 
@@ -59,7 +59,7 @@ row_line : (row : Row) → record_line row ≡ row_text row.0.0 row.0.1 row.1 ++
 row_line row =
     from_right (codes "[\"record\",") (decimal row.0.0) (codes ",") (signed_decimal row.0.1) (codes ",") (signed_decimal row.1)
     (codes "]\n")
-    ∙ sym (one_behind (codes "[\"record\",") (decimal row.0.0) (codes ",") (signed_decimal row.0.1) (codes ",") (signed_decimal row.1)
+    ∙ sym (one_after (codes "[\"record\",") (decimal row.0.0) (codes ",") (signed_decimal row.0.1) (codes ",") (signed_decimal row.1)
     (codes "]") (codes "\n"))
 
 pub written_records_are_read : WrittenRecordsAreRead

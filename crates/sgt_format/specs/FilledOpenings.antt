@@ -23,17 +23,17 @@ leading_records (l ∷ ls) = led_by (record_line_of l) (leading_records ls)
 
 -- these lines if the first of them is no record line, else the later ones
 abbrev pub from_other : Option RecordLine → List (List ℕ) → List (List ℕ) → List (List ℕ)
-from_other None these behind = these
-from_other (Some said) these behind = behind
+from_other None these following = these
+from_other (Some said) these following = following
 
 -- the lines from the first that is no record line
-abbrev pub behind_records : List (List ℕ) → List (List ℕ)
-behind_records [] = []
-behind_records (l ∷ ls) = from_other (record_line_of l) (l ∷ ls) (behind_records ls)
+abbrev pub after_records : List (List ℕ) → List (List ℕ)
+after_records [] = []
+after_records (l ∷ ls) = from_other (record_line_of l) (l ∷ ls) (after_records ls)
 
 -- the number of the first line after line 1 that is no record line
-abbrev pub number_behind : List (List ℕ) → ℕ
-number_behind later = 2 + length (leading_records later)
+abbrev pub number_after : List (List ℕ) → ℕ
+number_after later = 2 + length (leading_records later)
 
 -- each of these lines is a record line
 abbrev pub AreRecordLines : List (List ℕ) → Type 0

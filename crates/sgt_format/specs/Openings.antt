@@ -13,7 +13,7 @@ use Rattle.sgt_smallbank.specs.declared.account.Account.{Account}
 use Rattle.sgt_smallbank.specs.declared.errors.BadOpening as accounts
 use Rattle.sgt_smallbank.specs.declared.errors.BadOpening.TheVariants as bad
 use Rattle.sgt_format.specs.Trees.{tree_of, list, each, wholes}
-use Rattle.sgt_format.specs.Procedures.{AreProcedures, HasMisfit, HasLeastFlaw, NextIs}
+use Rattle.sgt_format.specs.Procedures.{AreProcedures, HasShapeError, HasLeastFlaw, NextIs}
 use Rattle.sgt_format.specs.declared.errors.OpeningError.{OpeningError}
 use Rattle.sgt_format.specs.declared.errors.OpeningError.TheVariants.{NotJson, BadLine, BadLimits, BadOpening, ProcShape, ProcFlaw, NoMemory}
 use Rattle.sgt_format.specs.declared.opening.Opening.{Opening}
@@ -116,14 +116,14 @@ HasLimits least sheet = (limits : Limits) × AreLimits least sheet.limits limits
 
 -- one of the procedures that trees spell is refused: the first with a shape error or a flaw
 abbrev pub ProcedureIsRefused : List Data → OpeningError → Type 0
-ProcedureIsRefused trees (ProcShape number place) = (n : ℕ) × (number ≡ first_number + n) × NextIs (HasMisfit place) n trees
+ProcedureIsRefused trees (ProcShape number place) = (n : ℕ) × (number ≡ first_number + n) × NextIs (HasShapeError place) n trees
 ProcedureIsRefused trees (ProcFlaw number flaw) = (n : ℕ) × (number ≡ first_number + n) × NextIs (HasLeastFlaw flaw) n trees
 ProcedureIsRefused trees NoMemory = ⊤
 ProcedureIsRefused trees other = ⊥
 
 -- the procedure that the tree should spell is refused, under this number
 abbrev pub IsRefusedAs : ℕ → Data → OpeningError → Type 0
-IsRefusedAs number tree (ProcShape n place) = (n ≡ number) × HasMisfit place tree
+IsRefusedAs number tree (ProcShape n place) = (n ≡ number) × HasShapeError place tree
 IsRefusedAs number tree (ProcFlaw n flaw) = (n ≡ number) × HasLeastFlaw flaw tree
 IsRefusedAs number tree NoMemory = ⊤
 IsRefusedAs number tree other = ⊥

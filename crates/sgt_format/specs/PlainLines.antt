@@ -23,9 +23,9 @@ pub record AreArguments (follows : Bool) (text : List ℕ) (args : List ℤ) : T
   pub is : text ≡ print_spaced follows spaced
 
 -- what precedes one more number
-abbrev pub comma_behind : List ℤ → List ℕ
-comma_behind [] = []
-comma_behind (n ∷ rest) = 44 ∷ []
+abbrev pub comma_after : List ℤ → List ℕ
+comma_after [] = []
+comma_after (n ∷ rest) = 44 ∷ []
 
 -- each number has at most eighteen digits
 abbrev pub AreSmall : List ℤ → Type 0

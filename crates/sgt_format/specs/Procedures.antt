@@ -17,9 +17,9 @@ AreProcedures [] (p ∷ programs) = ⊥
 AreProcedures (tree ∷ trees) [] = ⊥
 AreProcedures (tree ∷ trees) (p ∷ programs) = IsProcedure tree p × AreProcedures trees programs
 
--- a tree spells no procedure, and its first shape error (misfit) is at this position
-abbrev pub HasMisfit : List ℕ → Data → Type 0
-HasMisfit place tree = reading tree ≡ Err place
+-- a tree spells no procedure, and its first shape error is at this position
+abbrev pub HasShapeError : List ℕ → Data → Type 0
+HasShapeError place tree = reading tree ≡ Err place
 
 -- a tree spells a procedure whose least flaw is this one
 abbrev pub HasLeastFlaw : Flaw → Data → Type 0

@@ -12,7 +12,7 @@ use Rattle.sgt_format.specs.Decimals.{key_text, record_text, each_item, items_or
 
 -- why a transaction was aborted; a cycle begins with that transaction
 abbrev pub cause_text : Cause → List ℕ
-cause_text (cause.Cycle walk) = codes "cycle" ++ each_item decimal walk
+cause_text (cause.Cycle cycle) = codes "cycle" ++ each_item decimal cycle
 cause_text (cause.Asked code) = codes "asked " ++ decimal code
 cause_text cause.Quit = codes "quit"
 

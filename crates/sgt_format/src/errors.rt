@@ -39,7 +39,7 @@ pub enum OpeningError {
     BadLimits,
     /// An account has this fault.
     BadOpening(OpeningFault),
-    /// The procedure of this number has its first shape error (misfit) at this position.
+    /// The procedure of this number has its first shape error at this position.
     ProcShape(u64, Place),
     /// The procedure of this number has this flaw, and none with a smaller number.
     ProcFlaw(u64, Flaw),

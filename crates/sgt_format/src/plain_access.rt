@@ -5,7 +5,7 @@ ghost use Rattle.sgt_format.specs.PlainLines.{AreNumbers};
 
 use crate::event_line::begin;
 use crate::line_tokens::tid_of;
-use crate::plain_line::{behind, is_bracket, item_behind, leading_number};
+use crate::plain_line::{following, is_bracket, item_after, leading_number};
 use crate::record_line::key_of;
 use sgt_model::{Event, Request};
 
@@ -29,7 +29,7 @@ pub(crate) fn plain_access(line: &[u8]) -> Option<Event>
 fn plain_read(line: &[u8]) -> Option<Event>
     ensures { IfSome result (λ event. event_of line.now ≡ Ok event) }
 {
-    let (t, table, id, rest) = leading_numbers(item_behind(line, b"[\"read\",")?)?;
+    let (t, table, id, rest) = leading_numbers(item_after(line, b"[\"read\",")?)?;
     if !is_bracket(rest) {
         return None;
     }
@@ -39,7 +39,7 @@ fn plain_read(line: &[u8]) -> Option<Event>
 fn plain_remove(line: &[u8]) -> Option<Event>
     ensures { IfSome result (λ event. event_of line.now ≡ Ok event) }
 {
-    let (t, table, id, rest) = leading_numbers(item_behind(line, b"[\"remove\",")?)?;
+    let (t, table, id, rest) = leading_numbers(item_after(line, b"[\"remove\",")?)?;
     if !is_bracket(rest) {
         return None;
     }
@@ -49,8 +49,8 @@ fn plain_remove(line: &[u8]) -> Option<Event>
 fn plain_write(line: &[u8]) -> Option<Event>
     ensures { IfSome result (λ event. event_of line.now ≡ Ok event) }
 {
-    let (t, table, id, rest) = leading_numbers(item_behind(line, b"[\"write\",")?)?;
-    let (value, last) = leading_number(item_behind(rest, b",")?)?;
+    let (t, table, id, rest) = leading_numbers(item_after(line, b"[\"write\",")?)?;
+    let (value, last) = leading_number(item_after(rest, b",")?)?;
     if !is_bracket(last) {
         return None;
     }
@@ -61,7 +61,7 @@ fn plain_write(line: &[u8]) -> Option<Event>
 fn plain_begin(line: &[u8]) -> Option<Event>
     ensures { IfSome result (λ event. event_of line.now ≡ Ok event) }
 {
-    if !is_bracket(behind(line, b"[\"begin\"")?) {
+    if !is_bracket(following(line, b"[\"begin\"")?) {
         return None;
     }
     Some(begin())
@@ -73,7 +73,7 @@ fn leading_numbers(text: &[u8]) -> Option<(i64, i64, i64, &[u8])>
     ensures { IfSome result (λ found. AreNumbers text.now found.3.now found.0 found.1 found.2) }
 {
     let (first, rest) = leading_number(text)?;
-    let (second, rest) = leading_number(item_behind(rest, b",")?)?;
-    let (third, rest) = leading_number(item_behind(rest, b",")?)?;
+    let (second, rest) = leading_number(item_after(rest, b",")?)?;
+    let (third, rest) = leading_number(item_after(rest, b",")?)?;
     Some((first, second, third, rest))
 }

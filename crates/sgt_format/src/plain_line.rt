@@ -7,7 +7,7 @@ ghost use Rattle.json.specs.Spaced.{IsGap};
 ghost use Rattle.sgt_format.specs.EventLines.{event_of};
 ghost use Rattle.sgt_format.specs.JobLines.{job_of};
 ghost use Rattle.sgt_format.specs.RecordLines.{record_line_of};
-ghost use Rattle.sgt_format.specs.PlainLines.{comma_behind, has_newline, AreArguments, AreSmall, IsCall};
+ghost use Rattle.sgt_format.specs.PlainLines.{comma_after, has_newline, AreArguments, AreSmall, IsCall};
 
 use crate::call::JobCall;
 use crate::record_line::RecordLine;
@@ -24,11 +24,11 @@ pub(crate) fn plain_event(line: &[u8], event: &mut Event) -> Option<()>
         return None;
     }
     if line[4] == b'e' {
-        *event = Event::Step(tid_behind(line, b"[\"step\",")?);
+        *event = Event::Step(tid_after(line, b"[\"step\",")?);
         return Some(());
     }
     if line[4] == b'm' {
-        *event = Event::Commit(tid_behind(line, b"[\"commit\",")?);
+        *event = Event::Commit(tid_after(line, b"[\"commit\",")?);
         return Some(());
     }
     plain_start_or_quit(line, event)
@@ -78,14 +78,14 @@ fn tid_ahead(text: &[u8], words: &[u8]) -> Option<(Tid, usize)>
     Some((Tid(u32::try_from(number).ok()?), last + 1))
 }
 
-/// The same, of a start or a quit. A start's arguments are built here, so that a step needs no space for them.
+/// The same, of a `start` or a `quit`. A start's arguments are built here, so that a step needs no space for them.
 #[inline(never)]
 fn plain_start_or_quit(line: &[u8], event: &mut Event) -> Option<()>
     requires { 8 ≤ length line.now }
     ensures { IfSome result (λ _. event_of line.now ≡ Ok event.new) }
 {
     if line[4] == b'i' {
-        *event = Event::Quit(tid_behind(line, b"[\"quit\",")?);
+        *event = Event::Quit(tid_after(line, b"[\"quit\",")?);
         return Some(());
     }
     let at = item_index(line, b"[\"start\",")?;
@@ -104,7 +104,7 @@ fn plain_start_or_quit(line: &[u8], event: &mut Event) -> Option<()>
 pub(crate) fn plain_job(line: &[u8], call: &mut JobCall) -> Option<()>
     ensures { IfSome result (λ _. job_of line.now ≡ Ok call.new) }
 {
-    last_call(item_behind(line, b"[\"job\",")?, call)?;
+    last_call(item_after(line, b"[\"job\",")?, call)?;
     Some(())
 }
 
@@ -112,9 +112,9 @@ pub(crate) fn plain_job(line: &[u8], call: &mut JobCall) -> Option<()>
 pub(crate) fn plain_record(line: &[u8]) -> Option<RecordLine>
     ensures { IfSome result (λ said. record_line_of line.now ≡ Some said) }
 {
-    let (table, rest) = leading_number(item_behind(line, b"[\"record\",")?)?;
-    let (number, rest) = leading_number(item_behind(rest, b",")?)?;
-    let (value, rest) = leading_number(item_behind(rest, b",")?)?;
+    let (table, rest) = leading_number(item_after(line, b"[\"record\",")?)?;
+    let (number, rest) = leading_number(item_after(rest, b",")?)?;
+    let (value, rest) = leading_number(item_after(rest, b",")?)?;
     if !is_bracket(rest) {
         return None;
     }
@@ -135,9 +135,9 @@ pub(crate) fn is_bracket(text: &[u8]) -> bool
 }
 
 /// The text after these bytes, if it begins with them.
-#[tactic(auto, using(crate::proofs::PlainLines::split_behind))]
+#[tactic(auto, using(crate::proofs::PlainLines::split_after))]
 #[inline(always)]
-pub(crate) fn behind<'a>(text: &'a [u8], words: &[u8]) -> Option<&'a [u8]>
+pub(crate) fn following<'a>(text: &'a [u8], words: &[u8]) -> Option<&'a [u8]>
     ensures { IfSome result (λ rest. text.now ≡ words.now ++ rest.now) }
 {
     if text.len() < words.len() {
@@ -180,7 +180,7 @@ fn begins_with(line: &[u8], words: &[u8]) -> bool
     requires { (8 ≤ length line.now) × (8 ≤ length words.now) }
     ensures { IsTrue result → line.now ≡ words.now ++ drop (length words.now) line.now }
 {
-    is_same_word(line, words) && behind(&line[8..], &words[8..]).is_some()
+    is_same_word(line, words) && following(&line[8..], &words[8..]).is_some()
 }
 
 /// Whether two texts begin with the same eight bytes.
@@ -198,11 +198,11 @@ fn is_same_word(text: &[u8], words: &[u8]) -> bool
 
 /// The items after a comma that ends these bytes, if the text begins with them. One space before the items is skipped.
 #[inline(always)]
-pub(crate) fn item_behind<'a>(text: &'a [u8], words: &[u8]) -> Option<&'a [u8]>
+pub(crate) fn item_after<'a>(text: &'a [u8], words: &[u8]) -> Option<&'a [u8]>
     ensures { IfSome result (λ rest. (gap : List ℕ) × IsGap gap × (text.now ≡ words.now ++ (gap ++ rest.now))) }
 {
-    let rest = behind(text, words)?;
-    match behind(rest, b" ") {
+    let rest = following(text, words)?;
+    match following(rest, b" ") {
         Some(items) => Some(items),
         None => Some(rest),
     }
@@ -211,7 +211,7 @@ pub(crate) fn item_behind<'a>(text: &'a [u8], words: &[u8]) -> Option<&'a [u8]>
 /// The transaction of a line that is these words, its number and a closing bracket. One space before the number is
 /// skipped.
 #[inline(always)]
-fn tid_behind(line: &[u8], words: &[u8]) -> Option<Tid>
+fn tid_after(line: &[u8], words: &[u8]) -> Option<Tid>
     requires { (8 ≤ length line.now) × (8 ≤ length words.now) }
     ensures number { IfSome result (λ t. (gap : List ℕ) × IsGap gap
         × (line.now ≡ words.now ++ (gap ++ (decimal t ++ 93 ∷ [])))) }
@@ -271,7 +271,7 @@ fn last_call(text: &[u8], call: &mut JobCall) -> Option<()>
 {
     let (number, rest) = natural_and_rest(text)?;
     call.procedure = u16::try_from(number).ok()?;
-    last_arguments(behind(item_behind(rest, b",")?, b"[")?, &mut call.args)?;
+    last_arguments(following(item_after(rest, b",")?, b"[")?, &mut call.args)?;
     Some(())
 }
 
@@ -308,13 +308,13 @@ fn is_closing(text: &[u8]) -> bool
 #[inline(always)]
 fn next_argument<'a>(text: &'a [u8], args: &Args) -> Option<(i64, &'a [u8])>
     ensures text { IfSome result (λ found. (gap : List ℕ) × IsGap gap
-        × (text.now ≡ comma_behind args.now ++ (gap ++ (signed_decimal found.0 ++ found.1.now)))) }
+        × (text.now ≡ comma_after args.now ++ (gap ++ (signed_decimal found.0 ++ found.1.now)))) }
     ensures small { IfSome result (λ found. mag found.0 < 1_000_000_000_000_000_000) }
 {
     if args.is_empty() {
         return leading_number(text);
     }
-    leading_number(item_behind(text, b",")?)
+    leading_number(item_after(text, b",")?)
 }
 
 /// The number at the front of a text, and the rest of the text. `-0` is none.
@@ -323,7 +323,7 @@ pub(crate) fn leading_number(text: &[u8]) -> Option<(i64, &[u8])>
     ensures text { IfSome result (λ found. text.now ≡ signed_decimal found.0 ++ found.1.now) }
     ensures small { IfSome result (λ found. mag found.0 < 1_000_000_000_000_000_000) }
 {
-    if let Some(digits) = behind(text, b"-") {
+    if let Some(digits) = following(text, b"-") {
         let (number, rest) = natural_and_rest(digits)?;
         if number == 0 {
             return None;

@@ -68,30 +68,30 @@ fn append_line(
         ShortReply::Spent => lines.extend_from_slice(b"spent\n"),
         ShortReply::Full => lines.extend_from_slice(b"full\n"),
         ShortReply::Unknown => lines.extend_from_slice(b"unknown\n"),
-        ShortReply::Over(fate) => append_over(lines, *fate, &lists.walk),
+        ShortReply::Over(fate) => append_over(lines, *fate, &lists.cycle),
         ShortReply::Looked { key, value } => append_looked(lines, *key, *value),
         ShortReply::Wrote { key, value } => append_wrote(lines, *key, *value),
         ShortReply::Ended => lines.extend_from_slice(b"ended\n"),
         ShortReply::NotEnded => lines.extend_from_slice(b"not ended\n"),
         ShortReply::Waits(first) => append_number_line(lines, b"waits ", u64::from(first.0)),
         ShortReply::Committed => append_committed(lines, &lists.answers),
-        ShortReply::Aborted(cause) => append_aborted(lines, *cause, &lists.walk, &lists.fell),
+        ShortReply::Aborted(cause) => append_aborted(lines, *cause, &lists.cycle, &lists.fell),
         ShortReply::Refused(code) => append_refused(lines, *code, &lists.fell),
     }
 }
 
 /// On an error the lines still begin with what they held.
 #[inline(never)]
-fn append_over(lines: &mut Vec<u8>, fate: ShortFate, walk: &Tids) -> Result<(), AllocError>
+fn append_over(lines: &mut Vec<u8>, fate: ShortFate, cycle: &Tids) -> Result<(), AllocError>
     ensures ok { OnOk result
-        (lines.new.items ≡ lines.old.items ++ over_text (full_fate fate walk.now) ++ codes "\n") }
+        (lines.new.items ≡ lines.old.items ++ over_text (full_fate fate cycle.now) ++ codes "\n") }
     ensures err { OnErr result (take (vec_len lines.old) lines.new.items ≡ lines.old.items) }
 {
     match fate {
         ShortFate::Committed => lines.extend_from_slice(b"over committed\n"),
         ShortFate::Aborted(cause) => {
             lines.extend_from_slice(b"over aborted ")?;
-            append_cause(lines, &cause, walk)?;
+            append_cause(lines, &cause, cycle)?;
             lines.extend_from_slice(b"\n")
         }
         ShortFate::Fell(first) => append_number_line(lines, b"over fell ", u64::from(first.0)),
@@ -216,15 +216,15 @@ fn append_answered(lines: &mut Vec<u8>, answer: i64) -> Result<(), AllocError>
 fn append_aborted(
     lines: &mut Vec<u8>,
     cause: ShortCause,
-    walk: &Tids,
+    cycle: &Tids,
     fell: &Tids,
 ) -> Result<(), AllocError>
     ensures ok { OnOk result (lines.new.items
-        ≡ lines.old.items ++ aborted_text (full_cause cause walk.now) fell.now ++ codes "\n") }
+        ≡ lines.old.items ++ aborted_text (full_cause cause cycle.now) fell.now ++ codes "\n") }
     ensures err { OnErr result (take (vec_len lines.old) lines.new.items ≡ lines.old.items) }
 {
     lines.extend_from_slice(b"aborted ")?;
-    append_cause(lines, &cause, walk)?;
+    append_cause(lines, &cause, cycle)?;
     append_fell(lines, fell)
 }
 
@@ -251,15 +251,15 @@ fn append_fell(lines: &mut Vec<u8>, fell: &Tids) -> Result<(), AllocError>
 }
 
 /// Appends why a transaction was aborted. On an error the line still begins with what it held.
-fn append_cause(line: &mut Vec<u8>, cause: &ShortCause, walk: &Tids) -> Result<(), AllocError>
+fn append_cause(line: &mut Vec<u8>, cause: &ShortCause, cycle: &Tids) -> Result<(), AllocError>
     ensures ok { OnOk result
-        (line.new.items ≡ line.old.items ++ cause_text (full_cause cause.now walk.now)) }
+        (line.new.items ≡ line.old.items ++ cause_text (full_cause cause.now cycle.now)) }
     ensures err { OnErr result (take (vec_len line.old) line.new.items ≡ line.old.items) }
 {
     match cause {
         ShortCause::Cycle => {
             line.extend_from_slice(b"cycle")?;
-            append_tids(line, walk)
+            append_tids(line, cycle)
         }
         ShortCause::Asked(code) => append_numbered(line, b"asked ", *code),
         ShortCause::Quit => line.extend_from_slice(b"quit"),

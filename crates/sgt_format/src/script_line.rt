@@ -43,7 +43,7 @@ pub enum LineKind {
 /// - `NotJson`: the line is not JSON.
 /// - `BadLine`: the line is JSON of any other form.
 /// - `NoMemory`: an allocation failed.
-#[tactic(auto, using(crate::proofs::LineTokens::asked_event))]
+#[tactic(auto, using(crate::proofs::LineTokens::requested_event))]
 #[inline(always)]
 pub fn read_script_line(
     alloc: Global,
@@ -61,7 +61,7 @@ pub fn read_script_line(
 }
 
 /// The same, of a line that is not in plain form.
-#[tactic(auto, using(crate::proofs::LineTokens::asked_event))]
+#[tactic(auto, using(crate::proofs::LineTokens::requested_event))]
 #[inline(never)]
 fn read_other_line(
     alloc: Global,

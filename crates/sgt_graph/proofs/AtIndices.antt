@@ -3,8 +3,8 @@ use Rattle.std.specs.Prelude.{◌≡◌, ℕ, ◌<◌, ◌+◌, true, false, ◌
 use Rattle.std.proofs.Common.{take, sym, ◌∙◌, ap, subst, inl, inr, add-one}
 use Rattle.std.proofs.Math.Seq.{take-suc}
 use Rattle.std.proofs.lemmas.Bool.{eqb-true, eq-eqb, and_from, and_parts, or_left, or_right, or_cases, both_ways}
-use Rattle.sgt_model.specs.Walks.{Member}
-use Rattle.sgt_model.proofs.Room.{member_append}
+use Rattle.sgt_model.specs.Paths.{Member}
+use Rattle.sgt_model.proofs.Capacity.{member_append}
 use Rattle.sgt_model.proofs.Listed.{member_added}
 use Rattle.sgt_cycle.specs.Indices.{is_set}
 use Rattle.sgt_graph.specs.BitGraphs.{is_at}

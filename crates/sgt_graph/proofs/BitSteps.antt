@@ -4,10 +4,10 @@ use Rattle.std.proofs.Common.{zero, suc, refl, sym, ◌∙◌, ap, subst, inl, i
 use Rattle.std.proofs.lemmas.List.{get_or-set_same, get_or-set_other}
 use Rattle.std.proofs.Math.ListN.{length-set}
 use Rattle.std.proofs.lemmas.Bool.{eqb-true, eq-eqb, le-ltb, and_parts, and_from, or_cases, or_left, or_right, both_ways, false_from_ne_true, cases_eq}
-use Rattle.sgt_model.specs.Walks.{PathOf, Member, Distinct, AtMost}
+use Rattle.sgt_model.specs.Paths.{PathOf, Member, Distinct, AtMost}
 use Rattle.sgt_model.proofs.Paths.{path_map}
 use Rattle.sgt_cycle.specs.Indices.{is_set, is_bit, indices}
-use Rattle.sgt_cycle.specs.Walk.{Holds, IsWalk}
+use Rattle.sgt_cycle.specs.Path.{Holds, IsPath}
 use Rattle.sgt_graph.specs.Closures.{Leads, IsClosure}
 use Rattle.sgt_graph.specs.BitGraphs.{is_at, last_below, index_of, is_placed, is_pair, IsBitGraph, IsIndexVerdict, IsLeastAt}
 use Rattle.sgt_graph.specs.Graphs.{IsLeastPred}
@@ -350,9 +350,9 @@ module _ (taken : ℕ) (tids pairs reached : List ℕ) (g : IsBitGraph taken tid
     removed_pairs tids' same u v = ap (λ x. is_pair taken' x new u v) same ∙ freed_pairs u v
 
 -- a path over indices goes through indices below 32
-pub walk_low : (taken : ℕ) (tids pairs reached : List ℕ) → IsBitGraph taken tids pairs reached → (p from : ℕ) (path : List ℕ) → p < 32
-    → IsWalk (is_bit pairs) p (indices from) path → (i : ℕ) → Member i path → i < 32
-walk_low taken tids pairs reached g p from path low (rest, is, w) i m = elim (subst (λ l. Member i l) is m) [
+pub path_low : (taken : ℕ) (tids pairs reached : List ℕ) → IsBitGraph taken tids pairs reached → (p from : ℕ) (path : List ℕ) → p < 32
+    → IsPath (is_bit pairs) p (indices from) path → (i : ℕ) → Member i path → i < 32
+path_low taken tids pairs reached g p from path low (rest, is, w) i m = elim (subst (λ l. Member i l) is m) [
   | inl e ↦ subst (λ x. x < 32) (sym e) low
   | inr k ↦ go p rest w.goes k
 ]
@@ -369,7 +369,7 @@ module _ (taken : ℕ) (tids pairs reached : List ℕ) (g : IsBitGraph taken tid
   pub verdict_of : ((u : ℕ) → Member u preds → u ≢ t) → (verdict : Verdict) → IsIndexVerdict tids pairs reached index targets verdict
       → IsVerdict (is_pair taken tids pairs) t preds verdict
   verdict_of others Accepted v = accepted taken tids pairs reached g t index targets preds here exact others v
-  verdict_of others (Closes walk) (path, is, same) = closes taken tids pairs reached g t index targets preds here exact path walk is same
+  verdict_of others (Closes cycle) (path, is, same) = closes taken tids pairs reached g t index targets preds here exact path cycle is same
 
   -- edges from the targets to the index are what an insertion adds
   pub inserts : ((u : ℕ) → Member u preds → is_placed taken tids u ≡ true) → (verdict : Verdict) → verdict ≡ Accepted
@@ -477,11 +477,11 @@ module _ (taken : ℕ) (tids pairs reached : List ℕ) (g : IsBitGraph taken tid
       at_placed taken tids (placed taken tids pairs reached g) u j (at_from taken tids u j (all j (inl refl)) (sym e))
   names_placed (j ∷ rest) all u (inr m) = names_placed rest (λ x k. all x (inr k)) u m
 
-  pub no_room : AtMost 31 (is_placed taken tids) → ((i : ℕ) → i < 32 → is_set taken i ≡ true) → ⊥
-  no_room room all =
+  pub no_capacity : AtMost 31 (is_placed taken tids) → ((i : ℕ) → i < 32 → is_set taken i ≡ true) → ⊥
+  no_capacity capacity all =
       let each : (x : ℕ) → Member x (counted 32) → is_set taken x ≡ true = λ x m. all x (counted_below 32 x m) in
-      let fits : length (map (λ i. slice_index tids i) (counted 32)) ≤ length room.among =
-      distinct_fits (map (λ i. slice_index tids i) (counted 32)) room.among (name_distinct (counted 32) each (counted_distinct 32))
-      (λ u m. room.all u (names_placed (counted 32) each u m)) in
-      let few : length room.among ≤ 31 = room.few in
+      let fits : length (map (λ i. slice_index tids i) (counted 32)) ≤ length capacity.among =
+      distinct_fits (map (λ i. slice_index tids i) (counted 32)) capacity.among (name_distinct (counted 32) each (counted_distinct 32))
+      (λ u m. capacity.all u (names_placed (counted 32) each u m)) in
+      let few : length capacity.among ≤ 31 = capacity.few in
       absurd (omega arith)

@@ -3,16 +3,16 @@ use Rattle.std.specs.Prelude.{◌≡◌, ℕ, ◌<◌, ◌+◌, Bool, true, ◌|
 use Rattle.std.proofs.Common.{take, sym, ◌∙◌, ap, subst, inl, inr, add-one}
 use Rattle.std.proofs.Math.Seq.{take-suc}
 use Rattle.std.proofs.lemmas.Bool.{eq-eqb, and_from, or_left, or_right}
-use Rattle.sgt_model.specs.Walks.{Member, Reaches}
+use Rattle.sgt_model.specs.Paths.{Member, Reaches}
 use Rattle.sgt_model.proofs.Paths.{Simple, simple, last_new, Grows}
-use Rattle.sgt_model.proofs.Room.{member_append}
+use Rattle.sgt_model.proofs.Capacity.{member_append}
 use Rattle.sgt_model.proofs.Listed.{member_added}
 use Rattle.sgt_cycle.specs.Links.{is_link}
-use Rattle.sgt_cycle.specs.Walk.{Holds, NoWalk}
+use Rattle.sgt_cycle.specs.Path.{Holds, NoPath}
 use Rattle.sgt_graph.proofs.Lists.{pushed_cases}
 
--- where no path leads to a target, no `Walk` does
-pub no_path : (test : ℕ → ℕ → Bool) (t : ℕ) (targets : List ℕ) → NoWalk test t targets → (u : ℕ) → Member u targets
+-- where no path leads to a target, no `Path` does
+pub no_path : (test : ℕ → ℕ → Bool) (t : ℕ) (targets : List ℕ) → NoPath test t targets → (u : ℕ) → Member u targets
     → Reaches (Holds test) t u → ⊥
 no_path test t targets none u m (path, goes, ends) =
     let s : Simple (Holds test) t path = simple (Holds test) t path goes in

@@ -3,16 +3,16 @@ use Rattle.std.specs.Prelude.{◌≡◌, ℕ, ◌<◌, ◌≤◌, Bool, true, fa
 use Rattle.std.specs.List.{filter}
 use Rattle.std.proofs.Common.{refl, sym, ◌∙◌, subst, inl, inr, arith, length-append}
 use Rattle.std.proofs.lemmas.Bool.{eqb-true, or_cases, and_from, and_parts, or_left, both_ways, false_from_ne_true}
-use Rattle.sgt_model.specs.Walks.{Member, Distinct, Reaches, AtMost, Acyclic}
+use Rattle.sgt_model.specs.Paths.{Member, Distinct, Reaches, AtMost, Acyclic}
 use Rattle.sgt_model.proofs.Paths.{acyclic_grows, acyclic_map, no_way_back}
 use Rattle.sgt_model.proofs.Listed.{distinct_kept}
-use Rattle.sgt_model.proofs.Room.{member_append}
+use Rattle.sgt_model.proofs.Capacity.{member_append}
 use Rattle.sgt_cycle.specs.Links.{is_link, occurs}
-use Rattle.sgt_cycle.specs.Walk.{Holds}
+use Rattle.sgt_cycle.specs.Path.{Holds}
 use Rattle.sgt_model.proofs.Conditions.{distinct_fits}
 use Rattle.sgt_graph.specs.PairGraphs.{is_node, is_apart, Once, IsPairGraph}
 use Rattle.sgt_graph.proofs.Lists.{node_member, member_node, node_push, node_without, pair_here, pair_there, pair_push, pushed_cases, pair_without, end_node}
-use Rattle.sgt_graph.proofs.Room.{pairs_fit}
+use Rattle.sgt_graph.proofs.Capacity.{pairs_fit}
 
 -- no nodes and no edges
 pub kept_none : IsPairGraph [] []
@@ -77,7 +77,7 @@ module _ (nodes : List ℕ) (pairs : List (ℕ × ℕ)) (g : IsPairGraph nodes p
 
   -- where few numbers pass for nodes, the list is as short
   pub nodes_fit : (most : ℕ) → AtMost most (is_node nodes) → length nodes ≤ most
-  nodes_fit most room = omega (arith, distinct_fits nodes room.among g.distinct (λ x m. room.all x (member_node x nodes m)), room.few)
+  nodes_fit most capacity = omega (arith, distinct_fits nodes capacity.among g.distinct (λ x m. capacity.all x (member_node x nodes m)), capacity.few)
 
   -- its edges are few
   pub pairs_few : length pairs ≤ 496
@@ -92,7 +92,7 @@ module _ (nodes : List ℕ) (pairs : List (ℕ × ℕ)) (g : IsPairGraph nodes p
 
   -- a new node
   pub kept_node : (t : ℕ) → is_node nodes t ≡ false → length nodes < 32 → IsPairGraph (nodes ++ t ∷ []) pairs
-  kept_node t new room = record {
+  kept_node t new capacity = record {
     few = omega (arith, length-append nodes (t ∷ []));
     distinct = distinct_push nodes t g.distinct (λ m. both_ways _ new (member_node t nodes m));
     once = g.once;

@@ -1,5 +1,5 @@
 pub mod Lists
-pub mod Room
+pub mod Capacity
 pub mod Kept
 pub mod Insertion
 pub mod AtIndices

@@ -6,7 +6,7 @@ use Rattle.std.proofs.lemmas.Bool.{eq-eqb, eqb-true, and_from, and_parts, or_lef
 use Rattle.std.proofs.Math.Bool.{or-false, and_comm}
 use Rattle.std.proofs.lemmas.List.Folds.{list_any-append}
 use Rattle.std.proofs.lemmas.Map.Views.{any-filter_same}
-use Rattle.sgt_model.specs.Walks.{Member}
+use Rattle.sgt_model.specs.Paths.{Member}
 use Rattle.sgt_cycle.specs.Links.{is_link, is_end}
 use Rattle.sgt_graph.specs.Graphs.{OfNodes}
 use Rattle.sgt_graph.specs.PairGraphs.{is_node, is_apart}

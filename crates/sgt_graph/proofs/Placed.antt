@@ -2,9 +2,9 @@
 use Rattle.std.specs.Prelude.{◌≡◌, ◌≢◌, ℕ, ◌<◌, ◌≤◌, ◌⊎◌, ◌↔◌, Bool, true, false, ◌&&◌, ◌||◌, nat_eq, List, [], ◌∷◌, map, slice_index, cond}
 use Rattle.std.proofs.Common.{zero, suc, refl, sym, ◌∙◌, ap, subst, inl, inr, arith}
 use Rattle.std.proofs.lemmas.Bool.{eqb-true, eq-eqb, ltb-true, lt-ltb, and_parts, and_from, or_cases, or_left, or_right, both_ways, cases_eq}
-use Rattle.sgt_model.specs.Walks.{PathOf, last_of, Member, Distinct}
+use Rattle.sgt_model.specs.Paths.{PathOf, last_of, Member, Distinct}
 use Rattle.sgt_cycle.specs.Indices.{is_set, is_bit, indices_below, indices}
-use Rattle.sgt_cycle.specs.Walk.{Holds, IsWalk, NoWalk}
+use Rattle.sgt_cycle.specs.Path.{Holds, IsPath, NoPath}
 use Rattle.sgt_graph.specs.Graphs.{NoCycle, OfNodes}
 use Rattle.sgt_graph.specs.Closures.{Leads}
 use Rattle.sgt_graph.specs.BitGraphs.{is_at, last_below, index_of, is_placed, is_pair, IsBitGraph}
@@ -148,7 +148,7 @@ module _ (taken : ℕ) (tids pairs reached : List ℕ) (g : IsBitGraph taken tid
       (exact : (i : ℕ) → (is_set targets i ≡ true) ↔ ((is_set taken i ≡ true) × Member (slice_index tids i) preds)) where
     -- nothing that is reached is a target, so no path leads to one
     pub accepted : ((u : ℕ) → Member u preds → u ≢ t) → ((j : ℕ) → is_set targets j ≡ true → is_bit reached index j ≡ false)
-        → NoWalk (is_pair taken tids pairs) t preds
+        → NoPath (is_pair taken tids pairs) t preds
     accepted others free [] w = others t w.ends refl
     accepted others free (u ∷ rest) w =
         let (j, at_last, back) = path_reached t u rest index here w.goes in
@@ -189,9 +189,9 @@ module _ (taken : ℕ) (tids pairs reached : List ℕ) (g : IsBitGraph taken tid
     named_distinct (j ∷ rest) all d =
         ((λ m. d.0 (named_member j rest (all j (inl refl)) (λ x k. all x (inr k)) m)), named_distinct rest (λ x k. all x (inr k)) d.1)
 
-    pub closes : (path walk : List ℕ) → IsWalk (is_bit pairs) index (indices targets) path → walk ≡ map (λ i. slice_index tids i) path
-        → IsWalk (is_pair taken tids pairs) t preds walk
-    closes path walk (rest, is, w) same =
+    pub closes : (path cycle : List ℕ) → IsPath (is_bit pairs) index (indices targets) path → cycle ≡ map (λ i. slice_index tids i) path
+        → IsPath (is_pair taken tids pairs) t preds cycle
+    closes path cycle (rest, is, w) same =
         let parts = at_parts taken tids t index here in
         let all : (x : ℕ) → Member x (index ∷ rest) → is_set taken x ≡ true = λ x m. elim m [
           | inl e ↦ subst (λ y. is_set taken y ≡ true) (sym e) parts.0

@@ -5,10 +5,10 @@ use Rattle.std.proofs.lemmas.Nat.Bits.{bit_at_above, bit_at-zero}
 use Rattle.std.proofs.lemmas.List.{get_or-set_same, get_or-set_other}
 use Rattle.std.proofs.Math.ListN.{length-set}
 use Rattle.std.proofs.lemmas.Bool.{eqb-true, eq-eqb, and_parts, or_cases, or_left, or_right, both_ways, cases_lt, false_from_ne_true, cases_eq}
-use Rattle.sgt_model.specs.Walks.{Reaches}
+use Rattle.sgt_model.specs.Paths.{Reaches}
 use Rattle.sgt_model.proofs.Paths.{reaches_self, reaches_step, reaches_trans}
 use Rattle.sgt_cycle.specs.Indices.{is_set, is_bit}
-use Rattle.sgt_cycle.specs.Walk.{Holds}
+use Rattle.sgt_cycle.specs.Path.{Holds}
 use Rattle.sgt_graph.specs.Closures.{Leads, IsClosure}
 use Rattle.sgt_graph.specs.Relations.{IsRelation}
 

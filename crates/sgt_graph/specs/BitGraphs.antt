@@ -2,8 +2,8 @@
 use Rattle.std.specs.Prelude.{◌≡◌, ℕ, ◌<◌, ◌≤◌, Bool, true, false, ◌&&◌, nat_eq, nat_lt, ◌↔◌, List, length, slice_index, map, cond}
 use Rattle.std.proofs.Common.{zero, suc}
 use Rattle.sgt_cycle.specs.Indices.{is_set, is_bit, indices}
-use Rattle.sgt_cycle.specs.Walk.{IsWalk}
-use Rattle.sgt_model.specs.Walks.{Member}
+use Rattle.sgt_cycle.specs.Path.{IsPath}
+use Rattle.sgt_model.specs.Paths.{Member}
 use Rattle.sgt_graph.specs.declared.verdict.Link.{Link}
 use Rattle.sgt_graph.specs.declared.verdict.Verdict.{Verdict}
 use Rattle.sgt_graph.specs.declared.verdict.Verdict.TheVariants.{Accepted, Closes}
@@ -50,7 +50,7 @@ pub record IsLeastAt (tids : List ℕ) (set u : ℕ) : Type 0 where
 -- what a verdict says of indices: nothing that is reached from the index is a target, or there is a path to one
 abbrev pub IsIndexVerdict : List ℕ → List ℕ → List ℕ → ℕ → ℕ → Verdict → Type 0
 IsIndexVerdict tids pairs reached index targets Accepted = (j : ℕ) → is_set targets j ≡ true → is_bit reached index j ≡ false
-IsIndexVerdict tids pairs reached index targets (Closes walk) = (path : List ℕ) × IsWalk (is_bit pairs) index (indices targets) path × (walk ≡ map (λ i. slice_index tids i) path)
+IsIndexVerdict tids pairs reached index targets (Closes cycle) = (path : List ℕ) × IsPath (is_bit pairs) index (indices targets) path × (cycle ≡ map (λ i. slice_index tids i) path)
 
 -- the link leads to the index of the transaction, from the indices of these, and nothing that is reached from there is one of them
 pub record IsLinkOf (taken : ℕ) (tids reached : List ℕ) (t : ℕ) (preds : List ℕ) (link : Link) : Type 0 where

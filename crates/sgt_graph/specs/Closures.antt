@@ -1,8 +1,8 @@
 -- What is reached along rows of indices.
 use Rattle.std.specs.Prelude.{◌≡◌, ℕ, true, List}
-use Rattle.sgt_model.specs.Walks.{Reaches}
+use Rattle.sgt_model.specs.Paths.{Reaches}
 use Rattle.sgt_cycle.specs.Indices.{is_bit}
-use Rattle.sgt_cycle.specs.Walk.{Holds}
+use Rattle.sgt_cycle.specs.Path.{Holds}
 
 -- in one step or more
 abbrev pub Leads : List ℕ → ℕ → ℕ → Type 0

@@ -1,7 +1,7 @@
 -- Conflict edges between nodes, given by a test.
 use Rattle.std.specs.Prelude.{◌≡◌, ℕ, ◌≤◌, Bool, true}
-use Rattle.sgt_model.specs.Walks.{Acyclic}
-use Rattle.sgt_cycle.specs.Walk.{Holds}
+use Rattle.sgt_model.specs.Paths.{Acyclic}
+use Rattle.sgt_cycle.specs.Path.{Holds}
 
 -- no path along the edges returns to its start
 abbrev pub NoCycle : (ℕ → ℕ → Bool) → Type 0

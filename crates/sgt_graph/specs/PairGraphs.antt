@@ -1,7 +1,7 @@
 -- A graph as two lists: its nodes, and its edges.
 use Rattle.std.specs.Prelude.{◌≡◌, ℕ, ◌≤◌, Bool, false, not, ◌&&◌, nat_eq, List, [], ◌∷◌, length}
 use Rattle.std.specs.List.{list_any}
-use Rattle.sgt_model.specs.Walks.{Distinct}
+use Rattle.sgt_model.specs.Paths.{Distinct}
 use Rattle.sgt_cycle.specs.Links.{is_link}
 use Rattle.sgt_graph.specs.Graphs.{NoCycle, OfNodes}
 

@@ -69,7 +69,7 @@ impl Graph for BitGraph {
         let from = indices_of(taken, &self.tids, &self.guesses, preds);
         match self.verdict(to, from) {
             Verdict::Accepted => Plan::Free(Link { to, from }),
-            Verdict::Closes(walk) => Plan::Closes(walk),
+            Verdict::Closes(cycle) => Plan::Closes(cycle),
         }
     }
 
@@ -108,7 +108,7 @@ impl BitGraph {
             return Verdict::Accepted;
         }
         match walk_rows(self.pairs.rows(), index, from) {
-            Some(walk) => Verdict::Closes(tids_at(&self.tids, walk.as_slice())),
+            Some(cycle) => Verdict::Closes(tids_at(&self.tids, cycle.as_slice())),
             None => unreachable!(),
         }
     }

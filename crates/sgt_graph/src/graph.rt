@@ -1,9 +1,9 @@
 //! The calls of a serialization graph, and their contracts on its nodes and edges.
 ghost use Rattle.std.specs.Prelude.{◌≡◌, ◌≢◌, ℕ, List, Bool, true, false, not, ◌||◌, ◌&&◌, ◌⊎◌, ◌↔◌, nat_eq, IfSome, IsNone};
-ghost use Rattle.sgt_model.specs.Walks.{AtMost, Member};
+ghost use Rattle.sgt_model.specs.Paths.{AtMost, Member};
 ghost use Rattle.sgt_graph.specs.declared.verdict.Link.{Link};
 ghost use Rattle.sgt_graph.specs.Graphs.{NoCycle, OfNodes, IsLeastPred};
-ghost use Rattle.sgt_graph.specs.Verdicts.{IsVerdict, IsPlan, Inserts, NoWalk};
+ghost use Rattle.sgt_graph.specs.Verdicts.{IsVerdict, IsPlan, Inserts, NoPath};
 
 use crate::verdict::{Link, Plan, Verdict};
 use sgt_model::{Tid, Tids};
@@ -30,7 +30,7 @@ pub trait Graph: Drop + Send {
     /// Adds a transaction, without edges.
     fn add(&mut self, t: Tid)
         requires new { nodes self.old t ≡ false }
-        requires room { AtMost 31 (nodes self.old) }
+        requires capacity { AtMost 31 (nodes self.old) }
         ensures nodes { (u : ℕ) → nodes self.new u ≡ (nodes self.old u || nat_eq u t) }
         ensures pairs { (u v : ℕ) → pairs self.new u v ≡ pairs self.old u v };
 
@@ -44,7 +44,7 @@ pub trait Graph: Drop + Send {
     fn link(&mut self, t: Tid, preds: &Tids, link: Link)
         requires node { nodes self.old t ≡ true }
         requires preds { (u : ℕ) → Member u preds.now → (nodes self.old u ≡ true) × (u ≢ t) }
-        requires free { NoWalk (pairs self.old) t preds.now }
+        requires free { NoPath (pairs self.old) t preds.now }
         requires planned { is_planned self.old t preds.now link }
         ensures nodes { (u : ℕ) → nodes self.new u ≡ nodes self.old u }
         ensures pairs { (u v : ℕ) → (pairs self.new u v ≡ true)
@@ -60,7 +60,7 @@ pub trait Graph: Drop + Send {
     {
         match self.plan(t, preds) {
             Plan::Free(_) => Verdict::Accepted,
-            Plan::Closes(walk) => Verdict::Closes(walk),
+            Plan::Closes(cycle) => Verdict::Closes(cycle),
         }
     }
 
@@ -79,7 +79,7 @@ pub trait Graph: Drop + Send {
                 self.link(t, preds, link);
                 Verdict::Accepted
             }
-            Plan::Closes(walk) => Verdict::Closes(walk),
+            Plan::Closes(cycle) => Verdict::Closes(cycle),
         }
     }
 

@@ -1,9 +1,9 @@
 //! A graph as plain lists of nodes and edges.
 ghost use Rattle.std.specs.Prelude.{◌≡◌, ℕ, ⊤, true, not, ◌||◌, ◌&&◌, nat_eq, length, ◌≤◌, min, unwrap_or};
 ghost use Rattle.std.specs.List.{filter};
-ghost use Rattle.sgt_model.specs.Walks.{Reaches};
+ghost use Rattle.sgt_model.specs.Paths.{Reaches};
 ghost use Rattle.sgt_cycle.specs.Links.{is_link};
-ghost use Rattle.sgt_cycle.specs.Walk.{Holds};
+ghost use Rattle.sgt_cycle.specs.Path.{Holds};
 ghost use Rattle.sgt_graph.specs.PairGraphs.{is_node, is_apart};
 
 use crate::graph::Graph;

@@ -1,6 +1,6 @@
 //! Transactions at 32 indices, some of which are taken.
 ghost use Rattle.std.specs.Prelude.{◌≡◌, ℕ, ◌<◌, ◌≤◌, true, false, ◌↔◌, IfSome, IsNone, map, length, slice_index};
-ghost use Rattle.sgt_model.specs.Walks.{Member};
+ghost use Rattle.sgt_model.specs.Paths.{Member};
 ghost use Rattle.sgt_cycle.specs.Indices.{is_set};
 ghost use Rattle.sgt_graph.specs.BitGraphs.{is_at, IsLeastAt};
 
@@ -51,13 +51,13 @@ pub fn indices_of(taken: u32, tids: &[Tid; 32], guesses: &Guesses, among: &Tids)
 }
 
 /// The transactions at these indices.
-pub fn tids_at(tids: &[Tid; 32], walk: &[u8]) -> Tids
-    requires few { length walk.now ≤ 32 }
-    requires low { (i : ℕ) → Member i walk.now → i < 32 }
-    ensures { result ≡ map (λ i. slice_index tids.now i) walk.now }
+pub fn tids_at(tids: &[Tid; 32], cycle: &[u8]) -> Tids
+    requires few { length cycle.now ≤ 32 }
+    requires low { (i : ℕ) → Member i cycle.now → i < 32 }
+    ensures { result ≡ map (λ i. slice_index tids.now i) cycle.now }
 {
     let mut named = Tids::new();
-    for index in walk {
+    for index in cycle {
         named.push(tids[usize::from(*index)]);
     }
     named

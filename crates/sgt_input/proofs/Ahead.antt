@@ -6,7 +6,7 @@ use Rattle.std.proofs.lemmas.Bool.{true≢false}
 use Rattle.std.proofs.lemmas.List.{drop-take, length-drop, take_all}
 use Rattle.sgt_input.specs.Lines.{has_break, AreWhole, IsBreak}
 use Rattle.sgt_input.specs.Intake.{AtRest, Intake, IsGiven, taken}
-use Rattle.sgt_input.proofs.Breaks.{break-whole, whole-behind}
+use Rattle.sgt_input.proofs.Breaks.{break-whole, whole-following}
 
 -- a whole one
 pub given-found : (i k : Intake) (n : ℕ) → IsBreak (take i.within i.held) (Some n) → n ≤ 65536 → i.ended ≡ false
@@ -85,10 +85,10 @@ none-ended number within ended held whole rest none (inl some) = absurd (true≢
 none-ended number within ended held whole rest none (inr last) = ((rest.last last).1, (rest.last last).2, last)
 
 -- after the next line, whose newline is at n
-pub rest-behind : (number within : ℕ) (ended : Bool) (held : List ℕ) (whole n : ℕ) → AtRest number within ended held whole
+pub rest-following : (number within : ℕ) (ended : Bool) (held : List ℕ) (whole n : ℕ) → AtRest number within ended held whole
     → IsBreak (take within held) (Some n)
     → AtRest (number + 1) (within - (n + 1)) ended (drop (n + 1) held) (whole - (n + 1))
-rest-behind number within ended held whole n rest at =
+rest-following number within ended held whole n rest at =
     let inside : n < within = grind (arith, common_steps, at.0) in
     let few : n < length held = grind (arith, common_steps, at.0) in
     let going : ended ≡ false = found-going number within ended held whole n rest at in
@@ -97,6 +97,6 @@ rest-behind number within ended held whole n rest at =
     record {
       counts = omega (arith, rest.counts, inside);
       few = omega (arith, rest.few, length-drop (n + 1) held, inside, few);
-      are = subst (λ bytes. AreWhole bytes (whole - (n + 1))) same (whole-behind (take within held) whole n rest.are at);
+      are = subst (λ bytes. AreWhole bytes (whole - (n + 1))) same (whole-following (take within held) whole n rest.are at);
       last = λ ended. absurd (cc (ended, going));
     }

@@ -3,7 +3,7 @@ use Rattle.std.proofs.Common.{◌≡◌, ℕ, ◌+◌, List, ◌∷◌, ap, sym,
 use Rattle.std.specs.Prelude.{Option, None, Some, ⊤}
 use Rattle.sgt_model.specs.Databases.{contents_of}
 use Rattle.sgt_format.specs.Openings.{Opens}
-use Rattle.sgt_format.specs.FilledOpenings.{OpensWith, RefusesRecord, behind_records, leading_records, number_behind, put_records}
+use Rattle.sgt_format.specs.FilledOpenings.{OpensWith, RefusesRecord, after_records, leading_records, number_after, put_records}
 use Rattle.sgt_format.specs.declared.opening.Opening.{Opening}
 use Rattle.sgt_input.specs.declared.fault.Fault.{Fault}
 use Rattle.sgt_input.specs.declared.fault.Fault.TheVariants as fault
@@ -16,8 +16,8 @@ pub record HaveBegun (least : ℕ) (bytes line : List ℕ) (o : Opening) (n : �
   pub later : List (List ℕ)
   pub given : (cut bytes).given ≡ line ∷ later
   pub opens : OpensWith least line (leading_records later) o
-  pub number : number_behind later ≡ n
-  pub left : behind_records later ≡ c.given
+  pub number : number_after later ≡ n
+  pub left : after_records later ≡ c.given
   pub ending : (cut bytes).ending ≡ c.ending
 
 -- the same for lines that are known

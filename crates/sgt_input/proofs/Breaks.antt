@@ -52,11 +52,11 @@ no_break-each [] other = refl
 no_break-each (x ∷ xs) other = grind (arith, nat_tests, other 0, no_break-each xs (λ k inside. other (suc k) (suc-le-suc inside)))
 
 -- the first newline after bytes none of which is 10
-pub break-behind : (front bytes : List ℕ) (found : Option ℕ) → has_break front ≡ false → IsFirstByte (is_byte 10) bytes found
+pub break-following : (front bytes : List ℕ) (found : Option ℕ) → has_break front ≡ false → IsFirstByte (is_byte 10) bytes found
     → IsBreak (front ++ bytes) (option_map (λ n. length front + n) found)
-break-behind front bytes None none first =
+break-following front bytes None none first =
     no_break-append front bytes none (no_break-each bytes (λ k inside ten. first k (omega arith) inside (eq-eqb _ 10 ten)))
-break-behind front bytes (Some n) none first = (
+break-following front bytes (Some n) none first = (
   omega (arith, length-append front bytes, first.0.high),
   get_or-append-add front bytes n 0 ∙ eqb-true _ 10 first.1,
   ap has_break (take-append-add front bytes n) ∙ no_break-append front (take n bytes) none
@@ -73,7 +73,7 @@ break-within bytes from within stop found is inside fits none first =
     sym (take-add from (stop - from) bytes) ∙ grind (arith, common_steps) in
     subst (λ n. IsBreak (take within bytes) (option_map (λ k. n + k) found)) size
     (subst (λ xs. IsBreak xs (option_map (λ k. length (take from bytes) + k) found)) whole
-    (break-behind (take from bytes) (take (stop - from) (drop from bytes)) found none first))
+    (break-following (take from bytes) (take (stop - from) (drop from bytes)) found none first))
 
 -- the first newline of the first bytes
 pub break-first : (bytes : List ℕ) (within stop : ℕ) (found : Option ℕ) → stop ≡ min within (length bytes)
@@ -153,15 +153,15 @@ break-near bytes from within stop n is fits none first ten =
 -- ---- whole lines
 
 -- a newline after the first m bytes
-break-behind-none : (m n : ℕ) (bytes : List ℕ) → has_break (drop m bytes) ≡ false → n < length bytes → get_or bytes n 0 ≡ 10 → n < m
-break-behind-none zero n bytes none inside ten = absurd (true≢false (sym (has_break-at bytes n inside ten) ∙ none))
-break-behind-none (suc m) zero bytes none inside ten = omega arith
-break-behind-none (suc m) (suc n) [] none inside ten = absurd (omega arith)
-break-behind-none (suc m) (suc n) (x ∷ bytes) none inside ten = omega (arith, break-behind-none m n bytes none (omega arith) ten)
+break-following-none : (m n : ℕ) (bytes : List ℕ) → has_break (drop m bytes) ≡ false → n < length bytes → get_or bytes n 0 ≡ 10 → n < m
+break-following-none zero n bytes none inside ten = absurd (true≢false (sym (has_break-at bytes n inside ten) ∙ none))
+break-following-none (suc m) zero bytes none inside ten = omega arith
+break-following-none (suc m) (suc n) [] none inside ten = absurd (omega arith)
+break-following-none (suc m) (suc n) (x ∷ bytes) none inside ten = omega (arith, break-following-none m n bytes none (omega arith) ten)
 
 -- the first newline is in the whole lines
 pub break-whole : (bytes : List ℕ) (n k : ℕ) → AreWhole bytes n → IsBreak bytes (Some k) → k < n
-break-whole bytes n k are at = break-behind-none n k bytes are.1 at.0 at.1
+break-whole bytes n k are at = break-following-none n k bytes are.1 at.0 at.1
 
 -- some lines are whole exactly if there is a newline
 pub whole-some : (bytes : List ℕ) (n : ℕ) → AreWhole bytes n → 0 < n → has_break bytes ≡ true
@@ -180,8 +180,8 @@ whole-zero bytes zero are none = refl
 whole-zero bytes (suc n) are none = absurd (true≢false (sym (whole-some bytes (suc n) are (omega arith)) ∙ none))
 
 -- after the first line
-pub whole-behind : (bytes : List ℕ) (n k : ℕ) → AreWhole bytes n → IsBreak bytes (Some k) → AreWhole (drop (k + 1) bytes) (n - (k + 1))
-whole-behind bytes n k are at =
+pub whole-following : (bytes : List ℕ) (n k : ℕ) → AreWhole bytes n → IsBreak bytes (Some k) → AreWhole (drop (k + 1) bytes) (n - (k + 1))
+whole-following bytes n k are at =
     let before : k < n = break-whole bytes n k are at in
     let back : k + 1 + (n - (k + 1)) ≡ n = omega (arith, before) in (
       omega (arith, length-drop (k + 1) bytes, are.0),
@@ -214,9 +214,9 @@ whole-last front bytes None none last = (
 )
 whole-last front bytes (Some n) none last =
     let inside : n < length bytes = last.0.high in
-    let behind : drop (length front + n + 1) (front ++ bytes) ≡ drop (n + 1) bytes = drop-front front bytes n in (
+    let following : drop (length front + n + 1) (front ++ bytes) ≡ drop (n + 1) bytes = drop-front front bytes n in (
       omega (arith, length-append front bytes, inside),
-      ap has_break behind ∙ no_break-each (drop (n + 1) bytes) (λ k fits ten. last.0.after (n + 1 + k) (omega arith)
+      ap has_break following ∙ no_break-each (drop (n + 1) bytes) (λ k fits ten. last.0.after (n + 1 + k) (omega arith)
           (omega (arith, length-drop (n + 1) bytes, fits)) (eq-eqb _ 10 (sym (get_or-drop (n + 1) bytes k 0) ∙ ten))),
       inr (ap (λ i. get_or (front ++ bytes) i 0) (omega arith) ∙ get_or-append-add front bytes n 0 ∙ eqb-true _ 10 last.1),
     )
@@ -233,7 +233,7 @@ whole-within bytes from within stop found is inside fits none last =
     (subst (λ xs. AreWhole xs (option_map_or (λ k. length (take from bytes) + k + 1) found 0)) whole
     (whole-last (take from bytes) (take (stop - from) (drop from bytes)) found none last))
 
--- if 64 bytes are whole lines, so many are held and within the limit
+-- if 64 bytes are whole lines, that many are held and within the limit
 pub whole-wide : (held : List ℕ) (within n : ℕ) → AreWhole (take within held) n → 64 ≤ n → (64 ≤ length held) × (64 ≤ within)
 whole-wide held within n are wide =
     (omega (arith, are.0, length-take within held), omega (arith, are.0, length-take within held))

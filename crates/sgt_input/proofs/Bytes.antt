@@ -29,8 +29,8 @@ appends_more (Some xs) (Some ys) (Some zs) bs at n first next =
     (take n (drop at bs)) ∙ ap (λ l. xs ++ l) (sym (take-add at n bs))
 
 -- of a whole list, the n bytes after the first h
-pub behind_held : (h n len : ℕ) (ys zs : List ℕ) → length ys ≡ len → h + n ≤ len
+pub after_held : (h n len : ℕ) (ys zs : List ℕ) → length ys ≡ len → h + n ≤ len
     → drop h (take (h + n - 0) (take len (ys ++ drop (length ys) zs))) ≡ take n (drop h ys)
-behind_held h n len ys zs whole fits =
+after_held h n len ys zs whole fits =
     ap (λ k. drop h (take (h + n - 0) (take k (ys ++ drop (length ys) zs)))) (sym whole) ∙ ap (λ l. drop h (take (h + n - 0) l))
     (take-append_seam ys (drop (length ys) zs)) ∙ ap (λ k. drop h (take k ys)) (omega arith) ∙ drop-take h n ys

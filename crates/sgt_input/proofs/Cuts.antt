@@ -19,9 +19,9 @@ unended-none [] none = refl
 unended-none (x ∷ xs) none = rw none refl
 
 -- a newline after some bytes
-pub has_break-behind : (line rest : List ℕ) → has_break (line ++ 10 ∷ rest) ≡ true
-has_break-behind [] rest = refl
-has_break-behind (x ∷ xs) rest = grind (arith, nat_tests, has_break-behind xs rest)
+pub has_break-following : (line rest : List ℕ) → has_break (line ++ 10 ∷ rest) ≡ true
+has_break-following [] rest = refl
+has_break-following (x ∷ xs) rest = grind (arith, nat_tests, has_break-following xs rest)
 
 -- the first line of a text
 pub whole_lines-first : (line rest : List ℕ) → has_break line ≡ false → whole_lines (line ++ 10 ∷ rest) ≡ line ∷ whole_lines rest
@@ -31,12 +31,12 @@ whole_lines-first (x ∷ xs) rest none = grind (arith, nat_tests, whole_lines-fi
 -- and the bytes after the last
 pub unended-first : (line rest : List ℕ) → unended (line ++ 10 ∷ rest) ≡ unended rest
 unended-first [] rest = refl
-unended-first (x ∷ xs) rest = rw (has_break-behind (x ∷ xs) rest) (unended-first xs rest)
+unended-first (x ∷ xs) rest = rw (has_break-following (x ∷ xs) rest) (unended-first xs rest)
 
 -- a byte before a text with a first line
-first_line-behind : (x : ℕ) (xs : List ℕ) → nat_eq x 10 ≡ false → (line : List ℕ) × (rest : List ℕ) × (has_break line ≡ false)
+first_line-following : (x : ℕ) (xs : List ℕ) → nat_eq x 10 ≡ false → (line : List ℕ) × (rest : List ℕ) × (has_break line ≡ false)
     × (xs ≡ line ++ 10 ∷ rest) → (line : List ℕ) × (rest : List ℕ) × (has_break line ≡ false) × (x ∷ xs ≡ line ++ 10 ∷ rest)
-first_line-behind x xs other (line, rest, none, is) = (x ∷ line, rest, rw other none, ap (λ l. x ∷ l) is)
+first_line-following x xs other (line, rest, none, is) = (x ∷ line, rest, rw other none, ap (λ l. x ∷ l) is)
 
 -- a text with a newline has a first line
 pub first_line : (text : List ℕ) → has_break text ≡ true → (line : List ℕ) × (rest : List ℕ) × (has_break line ≡ false)
@@ -45,7 +45,7 @@ first_line [] some = absurd (false≢true some)
 first_line (x ∷ xs) some =
     elim (eqb_tells x 10) [
       | inl ten ↦ ([], xs, refl, ap (λ y. y ∷ xs) ten.1)
-      | inr other ↦ first_line-behind x xs other.0 (first_line xs (grind (arith, nat_tests)))
+      | inr other ↦ first_line-following x xs other.0 (first_line xs (grind (arith, nat_tests)))
     ]
 
 -- a text that begins with a long piece without a newline gives none of its lines

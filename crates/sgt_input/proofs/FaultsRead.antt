@@ -13,18 +13,18 @@ use Rattle.sgt_input.specs.Spelled.{at_line}
 -- the result of reading a line stands for what it spells
 pub spells : {A B : Type 0} (of : B → A) (n : ℕ) (said : Result A LineError) (read : Result B LineError) (x : B)
     → IfOk read (λ y. said ≡ Ok (of y)) → at_line n read ≡ Ok x → at_line n said ≡ Ok (of x)
-spells of n said (Ok y) x told is =
-    let same : y ≡ x = cc is in ap (at_line n) told ∙ ap (λ z. Ok (of z)) same
-spells of n said (Err e) x told is = absurd (cc is)
+spells of n said (Ok y) x reported is =
+    let same : y ≡ x = cc is in ap (at_line n) reported ∙ ap (λ z. Ok (of z)) same
+spells of n said (Err e) x reported is = absurd (cc is)
 
 pub spells-none : {A B : Type 0} (n : ℕ) (said : Result A LineError) (read : Result B LineError) (f : Fault)
     → IfErr read (λ e. e ≢ line_error.NoMemory → said ≡ Err e) → at_line n read ≡ Err f → IsOfInput f → at_line n said ≡ Err f
-spells-none n said (Ok y) f told is exact = absurd (cc is)
-spells-none n said (Err line_error.NotJson) f told is exact =
-    let same : fault_in n line_error.NotJson ≡ f = cc is in ap (at_line n) (told (λ same. absurd (cc same))) ∙ ap Err same
-spells-none n said (Err line_error.BadLine) f told is exact =
-    let same : fault_in n line_error.BadLine ≡ f = cc is in ap (at_line n) (told (λ same. absurd (cc same))) ∙ ap Err same
-spells-none n said (Err line_error.NoMemory) f told is exact =
+spells-none n said (Ok y) f reported is exact = absurd (cc is)
+spells-none n said (Err line_error.NotJson) f reported is exact =
+    let same : fault_in n line_error.NotJson ≡ f = cc is in ap (at_line n) (reported (λ same. absurd (cc same))) ∙ ap Err same
+spells-none n said (Err line_error.BadLine) f reported is exact =
+    let same : fault_in n line_error.BadLine ≡ f = cc is in ap (at_line n) (reported (λ same. absurd (cc same))) ∙ ap Err same
+spells-none n said (Err line_error.NoMemory) f reported is exact =
     let same : f ≡ fault.NoMemory = cc (sym is) in absurd (subst IsOfInput same exact)
 
 -- a line is too long, or the input is

@@ -7,7 +7,7 @@ use Rattle.std.specs.Option.{is_some, option_map}
 use Rattle.std.specs.Io.KnownBytes.{Consumes, Keeps, prepend_known}
 use Rattle.sgt_model.specs.Contents.{Key, Contents, key_eq, put_in}
 use Rattle.sgt_format.specs.RecordLines.{record_line_of}
-use Rattle.sgt_format.specs.FilledOpenings.{AreRecordLines, leading_records, behind_records, led_by, from_other, put_record, put_records, and_then_put}
+use Rattle.sgt_format.specs.FilledOpenings.{AreRecordLines, leading_records, after_records, led_by, from_other, put_record, put_records, and_then_put}
 use Rattle.sgt_format.specs.declared.record_line.RecordLine.{RecordLine}
 use Rattle.sgt_input.specs.Lines.{Cut, before_long, cut_within, ending_of, has_break, long_line, unended, whole_lines, Ending, AtEnd, AtLongLine}
 use Rattle.sgt_input.specs.Intake.{Intake, IsGiven, IsLong, Gives, EndsAs, NoLineCame, bytes_left, cut_left, taken}
@@ -21,7 +21,7 @@ pub record FillsCut (n : ℕ) (before : Contents) (old : Cut) (n' : ℕ) (after 
   pub values : Contents
   pub contents : (key : Key) → after key ≡ values key
   pub put : put_records (n + 1) before (leading_records old.given) ≡ put_records (n' + 1) values (leading_records new.given)
-  pub left : behind_records old.given ≡ behind_records new.given
+  pub left : after_records old.given ≡ after_records new.given
   pub ending : new.ending ≡ old.ending
   pub number : n' + length (leading_records new.given) ≡ n + length (leading_records old.given)
 
@@ -49,9 +49,9 @@ leads-some : (line : List ℕ) (later : List (List ℕ)) (said : RecordLine) →
     → leading_records (line ∷ later) ≡ said ∷ leading_records later
 leads-some line later said is = ap (λ o. led_by o (leading_records later)) is
 
-behind-some : (line : List ℕ) (later : List (List ℕ)) (said : RecordLine) → record_line_of line ≡ Some said
-    → behind_records (line ∷ later) ≡ behind_records later
-behind-some line later said is = ap (λ o. from_other o (line ∷ later) (behind_records later)) is
+following-some : (line : List ℕ) (later : List (List ℕ)) (said : RecordLine) → record_line_of line ≡ Some said
+    → after_records (line ∷ later) ≡ after_records later
+following-some line later said is = ap (λ o. from_other o (line ∷ later) (after_records later)) is
 
 -- a record added under a new key of contents is added under a new key of the same contents
 put-same : (before values after : Contents) (said : RecordLine) → ((key : Key) → before key ≡ values key) → PutsNew before said after
@@ -73,7 +73,7 @@ fills-cut n n1 n2 m m1 m2 a b c line said fills more (given, ending, is) puts =
       put = fills.put ∙ ap (put_records (n1 + 1) fills.values) leads
           ∙ ap (λ o. and_then_put (n1 + 1) o (λ x. put_records (n1 + 1 + 1) x (leading_records c.given))) next.1
           ∙ ap (λ k. put_records (k + 1) next.0 (leading_records c.given)) (sym more);
-      left = fills.left ∙ ap behind_records given ∙ behind-some line c.given said is;
+      left = fills.left ∙ ap after_records given ∙ following-some line c.given said is;
       ending = sym ending ∙ fills.ending;
       number =
           let counts : length (leading_records b.given) ≡ length (leading_records c.given) + 1 = ap length leads ∙ grind (arith) in
@@ -114,7 +114,7 @@ pub ends-none : (ending : Ending) (known : Option Cut) → EndsAs ending known �
 ends-none ending None ends = tt
 ends-none ending (Some c) ends = (
   ap (λ (x : Cut). leading_records x.given) ends,
-  ap (λ (x : Cut). behind_records x.given) ends
+  ap (λ (x : Cut). after_records x.given) ends
       ∙ sym (ap (λ (x : Cut). x.given) ends),
 )
 
@@ -127,7 +127,7 @@ other-leads i k rest given none = go (cut_left i rest) (cut_left k rest) (after-
     go (Some old) None gives = absurd gives
     go (Some old) (Some new) gives = (
       ap leading_records gives.0 ∙ ap (λ o. led_by o (leading_records new.given)) none,
-      ap behind_records gives.0 ∙ ap (λ o. from_other o (k.line ∷ new.given) (behind_records new.given)) none ∙ sym gives.0,
+      ap after_records gives.0 ∙ ap (λ o. from_other o (k.line ∷ new.given) (after_records new.given)) none ∙ sym gives.0,
     )
 
 -- a returned line that is a record line is ahead

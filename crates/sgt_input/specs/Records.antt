@@ -3,7 +3,7 @@ use Rattle.std.specs.Prelude.{◌≡◌, ℕ, ◌+◌, ◌⊎◌, true, ⊤, Lis
 use Rattle.std.specs.Option.{is_some}
 use Rattle.sgt_model.specs.Contents.{Key, Contents, put_in}
 use Rattle.sgt_format.specs.RecordLines.{record_line_of, record_of}
-use Rattle.sgt_format.specs.FilledOpenings.{AreRecordLines, leading_records, behind_records, put_records}
+use Rattle.sgt_format.specs.FilledOpenings.{AreRecordLines, leading_records, after_records, put_records}
 use Rattle.sgt_format.specs.declared.record_line.RecordLine.{RecordLine}
 use Rattle.sgt_format.specs.declared.record_line.Record.{Record}
 use Rattle.sgt_input.specs.declared.fault.Fault.{Fault}
@@ -22,7 +22,7 @@ GivesRecord (Some old) line said (Some new) =
 -- the known lines do not begin with a record line
 abbrev pub LeadsNone : Option Cut → Type 0
 LeadsNone None = ⊤
-LeadsNone (Some c) = (leading_records c.given ≡ []) × (behind_records c.given ≡ c.given)
+LeadsNone (Some c) = (leading_records c.given ≡ []) × (after_records c.given ≡ c.given)
 
 -- the known lines begin with a record line that says this
 abbrev pub IsAhead : RecordLine → Option Cut → Type 0
@@ -66,7 +66,7 @@ pub record LeavesCut (n : ℕ) (before : Contents) (old : Cut) (n' : ℕ) (after
   pub values : Contents
   pub put : put_records (n + 1) before (leading_records old.given) ≡ Ok values
   pub contents : (key : Key) → after key ≡ values key
-  pub left : new.given ≡ behind_records old.given
+  pub left : new.given ≡ after_records old.given
   pub ending : new.ending ≡ old.ending
   pub number : n' ≡ n + length (leading_records old.given)
 

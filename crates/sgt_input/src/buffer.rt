@@ -7,7 +7,7 @@ use std::alloc::{AllocError, Global};
 use std::marker::Model;
 
 /// The capacity of a buffer in bytes: a line of the greatest length, and a large piece after it.
-const ROOM: usize = 131_072;
+const CAPACITY: usize = 131_072;
 
 /// Bytes from a source, in a buffer of fixed size: the last line that was taken, and the bytes after it.
 #[derive(Drop)]
@@ -42,7 +42,7 @@ impl Buffer {
         ensures held { IfOk result (λ b. b.held ≡ []) }
     {
         Ok(Buffer {
-            bytes: vec![in alloc; 0; ROOM]?,
+            bytes: vec![in alloc; 0; CAPACITY]?,
             line_start: 0,
             line_end: 0,
             start: 0,
@@ -60,7 +60,7 @@ impl Buffer {
     /// The bytes after that line.
     pub fn held(&self) -> &[u8]
         ensures held { result.now ≡ self.now.held }
-        ensures room { length result.now ≤ 131072 }
+        ensures capacity { length result.now ≤ 131072 }
     {
         &self.bytes[self.start..self.end]
     }
@@ -84,7 +84,7 @@ impl Buffer {
     /// `Failed` if the read failed.
     pub fn read<S: Source>(&mut self, source: &mut S, most: usize) -> Result<usize, Failed>
         requires countable { S.failures source.old + 1 < 2 ^ 64 }
-        requires room { length self.old.held ≤ 65536 }
+        requires capacity { length self.old.held ≤ 65536 }
         requires some { 0 < most }
         ensures line { self.new.line ≡ [] }
         ensures within { IfOk result (λ n. n ≤ most) }
@@ -105,7 +105,7 @@ impl Buffer {
         self.line_end = 0;
         self.end -= self.start;
         self.start = 0;
-        let stop = self.end + most.min(ROOM - self.end);
+        let stop = self.end + most.min(CAPACITY - self.end);
         let n = read_between(source, &mut self.bytes, self.end, stop)?;
         self.end += n;
         Ok(n)

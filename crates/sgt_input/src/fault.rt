@@ -2,7 +2,7 @@
 ghost use Rattle.std.specs.Prelude.{◌≡◌};
 ghost use Rattle.sgt_input.specs.declared.fault.Fault.TheVariants as fault;
 
-use crate::misfit::Misfit;
+use crate::shape_error::ShapeError;
 use sgt_proc::Flaw;
 use std::fmt;
 use thiserror::Error;
@@ -22,8 +22,8 @@ pub enum Fault {
     BadLimits,
     /// An account of the opening is refused, for a fault of this kind.
     BadOpening(u8),
-    /// The procedure of this number in the opening has its first shape error (misfit) at this position.
-    ProcShape(u64, Misfit),
+    /// The procedure of this number in line 1 has its first shape error at this position.
+    ProcShape(u64, ShapeError),
     /// The procedure of this number in the opening has a flaw; this one has the least number.
     ProcFlaw(u64, Flaw),
     /// The line has more than 65,536 bytes before its newline.

@@ -337,7 +337,7 @@ impl Lines {
         true
     }
 
-    /// The next 64 bytes of whole lines, if so many are held.
+    /// The next 64 bytes of whole lines, if that many are held.
     #[inline(always)]
     pub fn window(&self) -> Option<&[u8]>
         ensures size { IfSome result (λ bytes. length bytes.now ≡ 64) }

@@ -6,7 +6,7 @@ ghost use Rattle.sgt_input.specs.Ends.{IsOfInput, fault_of_opening};
 
 use crate::fault::Fault;
 use crate::lines::Lines;
-use crate::misfit::Misfit;
+use crate::shape_error::ShapeError;
 use sgt_format::{Opening, OpeningError, read_opening};
 use std::alloc::Global;
 
@@ -24,8 +24,8 @@ pub fn opening_of(alloc: Global, least: u32, lines: &Lines) -> Result<Opening, F
         Err(OpeningError::BadLine) => Err(Fault::BadLine(1)),
         Err(OpeningError::BadLimits) => Err(Fault::BadLimits),
         Err(OpeningError::BadOpening(kind)) => Err(Fault::BadOpening(kind.number())),
-        Err(OpeningError::ProcShape(number, place)) => match Misfit::at(alloc, place) {
-            Ok(misfit) => Err(Fault::ProcShape(number, misfit)),
+        Err(OpeningError::ProcShape(number, place)) => match ShapeError::at(alloc, place) {
+            Ok(shape_error) => Err(Fault::ProcShape(number, shape_error)),
             Err(_) => Err(Fault::NoMemory),
         },
         Err(OpeningError::ProcFlaw(number, flaw)) => Err(Fault::ProcFlaw(number, flaw)),

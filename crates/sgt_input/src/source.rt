@@ -19,16 +19,16 @@ pub trait Source: Drop {
     /// How many calls have failed.
     ghost failures: { Self → ℕ };
 
-    /// Reads the next bytes into the front of `room`, and returns how many: none only at the end, or if `room` is
+    /// Reads the next bytes into the front of `buffer`, and returns how many: none only at the end, or if `buffer` is
     /// empty.
     ///
     /// # Errors
     ///
     /// `Failed` if the call failed. It gave no bytes.
-    fn read(&mut self, room: &mut [u8]) -> Result<usize, Failed>
+    fn read(&mut self, buffer: &mut [u8]) -> Result<usize, Failed>
         requires countable { failures self.old + 1 < 2 ^ 64 }
-        ensures within { IfOk result (λ n. n ≤ length room.new) }
-        ensures bytes { ReadConsumes (rest self.old) (rest self.new) result room.new }
+        ensures within { IfOk result (λ n. n ≤ length buffer.new) }
+        ensures bytes { ReadConsumes (rest self.old) (rest self.new) result buffer.new }
         ensures given { IfOk result (λ n. given self.new ≡ min (given self.old + n) (2 ^ 64 - 1)) }
         ensures none_given { OnErr result (given self.new ≡ given self.old) }
         ensures well { OnOk result (failures self.new ≡ failures self.old) }
@@ -67,8 +67,8 @@ impl<R: Read + Drop> Source for Reader<R> {
 
     ghost failures = { λ s. s.failures };
 
-    fn read(&mut self, room: &mut [u8]) -> Result<usize, Failed> {
-        match self.inner.read(room) {
+    fn read(&mut self, buffer: &mut [u8]) -> Result<usize, Failed> {
+        match self.inner.read(buffer) {
             Ok(n) => {
                 self.given = self.given.saturating_add(n as u64);
                 Ok(n)

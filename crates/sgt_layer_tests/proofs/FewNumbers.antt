@@ -2,7 +2,7 @@
 use Rattle.std.specs.Prelude.{◌≡◌, ℕ, ◌<◌, ◌≤◌, ◌+◌, ◌||◌, Bool, true, nat_eq, nat_lt, List, [], ◌∷◌, length}
 use Rattle.std.proofs.Common.{zero, suc, refl, sym, ◌∙◌, inl, inr, arith}
 use Rattle.std.proofs.lemmas.Bool.{eqb-true, ltb-true, cases_lt, or_cases}
-use Rattle.sgt_model.specs.Walks.{Member, AtMost}
+use Rattle.sgt_model.specs.Paths.{Member, AtMost}
 use Rattle.sgt_cycle.specs.Links.{is_end, occurs}
 
 -- the numbers below n

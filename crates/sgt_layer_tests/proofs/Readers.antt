@@ -2,7 +2,7 @@
 use Rattle.std.specs.Prelude.{ℕ, [], ◌∷◌}
 use Rattle.std.proofs.Common.{inl, inr, sym}
 use Rattle.sgt_model.specs.State.{Has}
-use Rattle.sgt_model.specs.Walks.{Member}
+use Rattle.sgt_model.specs.Paths.{Member}
 
 -- each source and each reader lives
 pub readers_live : (u v : ℕ) → Has ((1, 5) ∷ (5, 3) ∷ (3, 4) ∷ (2, 5) ∷ []) u v

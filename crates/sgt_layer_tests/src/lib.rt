@@ -11,8 +11,8 @@ mod cascades;
 #[cfg(test)]
 mod graphs;
 #[cfg(test)]
+mod paths;
+#[cfg(test)]
 mod records;
 #[cfg(test)]
 mod values;
-#[cfg(test)]
-mod walks;

@@ -98,7 +98,7 @@ fn written_above_a_removal<R: Records>(records: &mut R, key: Key) -> Result<bool
     Ok(removed & holds(records, key, Top::Settled(6), Some(6)))
 }
 
-/// Capacity is reserved for a key that nobody writes.
+/// Capacity is reserved for a key that no transaction writes.
 fn reserved_alone<R: Records>(alloc: Global, records: &mut R, key: Key) -> Result<bool, NoMemory> {
     records.reserve(key)?;
     let nothing = holds(records, key, Top::Nothing, None);

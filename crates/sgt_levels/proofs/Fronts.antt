@@ -50,7 +50,7 @@ committed_prefix h order r k [] seen once has it sees = (
 )
 committed_prefix h order r k (y ∷ own) seen once has it sees = (
   sees.more ++ appended_by h k at.1,
-  ap (appended_by h k) it.splits ∙ appended_by-append h k it.front it.back ∙ ap (λ l. appended_by h k it.front ++ l) behind
+  ap (appended_by h k) it.splits ∙ appended_by-append h k it.front it.back ∙ ap (λ l. appended_by h k it.front ++ l) following
       ∙ sym (append_assoc (appended_by h k it.front) (y ∷ own) (sees.more ++ appended_by h k at.1))
       ∙ ap (λ l. l ++ (sees.more ++ appended_by h k at.1)) (sym sees.are),
 )
@@ -75,8 +75,8 @@ committed_prefix h order r k (y ∷ own) seen once has it sees = (
         apart it.front it.back u (subst (λ xs. IsOnce xs) it.splits once) (it.locked u v some before appends)
         (subst (λ xs. Has xs u) (sym at.2) (Has-append_left at.0 (r ∷ at.1) u there))
 
-    behind : appended_by h k it.back ≡ (y ∷ own) ++ (sees.more ++ appended_by h k at.1)
-    behind = ap (appended_by h k) at.2 ∙ appended_by-append h k at.0 (r ∷ at.1)
+    following : appended_by h k it.back ≡ (y ∷ own) ++ (sees.more ++ appended_by h k at.1)
+    following = ap (appended_by h k) at.2 ∙ appended_by-append h k at.0 (r ∷ at.1)
         ∙ ap (λ l. l ++ appended_by h k (r ∷ at.1)) (appended_none h k at.0 none)
         ∙ ap (λ l. l ++ appended_by h k at.1) sees.whole_is
         ∙ append_assoc (y ∷ own) sees.more (appended_by h k at.1)

@@ -127,8 +127,8 @@ module _ (h : List Transaction) (order : List ℕ) (rank end : ℕ → ℕ) (lin
                   | inl before ↦ absurd (missed (known w before))
                   | inr after ↦ elim after [
                     | inl e ↦ strictly (join t a.0 u over (inl (once.by_one a.0 u k w (subst (λ z. Appends h a.0 k z) e a.1) other)))
-                    | inr behind ↦ strictly (join t a.0 u over
-                        (stand_climb h rank k (line k) y w a.0 u once (is.line_climbs k) (line_written k) (front', back, splits, behind) a.1 other))
+                    | inr following ↦ strictly (join t a.0 u over
+                        (stand_climb h rank k (line k) y w a.0 u once (is.line_climbs k) (line_written k) (front', back, splits, following) a.1 other))
                   ]
                 ]
               ]

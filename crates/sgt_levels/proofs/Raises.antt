@@ -43,15 +43,15 @@ module _ (h : List Transaction) (order : List ℕ) (begin commit end : ℕ → �
       last (inl same) rest = step u (subst (λ v. Appends h u k v) (sym same) other)
       last (inr later) rest = join a.0 (is.begins a.0 k y a.1) (step a.0 a.1) (rest a.0 a.1 later)
 
-  passes_behind : (k : ℕ) (xs : List ℕ) (y : ℕ) (ys : List ℕ) → Passes h begin commit k (xs ++ y ∷ ys) → PassesFrom h begin commit k y ys
-  passes_behind k [] y ys passes = passes
-  passes_behind k (x ∷ []) y ys passes = passes.1
-  passes_behind k (x ∷ z ∷ zs) y ys passes = passes_behind k (z ∷ zs) y ys passes.1
+  passes_after : (k : ℕ) (xs : List ℕ) (y : ℕ) (ys : List ℕ) → Passes h begin commit k (xs ++ y ∷ ys) → PassesFrom h begin commit k y ys
+  passes_after k [] y ys passes = passes
+  passes_after k (x ∷ []) y ys passes = passes.1
+  passes_after k (x ∷ z ∷ zs) y ys passes = passes_after k (z ∷ zs) y ys passes.1
 
   stand_pass : (k : ℕ) (xs : List ℕ) (v w t u : ℕ) → Passes h begin commit k xs → AreWritten h k xs → StandsBefore xs v w
       → Appends h t k v → Appends h u k w → (t ≡ u) ⊎ (commit t < begin u)
   stand_pass k xs v w t u passes written stand one other =
-      pass_on k v stand.1 w t u (passes_behind k stand.0 v stand.1 (subst (λ zs. Passes h begin commit k zs) stand.2 passes))
+      pass_on k v stand.1 w t u (passes_after k stand.0 v stand.1 (subst (λ zs. Passes h begin commit k zs) stand.2 passes))
       (λ z has. written z (subst (λ zs. Has zs z) (sym stand.2) (Has-append_right stand.0 (v ∷ stand.1) z (inr has)))) stand.3 one other
 
   read_written : (r k : ℕ) (own seen : List ℕ) → Ended h r Committed → Reads h r k own seen → AreWritten h k seen
@@ -145,7 +145,7 @@ module _ (h : List Transaction) (order : List ℕ) (begin commit end : ℕ → �
               | inl before ↦ absurd (unknown (known v before))
               | inr after ↦ elim after [
                 | inl e ↦ omega (arith, less, ap commit (once.by_one who.0 u k v (subst (λ x. Appends h who.0 k x) e who.1) appends))
-                | inr behind ↦ elim (stand_pass k (line k) w v who.0 u (is.line_passes k) (line_written k) (front, back, same, behind) who.1 appends) [
+                | inr following ↦ elim (stand_pass k (line k) w v who.0 u (is.line_passes k) (line_written k) (front, back, same, following) who.1 appends) [
                   | inl e ↦ omega (arith, less, ap commit e)
                   | inr more ↦ omega (arith, less, more, mine)
                 ]

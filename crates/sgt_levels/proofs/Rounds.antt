@@ -99,15 +99,15 @@ module _ (h : List Transaction) (order : List ℕ) (begin commit : ℕ → ℕ) 
             follows_first h order begin commit e.from e.to once run has (edge_follows h e.from e.to e.reason shown.0 shown.1 is),
           )
 
-  walk : (b : Bool) (a : ℕ) (es : List Edge) (z : ℕ) → EdgesLead a es z → AreShown h es → AreSpaced b es → Has order z
+  path : (b : Bool) (a : ℕ) (es : List Edge) (z : ℕ) → EdgesLead a es z → AreShown h es → AreSpaced b es → Has order z
       → time_of begin commit b a ≤ time_of begin commit (ends_with_miss b es) z
-  walk b a [] z lead shown spaced has = omega (arith, ap (time_of begin commit b) lead)
-  walk b a (e ∷ es) z lead shown spaced has =
+  path b a [] z lead shown spaced has = omega (arith, ap (time_of begin commit b) lead)
+  path b a (e ∷ es) z lead shown spaced has =
       omega (
         arith,
         ap (time_of begin commit b) lead.0,
         edge_time b e shown.0 (start_in e.to es z lead.1 shown.1 has) spaced.0,
-        walk (is_miss e.reason) e.to es z lead.1 shown.1 spaced.1 has,
+        path (is_miss e.reason) e.to es z lead.1 shown.1 spaced.1 has,
       )
 
   no_round : (edges : List Edge) → IsEdgeCycle h edges → ¬ IsSpacedCycle edges
@@ -122,7 +122,7 @@ module _ (h : List Transaction) (order : List ℕ) (begin commit : ℕ → ℕ) 
             arith,
             ap (time_of begin commit (ends_with_miss (is_miss e.reason) es)) lead.0,
             edge_time (ends_with_miss (is_miss e.reason) es) e shown.0 (start_in e.to es cycle.start lead.1 shown.1 has) spaced.0,
-            walk (is_miss e.reason) e.to es cycle.start lead.1 shown.1 spaced.1 has,
+            path (is_miss e.reason) e.to es cycle.start lead.1 shown.1 spaced.1 has,
           )
 
 pub spaced_cycle : (h : List Transaction) (edges : List Edge) → AppendsOnce h → IsEdgeCycle h edges → IsSpacedCycle edges
@@ -139,14 +139,14 @@ module _ (h : List Transaction) (order : List ℕ) (once : AppendsOnce h) (run :
   edge_place e shown no_miss has = place_less order e.from e.to run.once
       (committed_follows h order e.from e.to once run has (edge_follows h e.from e.to e.reason shown.0 shown.1 no_miss))
 
-  walk_on : (a : ℕ) (es : List Edge) (z : ℕ) → EdgesLead a es z → AreShown h es → HasNoMiss es → Has order z → place_of order a ≤ place_of order z
-  walk_on a [] z lead shown no_miss has = omega (arith, ap (place_of order) lead)
-  walk_on a (e ∷ es) z lead shown no_miss has =
+  path_on : (a : ℕ) (es : List Edge) (z : ℕ) → EdgesLead a es z → AreShown h es → HasNoMiss es → Has order z → place_of order a ≤ place_of order z
+  path_on a [] z lead shown no_miss has = omega (arith, ap (place_of order) lead)
+  path_on a (e ∷ es) z lead shown no_miss has =
       omega (
         arith,
         ap (place_of order) lead.0,
         edge_place e shown.0 no_miss.0 (from_in e.to es z lead.1 shown.1 no_miss.1 has),
-        walk_on e.to es z lead.1 shown.1 no_miss.1 has,
+        path_on e.to es z lead.1 shown.1 no_miss.1 has,
       )
 
   no_cycle : (edges : List Edge) → IsEdgeCycle h edges → ¬ HasNoMiss edges
@@ -161,7 +161,7 @@ module _ (h : List Transaction) (order : List ℕ) (once : AppendsOnce h) (run :
             arith,
             ap (place_of order) lead.0,
             edge_place e shown.0 no_miss.0 (from_in e.to es cycle.start lead.1 shown.1 no_miss.1 has),
-            walk_on e.to es cycle.start lead.1 shown.1 no_miss.1 has,
+            path_on e.to es cycle.start lead.1 shown.1 no_miss.1 has,
           )
 
 pub no_miss_cycle : (h : List Transaction) (edges : List Edge) → AppendsOnce h → IsEdgeCycle h edges → HasNoMiss edges → ¬ IsReadCommitted h

@@ -21,7 +21,7 @@ MissesAt h k v t p = (seen : List ℕ) → Ended h t Committed → IsReadAt h t 
 abbrev pub MissesIn : List Transaction → ℕ → ℕ → ℕ → Type 0
 MissesIn h k v t = (p : ℕ) → MissesAt h k v t p
 
--- two committed transactions append to one key, and nobody saw either value
+-- two committed transactions append to one key, and no read saw either value
 pub record AreUnseen (h : List Transaction) (u : Unseen) : Type 0 where
   pub differ : u.one ≢ u.other
   pub one_committed : Ended h u.one Committed

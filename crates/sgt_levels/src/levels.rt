@@ -28,7 +28,7 @@ pub enum Committed {
     },
     /// There is none: a read saw one append of a transaction and missed another one at the same key.
     Partial(Partial),
-    /// There is none: ties that go round.
+    /// There is none: a cycle of ties.
     Cycle(Vec<Tie>),
     /// Not decided.
     Open,
@@ -41,7 +41,7 @@ pub enum Snapshot {
     Run(Snapshots),
     /// There is none, since there is no run of committed reads.
     NotCommitted,
-    /// There is none: ties that go round, without two misses next to one another.
+    /// There is none: a cycle of ties, without two misses next to one another.
     Cycle(Vec<Tie>),
     /// Not decided.
     Open,
@@ -57,8 +57,8 @@ pub struct Levels {
 /// Which of the levels what the clients saw is of. The hint is a serial run, if one is known, or empty.
 ///
 /// Each run and each cycle is tested. Both are open if a value is appended twice to a key, or if a transaction with an
-/// unknown end has a read. Otherwise snapshot isolation is open at most where, without a serial run, transactions append to
-/// one key values that nobody saw. That is tested, not proved.
+/// unknown end has a read. Otherwise snapshot isolation is undecided only if there is no serial run and transactions
+/// append to one key values that no read saw. That is tested, not proved.
 pub fn levels_of(alloc: Global, history: &[Transaction], hint: &[usize]) -> Result<Levels, NoMemory>
     ensures { IfOk result (AreRight history.now) }
 {

@@ -200,7 +200,7 @@ fn last_start(place: usize, start: Option<usize>) -> usize
     }
 }
 
-/// The place of the order before which the key had so many values: the start, if there is one.
+/// The place of the order before which the key had this many values: the start, if there is one.
 fn start_of(columns: &Columns, key: u32, count: usize, place: usize, start: Option<usize>) -> usize
     requires early { IfSome start (λ s. s ≤ place) }
     ensures early { result ≤ place }

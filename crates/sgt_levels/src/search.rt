@@ -304,8 +304,8 @@ fn turned(alloc: Global, cycle: &[Link], nodes: Nodes) -> Result<Vec<Link>, NoMe
     Ok(back)
 }
 
-/// Of transactions that append to one key values that nobody saw, adds links from the commit of each to the begin of the
-/// next, in the order of the nodes.
+/// For transactions that append to one key values that no read saw, adds links from the commit of each to the begin of
+/// the next, in the order of the nodes.
 fn part_unseen(
     links: &mut Vec<Link>,
     alloc: Global,

@@ -5,7 +5,7 @@ use Rattle.sgt_format.specs.declared.errors.OpeningError.TheVariants.{NoMemory}
 use Rattle.sgt_format.specs.Openings.{Refuses}
 use Rattle.sgt_format.specs.ProcedureLines.{RefusesProcedure}
 
--- the text has an error, and so spells no opening that allows at least so many live transactions
+-- the text has an error, and so spells no opening that allows at least this many live transactions
 abbrev pub SpellsNoOpening : ℕ → List ℕ → Type 0
 SpellsNoOpening least text = (error : OpeningError) × Refuses least text error × (error ≢ NoMemory)
 

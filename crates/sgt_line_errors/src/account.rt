@@ -1,5 +1,5 @@
 //! Errors in the accounts of an opening, the first line of an input.
-use crate::message::{Piece, told};
+use crate::message::{Piece, reported};
 use crate::typed::Typed;
 use serde_json::Value;
 use sgt_format::items;
@@ -14,7 +14,7 @@ pub(crate) fn account_fault(
     accounts: &[Value],
 ) -> Result<Option<String>, NoMemory> {
     for (index, account) in accounts.iter().enumerate() {
-        let fault = fault_behind(typed, &accounts[..index], account)?;
+        let fault = fault_after(typed, &accounts[..index], account)?;
         if fault.is_some() {
             return Ok(fault);
         }
@@ -23,20 +23,20 @@ pub(crate) fn account_fault(
 }
 
 // The error of an account after these.
-fn fault_behind(
+fn fault_after(
     typed: Typed<'_>,
     earlier: &[Value],
     account: &Value,
 ) -> Result<Option<String>, NoMemory> {
     match out_of_range(account) {
         Some((name, amount)) => {
-            told(
+            reported(
                 typed,
                 &[
                     Piece::Words("\"accounts\": the "),
                     Piece::Words(name),
                     Piece::Words(" of account "),
-                    Piece::Count(number_behind(earlier)),
+                    Piece::Count(number_after(earlier)),
                     Piece::Words(" is "),
                     Piece::Number(amount),
                     Piece::Words(", and has to be from "),
@@ -70,11 +70,11 @@ fn taken_fault(
 ) -> Result<Option<String>, NoMemory> {
     for (position, name) in ["name", "customer"].iter().enumerate() {
         if let Some((number, first)) = taken(earlier, account, position) {
-            return told(
+            return reported(
                 typed,
                 &[
                     Piece::Words("\"accounts\": account "),
-                    Piece::Count(number_behind(earlier)),
+                    Piece::Count(number_after(earlier)),
                     Piece::Words(" has the "),
                     Piece::Words(*name),
                     Piece::Words(" "),
@@ -100,7 +100,7 @@ fn taken(earlier: &[Value], account: &Value, position: usize) -> Option<(i64, u6
 }
 
 // The index of the account after these.
-fn number_behind(earlier: &[Value]) -> u64 {
+fn number_after(earlier: &[Value]) -> u64 {
     (earlier.len() as u64).saturating_add(1)
 }
 

@@ -42,14 +42,14 @@ fn arguments_of(procedure: &Value) -> Option<i64> {
     items(procedure)?.first()?.as_i64()
 }
 
-// A flaw of a number in words, in a procedure that takes so many arguments.
+// A flaw of a number in words, in a procedure that takes this many arguments.
 fn flaw_text(
     typed: Typed<'_>,
     flaw: Flaw,
     number: i64,
     arguments: i64,
 ) -> Result<String, NoMemory> {
-    let (before, behind) = words_around(flaw);
+    let (before, following) = words_around(flaw);
     match most(flaw, arguments) {
         Some(most) => {
             message(
@@ -57,9 +57,9 @@ fn flaw_text(
                 &[
                     Piece::Words(before),
                     Piece::Number(number),
-                    Piece::Words(behind),
+                    Piece::Words(following),
                     Piece::Number(most),
-                    Piece::Words(words_behind_most(flaw)),
+                    Piece::Words(words_after_most(flaw)),
                 ],
             )
         }
@@ -69,7 +69,7 @@ fn flaw_text(
                 &[
                     Piece::Words(before),
                     Piece::Number(number),
-                    Piece::Words(behind),
+                    Piece::Words(following),
                 ],
             )
         }
@@ -92,7 +92,7 @@ fn words_around(flaw: Flaw) -> (&'static str, &'static str) {
     }
 }
 
-// The most that the number of a flaw may be, if its text names that, in a procedure that takes so many arguments.
+// The most that the number of a flaw may be, if its text names that, in a procedure that takes this many arguments.
 fn most(flaw: Flaw, arguments: i64) -> Option<i64> {
     match flaw {
         Flaw::HighRegister => Some(i64::from(LAST_REGISTER)),
@@ -108,7 +108,7 @@ fn most(flaw: Flaw, arguments: i64) -> Option<i64> {
 }
 
 // The words after that in its text.
-fn words_behind_most(flaw: Flaw) -> &'static str {
+fn words_after_most(flaw: Flaw) -> &'static str {
     match flaw {
         Flaw::NoArgument => ", the number of arguments",
         Flaw::TooLong | Flaw::TooDeep | Flaw::ManyAnswers | Flaw::ManyArguments => " may be",

@@ -1,5 +1,5 @@
 //! Where a line stops being JSON.
-use crate::message::{Piece, told};
+use crate::message::{Piece, reported};
 use crate::typed::Typed;
 use json::{Scratch, is_valid};
 use serde_json::Value;
@@ -56,7 +56,7 @@ fn text_fault(typed: Typed<'_>, text: &str, column: usize) -> Result<Option<Stri
 }
 
 fn at_column(typed: Typed<'_>, column: usize, words: &str) -> Result<Option<String>, NoMemory> {
-    told(
+    reported(
         typed,
         &[
             Piece::Words("column "),

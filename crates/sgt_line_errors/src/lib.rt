@@ -30,7 +30,6 @@ mod flow;
 mod json_text;
 mod limit;
 mod message;
-mod misfit;
 mod newest;
 mod opening;
 mod part;
@@ -39,6 +38,7 @@ mod refusal;
 mod remembering;
 mod request;
 mod search;
+mod shape_error;
 mod tree;
 mod typed;
 

@@ -1,10 +1,10 @@
 //! Errors in the limits of an opening, the first line of an input.
-use crate::message::{Piece, told};
+use crate::message::{Piece, reported};
 use crate::typed::Typed;
 use serde_json::Value;
 use sgt_model::{MOST_BEGINS, MOST_LIVE, NoMemory};
 
-/// The first of these limits that is out of range. At least so many live transactions must be allowed.
+/// The first of these limits that is out of range. At least this many live transactions must be allowed.
 pub(crate) fn limit_fault(
     typed: Typed<'_>,
     least: u32,
@@ -16,7 +16,7 @@ pub(crate) fn limit_fault(
         };
         let (first, last) = range(position);
         if number < first || last < number {
-            return told(
+            return reported(
                 typed,
                 &[
                     Piece::Words("\"limits\": the "),
@@ -51,7 +51,7 @@ fn worker_fault(
 ) -> Result<Option<String>, NoMemory> {
     match live(limits) {
         Some(live) if live < i64::from(least) => {
-            told(
+            reported(
                 typed,
                 &[
                     Piece::Words("\"limits\": the first number is "),

@@ -29,7 +29,7 @@ pub(crate) fn message(typed: Typed<'_>, pieces: &[Piece<'_>]) -> Result<String, 
 }
 
 /// The same, as an option.
-pub(crate) fn told(typed: Typed<'_>, pieces: &[Piece<'_>]) -> Result<Option<String>, NoMemory> {
+pub(crate) fn reported(typed: Typed<'_>, pieces: &[Piece<'_>]) -> Result<Option<String>, NoMemory> {
     Ok(Some(message(typed, pieces)?))
 }
 
@@ -39,7 +39,7 @@ pub(crate) fn unexpected<'a>(
     wanted: &'a str,
     tree: &'a Value,
 ) -> Result<Option<String>, NoMemory> {
-    told(
+    reported(
         typed,
         &[
             Piece::Words("expected "),
@@ -52,7 +52,7 @@ pub(crate) fn unexpected<'a>(
 
 /// The message that nothing starts with this word.
 pub(crate) fn unknown(typed: Typed<'_>, word: &str) -> Result<Option<String>, NoMemory> {
-    told(typed, &[Piece::Words("unknown word "), Piece::Word(word)])
+    reported(typed, &[Piece::Words("unknown word "), Piece::Word(word)])
 }
 
 fn append_piece(typed: Typed<'_>, message: &mut String, piece: Piece<'_>) -> Result<(), NoMemory> {

@@ -64,7 +64,7 @@ impl NewestLines {
     // Drops the lines that start before the bytes that stay.
     fn drop_oldest(&mut self) {
         let oldest = self.bytes.len().saturating_sub(LEAST_STORED);
-        let Some(rest) = behind_break(&self.bytes[oldest..]) else {
+        let Some(rest) = after_break(&self.bytes[oldest..]) else {
             return;
         };
         let end = self.bytes.len();
@@ -77,19 +77,19 @@ impl NewestLines {
     }
 }
 
-// The line of this number, from 1, if the text has so many lines.
+// The line of this number, from 1, if the text has that many lines.
 fn line_in(text: &[u8], number: u64) -> Option<&[u8]>
     ensures { IfSome result (λ l. has_break l.now ≡ false) }
 {
     let mut rest = text;
     for _ in 1..number {
-        rest = behind_break(rest)?;
+        rest = after_break(rest)?;
     }
     Some(until_break(rest))
 }
 
 // The bytes after the first newline, if there is one.
-fn behind_break(bytes: &[u8]) -> Option<&[u8]> {
+fn after_break(bytes: &[u8]) -> Option<&[u8]> {
     let place = memchr(b'\n', bytes)?;
     Some(&bytes[place + 1..])
 }

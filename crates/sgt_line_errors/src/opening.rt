@@ -1,7 +1,7 @@
 //! Errors in an opening, the first line of an input.
 use crate::account::NAMES;
 use crate::limit::ordinal;
-use crate::message::{Piece, told, unexpected};
+use crate::message::{Piece, reported, unexpected};
 use crate::tree::first_not_whole;
 use crate::typed::Typed;
 use serde_json::Value;
@@ -35,7 +35,7 @@ pub(crate) fn opening_fault(typed: Typed<'_>, tree: &Value) -> Result<Option<Str
     }
     match (missing_member(tree), unknown_member(tree)) {
         (Some(name), Some(unknown)) => {
-            told(
+            reported(
                 typed,
                 &[
                     Piece::Words("the member \""),
@@ -47,7 +47,7 @@ pub(crate) fn opening_fault(typed: Typed<'_>, tree: &Value) -> Result<Option<Str
             )
         }
         (Some(name), None) => {
-            told(
+            reported(
                 typed,
                 &[
                     Piece::Words("the member \""),
@@ -57,7 +57,7 @@ pub(crate) fn opening_fault(typed: Typed<'_>, tree: &Value) -> Result<Option<Str
             )
         }
         (None, Some(unknown)) => {
-            told(
+            reported(
                 typed,
                 &[
                     Piece::Words("the member "),
@@ -102,7 +102,7 @@ fn shape_fault(typed: Typed<'_>, tree: &Value) -> Result<Option<String>, NoMemor
 fn part_fault(typed: Typed<'_>, part: Misshapen<'_>) -> Result<Option<String>, NoMemory> {
     match part {
         Misshapen::Limits(tree) => {
-            told(
+            reported(
                 typed,
                 &[
                     Piece::Words(
@@ -113,7 +113,7 @@ fn part_fault(typed: Typed<'_>, part: Misshapen<'_>) -> Result<Option<String>, N
             )
         }
         Misshapen::Limit(position, tree) => {
-            told(
+            reported(
                 typed,
                 &[
                     Piece::Words("\"limits\": expected a whole number as the "),
@@ -124,7 +124,7 @@ fn part_fault(typed: Typed<'_>, part: Misshapen<'_>) -> Result<Option<String>, N
             )
         }
         Misshapen::Member(name, tree) => {
-            told(
+            reported(
                 typed,
                 &[
                     Piece::Words("\""),
@@ -135,7 +135,7 @@ fn part_fault(typed: Typed<'_>, part: Misshapen<'_>) -> Result<Option<String>, N
             )
         }
         Misshapen::Account(number, tree) => {
-            told(
+            reported(
                 typed,
                 &[
                     Piece::Words(
@@ -148,7 +148,7 @@ fn part_fault(typed: Typed<'_>, part: Misshapen<'_>) -> Result<Option<String>, N
             )
         }
         Misshapen::Amount(name, number, tree) => {
-            told(
+            reported(
                 typed,
                 &[
                     Piece::Words("\"accounts\": expected a whole number as the "),

@@ -33,18 +33,18 @@ impl Part {
             },
             Part::Block => Some(Part::Statement),
             _ => {
-                let parts = self.behind(word?)?;
+                let parts = self.following(word?)?;
                 Some(*parts.get(position.checked_sub(1)?)?)
             }
         }
     }
 
     /// What follows a word, if a list that starts with it may be this.
-    pub(crate) fn behind(self, word: &str) -> Option<&'static [Part]> {
+    pub(crate) fn following(self, word: &str) -> Option<&'static [Part]> {
         match self {
-            Part::Statement => behind_statement(word),
-            Part::Expression => behind_expression(word),
-            Part::Condition => behind_condition(word),
+            Part::Statement => after_statement(word),
+            Part::Expression => after_expression(word),
+            Part::Condition => after_condition(word),
             _ => None,
         }
     }
@@ -95,12 +95,12 @@ impl Part {
 
 /// Whether a list of a procedure may start with the word.
 pub(crate) fn is_known(word: &str) -> bool {
-    behind_statement(word).is_some()
-        || behind_expression(word).is_some()
-        || behind_condition(word).is_some()
+    after_statement(word).is_some()
+        || after_expression(word).is_some()
+        || after_condition(word).is_some()
 }
 
-fn behind_statement(word: &str) -> Option<&'static [Part]> {
+fn after_statement(word: &str) -> Option<&'static [Part]> {
     match word {
         "look" => Some(&[Part::Register, Part::Table, Part::Expression, Part::Code]),
         "find" => Some(&[
@@ -119,7 +119,7 @@ fn behind_statement(word: &str) -> Option<&'static [Part]> {
     }
 }
 
-fn behind_expression(word: &str) -> Option<&'static [Part]> {
+fn after_expression(word: &str) -> Option<&'static [Part]> {
     match word {
         "arg" => Some(&[Part::Argument]),
         "reg" => Some(&[Part::Register]),
@@ -128,7 +128,7 @@ fn behind_expression(word: &str) -> Option<&'static [Part]> {
     }
 }
 
-fn behind_condition(word: &str) -> Option<&'static [Part]> {
+fn after_condition(word: &str) -> Option<&'static [Part]> {
     match word {
         "less" | "most" | "same" => Some(&[Part::Expression, Part::Expression]),
         _ => None,

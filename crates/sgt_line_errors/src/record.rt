@@ -1,5 +1,5 @@
 //! Errors in a record line.
-use crate::message::{Piece, told};
+use crate::message::{Piece, reported};
 use crate::typed::Typed;
 use serde_json::Value;
 use sgt_format::items;
@@ -42,7 +42,7 @@ fn numbers_fault(typed: Typed<'_>, said: RecordNumbers) -> Result<Option<String>
     ];
     for (name, given, first, last) in ranges.iter() {
         if *given < *first || *last < *given {
-            return told(
+            return reported(
                 typed,
                 &[
                     Piece::Words("the "),
@@ -57,7 +57,7 @@ fn numbers_fault(typed: Typed<'_>, said: RecordNumbers) -> Result<Option<String>
             );
         }
     }
-    told(
+    reported(
         typed,
         &[
             Piece::Words("record "),

@@ -7,9 +7,9 @@ use crate::account::account_fault;
 use crate::flaw::find_flaw;
 use crate::json_text::json_fault;
 use crate::limit::limit_fault;
-use crate::message::{Piece, told};
-use crate::misfit::misfit;
+use crate::message::{Piece, reported};
 use crate::opening::opening_fault;
+use crate::shape_error::shape_error;
 use crate::typed::Typed;
 use serde_json::Value;
 use sgt_format::{OpeningError, items, read_opening, read_procedure_line, read_tree};
@@ -18,7 +18,7 @@ use sgt_proc::Flaw;
 use sgt_smallbank::PROCEDURES;
 use std::alloc::Global;
 
-/// Explains why a text is no opening that allows at least so many live transactions, in one line without newline:
+/// Explains why a text is no opening that allows at least this many live transactions, in one line without newline:
 /// where its first error is, and what was expected there. None if it is one.
 ///
 /// # Errors
@@ -125,7 +125,7 @@ fn procedure_fault(
 ) -> Result<Option<String>, NoMemory> {
     match error {
         OpeningError::ProcShape(number, place) => {
-            misfit_fault(typed, *number, procedure, place.as_slice())
+            shape_error_fault(typed, *number, procedure, place.as_slice())
         }
         OpeningError::ProcFlaw(number, flaw) => flaw_fault(typed, *number, procedure, *flaw),
         _ => Ok(None),
@@ -133,13 +133,13 @@ fn procedure_fault(
 }
 
 // The error in the procedure of this number, at the position of its first shape error.
-fn misfit_fault(
+fn shape_error_fault(
     typed: Typed<'_>,
     number: u64,
     procedure: &Value,
     place: &[u64],
 ) -> Result<Option<String>, NoMemory> {
-    match misfit(typed, procedure, place)? {
+    match shape_error(typed, procedure, place)? {
         Some(what) => located(typed, number, place, &what),
         None => Ok(None),
     }
@@ -165,7 +165,7 @@ fn located<'a>(
     place: &'a [u64],
     what: &'a str,
 ) -> Result<Option<String>, NoMemory> {
-    told(
+    reported(
         typed,
         &[
             Piece::Words("procedure "),

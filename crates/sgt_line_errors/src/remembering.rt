@@ -61,9 +61,9 @@ impl<S: Source> Source for Remembering<S> {
 
     ghost failures = { λ s. S.failures s.source };
 
-    fn read(&mut self, room: &mut [u8]) -> Result<usize, Failed> {
-        let n = self.source.read(room)?;
-        self.keep(&room[..n]);
+    fn read(&mut self, buffer: &mut [u8]) -> Result<usize, Failed> {
+        let n = self.source.read(buffer)?;
+        self.keep(&buffer[..n]);
         Ok(n)
     }
 }

@@ -1,5 +1,5 @@
 //! Errors in the line of an event or of a job.
-use crate::message::{Piece, told, unexpected, unknown};
+use crate::message::{Piece, reported, unexpected, unknown};
 use crate::record::numbers;
 use crate::tree::{first_not_whole, word_of};
 use crate::typed::Typed;
@@ -71,7 +71,7 @@ fn misplaced_request<'a>(
     words: &'a str,
     form: &'a str,
 ) -> Result<Option<String>, NoMemory> {
-    told(typed, &[Piece::Words(words), Piece::Words(form)])
+    reported(typed, &[Piece::Words(words), Piece::Words(form)])
 }
 
 // Why a list that starts with the word of a record adds none: its form, or that records must come before the first of
@@ -82,7 +82,7 @@ fn misplaced_record(
     tree: &Value,
 ) -> Result<Option<String>, NoMemory> {
     match numbers(tree) {
-        Some(_) => told(
+        Some(_) => reported(
             typed,
             &[
                 Piece::Words("records stand before the first "),
@@ -184,7 +184,7 @@ fn range_fault<'a>(
     tree: &'a Value,
     last: u32,
 ) -> Result<Option<String>, NoMemory> {
-    told(
+    reported(
         typed,
         &[
             Piece::Words("expected "),
@@ -203,7 +203,7 @@ fn arguments_fault(typed: Typed<'_>, tree: &Value) -> Result<Option<String>, NoM
         return unexpected(typed, "a list of arguments", tree);
     };
     if arguments.len() > usize::from(MOST_ARGUMENTS) {
-        return told(
+        return reported(
             typed,
             &[
                 Piece::Count(arguments.len() as u64),
@@ -214,7 +214,7 @@ fn arguments_fault(typed: Typed<'_>, tree: &Value) -> Result<Option<String>, NoM
         );
     }
     match first_not_whole(arguments) {
-        Some((number, argument)) => told(
+        Some((number, argument)) => reported(
             typed,
             &[
                 Piece::Words("expected a whole number as argument "),

@@ -25,7 +25,7 @@ pub(crate) struct Search {
 }
 
 impl Search {
-    /// A search for this flaw, in a procedure that takes so many arguments.
+    /// A search for this flaw, in a procedure that takes this many arguments.
     pub(crate) fn new(alloc: Global, flaw: Flaw, arguments: i64) -> Self {
         Search {
             flaw,
@@ -91,7 +91,7 @@ impl Search {
             }
         }
         if part == Part::Statement {
-            self.flow = behind(self.flow, blocks, items);
+            self.flow = following(self.flow, blocks, items);
         }
         Ok(None)
     }
@@ -176,13 +176,13 @@ fn depth_at(part: Part, next: Part, depth: i64) -> i64 {
 }
 
 // The state after a statement of these items, from the state after its expressions and the state after its blocks.
-fn behind(flow: Flow, blocks: Flow, items: &[Value]) -> Flow {
+fn following(flow: Flow, blocks: Flow, items: &[Value]) -> Flow {
     match word_of(items) {
         Some("ask") => Flow::stopped(),
         Some("if") => blocks,
         Some("answer") => flow.answering(),
         _ => match register_of(items) {
-            Some(register) => flow.setting(register),
+            Some(register) => flow.configuration(register),
             None => flow,
         },
     }

@@ -19,7 +19,7 @@ use Rattle.sgt_log.specs.declared.access_kind.AccessKind.TheVariants as kind
 use Rattle.sgt_log.specs.declared.stored_entry.StoredEntry.{StoredEntry}
 use Rattle.sgt_log.specs.EntryParts.{bare_event, full_event, request_args, HasArgs}
 use Rattle.sgt_log.specs.Spans.{no_items, part_of, IsWithin, HasMore}
-use Rattle.sgt_log.specs.StoredEntries.{bare_of, args_at, event_of, short_of, answers_at, walk_at, fell_at, reply_of, entry_of}
+use Rattle.sgt_log.specs.StoredEntries.{bare_of, args_at, event_of, short_of, answers_at, cycle_at, fell_at, reply_of, entry_of}
 use Rattle.sgt_log.specs.StoredEntries.{HasKey, HasNoArgs, HasNoLists, IsReply, IsEvent, IsEntry, AreEntries}
 
 part-kept : {X : Type 0} (xs more : List X) (p : Span) → IsWithin (length xs) p → part_of (xs ++ more) p ≡ part_of xs p
@@ -30,10 +30,10 @@ part-kept xs more p h =
 reply-kept : (ns ms : List ℕ) (vs ws : List ℤ) (r : StoredReply) → IsReply (length ns) (length vs) r
     → reply_of (ns ++ ms) (vs ++ ws) r ≡ reply_of ns vs r
 reply-kept ns ms vs ws r h =
-    ap (λ a. full_reply (short_of r) a (part_of (ns ++ ms) (walk_at r)) (part_of (ns ++ ms) (fell_at r)))
+    ap (λ a. full_reply (short_of r) a (part_of (ns ++ ms) (cycle_at r)) (part_of (ns ++ ms) (fell_at r)))
     (part-kept vs ws (answers_at r) h.answers)
-    ∙ ap (λ w. full_reply (short_of r) (part_of vs (answers_at r)) w (part_of (ns ++ ms) (fell_at r))) (part-kept ns ms (walk_at r) h.walk)
-    ∙ ap (full_reply (short_of r) (part_of vs (answers_at r)) (part_of ns (walk_at r))) (part-kept ns ms (fell_at r) h.fell)
+    ∙ ap (λ w. full_reply (short_of r) (part_of vs (answers_at r)) w (part_of (ns ++ ms) (fell_at r))) (part-kept ns ms (cycle_at r) h.cycle)
+    ∙ ap (full_reply (short_of r) (part_of vs (answers_at r)) (part_of ns (cycle_at r))) (part-kept ns ms (fell_at r) h.fell)
 
 event-kept : (vs ws : List ℤ) (e : StoredEvent) → IsEvent vs e → event_of (vs ++ ws) e ≡ event_of vs e
 event-kept vs ws e h = ap (full_event (bare_of e)) (part-kept vs ws (args_at e) h.args)
@@ -81,7 +81,7 @@ reply-more : (m n v w : ℕ) (r : StoredReply) → m ≤ n → v ≤ w → IsRep
 reply-more m n v w r le lv h = record {
   answers = part-more v w (answers_at r) lv h.answers;
   few = h.few;
-  walk = part-more m n (walk_at r) le h.walk;
+  cycle = part-more m n (cycle_at r) le h.cycle;
   fell = part-more m n (fell_at r) le h.fell;
   key = h.key;
 }
@@ -158,8 +158,8 @@ within-none n p is = subst (IsWithin n) (sym is) (omega arith, omega arith)
 
 pub plain-reply : (ns : List ℕ) (vs : List ℤ) (r : StoredReply) → HasNoLists r → reply_of ns vs r ≡ full_reply (short_of r) [] [] []
 plain-reply ns vs r lists =
-    ap (λ a. full_reply (short_of r) a (part_of ns (walk_at r)) (part_of ns (fell_at r))) (part-none vs (answers_at r) lists.0)
-    ∙ ap (λ w. full_reply (short_of r) [] w (part_of ns (fell_at r))) (part-none ns (walk_at r) lists.1)
+    ap (λ a. full_reply (short_of r) a (part_of ns (cycle_at r)) (part_of ns (fell_at r))) (part-none vs (answers_at r) lists.0)
+    ∙ ap (λ w. full_reply (short_of r) [] w (part_of ns (fell_at r))) (part-none ns (cycle_at r) lists.1)
     ∙ ap (λ f. full_reply (short_of r) [] [] f) (part-none ns (fell_at r) lists.2)
 
 pub plain-entry : (ns : List ℕ) (vs : List ℤ) (e : StoredEvent) (r : StoredReply) → HasNoArgs e → HasNoLists r
@@ -183,7 +183,7 @@ pub plain-reply-within : (n v : ℕ) (r : StoredReply) → HasNoLists r → HasK
 plain-reply-within n v r lists key = record {
   answers = within-none v (answers_at r) lists.0;
   few = subst (λ p. p.count ≤ 8) (sym lists.0) (omega arith);
-  walk = within-none n (walk_at r) lists.1;
+  cycle = within-none n (cycle_at r) lists.1;
   fell = within-none n (fell_at r) lists.2;
   key = key;
 }

@@ -83,12 +83,12 @@ full_event (no_event.Quit t) args = event.Quit t
 abbrev pub full_entry : BareEvent → ShortReply → EntryLists → Entry
 full_entry e r lists = record {
   event = full_event e lists.args.now;
-  reply = full_reply r lists.answers.now lists.walk.now lists.fell.now;
+  reply = full_reply r lists.answers.now lists.cycle.now lists.fell.now;
 }
 
 -- the lists are as short as an entry's are
 abbrev pub AreFew : EntryLists → Type 0
-AreFew lists = (length lists.args.now ≤ 4) × (length lists.answers.now ≤ 8) × (length lists.walk.now ≤ 32) × (length lists.fell.now ≤ 32)
+AreFew lists = (length lists.args.now ≤ 4) × (length lists.answers.now ≤ 8) × (length lists.cycle.now ≤ 32) × (length lists.fell.now ≤ 32)
 
 -- the answers of a commit, if it is one
 abbrev pub committed_in : Reply → Option (List ℤ)
@@ -99,7 +99,7 @@ committed_in _ = None
 
 -- it aborts a transaction whose step would close a cycle
 abbrev pub is_by_cycle : Reply → Bool
-is_by_cycle (reply.Aborted (cause.Cycle walk) fell) = true
+is_by_cycle (reply.Aborted (cause.Cycle cycle) fell) = true
 is_by_cycle (reply.Aborted (cause.Asked code) fell) = false
 is_by_cycle _ = false
 
@@ -109,9 +109,9 @@ is_fall (fate.Fell first) = true
 is_fall _ = false
 
 -- it reports that the transaction was aborted in cascade
-abbrev pub tells_fall : Reply → Bool
-tells_fall (reply.Over f) = is_fall f
-tells_fall _ = false
+abbrev pub reports_fall : Reply → Bool
+reports_fall (reply.Over f) = is_fall f
+reports_fall _ = false
 
 -- it reports a read or a write
 abbrev pub is_access : Reply → Bool

@@ -8,8 +8,8 @@ pub record Capacities : Type 0 where
   pub tids : ℕ
   pub values : ℕ
 
--- the entries, oldest first; the capacity for more entries (`room`); and the memory that it holds
+-- the entries, oldest first; the capacity for more entries (`spare`); and the memory that it holds
 pub record HistoryView : Type 0 where
   pub entries : List Entry
-  pub room : ℕ
+  pub spare : ℕ
   pub capacities : Capacities

@@ -53,26 +53,26 @@ short_of reply.Ended = short.Ended
 short_of reply.NotEnded = short.NotEnded
 short_of (reply.Waits t) = short.Waits t
 short_of (reply.Committed count from) = short.Committed
-short_of (reply.Aborted c walk fell walk_from fell_from) = short.Aborted c
+short_of (reply.Aborted c cycle fell cycle_from fell_from) = short.Aborted c
 short_of (reply.Refused code count from) = short.Refused code
 
 abbrev pub answers_at : StoredReply → Span
 answers_at (reply.Committed count from) = record { from = from; count = count }
 answers_at _ = no_items
 
-abbrev pub walk_at : StoredReply → Span
-walk_at (reply.Over f count from) = record { from = from; count = count }
-walk_at (reply.Aborted c walk fell walk_from fell_from) = record { from = walk_from; count = walk }
-walk_at _ = no_items
+abbrev pub cycle_at : StoredReply → Span
+cycle_at (reply.Over f count from) = record { from = from; count = count }
+cycle_at (reply.Aborted c cycle fell cycle_from fell_from) = record { from = cycle_from; count = cycle }
+cycle_at _ = no_items
 
 abbrev pub fell_at : StoredReply → Span
-fell_at (reply.Aborted c walk fell walk_from fell_from) = record { from = fell_from; count = fell }
+fell_at (reply.Aborted c cycle fell cycle_from fell_from) = record { from = fell_from; count = fell }
 fell_at (reply.Refused code count from) = record { from = from; count = count }
 fell_at _ = no_items
 
 abbrev pub reply_of : List ℕ → List ℤ → StoredReply → Reply
 reply_of tids values r =
-    full_reply (short_of r) (part_of values (answers_at r)) (part_of tids (walk_at r)) (part_of tids (fell_at r))
+    full_reply (short_of r) (part_of values (answers_at r)) (part_of tids (cycle_at r)) (part_of tids (fell_at r))
 
 abbrev pub entry_of : List ℕ → List ℤ → StoredEntry → Entry
 entry_of tids values e = record { event = event_of values e.event; reply = reply_of tids values e.reply }
@@ -95,7 +95,7 @@ pub record IsEvent (values : List ℤ) (e : StoredEvent) : Type 0 where
 pub record IsReply (n v : ℕ) (r : StoredReply) : Type 0 where
   pub answers : IsWithin v (answers_at r)
   pub few : (answers_at r).count ≤ 8
-  pub walk : IsWithin n (walk_at r)
+  pub cycle : IsWithin n (cycle_at r)
   pub fell : IsWithin n (fell_at r)
   pub key : HasKey r
 
@@ -112,4 +112,4 @@ abbrev pub HasNoArgs : StoredEvent → Type 0
 HasNoArgs e = args_at e ≡ no_items
 
 abbrev pub HasNoLists : StoredReply → Type 0
-HasNoLists r = (answers_at r ≡ no_items) × (walk_at r ≡ no_items) × (fell_at r ≡ no_items)
+HasNoLists r = (answers_at r ≡ no_items) × (cycle_at r ≡ no_items) × (fell_at r ≡ no_items)

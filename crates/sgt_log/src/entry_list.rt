@@ -5,12 +5,12 @@ ghost use Rattle.sgt_log.specs.declared.stored_entry.StoredEntry.{StoredEntry};
 ghost use Rattle.sgt_log.specs.StoredEntries.{HasNoArgs, HasNoLists};
 ghost use Rattle.sgt_log.specs.PackedEntries.{unpacked, IsWhole, IsStep, IsAccess};
 
-use crate::growth::reserve_items;
+use crate::allocation::reserve_items;
 use crate::packed_entry::PackedEntry;
+use crate::prefault::prefault_ahead;
 use crate::stored_entry::StoredEntry;
 use crate::stored_event::StoredEvent;
 use crate::stored_reply::StoredReply;
-use crate::touch::touch_ahead;
 use sgt_model::{NoMemory, Tid};
 use std::alloc::Global;
 use std::marker::Model;
@@ -88,7 +88,7 @@ impl EntryList {
     #[inline(always)]
     pub fn push_whole(&mut self, entry: PackedEntry)
         requires whole { IsWhole entry }
-        requires room { length self.old.items < self.old.capacity }
+        requires spare { length self.old.items < self.old.capacity }
         ensures items { self.new.items ≡ self.old.items ++ unpacked [] entry ∷ [] }
         ensures len { length self.new.items ≡ length self.old.items + 1 }
         ensures capacity { self.new.capacity ≡ self.old.capacity }
@@ -167,7 +167,7 @@ impl EntryList {
         self.packed[place].is_same_step(&other.packed[index])
     }
 
-    /// Provides capacity for so many more entries. The entries stay.
+    /// Provides capacity for this many more entries. The entries stay.
     ///
     /// `NoMemory` if an allocation failed; the capacity stays then.
     pub fn reserve(&mut self, count: usize) -> Result<(), NoMemory>
@@ -181,7 +181,7 @@ impl EntryList {
         Ok(())
     }
 
-    /// Allocates memory for so many more entries of the frequent kinds. Nothing else changes.
+    /// Allocates memory for this many more entries of the frequent kinds. Nothing else changes.
     ///
     /// `NoMemory` if the allocation failed.
     pub fn reserve_memory(&mut self, count: usize) -> Result<(), NoMemory>
@@ -202,11 +202,12 @@ impl EntryList {
         self.others.clear();
     }
 
-    /// Prefaults the memory of at most so many next entries of the frequent kinds. It returns the index up to which it did.
-    pub fn touch(&mut self, most: usize) -> usize
+    /// Prefaults the memory of at most this many next entries of the frequent kinds. It returns the index up to which
+    /// it did.
+    pub fn prefault(&mut self, most: usize) -> usize
         ensures same { self.new ≡ self.old }
-        ensures touched { result ≡ min self.old.memory (length self.old.items + most) }
+        ensures prefaulted { result ≡ min self.old.memory (length self.old.items + most) }
     {
-        touch_ahead(&mut self.packed, most, PackedEntry::Ended(Tid(0)))
+        prefault_ahead(&mut self.packed, most, PackedEntry::Ended(Tid(0)))
     }
 }

@@ -9,7 +9,7 @@ pub struct EntryLists<'a> {
     /// The answers of a commit.
     pub answers: &'a [i64],
     /// The path of a cycle.
-    pub walk: &'a [Tid],
+    pub cycle: &'a [Tid],
     /// Those aborted in cascade.
     pub fell: &'a [Tid],
 }

@@ -2,9 +2,9 @@
 ghost use Rattle.std.specs.Prelude.{◌≡◌, ◌≤◌, ◌↔◌, false, length, IsTrue, None};
 ghost use Rattle.sgt_model.specs.Fates.{is_start};
 ghost use Rattle.sgt_model.specs.Questions.{named_by, started_in, over_in};
-ghost use Rattle.sgt_model.specs.Questions.{refuses_start, is_wait, is_commit, is_ask, is_quit, is_ending, tells_end};
-ghost use Rattle.sgt_model.specs.ShortReplies.{short_reply, walk_in, fell_in, answers_in};
-ghost use Rattle.sgt_log.specs.EntryParts.{args_in, bare_event, full_entry, committed_in, is_by_cycle, tells_fall, is_access, is_at_end, AreFew, HasArgs};
+ghost use Rattle.sgt_model.specs.Questions.{refuses_start, is_wait, is_commit, is_raised, is_quit, is_ending, reports_end};
+ghost use Rattle.sgt_model.specs.ShortReplies.{short_reply, cycle_of_reply, fell_in, answers_in};
+ghost use Rattle.sgt_log.specs.EntryParts.{args_in, bare_event, full_entry, committed_in, is_by_cycle, reports_fall, is_access, is_at_end, AreFew, HasArgs};
 
 use crate::bare::BareEvent;
 use crate::entry_lists::EntryLists;
@@ -181,9 +181,9 @@ impl<'a> EntryRef<'a> {
     // Whether the lists of transactions have the same items.
     fn has_same_tids(&self, other: &EntryRef<'_>) -> bool
         ensures { IsTrue result
-            ↔ ((walk_in self.now.reply ≡ walk_in other.now.reply) × (fell_in self.now.reply ≡ fell_in other.now.reply)) }
+            ↔ ((cycle_of_reply self.now.reply ≡ cycle_of_reply other.now.reply) × (fell_in self.now.reply ≡ fell_in other.now.reply)) }
     {
-        are_same_tids(self.walk(), other.walk()) && are_same_tids(self.fell(), other.fell())
+        are_same_tids(self.cycle(), other.cycle()) && are_same_tids(self.fell(), other.fell())
     }
 
     /// The transaction that its event names. A start names none.
@@ -209,23 +209,23 @@ impl<'a> EntryRef<'a> {
         }
     }
 
-    /// The transaction that it reports to be over, if any. It is not live any more. The transaction of a quit never is,
-    /// whatever the reply.
+    /// The transaction that it reports to be over, if any. It is not live any more. The transaction of a `Quit` never
+    /// is, whatever the reply.
     pub fn over(&self) -> Option<Tid>
         ensures { result ≡ over_in self.now.event self.now.reply }
     {
         match self.stored.event {
             StoredEvent::Start { .. } => None,
             StoredEvent::Step(t) | StoredEvent::Access { t, .. } | StoredEvent::Commit(t) => {
-                self.tells_end().then_some(t)
+                self.reports_end().then_some(t)
             }
             StoredEvent::Quit(t) => Some(t),
         }
     }
 
     /// Whether its reply, as that to a step or a commit, reports that the transaction has ended, now or before.
-    fn tells_end(&self) -> bool
-        ensures { result ≡ tells_end self.now.reply }
+    fn reports_end(&self) -> bool
+        ensures { result ≡ reports_end self.now.reply }
     {
         matches!(
             self.stored.reply,
@@ -308,8 +308,8 @@ impl<'a> EntryRef<'a> {
     }
 
     /// Whether it aborts a transaction whose procedure raised a code, at the step or at the commit.
-    pub fn is_ask(&self) -> bool
-        ensures { result ≡ is_ask self.now.reply }
+    pub fn is_raised(&self) -> bool
+        ensures { result ≡ is_raised self.now.reply }
     {
         match self.stored.reply {
             StoredReply::Aborted { cause, .. } => matches!(cause, ShortCause::Asked(_)),
@@ -318,7 +318,7 @@ impl<'a> EntryRef<'a> {
         }
     }
 
-    /// Whether it aborts a transaction that its caller quit.
+    /// Whether it aborts a transaction on its caller's request.
     pub fn is_quit(&self) -> bool
         ensures { result ≡ is_quit self.now.reply }
     {
@@ -351,8 +351,8 @@ impl<'a> EntryRef<'a> {
     }
 
     /// Whether its reply reports that the transaction was aborted in cascade before.
-    pub fn tells_fall(&self) -> bool
-        ensures { result ≡ tells_fall self.now.reply }
+    pub fn reports_fall(&self) -> bool
+        ensures { result ≡ reports_fall self.now.reply }
     {
         match self.stored.reply {
             StoredReply::Over { fate, .. } => matches!(fate, ShortFate::Fell(_)),
@@ -369,11 +369,11 @@ impl<'a> EntryRef<'a> {
     }
 
     /// The path of the cycle that its reply reports. No transactions if it reports none.
-    pub fn walk(&self) -> &'a [Tid]
-        ensures walk { result.now ≡ walk_in self.now.reply }
+    pub fn cycle(&self) -> &'a [Tid]
+        ensures cycle { result.now ≡ cycle_of_reply self.now.reply }
         ensures few { length result.now ≤ 32 }
     {
-        self.stored.reply.walk(self.tids)
+        self.stored.reply.cycle(self.tids)
     }
 
     /// The answers of its commit. No values if it commits none.
@@ -421,7 +421,7 @@ impl<'a> EntryRef<'a> {
         EntryLists {
             args: self.args(),
             answers: self.answers(),
-            walk: self.walk(),
+            cycle: self.cycle(),
             fell: self.fell(),
         }
     }

@@ -12,11 +12,11 @@ ghost use Rattle.sgt_log.specs.PackedEntries.{unpacked, step_entry, IsStep};
 ghost use Rattle.sgt_log.specs.EntryParts.{full_entry, is_access, AreFew, HasArgs, IsQuiet};
 
 use crate::access_kind::request_args;
+use crate::allocation::{FIRST, reserve_items};
 use crate::bare::{BareEvent, args_of};
 use crate::entry_list::EntryList;
 use crate::entry_lists::EntryLists;
 use crate::entry_ref::EntryRef;
-use crate::growth::{FIRST, reserve_items};
 use crate::packed_entry::PackedEntry;
 use crate::span::Span;
 use crate::stored_entry::StoredEntry;
@@ -36,7 +36,7 @@ const MOST_VALUES: usize = 12;
 const AHEAD: usize = 64;
 
 /// The most entries of capacity that can be counted, in the list that takes the most for each.
-const MOST_ROOM: usize = usize::MAX / MOST_TIDS - AHEAD;
+const MOST_SPARE: usize = usize::MAX / MOST_TIDS - AHEAD;
 
 /// The entries of a history, oldest first. A step, a start or a commit takes 24 bytes, another entry 64. The items of its
 /// lists take 4 bytes for each transaction, 8 for each value.
@@ -48,7 +48,7 @@ pub struct History {
     tids: Vec<Tid>,
     values: Vec<i64>,
     // How many more entries there is capacity for, in each list.
-    room: usize,
+    spare: usize,
 }
 
 impl Model for History {
@@ -61,28 +61,28 @@ impl Model for History {
 
     ghost view = { λ h. record {
       entries = map (entry_of h.tids.items h.values.items) h.entries.items;
-      room = h.room;
+      spare = h.spare;
       capacities = record { entries = h.entries.memory; tids = vec_capacity h.tids; values = vec_capacity h.values };
     } };
 
     ghost invariant = { λ h.
         AreEntries (length h.tids.items) h.values.items h.entries.items
-        × (length h.entries.items + h.room ≤ h.entries.capacity)
-        × (vec_len h.tids + h.room * 64 ≤ vec_capacity h.tids)
-        × (vec_len h.values + h.room * 12 ≤ vec_capacity h.values) };
+        × (length h.entries.items + h.spare ≤ h.entries.capacity)
+        × (vec_len h.tids + h.spare * 64 ≤ vec_capacity h.tids)
+        × (vec_len h.values + h.spare * 12 ≤ vec_capacity h.values) };
 }
 
 impl History {
     /// No entries, and no capacity. It allocates nothing.
     pub fn new(alloc: Global) -> Self
         ensures entries { result.entries ≡ [] }
-        ensures room { result.room ≡ 0 }
+        ensures spare { result.spare ≡ 0 }
     {
         History {
             entries: EntryList::new(alloc),
             tids: Vec::new(alloc),
             values: Vec::new(alloc),
-            room: 0,
+            spare: 0,
         }
     }
 
@@ -100,26 +100,26 @@ impl History {
         self.len() == 0
     }
 
-    /// `room`: the capacity for more entries, of any kind.
-    pub fn room(&self) -> usize
-        ensures { result ≡ self.now.room }
+    /// `spare`: the capacity for more entries, of any kind.
+    pub fn spare(&self) -> usize
+        ensures { result ≡ self.now.spare }
     {
-        self.room
+        self.spare
     }
 
-    /// Provides capacity for so many more entries, of any kind. A greater capacity is not reduced. The entries stay.
+    /// Provides capacity for this many more entries, of any kind. A greater capacity is not reduced. The entries stay.
     ///
     /// `NoMemory` if an allocation failed or the capacity can't be counted; the capacity stays then.
     #[inline]
     pub fn reserve(&mut self, count: usize) -> Result<(), NoMemory>
         ensures entries { self.new.entries ≡ self.old.entries }
-        ensures room { OnOk result (count ≤ self.new.room) }
-        ensures no_less { self.old.room ≤ self.new.room }
-        ensures enough { count ≤ self.old.room → self.new ≡ self.old }
-        ensures succeeds { count ≤ self.old.room → IsOk result }
-        ensures refused { OnErr result (self.new.room ≡ self.old.room) }
+        ensures spare { OnOk result (count ≤ self.new.spare) }
+        ensures no_less { self.old.spare ≤ self.new.spare }
+        ensures enough { count ≤ self.old.spare → self.new ≡ self.old }
+        ensures succeeds { count ≤ self.old.spare → IsOk result }
+        ensures refused { OnErr result (self.new.spare ≡ self.old.spare) }
     {
-        if count <= self.room {
+        if count <= self.spare {
             return Ok(());
         }
         self.grow(count)
@@ -129,28 +129,28 @@ impl History {
     #[cold]
     #[inline(never)]
     fn grow(&mut self, count: usize) -> Result<(), NoMemory>
-        requires { self.old.room < count }
+        requires { self.old.spare < count }
         ensures entries { self.new.entries ≡ self.old.entries }
-        ensures room { OnOk result (count ≤ self.new.room) }
-        ensures no_less { self.old.room ≤ self.new.room }
-        ensures refused { OnErr result (self.new.room ≡ self.old.room) }
+        ensures spare { OnOk result (count ≤ self.new.spare) }
+        ensures no_less { self.old.spare ≤ self.new.spare }
+        ensures refused { OnErr result (self.new.spare ≡ self.old.spare) }
     {
-        if count > MOST_ROOM {
+        if count > MOST_SPARE {
             return Err(NoMemory);
         }
-        let room = count + AHEAD;
-        reserve_lists(&mut self.entries, &mut self.tids, &mut self.values, room)?;
-        self.room = room;
+        let spare = count + AHEAD;
+        reserve_lists(&mut self.entries, &mut self.tids, &mut self.values, spare)?;
+        self.spare = spare;
         Ok(())
     }
 
-    /// Allocates memory for so many more entries, and for one value in the lists of each. Until these are used up, the present
-    /// ones need not be moved. Nothing else changes.
+    /// Allocates memory for this many more entries, and for one value in the lists of each. Until these are used up,
+    /// the present ones need not be moved. Nothing else changes.
     ///
     /// `NoMemory` if the allocation failed.
     pub fn reserve_entries(&mut self, count: usize) -> Result<(), NoMemory>
         ensures entries { self.new.entries ≡ self.old.entries }
-        ensures room { self.new.room ≡ self.old.room }
+        ensures spare { self.new.spare ≡ self.old.spare }
     {
         self.entries.reserve_memory(count)?;
         self.values.reserve(count)?;
@@ -161,11 +161,11 @@ impl History {
     /// has used less than a quarter is freed instead, so one that was long does not keep its memory for ever.
     pub fn recycle(&mut self, other: History)
         ensures entries { self.new.entries ≡ self.old.entries }
-        ensures room { self.old.room ≤ self.new.room }
+        ensures spare { self.old.spare ≤ self.new.spare }
     {
         let capacity = other.entries.memory();
         let is_used = capacity <= FIRST || other.len() >= capacity / 4;
-        if self.is_empty() && self.room <= other.room && is_used {
+        if self.is_empty() && self.spare <= other.spare && is_used {
             *self = other.emptied();
         }
     }
@@ -173,7 +173,7 @@ impl History {
     // The same memory without entries.
     fn emptied(mut self) -> History
         ensures entries { result.entries ≡ [] }
-        ensures room { result.room ≡ self.room }
+        ensures spare { result.spare ≡ self.spare }
     {
         self.entries.clear();
         self.tids.clear();
@@ -181,22 +181,22 @@ impl History {
         self
     }
 
-    /// `touch`: prefaults the memory of at most so many next entries, but not of their lists. It returns the index up to which
-    /// it did.
-    pub fn touch(&mut self, most: usize) -> usize
+    /// `prefault`: prefaults the memory of at most this many next entries, but not of their lists. It returns the index up
+    /// to which it did.
+    pub fn prefault(&mut self, most: usize) -> usize
         ensures same { self.new ≡ self.old }
-        ensures touched { result ≡ min self.old.capacities.entries (length self.old.entries + most) }
+        ensures prefaulted { result ≡ min self.old.capacities.entries (length self.old.entries + most) }
     {
-        self.entries.touch(most)
+        self.entries.prefault(most)
     }
 
     /// Adds an entry, for which there is capacity: the event, and the reply with these lists. It allocates nothing.
     #[inline(always)]
     pub fn push(&mut self, event: &Event, reply: &ShortReply, lists: &ReplyLists)
-        requires { 0 < self.old.room }
+        requires { 0 < self.old.spare }
         ensures entries { self.new.entries
             ≡ self.old.entries ++ record { event = event.now; reply = reply_with reply.now lists.now } ∷ [] }
-        ensures room { self.new.room + 1 ≡ self.old.room }
+        ensures spare { self.new.spare + 1 ≡ self.old.spare }
         ensures capacities { self.new.capacities ≡ self.old.capacities }
     {
         // The frequent kinds are written straight to their position.
@@ -247,19 +247,19 @@ impl History {
     // Adds an entry of any kind.
     #[inline(never)]
     fn push_any(&mut self, event: &Event, reply: &ShortReply, lists: &ReplyLists)
-        requires { 0 < self.old.room }
+        requires { 0 < self.old.spare }
         ensures entries { self.new.entries
             ≡ self.old.entries ++ record { event = event.now; reply = reply_with reply.now lists.now } ∷ [] }
-        ensures room { self.new.room + 1 ≡ self.old.room }
+        ensures spare { self.new.spare + 1 ≡ self.old.spare }
         ensures capacities { self.new.capacities ≡ self.old.capacities }
     {
-        let (_answers, _walk, _fell) = (lists.answers.len(), lists.walk.len(), lists.fell.len());
+        let (_answers, _cycle, _fell) = (lists.answers.len(), lists.cycle.len(), lists.fell.len());
         let args = args_of(event);
         let _args = args.len();
         let lists = EntryLists {
             args: args.as_slice(),
             answers: lists.answers.as_slice(),
-            walk: lists.walk.as_slice(),
+            cycle: lists.cycle.as_slice(),
             fell: lists.fell.as_slice(),
         };
         self.push_parts(BareEvent::of(event), reply, &lists);
@@ -268,11 +268,11 @@ impl History {
     // Adds an entry in parts, of any kind.
     #[inline(never)]
     fn push_parts(&mut self, event: BareEvent, reply: &ShortReply, lists: &EntryLists<'_>)
-        requires room { 0 < self.old.room }
+        requires spare { 0 < self.old.spare }
         requires few { AreFew lists.now }
         requires args { HasArgs event lists.now.args.now }
         ensures entries { self.new.entries ≡ self.old.entries ++ full_entry event reply.now lists.now ∷ [] }
-        ensures room { self.new.room + 1 ≡ self.old.room }
+        ensures spare { self.new.spare + 1 ≡ self.old.spare }
         ensures capacities { self.new.capacities ≡ self.old.capacities }
     {
         let StoredEntry { event, reply } = StoredEntry::of(
@@ -283,17 +283,17 @@ impl History {
             &mut self.values,
         );
         self.entries.push(event, reply);
-        self.room -= 1;
+        self.spare -= 1;
     }
 
     // Adds the start of a transaction.
     #[inline(never)]
     fn push_start(&mut self, procedure: u16, args: &[i64], t: Tid)
-        requires room { 0 < self.old.room }
+        requires spare { 0 < self.old.spare }
         requires few { length args.now ≤ 4 }
         ensures entries { self.new.entries
             ≡ self.old.entries ++ record { event = Start procedure args.now; reply = Started t } ∷ [] }
-        ensures room { self.new.room + 1 ≡ self.old.room }
+        ensures spare { self.new.spare + 1 ≡ self.old.spare }
         ensures capacities { self.new.capacities ≡ self.old.capacities }
     {
         let part = Span::append(&mut self.values, args);
@@ -303,17 +303,17 @@ impl History {
             t,
             from: part.from,
         });
-        self.room -= 1;
+        self.spare -= 1;
     }
 
     // Adds a commit with its answers.
     #[inline(never)]
     fn push_commit(&mut self, t: Tid, answers: &[i64])
-        requires room { 0 < self.old.room }
+        requires spare { 0 < self.old.spare }
         requires few { length answers.now ≤ 8 }
         ensures entries { self.new.entries
             ≡ self.old.entries ++ record { event = Commit t; reply = Committed answers.now } ∷ [] }
-        ensures room { self.new.room + 1 ≡ self.old.room }
+        ensures spare { self.new.spare + 1 ≡ self.old.spare }
         ensures capacities { self.new.capacities ≡ self.old.capacities }
     {
         let part = Span::append(&mut self.values, answers);
@@ -322,18 +322,18 @@ impl History {
             t,
             from: part.from,
         });
-        self.room -= 1;
+        self.spare -= 1;
     }
 
     // Adds an access on which a caller decided, with a reply that has no lists.
     #[inline(never)]
     fn push_access(&mut self, t: Tid, request: &Request, reply: StoredReply)
-        requires room { 0 < self.old.room }
+        requires spare { 0 < self.old.spare }
         requires reply { HasNoLists reply }
         requires key { HasKey reply }
         ensures entries { self.new.entries
             ≡ self.old.entries ++ record { event = Access t request.now; reply = full_reply (short_of reply) [] [] [] } ∷ [] }
-        ensures room { self.new.room + 1 ≡ self.old.room }
+        ensures spare { self.new.spare + 1 ≡ self.old.spare }
         ensures capacities { self.new.capacities ≡ self.old.capacities }
     {
         let args = request_args(request);
@@ -341,17 +341,17 @@ impl History {
         let event = BareEvent::of_request(t, request);
         let event = StoredEvent::of(event, args.as_slice(), &mut self.values);
         self.entries.push(event, reply);
-        self.room -= 1;
+        self.spare -= 1;
     }
 
     /// Adds the entry at this index of another history, for which there is capacity here. It allocates nothing.
     #[inline(always)]
     pub fn push_copy(&mut self, other: &History, place: usize)
-        requires room { 0 < self.old.room }
+        requires spare { 0 < self.old.spare }
         requires there { place < length other.now.entries }
         ensures entries { (e : Entry) → slice_get other.now.entries place ≡ Some e
             → self.new.entries ≡ self.old.entries ++ e ∷ [] }
-        ensures room { self.new.room + 1 ≡ self.old.room }
+        ensures spare { self.new.spare + 1 ≡ self.old.spare }
         ensures capacities { self.new.capacities ≡ self.old.capacities }
     {
         // Most entries are steps, and are copied as they are.
@@ -364,23 +364,23 @@ impl History {
     // Adds a step that read, wrote or came to the procedure's end.
     #[inline(always)]
     fn push_step(&mut self, step: PackedEntry)
-        requires room { 0 < self.old.room }
+        requires spare { 0 < self.old.spare }
         requires step { IsStep step }
         requires key { HasKey (unpacked [] step).reply }
         ensures entries { self.new.entries ≡ self.old.entries ++ step_entry step ∷ [] }
-        ensures room { self.new.room + 1 ≡ self.old.room }
+        ensures spare { self.new.spare + 1 ≡ self.old.spare }
         ensures capacities { self.new.capacities ≡ self.old.capacities }
     {
         self.entries.push_whole(step);
-        self.room -= 1;
+        self.spare -= 1;
     }
 
     /// Adds an entry of another history, for which there is capacity here. It allocates nothing.
     #[inline(never)]
     pub fn push_entry(&mut self, entry: &EntryRef<'_>)
-        requires { 0 < self.old.room }
+        requires { 0 < self.old.spare }
         ensures entries { self.new.entries ≡ self.old.entries ++ entry.now ∷ [] }
-        ensures room { self.new.room + 1 ≡ self.old.room }
+        ensures spare { self.new.spare + 1 ≡ self.old.spare }
         ensures capacities { self.new.capacities ≡ self.old.capacities }
     {
         // The frequent kinds are written straight to their position.
@@ -415,9 +415,9 @@ impl History {
     // Adds an entry of another history, of any kind.
     #[inline(never)]
     fn push_other(&mut self, entry: &EntryRef<'_>)
-        requires { 0 < self.old.room }
+        requires { 0 < self.old.spare }
         ensures entries { self.new.entries ≡ self.old.entries ++ entry.now ∷ [] }
-        ensures room { self.new.room + 1 ≡ self.old.room }
+        ensures spare { self.new.spare + 1 ≡ self.old.spare }
         ensures capacities { self.new.capacities ≡ self.old.capacities }
     {
         self.push_parts(entry.bare_event(), &entry.short(), &entry.lists());
@@ -593,26 +593,26 @@ impl History {
     }
 }
 
-// Provides capacity in the three lists for so many more entries. Their items stay, and no list loses capacity.
+// Provides capacity in the three lists for this many more entries. Their items stay, and no list loses capacity.
 fn reserve_lists(
     entries: &mut EntryList,
     tids: &mut Vec<Tid>,
     values: &mut Vec<i64>,
-    room: usize,
+    spare: usize,
 ) -> Result<(), NoMemory>
-    requires { room * 64 < 2 ^ 64 }
+    requires { spare * 64 < 2 ^ 64 }
     ensures entries { entries.new.items ≡ entries.old.items }
     ensures tids { (tids.new.items ≡ tids.old.items) × (vec_len tids.new ≡ vec_len tids.old) }
     ensures values { (values.new.items ≡ values.old.items) × (vec_len values.new ≡ vec_len values.old) }
-    ensures entries_room { entries.old.capacity ≤ entries.new.capacity }
-    ensures tids_room { vec_capacity tids.old ≤ vec_capacity tids.new }
-    ensures values_room { vec_capacity values.old ≤ vec_capacity values.new }
-    ensures enough { OnOk result ((length entries.new.items + room ≤ entries.new.capacity)
-        × (vec_len tids.new + room * 64 ≤ vec_capacity tids.new)
-        × (vec_len values.new + room * 12 ≤ vec_capacity values.new)) }
+    ensures entries_spare { entries.old.capacity ≤ entries.new.capacity }
+    ensures tids_spare { vec_capacity tids.old ≤ vec_capacity tids.new }
+    ensures values_spare { vec_capacity values.old ≤ vec_capacity values.new }
+    ensures enough { OnOk result ((length entries.new.items + spare ≤ entries.new.capacity)
+        × (vec_len tids.new + spare * 64 ≤ vec_capacity tids.new)
+        × (vec_len values.new + spare * 12 ≤ vec_capacity values.new)) }
 {
-    entries.reserve(room)?;
-    reserve_items(tids, room * MOST_TIDS)?;
-    reserve_items(values, room * MOST_VALUES)?;
+    entries.reserve(spare)?;
+    reserve_items(tids, spare * MOST_TIDS)?;
+    reserve_items(values, spare * MOST_VALUES)?;
     Ok(())
 }

@@ -22,20 +22,20 @@
 #![tactic(auto)]
 
 mod access_kind;
+mod allocation;
 mod bare;
 mod entry_list;
 mod entry_lists;
 mod entry_ref;
-mod growth;
 mod history;
 mod key_of;
 mod packed_entry;
+mod prefault;
 mod span;
 mod stored_entry;
 mod stored_event;
 mod stored_reply;
-mod touch;
 
 pub use entry_ref::EntryRef;
 pub use history::History;
-pub use touch::touch_ahead;
+pub use prefault::prefault_ahead;

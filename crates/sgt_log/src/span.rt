@@ -23,7 +23,7 @@ impl Span {
     /// Adds the items at the end of a list that has capacity for them, and returns their span. It allocates nothing.
     #[inline(always)]
     pub fn append<T: Copy>(list: &mut Vec<T>, items: &[T]) -> Self
-        requires room { vec_len list.old + length items.now ≤ vec_capacity list.old }
+        requires spare { vec_len list.old + length items.now ≤ vec_capacity list.old }
         requires few { length items.now ≤ 32 }
         ensures items { list.new.items ≡ list.old.items ++ items.now }
         ensures part { part_of list.new.items result ≡ items.now }

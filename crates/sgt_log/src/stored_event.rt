@@ -37,7 +37,7 @@ impl StoredEvent {
     pub fn of(event: BareEvent, args: &[i64], values: &mut Vec<i64>) -> Self
         requires few { length args.now ≤ 4 }
         requires args { HasArgs event args.now }
-        requires room { vec_len values.old + 4 ≤ vec_capacity values.old }
+        requires spare { vec_len values.old + 4 ≤ vec_capacity values.old }
         ensures event { event_of values.new.items result ≡ full_event event args.now }
         ensures within { IsEvent values.new.items result }
         ensures more { HasMore values.old.items values.new.items }

@@ -3,9 +3,9 @@ ghost use Rattle.std.specs.Prelude.{◌≡◌, ◌+◌, ◌≤◌, ◌↔◌, �
 ghost use Rattle.sgt_model.specs.Numbers.{IsValue};
 ghost use Rattle.sgt_model.specs.declared.reply.Reply.TheVariants.{Over, Aborted};
 ghost use Rattle.sgt_model.specs.declared.short_reply.ShortReply.TheVariants.{Looked, Wrote};
-ghost use Rattle.sgt_model.specs.ShortReplies.{full_cause, full_fate, full_reply, cause_walk, fate_walk, answers_in, walk_in, fell_in};
+ghost use Rattle.sgt_model.specs.ShortReplies.{full_cause, full_fate, full_reply, cause_cycle, fate_cycle, answers_in, cycle_of_reply, fell_in};
 ghost use Rattle.sgt_log.specs.Spans.{part_of, HasMore, IsWithin};
-ghost use Rattle.sgt_log.specs.StoredEntries.{short_of, reply_of, answers_at, walk_at, fell_at, IsReply, HasKey, HasNoLists};
+ghost use Rattle.sgt_log.specs.StoredEntries.{short_of, reply_of, answers_at, cycle_at, fell_at, IsReply, HasKey, HasNoLists};
 ghost use Rattle.sgt_log.specs.EntryParts.{AreFew};
 
 use crate::entry_lists::EntryLists;
@@ -57,9 +57,9 @@ pub enum StoredReply {
     },
     Aborted {
         cause: ShortCause,
-        walk: u8,
+        cycle: u8,
         fell: u8,
-        walk_from: usize,
+        cycle_from: usize,
         fell_from: usize,
     },
     Refused {
@@ -84,7 +84,7 @@ impl StoredReply {
         requires few { AreFew lists.now }
         requires tids { vec_len tids.old + 64 ≤ vec_capacity tids.old }
         requires values { vec_len values.old + 8 ≤ vec_capacity values.old }
-        ensures reply { reply_of tids.new.items values.new.items result ≡ full_reply reply.now lists.now.answers.now lists.now.walk.now lists.now.fell.now }
+        ensures reply { reply_of tids.new.items values.new.items result ≡ full_reply reply.now lists.now.answers.now lists.now.cycle.now lists.now.fell.now }
         ensures within { IsReply (length tids.new.items) (length values.new.items) result }
         ensures more_tids { HasMore tids.old.items tids.new.items }
         ensures more_values { HasMore values.old.items values.new.items }
@@ -100,7 +100,7 @@ impl StoredReply {
             ShortReply::Spent => StoredReply::Spent,
             ShortReply::Full => StoredReply::Full,
             ShortReply::Unknown => StoredReply::Unknown,
-            ShortReply::Over(fate) => StoredReply::over(fate, lists.walk, tids),
+            ShortReply::Over(fate) => StoredReply::over(fate, lists.cycle, tids),
             ShortReply::Looked { key, value } => StoredReply::looked(key, value),
             ShortReply::Wrote { key, value } => StoredReply::wrote(key, value),
             ShortReply::Ended => StoredReply::Ended,
@@ -114,7 +114,7 @@ impl StoredReply {
                 }
             }
             ShortReply::Aborted(cause) => {
-                StoredReply::aborted(cause, lists.walk, lists.fell, tids)
+                StoredReply::aborted(cause, lists.cycle, lists.fell, tids)
             }
             ShortReply::Refused(code) => {
                 let part = Span::append(tids, lists.fell);
@@ -167,16 +167,16 @@ impl StoredReply {
 
     // The end of a transaction that is over. The path of its cycle is appended to the list of transactions.
     #[inline(never)]
-    fn over(fate: &ShortFate, walk: &[Tid], tids: &mut Vec<Tid>) -> Self
-        requires few { length walk.now ≤ 32 }
-        requires room { vec_len tids.old + 64 ≤ vec_capacity tids.old }
-        ensures reply { (values : List ℤ) → reply_of tids.new.items values result ≡ Over (full_fate fate.now walk.now) }
+    fn over(fate: &ShortFate, cycle: &[Tid], tids: &mut Vec<Tid>) -> Self
+        requires few { length cycle.now ≤ 32 }
+        requires spare { vec_len tids.old + 64 ≤ vec_capacity tids.old }
+        ensures reply { (values : List ℤ) → reply_of tids.new.items values result ≡ Over (full_fate fate.now cycle.now) }
         ensures within { (v : ℕ) → IsReply (length tids.new.items) v result }
         ensures more { HasMore tids.old.items tids.new.items }
         ensures len { vec_len tids.new ≤ vec_len tids.old + 64 }
         ensures capacity { vec_capacity tids.new ≡ vec_capacity tids.old }
     {
-        let path = Span::append(tids, fate_path(fate, walk));
+        let path = Span::append(tids, fate_path(fate, cycle));
         StoredReply::Over {
             fate: *fate,
             count: path.count,
@@ -186,22 +186,22 @@ impl StoredReply {
 
     // An abort. The path of its cycle, and those aborted in cascade, are appended to the list of transactions.
     #[inline(never)]
-    fn aborted(cause: &ShortCause, walk: &[Tid], fell: &[Tid], tids: &mut Vec<Tid>) -> Self
-        requires few { (length walk.now ≤ 32) × (length fell.now ≤ 32) }
-        requires room { vec_len tids.old + 64 ≤ vec_capacity tids.old }
-        ensures reply { (values : List ℤ) → reply_of tids.new.items values result ≡ Aborted (full_cause cause.now walk.now) fell.now }
+    fn aborted(cause: &ShortCause, cycle: &[Tid], fell: &[Tid], tids: &mut Vec<Tid>) -> Self
+        requires few { (length cycle.now ≤ 32) × (length fell.now ≤ 32) }
+        requires spare { vec_len tids.old + 64 ≤ vec_capacity tids.old }
+        ensures reply { (values : List ℤ) → reply_of tids.new.items values result ≡ Aborted (full_cause cause.now cycle.now) fell.now }
         ensures within { (v : ℕ) → IsReply (length tids.new.items) v result }
         ensures more { HasMore tids.old.items tids.new.items }
         ensures len { vec_len tids.new ≤ vec_len tids.old + 64 }
         ensures capacity { vec_capacity tids.new ≡ vec_capacity tids.old }
     {
-        let path = Span::append(tids, cause_path(cause, walk));
+        let path = Span::append(tids, cause_path(cause, cycle));
         let cascade = Span::append(tids, fell);
         StoredReply::Aborted {
             cause: *cause,
-            walk: path.count,
+            cycle: path.count,
             fell: cascade.count,
-            walk_from: path.from,
+            cycle_from: path.from,
             fell_from: cascade.from,
         }
     }
@@ -285,11 +285,11 @@ impl StoredReply {
     }
 
     /// The path of the cycle that it reports, if any.
-    pub fn walk<'a>(&self, tids: &'a [Tid]) -> &'a [Tid]
-        requires { IsWithin (length tids.now) (walk_at self.now) }
+    pub fn cycle<'a>(&self, tids: &'a [Tid]) -> &'a [Tid]
+        requires { IsWithin (length tids.now) (cycle_at self.now) }
         ensures same { (answers : List ℤ) (fell : List ℕ) → full_reply (short_of self.now) answers result.now fell
-            ≡ full_reply (short_of self.now) answers (part_of tids.now (walk_at self.now)) fell }
-        ensures walk { (values : List ℤ) → result.now ≡ walk_in (reply_of tids.now values self.now) }
+            ≡ full_reply (short_of self.now) answers (part_of tids.now (cycle_at self.now)) fell }
+        ensures cycle { (values : List ℤ) → result.now ≡ cycle_of_reply (reply_of tids.now values self.now) }
         ensures few { length result.now ≤ 32 }
     {
         match self {
@@ -298,10 +298,10 @@ impl StoredReply {
             }
             StoredReply::Aborted {
                 cause,
-                walk,
-                walk_from,
+                cycle,
+                cycle_from,
                 ..
-            } => cause_path(cause, Span::new(*walk_from, *walk).items(tids)),
+            } => cause_path(cause, Span::new(*cycle_from, *cycle).items(tids)),
             _ => &[],
         }
     }
@@ -330,30 +330,30 @@ impl StoredReply {
         ensures { result ≡ reply_of tids.now values.now self.now }
     {
         self.short()
-            .in_full(self.answers(values), self.walk(tids), self.fell(tids))
+            .in_full(self.answers(values), self.cycle(tids), self.fell(tids))
     }
 }
 
 // The path of a cause: no items if it is no cycle.
-fn cause_path<'a>(cause: &ShortCause, walk: &'a [Tid]) -> &'a [Tid]
-    ensures path { result.now ≡ cause_walk (full_cause cause.now walk.now) }
-    ensures same { full_cause cause.now result.now ≡ full_cause cause.now walk.now }
-    ensures few { length result.now ≤ length walk.now }
+fn cause_path<'a>(cause: &ShortCause, cycle: &'a [Tid]) -> &'a [Tid]
+    ensures path { result.now ≡ cause_cycle (full_cause cause.now cycle.now) }
+    ensures same { full_cause cause.now result.now ≡ full_cause cause.now cycle.now }
+    ensures few { length result.now ≤ length cycle.now }
 {
     match cause {
-        ShortCause::Cycle => walk,
+        ShortCause::Cycle => cycle,
         ShortCause::Asked(_) | ShortCause::Quit => &[],
     }
 }
 
 // The path of a fate: no items if it is no abort by a cycle.
-fn fate_path<'a>(fate: &ShortFate, walk: &'a [Tid]) -> &'a [Tid]
-    ensures path { result.now ≡ fate_walk (full_fate fate.now walk.now) }
-    ensures same { full_fate fate.now result.now ≡ full_fate fate.now walk.now }
-    ensures few { length result.now ≤ length walk.now }
+fn fate_path<'a>(fate: &ShortFate, cycle: &'a [Tid]) -> &'a [Tid]
+    ensures path { result.now ≡ fate_cycle (full_fate fate.now cycle.now) }
+    ensures same { full_fate fate.now result.now ≡ full_fate fate.now cycle.now }
+    ensures few { length result.now ≤ length cycle.now }
 {
     match fate {
-        ShortFate::Aborted(cause) => cause_path(cause, walk),
+        ShortFate::Aborted(cause) => cause_path(cause, cycle),
         ShortFate::Committed | ShortFate::Fell(_) => &[],
     }
 }

@@ -10,15 +10,15 @@ use Rattle.sgt_model.specs.declared.reply.Reply.{Reply}
 use Rattle.sgt_model.specs.declared.entry.Entry.{Entry}
 use Rattle.sgt_model.specs.Numbers.{IsValue, is_value}
 use Rattle.sgt_model.specs.Fates.{is_start, start_count, subject}
-use Rattle.sgt_model.specs.Settings.{Setting}
+use Rattle.sgt_model.specs.Configurations.{Configuration}
 use Rattle.sgt_model.specs.Progress.{Call, call_at, call_in, call_of, caller_accesses, with_caller_accesses}
 use Rattle.sgt_model.specs.Runs.{CallerAccess}
 use Rattle.sgt_model.specs.Legality.{Legal}
-use Rattle.sgt_model.specs.Replay.{told_call_in, told_calls}
+use Rattle.sgt_model.specs.Replay.{reported_call_in, reported_calls}
 use Rattle.sgt_model.specs.Admissions.{IsAdmitted, AreAdmitted}
 use Rattle.sgt_model.proofs.Effects.{Begins, effect, Commits, Refusal}
 use Rattle.sgt_model.proofs.Facts.{call-kept, commits_or_not, Uncommitted, live-started}
-use Rattle.sgt_model.proofs.Room.{starts_or_not}
+use Rattle.sgt_model.proofs.Capacity.{starts_or_not}
 use Rattle.sgt_model.proofs.StoredValues.{is_value-fact}
 
 values_fit : (args : List ℤ) → list_all is_value args ≡ true → All IsValue args
@@ -26,7 +26,7 @@ values_fit [] e = All-nil IsValue
 values_fit (a ∷ args) e = let parts = and_parts (is_value a) (list_all is_value args) e in
     All-cons IsValue a args (is_value-fact a parts.0) (values_fit args parts.1)
 
-at_start : (s : Setting) (past : List Entry) (event : Event) (r : Reply) → Begins s past event r → (before : Call)
+at_start : (s : Configuration) (past : List Entry) (event : Event) (r : Reply) → Begins s past event r → (before : Call)
     → IsAdmitted s (unwrap_or (call_in event r (start_count past)) before)
 at_start s past event r b before =
     let parts = and_parts (nat_eq (length b.args) b.count) (list_all is_value b.args) b.fit in
@@ -36,7 +36,7 @@ at_start s past event r b before =
     subst (λ o. IsAdmitted s (unwrap_or o before)) (sym is)
     (record { known = b.known ∙ ap Some (sym (eqb-true (length b.args) b.count parts.0)); values = values_fit b.args parts.1 })
 
-started_admitted : (s : Setting) (past : List Entry) (t : ℕ) → Legal s past → t < start_count past → IsAdmitted s (call_of past t)
+started_admitted : (s : Configuration) (past : List Entry) (t : ℕ) → Legal s past → t < start_count past → IsAdmitted s (call_of past t)
 started_admitted s [] t h started = absurd (omega arith)
 started_admitted s (e ∷ past) t h started = by_age (started_admitted s past t h.0) (cases_lt t (start_count past))
   where
@@ -57,25 +57,25 @@ started_admitted s (e ∷ past) t h started = by_age (started_admitted s past t 
     by_age before (inr new) = by_start new (starts_or_not (effect s past e.event e.reply h.1))
 
 -- whatever its caller requested after its end
-asked_too : {s : Setting} {c : Call} {xs : List CallerAccess} → IsAdmitted s c → IsAdmitted s (with_caller_accesses xs c)
-asked_too a = record { known = a.known; values = a.values }
+requested_too : {s : Configuration} {c : Call} {xs : List CallerAccess} → IsAdmitted s c → IsAdmitted s (with_caller_accesses xs c)
+requested_too a = record { known = a.known; values = a.values }
 
 -- so was each that committed or was refused
-pub committed_admitted : (s : Setting) (past : List Entry) → Legal s past → AreAdmitted s (told_calls past)
+pub committed_admitted : (s : Configuration) (past : List Entry) → Legal s past → AreAdmitted s (reported_calls past)
 committed_admitted s [] h = tt
 committed_admitted s (e ∷ past) h = by_end (committed_admitted s past h.0) (commits_or_not (effect s past e.event e.reply h.1))
   where
-    by_end : AreAdmitted s (told_calls past)
+    by_end : AreAdmitted s (reported_calls past)
         → Commits s past e.event e.reply ⊎ (Refusal s past e.event e.reply ⊎ Uncommitted s past e.event e.reply)
-        → AreAdmitted s (told_call_in past e.event e.reply ++ told_calls past)
+        → AreAdmitted s (reported_call_in past e.event e.reply ++ reported_calls past)
     by_end before (inl c) =
         let who : subject e.event ≡ c.t = ap subject c.event_is in
         let admitted = started_admitted s past c.t h.0 (live-started past c.t c.is_live) in
-        subst (λ r. AreAdmitted s (told_call_in past e.event r ++ told_calls past)) (sym c.reply_is)
-        (before, subst (λ u. IsAdmitted s (with_caller_accesses (caller_accesses past u) (call_of past u))) (sym who) (asked_too admitted))
+        subst (λ r. AreAdmitted s (reported_call_in past e.event r ++ reported_calls past)) (sym c.reply_is)
+        (before, subst (λ u. IsAdmitted s (with_caller_accesses (caller_accesses past u) (call_of past u))) (sym who) (requested_too admitted))
     by_end before (inr (inl x)) =
         let who : subject e.event ≡ x.undoing.t = ap subject x.event_is in
         let admitted = started_admitted s past x.undoing.t h.0 (live-started past x.undoing.t x.undoing.is_live) in
-        subst (λ r. AreAdmitted s (told_call_in past e.event r ++ told_calls past)) (sym x.reply_is)
-        (before, subst (λ u. IsAdmitted s (with_caller_accesses (caller_accesses past u) (call_of past u))) (sym who) (asked_too admitted))
-    by_end before (inr (inr quiet)) = subst (λ l. AreAdmitted s (l ++ told_calls past)) (sym quiet.no_call) before
+        subst (λ r. AreAdmitted s (reported_call_in past e.event r ++ reported_calls past)) (sym x.reply_is)
+        (before, subst (λ u. IsAdmitted s (with_caller_accesses (caller_accesses past u) (call_of past u))) (sym who) (requested_too admitted))
+    by_end before (inr (inr quiet)) = subst (λ l. AreAdmitted s (l ++ reported_calls past)) (sym quiet.no_call) before

@@ -18,7 +18,7 @@ use Rattle.sgt_model.specs.Accesses.{Access, access_of, act_in, acts}
 use Rattle.sgt_model.specs.Fates.{aborted, committed, has_committed, live}
 use Rattle.sgt_model.specs.Values.{newest_store, value_or}
 use Rattle.sgt_model.specs.Pairs.{FollowsIn, Precedes, has_conflicting}
-use Rattle.sgt_model.specs.Settings.{Setting}
+use Rattle.sgt_model.specs.Configurations.{Configuration}
 use Rattle.sgt_model.specs.Progress.{call_of, reads, made}
 use Rattle.sgt_model.specs.Legality.{Legal}
 use Rattle.sgt_model.specs.AccessList.{listed_in, access_list}
@@ -50,7 +50,7 @@ acts_other a u l n = act_other (Some a) a u l refl (λ z. n (sym z))
 acts_own : (a : Access) (u : ℕ) (l : List Access) → u ≡ a.by → act_in (Some a) u l ≡ a ∷ l
 acts_own a u l e = act_own (Some a) a u l refl (sym e)
 
-module _ (s : Setting) (past : List Entry) (h : Legal s past) (before after : State) (i : IsStateAfter s past before) (t : ℕ)
+module _ (s : Configuration) (past : List Entry) (h : Legal s past) (before after : State) (i : IsStateAfter s past before) (t : ℕ)
     (k : Key) (alive : live past t ≡ true) where
   -- the edges, after an access
   pairs_after : (kind : Kind) (e : Entry) → ((u : ℕ) → live (e ∷ past) u ≡ live past u)
@@ -249,9 +249,9 @@ module _ (s : Setting) (past : List Entry) (h : Legal s past) (before after : St
 
 -- the state knows only the access, and not whether the procedure wanted it or the caller requested it
 
-pub look_asked : (s : Setting) (past : List Entry) (t : ℕ) (d : Request) (k : Key) (v : Option ℤ) (c : State)
+pub look_requested : (s : Configuration) (past : List Entry) (t : ℕ) (d : Request) (k : Key) (v : Option ℤ) (c : State)
     → IsStateAfter s (look_entry t k v ∷ past) c → IsStateAfter s (record { event = event.Access t d; reply = reply.Looked k v } ∷ past) c
-look_asked s past t d k v c x = record {
+look_requested s past t d k v c x = record {
   lives = x.lives;
   nodes = x.nodes;
   pairs = λ a b. let p = x.pairs a b in (
@@ -278,9 +278,9 @@ look_asked s past t d k v c x = record {
   left = x.left;
 }
 
-pub store_asked : (s : Setting) (past : List Entry) (t : ℕ) (d : Request) (k : Key) (v : Option ℤ) (c : State)
+pub store_requested : (s : Configuration) (past : List Entry) (t : ℕ) (d : Request) (k : Key) (v : Option ℤ) (c : State)
     → IsStateAfter s (store_entry t k v ∷ past) c → IsStateAfter s (record { event = event.Access t d; reply = reply.Wrote k v } ∷ past) c
-store_asked s past t d k v c x = record {
+store_requested s past t d k v c x = record {
   lives = x.lives;
   nodes = x.nodes;
   pairs = λ a b. let p = x.pairs a b in (

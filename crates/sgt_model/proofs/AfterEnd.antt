@@ -22,7 +22,7 @@ use Rattle.sgt_model.specs.Fates.{aborted, started_ones, committed, concerns, en
 use Rattle.sgt_model.specs.Values.{newest_store, settled, stores, value_or}
 use Rattle.sgt_model.specs.ReadFrom.{ReadFrom}
 use Rattle.sgt_model.specs.Pairs.{Precedes}
-use Rattle.sgt_model.specs.Settings.{Setting}
+use Rattle.sgt_model.specs.Configurations.{Configuration}
 use Rattle.sgt_model.specs.Progress.{call_in, call_of}
 use Rattle.sgt_model.specs.Legality.{Legal}
 use Rattle.sgt_model.specs.AccessList.{listed_in, access_list}
@@ -47,7 +47,7 @@ pub record EndsAll (gone : ℕ → Bool) (e : Entry) (past : List Entry) : Type 
   pub stays : (u : ℕ) → gone u ≡ false → ending_in e.event e.reply u ≡ None
   pub ends : (u : ℕ) → gone u ≡ true → (f : Fate) × (ending_in e.event e.reply u ≡ Some f)
 
-module _ (s : Setting) (past : List Entry) (gone : ℕ → Bool) (e : Entry) (x : EndsAll gone e past) where
+module _ (s : Configuration) (past : List Entry) (gone : ℕ → Bool) (e : Entry) (x : EndsAll gone e past) where
   fate_stays : (u : ℕ) → gone u ≡ false → fate_of (e ∷ past) u ≡ fate_of past u
   fate_stays u g = ap (λ o. option_or o (fate_of past u)) (x.stays u g)
 
@@ -205,7 +205,7 @@ removes_none c = record {
   left = λ u g. refl;
 }
 
-pub after_nothing : (s : Setting) (past : List Entry) (e : Entry) (c : State) → EndsAll no_one e past → IsStateAfter s past c
+pub after_nothing : (s : Configuration) (past : List Entry) (e : Entry) (c : State) → EndsAll no_one e past → IsStateAfter s past c
     → IsStateAfter s (e ∷ past) c
 after_nothing s past e c x i = after_end s past no_one e x c c i (removes_none c)
     (λ k. i.settled k ∙ sym (ap₂ (λ o q. value_or (option_or o (newest_store q k past)) (s.opening k))
@@ -235,7 +235,7 @@ committed_now : (b : Bool) (o : Option Fate) → has_committed (option_or (cond 
 committed_now true o = refl
 committed_now false o = refl
 
-pub after_commit : (s : Setting) (past : List Entry) → Legal s past → (t : ℕ) (answers : List ℤ) (before after : State)
+pub after_commit : (s : Configuration) (past : List Entry) → Legal s past → (t : ℕ) (answers : List ℤ) (before after : State)
     → live past t ≡ true → IsStateAfter s past before → Settles t before after → IsStateAfter s (commit_entry t answers ∷ past) after
 after_commit s past h t answers before after alive i x = after_end s past (λ u. nat_eq t u) (commit_entry t answers)
     (commit_ends t answers past) before after i x.removes settles
@@ -257,7 +257,7 @@ after_commit s past h t answers before after alive i x = after_end s past (λ u.
         ∙ (ap (λ o. value_or o (s.opening k)) (sym split) ∙ ap (λ q. value_or (newest_store q k past) (s.opening k))
         (fun_ext (λ u. sym (committed_now (nat_eq t u) (fate_of past u)))))))
 
--- a Step or a Quit of t
+-- a `Step` or a `Quit` of t
 pub record Of (event : Event) (t : ℕ) : Type 0 where
   pub concerns : (u : ℕ) → concerns event u ≡ nat_eq t u
   pub subject : subject event ≡ t
@@ -317,7 +317,7 @@ undo_ends event r t why fell past x = record {
     some false true g = (fate.Fell t, refl)
     some false false g = absurd (cc)
 
-pub after_undo : (s : Setting) (past : List Entry) (event : Event) (t : ℕ) (why : Cause) (fell : List ℕ) (r : Reply)
+pub after_undo : (s : Configuration) (past : List Entry) (event : Event) (t : ℕ) (why : Cause) (fell : List ℕ) (r : Reply)
     → UndoneBy event r t why fell → (before after : State) → ((u : ℕ) → gone_with t fell u ≡ true → live past u ≡ true)
     → IsStateAfter s past before → Drops t why fell before after → IsStateAfter s (record { event = event; reply = r } ∷ past) after
 after_undo s past event t why fell r undone before after lived i x =

@@ -11,7 +11,7 @@ use Rattle.sgt_model.specs.Accesses.{acts}
 use Rattle.sgt_model.specs.Fates.{started_ones, fate_of, live, live_ones, start_count}
 use Rattle.sgt_model.specs.ReadFrom.{ReadFrom}
 use Rattle.sgt_model.specs.Pairs.{Precedes}
-use Rattle.sgt_model.specs.Settings.{Setting}
+use Rattle.sgt_model.specs.Configurations.{Configuration}
 use Rattle.sgt_model.specs.Progress.{Call, call_of}
 use Rattle.sgt_model.specs.Legality.{Legal}
 use Rattle.sgt_model.specs.AccessList.{access_list}
@@ -22,7 +22,7 @@ use Rattle.sgt_model.specs.Changes.{Starts}
 use Rattle.sgt_model.proofs.Facts.{live-started, precedes-started, unstarted-no_fate}
 use Rattle.sgt_model.proofs.Sources.{read-precedes}
 use Rattle.sgt_model.proofs.Plays.{acts_unstarted}
-use Rattle.sgt_model.proofs.Room.{begun_below}
+use Rattle.sgt_model.proofs.Capacity.{begun_below}
 use Rattle.sgt_model.proofs.Counted.{filter_listed, AgreeOn, chain-agree, legal-agree, access_list-agree}
 use Rattle.sgt_model.proofs.LiveLeft.{left_by}
 
@@ -40,7 +40,7 @@ same a b d x p q r z = rw (p, q, r, z) refl
 above : (a b d x : Bool) → a ≡ false → b ≡ false → d ≡ false → (a && x) ≡ ((b && x) || d)
 above a b d x p q r = rw (p, q, r) refl
 
-module _ (s : Setting) (past : List Entry) (h : Legal s past) (p : ℕ) (args : List ℤ) where
+module _ (s : Configuration) (past : List Entry) (h : Legal s past) (p : ℕ) (args : List ℤ) where
   live_is : (u : ℕ) → live (start_entry p args (start_count past) ∷ past) u ≡ (live past u || nat_eq u (start_count past))
   live_is u = go (cases_lt u (start_count past)) (cases_eq u (start_count past))
     where

@@ -12,7 +12,7 @@ use Rattle.sgt_model.specs.Values.{stores, newest_store, value_or, settled}
 use Rattle.sgt_model.specs.ReadFrom.{IsBy, LooksFrom, ReadFrom}
 use Rattle.sgt_model.specs.Pairs.{conflicts, has_conflicting, FollowsIn, Precedes, Pair}
 use Rattle.sgt_model.specs.Closes.{Closes}
-use Rattle.sgt_model.specs.Settings.{Setting}
+use Rattle.sgt_model.specs.Configurations.{Configuration}
 use Rattle.sgt_model.specs.Legality.{HasNoLivePredecessor, Legal}
 use Rattle.sgt_model.proofs.Facts.{access-live, access-free, look-found, aborted-stays, live-stands, live-not_committed, committed-stands, committed_else, has_conflicting-started, legal_older, aborts-stay}
 use Rattle.sgt_model.proofs.PairOrder.{no_pair_from_live}
@@ -40,7 +40,7 @@ closes_two past t u k kind pair access_list = record {
 look_no_store : (q : ℕ → Bool) (k : Key) (x : Option Access) (a : Access) → x ≡ Some a → a.kind ≡ Look → stores q k x ≡ None
 look_no_store q k x a h g = subst (λ y. stores q k y ≡ None) (sym h) (simp g)
 
-module _ (s : Setting) (newer older : List Entry) (e : Entry) (a : Access) (legal : Legal s (newer ++ e ∷ older))
+module _ (s : Configuration) (newer older : List Entry) (e : Entry) (a : Access) (legal : Legal s (newer ++ e ∷ older))
     (is : access_of e ≡ Some a) (is_look : a.kind ≡ Look) (is_live : live (newer ++ e ∷ older) a.by ≡ true)
     (none_live : HasNoLivePredecessor (newer ++ e ∷ older) a.by) where
   past : List Entry

@@ -18,14 +18,14 @@ use Rattle.sgt_model.specs.Traces.{Puts, Ends, Raises}
 use Rattle.sgt_model.specs.Accesses.{Access, is_store, access_in, access_of, act_in, acts}
 use Rattle.sgt_model.specs.Fates.{subject, committed}
 use Rattle.sgt_model.specs.Values.{newest_store, value_or, settled}
-use Rattle.sgt_model.specs.Settings.{Rules, Setting}
+use Rattle.sgt_model.specs.Configurations.{Rules, Configuration}
 use Rattle.sgt_model.specs.Progress.{Call, call_of, caller_access_in, caller_accesses, values_read, requested, run_of, outcome_in, next_of}
 use Rattle.sgt_model.specs.Legality.{Legal}
-use Rattle.sgt_model.specs.Replay.{GaveAnswers, AskedCode, Folded, with_outcome, run_in_turn, told_call_in, told_in, told_calls}
+use Rattle.sgt_model.specs.Replay.{GaveAnswers, RaisedCode, Folded, with_outcome, run_in_turn, reported_call_in, reported_in, reported_calls}
 use Rattle.sgt_model.specs.Callers.{Caller, AsDecided, Decides, Alone, then_does, by_procedure, requests, by_caller, Turns, with_turn, after_procedure, with_run, with_entry, callers_in_turn, turn_in, turns_of, CallersAgree, CallersRunAlone, CallersExist, IsOfProcedure, AreOfProcedures, procedures_in_turn, ProceduresRunAlone}
 use Rattle.sgt_model.proofs.Effects.{Fits, Made, Commits, Refusal, effect}
 use Rattle.sgt_model.proofs.Facts.{access-live, live-not_committed, access-fits, committed-stays, Uncommitted, commits_or_not}
-use Rattle.sgt_model.proofs.Acts.{asks_of, AsAsked, over, FindsIn, caller_access_of}
+use Rattle.sgt_model.proofs.Acts.{requests_of, AsRequested, over, FindsIn, caller_access_of}
 use Rattle.sgt_model.proofs.Traces.{left_by, left, next_of_run, left_next, finds_own}
 use Rattle.sgt_model.proofs.Plays.{act_own, act_other, act_none, caller_access_if, caller_access_in-is, caller_access_if-none, caller_access_if-other, not_fit, only_own, own_end, plays}
 use Rattle.sgt_model.proofs.Overs.{over-acts, finds_in}
@@ -96,13 +96,13 @@ steps t (puts k w rest) m a l now fits own found h = (
 steps t (ends answers) m a l now fits own found h = absurd fits
 steps t (raises code) m a l now fits own found h = absurd fits
 
-played_alone : (t : ℕ) (r : Run) (m : Contents) (l : List Access) → AsAsked (asks_of r) l → FindsIn m l → AllBy t l
+played_alone : (t : ℕ) (r : Run) (m : Contents) (l : List Access) → AsRequested (requests_of r) l → FindsIn m l → AllBy t l
     → (now : Contents) × (by_procedure t r (so_far [] m) ≡ by_procedure t (left r l) (so_far l now)) × (serial r m ≡ serial (left r l) now)
     × Holds m l now
-played_alone t r m [] asked found own = (m, refl, refl, λ k. refl)
-played_alone t r m (a ∷ l) asked found own =
-    let ih = played_alone t r m l asked.0 found.0 own.0 in
-    let fits : Fits (next_of_run (left r l)) a = subst (λ n. Fits n a) (left_next r l asked.0) asked.1 in
+played_alone t r m [] requested found own = (m, refl, refl, λ k. refl)
+played_alone t r m (a ∷ l) requested found own =
+    let ih = played_alone t r m l requested.0 found.0 own.0 in
+    let fits : Fits (next_of_run (left r l)) a = subst (λ n. Fits n a) (left_next r l requested.0) requested.1 in
     let step = steps t (left r l) m a l ih.0 fits own.1 found.1 ih.3 in
     (step.0, ih.1 ∙ step.1, ih.2 ∙ step.2, step.3)
 
@@ -176,7 +176,7 @@ decided_at c past u d (reply.Looked k v) a is h = h (by_is (access u k Look v) a
 decided_at c past u d (reply.Wrote k v) a is h = h (by_is (access u k Store v) a (Some (access u k Store v)) refl is)
 decided_at c past u d _ a is h = absurd (cc is)
 
-made_decided : (s : Setting) (c : Caller) (past : List Entry) (event : Event) (r : Reply) (a : Access) → Legal s past
+made_decided : (s : Configuration) (c : Caller) (past : List Entry) (event : Event) (r : Reply) (a : Access) → Legal s past
     → access_in event r ≡ Some a → Made (next_of s past a.by) event a → AsDecided c a.by past event r
     → NewestDecided c (caller_accesses past a.by) (acts past a.by)
     → NewestDecided c (caller_access_if event (Some a) a.by ++ caller_accesses past a.by) (a ∷ acts past a.by)
@@ -191,7 +191,7 @@ made_decided s c past (Start p args) r a legal is made h ih = absurd made
 made_decided s c past (Commit u) r a legal is made h ih = absurd made
 made_decided s c past (Quit u) r a legal is made h ih = absurd made
 
-newest_decided : (s : Setting) (c : Caller) (past : List Entry) (t : ℕ) → Legal s past → Decides c t past
+newest_decided : (s : Configuration) (c : Caller) (past : List Entry) (t : ℕ) → Legal s past → Decides c t past
     → NewestDecided c (caller_accesses past t) (acts past t)
 newest_decided s c [] t legal h = tt
 newest_decided s c (e ∷ past) t legal h = by_access (newest_decided s c past t legal.0 h.0) (access_of e) refl
@@ -236,7 +236,7 @@ raised_run (ends given) code e = absurd (cc e)
 raised_run (raises given) code e = ap (λ l. raises l) (cc e)
 
 -- the transaction of a commit, run alone after those before it
-commit_ran : (s : Setting) (callers : ℕ → Caller) (n : ℕ) (past : List Entry) (event : Event) (r : Reply) → Legal s past
+commit_ran : (s : Configuration) (callers : ℕ → Caller) (n : ℕ) (past : List Entry) (event : Event) (r : Reply) → Legal s past
     → (c : Commits s past event r) → length past ≤ n → Decides (callers c.t) c.t past → callers c.t (acts past c.t) ≡ None
     → CallersAgree s past callers n → CallersAgree s (commit_entry c.t c.answers ∷ past) callers n
 commit_ran s callers n past event r legal c most decide stop ih =
@@ -250,9 +250,9 @@ commit_ran s callers n past event r legal c most decide stop ih =
     let by : AllBy t (p.more ++ p.own) = subst (AllBy t) p.all_are (all_by past t) in
     let decided : Decided (callers t) p.more p.own = split_decided (callers t) p.more p.own
     (subst₂ (λ xs l. NewestDecided (callers t) xs l) p.caller_accesses_are p.all_are (newest_decided s (callers t) past t legal decide)) in
-    let alone = played_alone t run m p.own p.as_asked (finds_own m p.more p.own found) (own_by t p.more p.own by) in
+    let alone = played_alone t run m p.own p.as_requested (finds_own m p.more p.own found) (own_by t p.more p.own by) in
     let end : left run p.own ≡ ends c.answers = ended_run (left run p.own) c.answers
-    (sym (left_next run p.own p.as_asked) ∙ own_end run (caller_accesses past t) (acts past t) c.answers p c.next) in
+    (sym (left_next run p.own p.as_requested) ∙ own_end run (caller_accesses past t) (acts past t) c.answers p c.next) in
     let procedure : by_procedure t run (so_far [] m) ≡ so_far p.own alone.0 = alone.1 ∙ ap (λ q. by_procedure t q (so_far p.own alone.0)) end in
     let outcome : serial run m ≡ Done c.answers alone.0 = alone.2 ∙ ap (λ q. serial q alone.0) end in
     let more = decided_alone t (callers t) m p.own p.more alone.0 decided found by alone.3 in
@@ -281,7 +281,7 @@ commit_ran s callers n past event r legal c most decide stop ih =
     own_by t (a ∷ more) own h = own_by t more own h.0
 
 -- so is one that is refused
-refused_ran : (s : Setting) (callers : ℕ → Caller) (n : ℕ) (past : List Entry) (e : Entry) → Legal s (e ∷ past)
+refused_ran : (s : Configuration) (callers : ℕ → Caller) (n : ℕ) (past : List Entry) (e : Entry) → Legal s (e ∷ past)
     → (x : Refusal s past e.event e.reply) → CallersAgree s past callers n → CallersAgree s (e ∷ past) callers n
 refused_ran s callers n past e legal x ih =
     let t : ℕ = x.undoing.t in
@@ -292,31 +292,31 @@ refused_ran s callers n past e legal x ih =
     let only = only_own run (caller_accesses past t) (acts past t) p (λ answers e. cc (sym x.next ∙ e)) in
     let found : FindsIn m p.own = subst (FindsIn m) only.1
     (finds_in m (settled s.opening past) past t ih.database (refusal_agrees s past e.event e.reply legal.0 x)) in
-    let alone = played_alone t run m p.own p.as_asked found (subst (AllBy t) only.1 (all_by past t)) in
-    let end : left run p.own ≡ raises x.code = raised_run (left run p.own) x.code (sym (left_next run p.own p.as_asked)
-    ∙ subst (λ l. asks_of run (values_read l) (length l) ≡ Raises x.code) only.1 x.next) in
+    let alone = played_alone t run m p.own p.as_requested found (subst (AllBy t) only.1 (all_by past t)) in
+    let end : left run p.own ≡ raises x.code = raised_run (left run p.own) x.code (sym (left_next run p.own p.as_requested)
+    ∙ subst (λ l. requests_of run (values_read l) (length l) ≡ Raises x.code) only.1 x.next) in
     let procedure : by_procedure t run (so_far [] m) ≡ so_far (acts past t) alone.0 =
     alone.1 ∙ (ap (λ q. by_procedure t q (so_far p.own alone.0)) end ∙ ap (λ l. so_far l alone.0) (sym only.1)) in
     let outcome : serial run m ≡ Asked x.code = alone.2 ∙ ap (λ q. serial q alone.0) end in
-    let is : with_entry s callers n past e.event e.reply before ≡ with_turn (record { result = AskedCode x.code; acts = acts past t }) m before
+    let is : with_entry s callers n past e.event e.reply before ≡ with_turn (record { result = RaisedCode x.code; acts = acts past t }) m before
     = ap₂ (λ ev r. with_entry s callers n past ev r before) x.event_is x.reply_is
     ∙ ap₂ (λ o a. after_procedure t (callers t) n o a before) outcome procedure in
     record {
       turns = ap (λ (a : Turns). a.turns) is
-          ∙ (ap (λ l. record { result = AskedCode x.code; acts = acts past t } ∷ l) ih.turns
+          ∙ (ap (λ l. record { result = RaisedCode x.code; acts = acts past t } ∷ l) ih.turns
           ∙ ap (λ l. l ++ turns_of past) (sym (ap₂ (λ ev r. turn_in past ev r) x.event_is x.reply_is)));
       database = λ k. ap (λ (a : Turns). a.last k) is
           ∙ (ih.database k ∙ sym (settled_quiet s past e k legal (λ u g. refusal-no_commit x u g)));
     }
 
 -- at any other entry none runs
-no_turn : (s : Setting) (callers : ℕ → Caller) (n : ℕ) (past : List Entry) (event : Event) (r : Reply) (before : Turns) → told_in r ≡ []
+no_turn : (s : Configuration) (callers : ℕ → Caller) (n : ℕ) (past : List Entry) (event : Event) (r : Reply) (before : Turns) → reported_in r ≡ []
     → (with_entry s callers n past event r before ≡ before) × (turn_in past event r ≡ [])
 no_turn s callers n past event (reply.Committed answers) before e = absurd (cc e)
 no_turn s callers n past event (reply.Refused code fell) before e = absurd (cc e)
 no_turn s callers n past event _ before e = (refl, refl)
 
-one_ran : (s : Setting) (callers : ℕ → Caller) (n : ℕ) (past : List Entry) (e : Entry) → Legal s (e ∷ past) → length past ≤ n
+one_ran : (s : Configuration) (callers : ℕ → Caller) (n : ℕ) (past : List Entry) (e : Entry) → Legal s (e ∷ past) → length past ≤ n
     → ((t : ℕ) → committed (e ∷ past) t ≡ true → Decides (callers t) t (e ∷ past)) → CallersAgree s past callers n
     → Commits s past e.event e.reply ⊎ (Refusal s past e.event e.reply ⊎ Uncommitted s past e.event e.reply)
     → CallersAgree s (e ∷ past) callers n
@@ -328,7 +328,7 @@ one_ran s callers n past e legal most decide ih (inl c) =
     (subst₂ (λ event r. AsDecided (callers c.t) c.t past event r) c.event_is c.reply_is decides.1 refl) ih)
 one_ran s callers n past e legal most decide ih (inr (inl x)) = refused_ran s callers n past e legal x ih
 one_ran s callers n past e legal most decide ih (inr (inr quiet)) =
-    let none = no_turn s callers n past e.event e.reply (callers_in_turn s callers n past) quiet.tells_none in
+    let none = no_turn s callers n past e.event e.reply (callers_in_turn s callers n past) quiet.reports_none in
     record {
       turns = ap (λ (a : Turns). a.turns) none.0 ∙ (ih.turns ∙ ap (λ l. l ++ turns_of past) (sym none.1));
       database = λ k. ap (λ (a : Turns). a.last k) none.0 ∙ (ih.database k ∙ sym (settled_quiet s past e k legal quiet.no_commit));
@@ -344,22 +344,22 @@ callers_run_alone s (e ∷ past) legal callers decide n most =
 
 -- ---- there are such callers: a function that goes by the number of accesses so far
 
-abbrev now_asked : Event → Reply → ℕ → Option Request
-now_asked (event.Access u d) (reply.Looked k v) t = cond (nat_eq u t) (Some d) None
-now_asked (event.Access u d) (reply.Wrote k v) t = cond (nat_eq u t) (Some d) None
-now_asked _ _ t = None
+abbrev now_requested : Event → Reply → ℕ → Option Request
+now_requested (event.Access u d) (reply.Looked k v) t = cond (nat_eq u t) (Some d) None
+now_requested (event.Access u d) (reply.Wrote k v) t = cond (nat_eq u t) (Some d) None
+now_requested _ _ t = None
 
 abbrev script : List Entry → ℕ → Caller
 script [] t l = None
-script (e ∷ past) t l = cond (nat_eq (length l) (length (acts past t))) (now_asked e.event e.reply t) (script past t l)
+script (e ∷ past) t l = cond (nat_eq (length l) (length (acts past t))) (now_requested e.event e.reply t) (script past t l)
 
 script_here : (e : Entry) (past : List Entry) (t : ℕ) (l : List Access) → length l ≡ length (acts past t)
-    → script (e ∷ past) t l ≡ now_asked e.event e.reply t
-script_here e past t l h = cond-true (nat_eq (length l) (length (acts past t))) (now_asked e.event e.reply t) (script past t l) (eq-eqb _ _ h)
+    → script (e ∷ past) t l ≡ now_requested e.event e.reply t
+script_here e past t l h = cond-true (nat_eq (length l) (length (acts past t))) (now_requested e.event e.reply t) (script past t l) (eq-eqb _ _ h)
 
 script_older : (e : Entry) (past : List Entry) (t : ℕ) (l : List Access) → length l ≢ length (acts past t)
     → script (e ∷ past) t l ≡ script past t l
-script_older e past t l h = cond-false (nat_eq (length l) (length (acts past t))) (now_asked e.event e.reply t) (script past t l) (ne_eqb _ _ h)
+script_older e past t l h = cond-false (nat_eq (length l) (length (acts past t))) (now_requested e.event e.reply t) (script past t l) (ne_eqb _ _ h)
 
 acts_grow : (x : Option Access) (t : ℕ) (l : List Access) → length l ≤ length (act_in x t l)
 acts_grow None t l = omega arith
@@ -373,7 +373,7 @@ own_longer : (a : Access) (t : ℕ) (l : List Access) → a.by ≡ t → length 
 own_longer a t l z = ap length (act_own (Some a) a t l refl z)
 
 none_now : (event : Event) (r : Reply) (past : List Entry) (t : ℕ) → length (act_in (access_in event r) t (acts past t)) ≤ length (acts past t)
-    → now_asked event r t ≡ None
+    → now_requested event r t ≡ None
 none_now (event.Access u d) (reply.Looked k v) past t h = elim (cases_eq u t) [
   | inl z ↦ let longer = own_longer (access u k Look v) t (acts past t) z in absurd (omega arith)
   | inr n ↦ cond-false (nat_eq u t) (Some d) None (ne_eqb u t n)
@@ -384,13 +384,13 @@ none_now (event.Access u d) (reply.Wrote k v) past t h = elim (cases_eq u t) [
 ]
 none_now _ _ past t h = refl
 
-no_more_asked : (past : List Entry) (t : ℕ) (l : List Access) → length (acts past t) ≤ length l → script past t l ≡ None
-no_more_asked [] t l most = refl
-no_more_asked (e ∷ past) t l most =
+no_more_requested : (past : List Entry) (t : ℕ) (l : List Access) → length (acts past t) ≤ length l → script past t l ≡ None
+no_more_requested [] t l most = refl
+no_more_requested (e ∷ past) t l most =
     let grow : length (acts past t) ≤ length (acts (e ∷ past) t) = acts_grow (access_of e) t (acts past t) in
     elim (cases_eq (length l) (length (acts past t))) [
       | inl z ↦ script_here e past t l z ∙ none_now e.event e.reply past t (omega arith)
-      | inr n ↦ script_older e past t l n ∙ no_more_asked past t l (omega arith)
+      | inr n ↦ script_older e past t l n ∙ no_more_requested past t l (omega arith)
     ]
 
 entry_decided : (past : List Entry) (event : Event) (r : Reply) (t : ℕ) (c : Caller)
@@ -408,7 +408,7 @@ entry_decided past (Commit u) (reply.Committed answers) t c agree stop = λ z.
 entry_decided past _ _ t c agree stop = tt
 
 -- a committed transaction makes no more accesses
-acts_stay : (s : Setting) (e : Entry) (past : List Entry) (t : ℕ) → Legal s (e ∷ past) → committed past t ≡ true
+acts_stay : (s : Configuration) (e : Entry) (past : List Entry) (t : ℕ) → Legal s (e ∷ past) → committed past t ≡ true
     → acts (e ∷ past) t ≡ acts past t
 acts_stay s e past t h g = by_access (access_of e) refl
   where
@@ -418,7 +418,7 @@ acts_stay s e past t h g = by_access (access_of e) refl
         (λ z. absurd (live-not_committed past a.by (access-live s past e.event e.reply h.1 a is) (subst (λ u. committed past u ≡ true) (sym z) g)))
         (λ z. act_other (access_of e) a t (acts past t) is z) (cases_eq a.by t)
 
-decides : (s : Setting) (past : List Entry) → Legal s past → (t : ℕ) (c : Caller)
+decides : (s : Configuration) (past : List Entry) → Legal s past → (t : ℕ) (c : Caller)
     → ((l : List Access) → length l < length (acts past t) → c l ≡ script past t l)
     → (committed past t ≡ true → (l : List Access) → length (acts past t) ≤ length l → c l ≡ None) → Decides c t past
 decides s [] h t c agree stop = tt
@@ -431,7 +431,7 @@ decides s (e ∷ past) h t c agree stop =
     )
 
 pub callers_exist : CallersExist
-callers_exist s past h t = (script past t, decides s past h t (script past t) (λ l less. refl) (λ g l most. no_more_asked past t l most))
+callers_exist s past h t = (script past t, decides s past h t (script past t) (λ l less. refl) (λ g l most. no_more_requested past t l most))
 
 -- ---- without such accesses
 
@@ -451,20 +451,20 @@ abbrev AreProcedures : Rules → List Call → Type 0
 AreProcedures r [] = Unit {0}
 AreProcedures r (c ∷ before) = AreProcedures r before × ((m : Contents) → outcome_in r c m ≡ serial (run_of r c) m)
 
-procedures_on : (past : List Entry) (event : Event) (r : Reply) (rules : Rules) → AreOfProcedures past → AreProcedures rules (told_calls past)
-    → AreProcedures rules (told_call_in past event r ++ told_calls past)
+procedures_on : (past : List Entry) (event : Event) (r : Reply) (rules : Rules) → AreOfProcedures past → AreProcedures rules (reported_calls past)
+    → AreProcedures rules (reported_call_in past event r ++ reported_calls past)
 procedures_on past event (reply.Committed answers) rules h before =
     (before, λ m. ap (λ xs. with_accesses xs (serial (run_of rules (call_of past (subject event))) m)) (caller_accesses_none past (subject event) h))
 procedures_on past event (reply.Refused code fell) rules h before =
     (before, λ m. ap (λ xs. with_accesses xs (serial (run_of rules (call_of past (subject event))) m)) (caller_accesses_none past (subject event) h))
 procedures_on past event _ rules h before = before
 
-are_procedures : (past : List Entry) (rules : Rules) → AreOfProcedures past → AreProcedures rules (told_calls past)
+are_procedures : (past : List Entry) (rules : Rules) → AreOfProcedures past → AreProcedures rules (reported_calls past)
 are_procedures [] rules h = tt
 are_procedures (e ∷ past) rules h = procedures_on past e.event e.reply rules h.0 (are_procedures past rules h.0)
 
 -- so the serial run is one of procedures
-in_turn_same : (s : Setting) (calls : List Call) → AreProcedures s.rules calls → run_in_turn s calls ≡ procedures_in_turn s calls
+in_turn_same : (s : Configuration) (calls : List Call) → AreProcedures s.rules calls → run_in_turn s calls ≡ procedures_in_turn s calls
 in_turn_same s [] h = refl
 in_turn_same s (c ∷ before) h =
     ap (λ (o : Outcome). with_outcome o (run_in_turn s before)) (h.1 (run_in_turn s before).last)
@@ -473,7 +473,7 @@ in_turn_same s (c ∷ before) h =
 pub procedures_run_alone : ProceduresRunAlone
 procedures_run_alone s past legal h =
     let replay = is_serializable s past legal in
-    let same = in_turn_same s (told_calls past) (are_procedures past s.rules h) in
+    let same = in_turn_same s (reported_calls past) (are_procedures past s.rules h) in
     record {
       answers = sym (ap (λ (f : Folded). f.results) same) ∙ replay.answers;
       database = λ k. sym (ap (λ (f : Folded). f.last k) same) ∙ replay.database k;

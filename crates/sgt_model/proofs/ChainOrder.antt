@@ -198,7 +198,7 @@ chain-ordered p k (e ∷ past) =
             at Look z = absurd (cc)
             at Store z = x.stored
 
--- the conditions of write and settle, for any chain in order
+-- the conditions of `write` and `settle`, for any chain in order
 
 each-last : (R : ℕ → ℕ → Type 0) (t : ℕ) (w : ℕ × Option ℤ) (c : List (ℕ × Option ℤ)) → EachAfter R t c
     → last_or (Some w) c ≡ Some w ⊎ ((z : ℕ × Option ℤ) × (last_or (Some w) c ≡ Some z) × R t z.0)

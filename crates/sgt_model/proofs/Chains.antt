@@ -48,7 +48,7 @@ newest-split p q k (e ∷ past) h = split-step p q k (access_of e) _ _ _ (newest
 
 -- the last of a chain is the newest write
 
--- a write as it stands in a chain
+-- a write in a chain
 abbrev pub entry_of : Option Access → Option (ℕ × Option ℤ)
 entry_of None = None
 entry_of (Some a) = Some (a.by, a.value)

@@ -13,7 +13,7 @@ use Rattle.sgt_model.specs.declared.entry.Entry.{Entry}
 use Rattle.sgt_model.specs.declared.kind.Kind.{Kind}
 use Rattle.sgt_model.specs.declared.kind.Kind.TheVariants.{Look, Store}
 use Rattle.sgt_model.specs.Contents.{Key}
-use Rattle.sgt_model.specs.Walks.{PathOf, last_of, Member, Distinct, Rising, Reaches}
+use Rattle.sgt_model.specs.Paths.{PathOf, last_of, Member, Distinct, Rising, Reaches}
 use Rattle.sgt_model.specs.Accesses.{Access, access_of}
 use Rattle.sgt_model.specs.Fates.{aborted, live}
 use Rattle.sgt_model.specs.Values.{newest_store}

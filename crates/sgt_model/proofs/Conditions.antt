@@ -4,7 +4,7 @@ use Rattle.std.specs.Prelude.{length}
 use Rattle.std.proofs.lemmas.Bool.{or_cases, eqb-true, eq-eqb, both_ways, or_left, or_right}
 use Rattle.sgt_model.specs.declared.kind.Kind.TheVariants.{Store}
 use Rattle.sgt_model.specs.Contents.{Key}
-use Rattle.sgt_model.specs.Walks.{Member, Distinct}
+use Rattle.sgt_model.specs.Paths.{Member, Distinct}
 use Rattle.sgt_model.specs.Chains.{writes_in}
 use Rattle.sgt_model.specs.ChainOrder.{EachAfter, InOrder, IsFirstIn, IsLastIn}
 use Rattle.sgt_model.specs.State.{State, PairIn}
@@ -68,8 +68,8 @@ chain_fits R apart (x ∷ c) ys h w =
 
 module _ (most : ℕ) (c : State) (sound : Sound most c) where
   -- of `write`: a chain without t's value has capacity
-  pub chain_room : (t : ℕ) (k : Key) → c.nodes t ≡ true → writes_in t (c.chain k) ≡ false → length (c.chain k) < most
-  chain_room t k node out =
+  pub chain_capacity : (t : ℕ) (k : Key) → c.nodes t ≡ true → writes_in t (c.chain k) ≡ false → length (c.chain k) < most
+  chain_capacity t k node out =
       let (zs, long, keep) = removed t c.live ((sound.listed t).0 node) in
       let fits : length (c.chain k) ≤ length zs = chain_fits (PairIn c) (λ a b p. sound.pair_apart a b p) (c.chain k) zs
       (sound.order k) (λ u m. keep u ((sound.listed u).0 (sound.access_nodes u k Store (sound.writers k u m)))

@@ -9,12 +9,12 @@ use Rattle.std.specs.List.{list_any, filter}
 use Rattle.sgt_model.specs.declared.entry.Entry.{Entry}
 use Rattle.sgt_model.specs.declared.kind.Kind.{Kind}
 use Rattle.sgt_model.specs.Contents.{Key, key_eq}
-use Rattle.sgt_model.specs.Walks.{Member}
+use Rattle.sgt_model.specs.Paths.{Member}
 use Rattle.sgt_model.specs.Accesses.{Access, access_of, is_store}
 use Rattle.sgt_model.specs.Fates.{start_count}
 use Rattle.sgt_model.specs.Values.{stores}
 use Rattle.sgt_model.specs.Pairs.{conflicts, one_stores, has_conflicting}
-use Rattle.sgt_model.specs.Settings.{Setting}
+use Rattle.sgt_model.specs.Configurations.{Configuration}
 use Rattle.sgt_model.specs.Legality.{Legal}
 use Rattle.sgt_model.specs.AccessList.{ListedAccess, is_conflicting, listed_in, access_list, lists_conflicting}
 use Rattle.sgt_model.specs.Chains.{chain_of, store_into, chain_without, write_last}
@@ -56,7 +56,7 @@ abbrev pub AgreeOn : (ℕ → Bool) → (ℕ → Bool) → List Entry → Type 0
 AgreeOn p q [] = Unit {0}
 AgreeOn p q (e ∷ past) = ((a : Access) → access_of e ≡ Some a → p a.by ≡ q a.by) × AgreeOn p q past
 
-pub legal-agree : (s : Setting) (past : List Entry) → Legal s past → (p q : ℕ → Bool) → ((t : ℕ) → t < start_count past → p t ≡ q t)
+pub legal-agree : (s : Configuration) (past : List Entry) → Legal s past → (p q : ℕ → Bool) → ((t : ℕ) → t < start_count past → p t ≡ q t)
     → AgreeOn p q past
 legal-agree s [] h p q same = tt
 legal-agree s (e ∷ past) h p q same = (

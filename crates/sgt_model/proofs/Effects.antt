@@ -26,11 +26,11 @@ use Rattle.sgt_model.specs.Fates.{is_start, start_count, concerns, subject, endi
 use Rattle.sgt_model.specs.Values.{visible}
 use Rattle.sgt_model.specs.Falls.{Falls}
 use Rattle.sgt_model.specs.Closes.{Closes}
-use Rattle.sgt_model.specs.Settings.{Setting, takes}
+use Rattle.sgt_model.specs.Configurations.{Configuration, takes}
 use Rattle.sgt_model.specs.Progress.{call_in, next_of, requested, is_fit}
 use Rattle.sgt_model.specs.StartReply.{args_fit, taken_reply}
 use Rattle.sgt_model.specs.Legality.{AbortReply, CycleAbortReply, RaisedStep, RaisedCommit, Makes, StepReply, OfFit, RequestReply, HasNoLivePredecessor, CommitReply, OfStarted, OfLive, LegalReply}
-use Rattle.sgt_model.specs.Replay.{told_call_in, told_in}
+use Rattle.sgt_model.specs.Replay.{reported_call_in, reported_in}
 use Rattle.sgt_model.specs.Aborts.{Wants, ClosesCycle, CauseHolds, ReplyIsJustified}
 use Rattle.sgt_model.specs.Laws.{CommitAgrees}
 use Rattle.sgt_model.proofs.NoOrder.{refused_has_no_order}
@@ -47,22 +47,22 @@ ends_none-no_end event (reply.Aborted why fell) h u = absurd h
 ends_none-no_end event (reply.Refused code fell) h u = absurd h
 ends_none-no_end event _ h u = refl
 
-pub ends_none-no_call : (past : List Entry) (event : Event) (r : Reply) → EndsNone r → told_call_in past event r ≡ []
+pub ends_none-no_call : (past : List Entry) (event : Event) (r : Reply) → EndsNone r → reported_call_in past event r ≡ []
 ends_none-no_call past event (reply.Committed answers) h = absurd h
 ends_none-no_call past event (reply.Refused code fell) h = absurd h
 ends_none-no_call past event _ h = refl
 
-pub ends_none-tells_none : (r : Reply) → EndsNone r → told_in r ≡ []
-ends_none-tells_none (reply.Committed answers) h = absurd h
-ends_none-tells_none (reply.Refused code fell) h = absurd h
-ends_none-tells_none _ h = refl
+pub ends_none-reports_none : (r : Reply) → EndsNone r → reported_in r ≡ []
+ends_none-reports_none (reply.Committed answers) h = absurd h
+ends_none-reports_none (reply.Refused code fell) h = absurd h
+ends_none-reports_none _ h = refl
 
-pub ends_none-agrees : (s : Setting) (past : List Entry) (event : Event) (r : Reply) → EndsNone r → CommitAgrees s past event r
+pub ends_none-agrees : (s : Configuration) (past : List Entry) (event : Event) (r : Reply) → EndsNone r → CommitAgrees s past event r
 ends_none-agrees s past event (reply.Committed answers) h = absurd h
 ends_none-agrees s past event (reply.Refused code fell) h = absurd h
 ends_none-agrees s past event _ h = tt
 
-pub ends_none-cause : (s : Setting) (past : List Entry) (event : Event) (r : Reply) → EndsNone r → ReplyIsJustified s past event r
+pub ends_none-cause : (s : Configuration) (past : List Entry) (event : Event) (r : Reply) → EndsNone r → ReplyIsJustified s past event r
 ends_none-cause s past event (reply.Aborted why fell) h = absurd h
 ends_none-cause s past event (reply.Refused code fell) h = absurd h
 ends_none-cause s past event _ h = tt
@@ -79,7 +79,7 @@ pub record Idle (event : Event) (r : Reply) : Type 0 where
   pub ends_none : EndsNone r
 
 -- a transaction was started, within the limits
-pub record Begins (s : Setting) (past : List Entry) (event : Event) (r : Reply) : Type 0 where
+pub record Begins (s : Configuration) (past : List Entry) (event : Event) (r : Reply) : Type 0 where
   pub procedure : ℕ
   pub args : List ℤ
   pub count : ℕ
@@ -116,7 +116,7 @@ pub about_request : (t : ℕ) (d : Request) → About (event.Access t d) t
 about_request t d = record { concerns = λ u. refl; subject = refl; access = λ k kind v. refl }
 
 -- a live transaction made its next access, which closes no cycle; a read returned what was visible
-pub record Accesses (s : Setting) (past : List Entry) (event : Event) (r : Reply) : Type 0 where
+pub record Accesses (s : Configuration) (past : List Entry) (event : Event) (r : Reply) : Type 0 where
   pub access : Access
   pub access_is : access_in event r ≡ Some access
   pub no_start : is_start r ≡ false
@@ -127,7 +127,7 @@ pub record Accesses (s : Setting) (past : List Entry) (event : Event) (r : Reply
   pub found : access.kind ≡ Look → access.value ≡ visible s.opening past access.key
 
 -- a live transaction committed
-pub record Commits (s : Setting) (past : List Entry) (event : Event) (r : Reply) : Type 0 where
+pub record Commits (s : Configuration) (past : List Entry) (event : Event) (r : Reply) : Type 0 where
   pub t : ℕ
   pub answers : List ℤ
   pub event_is : event ≡ Commit t
@@ -147,14 +147,14 @@ pub record Undoing (past : List Entry) (event : Event) (r : Reply) : Type 0 wher
       (cond (list_any (λ v. nat_eq v u) fell) (Some (fate.Fell t)) None)
 
 -- so it did by an Aborted reply, which names the cause
-pub record Undoes (s : Setting) (past : List Entry) (event : Event) (r : Reply) : Type 0 where
+pub record Undoes (s : Configuration) (past : List Entry) (event : Event) (r : Reply) : Type 0 where
   pub undoing : Undoing past event r
   pub subject_is : subject event ≡ undoing.t
   pub reply_is : r ≡ reply.Aborted undoing.why undoing.fell
   pub has_cause : CauseHolds s past event undoing.why
 
 -- or by a Refused reply at its commit, where it waits for none and raises the code
-pub record Refusal (s : Setting) (past : List Entry) (event : Event) (r : Reply) : Type 0 where
+pub record Refusal (s : Configuration) (past : List Entry) (event : Event) (r : Reply) : Type 0 where
   pub undoing : Undoing past event r
   pub code : ℕ
   pub event_is : event ≡ Commit undoing.t
@@ -162,7 +162,7 @@ pub record Refusal (s : Setting) (past : List Entry) (event : Event) (r : Reply)
   pub none_live : HasNoLivePredecessor past undoing.t
   pub next : next_of s past undoing.t ≡ Raises code
 
-pub data Effect (s : Setting) (past : List Entry) (event : Event) (r : Reply) : Type 0 where
+pub data Effect (s : Configuration) (past : List Entry) (event : Event) (r : Reply) : Type 0 where
   idle : Idle event r → Effect s past event r
   begins : Begins s past event r → Effect s past event r
   accesses : Accesses s past event r → Effect s past event r
@@ -170,12 +170,12 @@ pub data Effect (s : Setting) (past : List Entry) (event : Event) (r : Reply) : 
   undoes : Undoes s past event r → Effect s past event r
   refuses : Refusal s past event r → Effect s past event r
 
-idle_at : {s : Setting} {past : List Entry} {event : Event} {r r' : Reply} → r ≡ r' → Idle event r' → Effect s past event r
+idle_at : {s : Configuration} {past : List Entry} {event : Event} {r r' : Reply} → r ≡ r' → Idle event r' → Effect s past event r
 idle_at {s} {past} {event} e i = subst (λ x. Effect s past event x) (sym e) (idle i)
 
 -- a start
 
-begin_at : (s : Setting) (past : List Entry) (p : ℕ) (args : List ℤ) (count : ℕ) → takes s.rules p ≡ Some count
+begin_at : (s : Configuration) (past : List Entry) (p : ℕ) (args : List ℤ) (count : ℕ) → takes s.rules p ≡ Some count
     → (fit spent full : Bool) → args_fit count args ≡ fit → nat_eq (start_count past) s.rules.limits.begins ≡ spent
     → nat_eq (length (live_ones past)) s.rules.limits.live ≡ full → Effect s past (Start p args)
     (cond fit (cond spent reply.Spent (cond full reply.Full (reply.Started (start_count past)))) reply.BadArgs)
@@ -195,7 +195,7 @@ begin_at s past p args count known true false false f n l =
       not_full = l;
     })
 
-start_at : (s : Setting) (past : List Entry) (p : ℕ) (args : List ℤ) (o : Option ℕ) → takes s.rules p ≡ o
+start_at : (s : Configuration) (past : List Entry) (p : ℕ) (args : List ℤ) (o : Option ℕ) → takes s.rules p ≡ o
     → Effect s past (Start p args) (taken_reply s.rules.limits (start_count past) (length (live_ones past)) o args)
 start_at s past p args None known = idle (record { no_start = refl; no_access = refl; ends_none = tt })
 start_at s past p args (Some count) known = begin_at s past p args count known (args_fit count args)
@@ -207,20 +207,20 @@ pub none_from : {A : Type 0} (o : Option A) → is_none o ≡ true → o ≡ Non
 none_from None e = refl
 none_from (Some x) e = absurd (cc)
 
-of_live-at : (s : Setting) (past : List Entry) (event : Event) (t : ℕ) (r : Reply) (P : Type 0) (b : Bool) (o : Option Fate)
+of_live-at : (s : Configuration) (past : List Entry) (event : Event) (t : ℕ) (r : Reply) (P : Type 0) (b : Bool) (o : Option Fate)
     → nat_lt t (start_count past) ≡ b → fate_of past t ≡ o → (live past t ≡ true → P → Effect s past event r) → OfStarted b o r P
     → Effect s past event r
 of_live-at s past event t r P true None started ended rest h = rest (and_from _ _ started (ap is_none ended)) h
 of_live-at s past event t r P true (Some f) started ended rest h = idle_at h (record { no_start = refl; no_access = refl; ends_none = tt })
 of_live-at s past event t r P false o started ended rest h = idle_at h (record { no_start = refl; no_access = refl; ends_none = tt })
 
-of_live : (s : Setting) (past : List Entry) (event : Event) (t : ℕ) (r : Reply) (P : Type 0)
+of_live : (s : Configuration) (past : List Entry) (event : Event) (t : ℕ) (r : Reply) (P : Type 0)
     → (live past t ≡ true → P → Effect s past event r) → OfLive past t r P → Effect s past event r
 of_live s past event t r P rest h = of_live-at s past event t r P (nat_lt t (start_count past)) (fate_of past t) refl refl rest h
 
 -- an abort
 
-abort_at : (s : Setting) (past : List Entry) (event : Event) (t : ℕ) (why : Cause) (r : Reply) → About event t → live past t ≡ true
+abort_at : (s : Configuration) (past : List Entry) (event : Event) (t : ℕ) (why : Cause) (r : Reply) → About event t → live past t ≡ true
     → CauseHolds s past event why → AbortReply past t why r → Effect s past event r
 abort_at s past event t why r about alive due a = subst (λ x. Effect s past event x) (sym a.is)
     (undoes (record {
@@ -238,7 +238,7 @@ abort_at s past event t why r about alive due a = subst (λ x. Effect s past eve
       has_cause = due;
     }))
 
-quit_at : (s : Setting) (past : List Entry) (t : ℕ) (r : Reply) → live past t ≡ true → AbortReply past t cause.Quit r
+quit_at : (s : Configuration) (past : List Entry) (t : ℕ) (r : Reply) → live past t ≡ true → AbortReply past t cause.Quit r
     → Effect s past (Quit t) r
 quit_at s past t r alive a = subst (λ x. Effect s past (Quit t) x) (sym a.is)
     (undoes (record {
@@ -255,8 +255,8 @@ quit_at s past t r alive a = subst (λ x. Effect s past (Quit t) x) (sym a.is)
       has_cause = tt;
     }))
 
-refuse_at : (s : Setting) (past : List Entry) (event : Event) (t : ℕ) (n : Next) (k : Key) (kind : Kind) (r : Reply) → About event t
-    → ((walk : List ℕ) → ClosesCycle past t n walk → CauseHolds s past event (cause.Cycle walk)) → live past t ≡ true
+refuse_at : (s : Configuration) (past : List Entry) (event : Event) (t : ℕ) (n : Next) (k : Key) (kind : Kind) (r : Reply) → About event t
+    → ((cycle : List ℕ) → ClosesCycle past t n cycle → CauseHolds s past event (cause.Cycle cycle)) → live past t ≡ true
     → Wants n k kind → CycleAbortReply past t k kind r → Effect s past event r
 refuse_at s past event t n k kind r about due alive wants h = abort_at s past event t (cause.Cycle (t ∷ h.rest)) r about alive
     (due (t ∷ h.rest) (record {
@@ -271,16 +271,16 @@ refuse_at s past event t n k kind r about due alive wants h = abort_at s past ev
 
 -- a code that is raised
 
-asked_step : (s : Setting) (past : List Entry) (t code : ℕ) (r : Reply) → next_of s past t ≡ Raises code → live past t ≡ true
+raised_step : (s : Configuration) (past : List Entry) (t code : ℕ) (r : Reply) → next_of s past t ≡ Raises code → live past t ≡ true
     → (asks : Asks) → RaisedStep asks past t code r → Effect s past (Step t) r
-asked_step s past t code r e alive AtStep h = abort_at s past (Step t) t (cause.Asked code) r (about_step t) alive e h
-asked_step s past t code r e alive AtCommit h = idle_at h (record { no_start = refl; no_access = refl; ends_none = tt })
+raised_step s past t code r e alive AtStep h = abort_at s past (Step t) t (cause.Asked code) r (about_step t) alive e h
+raised_step s past t code r e alive AtCommit h = idle_at h (record { no_start = refl; no_access = refl; ends_none = tt })
 
-asked_commit : (s : Setting) (past : List Entry) (t code : ℕ) (r : Reply) → next_of s past t ≡ Raises code → live past t ≡ true
+raised_commit : (s : Configuration) (past : List Entry) (t code : ℕ) (r : Reply) → next_of s past t ≡ Raises code → live past t ≡ true
     → (asks : Asks) → RaisedCommit asks past t code r → Effect s past (Commit t) r
-asked_commit s past t code r e alive AtStep h = idle_at h (record { no_start = refl; no_access = refl; ends_none = tt })
-asked_commit s past t code r e alive AtCommit (inl h) = idle_at h.is (record { no_start = refl; no_access = refl; ends_none = tt })
-asked_commit s past t code r e alive AtCommit (inr h) = subst (λ x. Effect s past (Commit t) x) (sym h.is)
+raised_commit s past t code r e alive AtStep h = idle_at h (record { no_start = refl; no_access = refl; ends_none = tt })
+raised_commit s past t code r e alive AtCommit (inl h) = idle_at h.is (record { no_start = refl; no_access = refl; ends_none = tt })
+raised_commit s past t code r e alive AtCommit (inr h) = subst (λ x. Effect s past (Commit t) x) (sym h.is)
     (refuses (record {
       undoing = record {
         t = t;
@@ -299,7 +299,7 @@ asked_commit s past t code r e alive AtCommit (inr h) = subst (λ x. Effect s pa
 
 -- a step
 
-make_at : (s : Setting) (past : List Entry) (event : Event) (access : Access) {r given : Reply} → r ≡ given
+make_at : (s : Configuration) (past : List Entry) (event : Event) (access : Access) {r given : Reply} → r ≡ given
     → access_in event given ≡ Some access → is_start given ≡ false → EndsNone given → live past access.by ≡ true
     → ((rest : List ℕ) → Closes past access.by access.key access.kind rest → ⊥) → Made (next_of s past access.by) event access
     → (access.kind ≡ Look → access.value ≡ visible s.opening past access.key) → Effect s past event r
@@ -315,7 +315,7 @@ make_at s past event access is access_is no_start ends_none alive free made foun
       found = found;
     }))
 
-abbrev looking : Setting → List Entry → ℕ → Key → Access
+abbrev looking : Configuration → List Entry → ℕ → Key → Access
 looking s past t k = record { by = t; key = k; kind = Look; value = visible s.opening past k }
 
 abbrev storing : ℕ → Key → Option ℤ → Access
@@ -323,16 +323,16 @@ storing t k v = record { by = t; key = k; kind = Store; value = v }
 
 -- a read and a write, of either kind of event
 
-look_at : (s : Setting) (past : List Entry) (event : Event) (t : ℕ) (r : Reply) (n : Next) (k : Key) → About event t
-    → ((walk : List ℕ) → ClosesCycle past t n walk → CauseHolds s past event (cause.Cycle walk)) → Wants n k Look
+look_at : (s : Configuration) (past : List Entry) (event : Event) (t : ℕ) (r : Reply) (n : Next) (k : Key) → About event t
+    → ((cycle : List ℕ) → ClosesCycle past t n cycle → CauseHolds s past event (cause.Cycle cycle)) → Wants n k Look
     → Made (next_of s past t) event (looking s past t k) → live past t ≡ true → CycleAbortReply past t k Look r ⊎ Makes past t k Look
     (reply.Looked k (visible s.opening past k)) r → Effect s past event r
 look_at s past event t r n k about due wants made alive (inl h) = refuse_at s past event t n k Look r about due alive wants h
 look_at s past event t r n k about due wants made alive (inr h) =
     make_at s past event (looking s past t k) h.is (about.access k Look (visible s.opening past k)) refl tt alive h.free made (λ look. refl)
 
-store_at : (s : Setting) (past : List Entry) (event : Event) (t : ℕ) (r : Reply) (n : Next) (k : Key) (v : Option ℤ) → About event t
-    → ((walk : List ℕ) → ClosesCycle past t n walk → CauseHolds s past event (cause.Cycle walk)) → Wants n k Store
+store_at : (s : Configuration) (past : List Entry) (event : Event) (t : ℕ) (r : Reply) (n : Next) (k : Key) (v : Option ℤ) → About event t
+    → ((cycle : List ℕ) → ClosesCycle past t n cycle → CauseHolds s past event (cause.Cycle cycle)) → Wants n k Store
     → Made (next_of s past t) event (storing t k v) → live past t ≡ true → CycleAbortReply past t k Store r ⊎ Makes past t k Store
     (reply.Wrote k v) r → Effect s past event r
 store_at s past event t r n k v about due wants made alive (inl h) = refuse_at s past event t n k Store r about due alive wants h
@@ -340,30 +340,30 @@ store_at s past event t r n k v about due wants made alive (inr h) =
     make_at s past event (storing t k v) h.is (about.access k Store v) refl tt alive h.free made
     (λ (look : Store ≡ Look). absurd (cc))
 
-step_at : (s : Setting) (past : List Entry) (t : ℕ) (r : Reply) (n : Next) → next_of s past t ≡ n → live past t ≡ true
+step_at : (s : Configuration) (past : List Entry) (t : ℕ) (r : Reply) (n : Next) → next_of s past t ≡ n → live past t ≡ true
     → StepReply s past t n r → Effect s past (Step t) r
-step_at s past t r (Looks k) e alive h = look_at s past (Step t) t r (next_of s past t) k (about_step t) (λ walk c. c)
+step_at s past t r (Looks k) e alive h = look_at s past (Step t) t r (next_of s past t) k (about_step t) (λ cycle c. c)
     (subst (λ n. Wants n k Look) (sym e) (refl, refl)) (subst (λ n. Fits n (looking s past t k)) (sym e) (refl, refl)) alive h
-step_at s past t r (Puts k v) e alive h = store_at s past (Step t) t r (next_of s past t) k v (about_step t) (λ walk c. c)
+step_at s past t r (Puts k v) e alive h = store_at s past (Step t) t r (next_of s past t) k v (about_step t) (λ cycle c. c)
     (subst (λ n. Wants n k Store) (sym e) (refl, refl)) (subst (λ n. Fits n (storing t k v)) (sym e) (refl, refl, refl)) alive h
 step_at s past t r (Ends answers) e alive h = idle_at h (record { no_start = refl; no_access = refl; ends_none = tt })
-step_at s past t r (Raises code) e alive h = asked_step s past t code r e alive s.rules.limits.asks h
+step_at s past t r (Raises code) e alive h = raised_step s past t code r e alive s.rules.limits.asks h
 
 -- an access that the caller requests
 
-requested_at : (s : Setting) (past : List Entry) (t : ℕ) (r : Reply) (d : Request) (answers : List ℤ) → next_of s past t ≡ Ends answers
+requested_at : (s : Configuration) (past : List Entry) (t : ℕ) (r : Reply) (d : Request) (answers : List ℤ) → next_of s past t ≡ Ends answers
     → live past t ≡ true → is_fit d ≡ true → StepReply s past t (requested d) r → Effect s past (event.Access t d) r
 requested_at s past t r (Read k) answers e alive fit h = look_at s past (event.Access t (Read k)) t r (Looks k) k (about_request t (Read k))
-    (λ walk c. c) (refl, refl) (answers, e, fit, (refl, refl)) alive h
+    (λ cycle c. c) (refl, refl) (answers, e, fit, (refl, refl)) alive h
 requested_at s past t r (Write k v) answers e alive fit h = store_at s past (event.Access t (Write k v)) t r (Puts k v) k v
-    (about_request t (Write k v)) (λ walk c. c) (refl, refl) (answers, e, fit, (refl, refl, refl)) alive h
+    (about_request t (Write k v)) (λ cycle c. c) (refl, refl) (answers, e, fit, (refl, refl, refl)) alive h
 
-fit_at : (s : Setting) (past : List Entry) (t : ℕ) (r : Reply) (d : Request) (answers : List ℤ) → next_of s past t ≡ Ends answers
+fit_at : (s : Configuration) (past : List Entry) (t : ℕ) (r : Reply) (d : Request) (answers : List ℤ) → next_of s past t ≡ Ends answers
     → live past t ≡ true → (fit : Bool) → is_fit d ≡ fit → OfFit fit r (StepReply s past t (requested d) r) → Effect s past (event.Access t d) r
 fit_at s past t r d answers e alive true fit h = requested_at s past t r d answers e alive fit h
 fit_at s past t r d answers e alive false fit h = idle_at h (record { no_start = refl; no_access = refl; ends_none = tt })
 
-request_at : (s : Setting) (past : List Entry) (t : ℕ) (r : Reply) (d : Request) (n : Next) → next_of s past t ≡ n → live past t ≡ true
+request_at : (s : Configuration) (past : List Entry) (t : ℕ) (r : Reply) (d : Request) (n : Next) → next_of s past t ≡ n → live past t ≡ true
     → RequestReply s past t d n r → Effect s past (event.Access t d) r
 request_at s past t r d (Ends answers) e alive h = fit_at s past t r d answers e alive (is_fit d) refl h
 request_at s past t r d (Looks k) e alive h = idle_at h (record { no_start = refl; no_access = refl; ends_none = tt })
@@ -372,17 +372,17 @@ request_at s past t r d (Raises code) e alive h = idle_at h (record { no_start =
 
 -- a commit
 
-commit_at : (s : Setting) (past : List Entry) (t : ℕ) (r : Reply) (n : Next) → next_of s past t ≡ n → live past t ≡ true
+commit_at : (s : Configuration) (past : List Entry) (t : ℕ) (r : Reply) (n : Next) → next_of s past t ≡ n → live past t ≡ true
     → CommitReply s past t n r → Effect s past (Commit t) r
 commit_at s past t r (Ends answers) e alive (inl h) = idle_at h.is (record { no_start = refl; no_access = refl; ends_none = tt })
 commit_at s past t r (Ends answers) e alive (inr h) =
     commits (record { t = t; answers = answers; event_is = refl; reply_is = h.is; is_live = alive; none_live = h.none_live; next = e })
 commit_at s past t r (Looks k) e alive h = idle_at h (record { no_start = refl; no_access = refl; ends_none = tt })
 commit_at s past t r (Puts k v) e alive h = idle_at h (record { no_start = refl; no_access = refl; ends_none = tt })
-commit_at s past t r (Raises code) e alive h = asked_commit s past t code r e alive s.rules.limits.asks h
+commit_at s past t r (Raises code) e alive h = raised_commit s past t code r e alive s.rules.limits.asks h
 
 -- each legal reply has one of the effects
-pub effect : (s : Setting) (past : List Entry) (event : Event) (r : Reply) → LegalReply s past event r → Effect s past event r
+pub effect : (s : Configuration) (past : List Entry) (event : Event) (r : Reply) → LegalReply s past event r → Effect s past event r
 effect s past (Start p args) r h = subst (λ x. Effect s past (Start p args) x) (sym h) (start_at s past p args (takes s.rules p) refl)
 effect s past (Step t) r h = of_live s past (Step t) t r (StepReply s past t (next_of s past t) r)
     (step_at s past t r (next_of s past t) refl) h

@@ -3,7 +3,7 @@ use Rattle.std.specs.Prelude.{◌≡◌, ℤ, pos, negsuc, [], Ok, Err, refl}
 use Rattle.sgt_model.specs.Syntax.{num, product, quotient}
 use Rattle.sgt_model.specs.Meaning.{Got, is, over, value_of, fresh}
 use Rattle.sgt_model.specs.Executions.{evaluate, workspace_of}
-use Rattle.sgt_model.proofs.ExampleSettings.{opening}
+use Rattle.sgt_model.proofs.ExampleConfigurations.{opening}
 
 -- what two literals give
 abbrev times : ℤ → ℤ → Got

@@ -11,16 +11,16 @@ use Rattle.sgt_model.specs.declared.reply.Reply.{Reply}
 use Rattle.sgt_model.specs.declared.reply.Reply.TheVariants as reply
 use Rattle.sgt_model.specs.declared.reply.Cause.TheVariants as cause
 use Rattle.sgt_model.specs.declared.entry.Entry.{Entry}
-use Rattle.sgt_model.specs.Runs.{Asked, told, wrote}
-use Rattle.sgt_model.specs.Settings.{Setting}
+use Rattle.sgt_model.specs.Runs.{Asked, reported, wrote}
+use Rattle.sgt_model.specs.Configurations.{Configuration}
 use Rattle.sgt_model.specs.Values.{settled}
 use Rattle.sgt_model.specs.Legality.{Legal, LegalReply}
 use Rattle.sgt_model.specs.Progress.{Call, outcome_in}
-use Rattle.sgt_model.specs.Replay.{GaveAnswers, told_calls, folded}
+use Rattle.sgt_model.specs.Replay.{GaveAnswers, reported_calls, folded}
 use Rattle.sgt_model.proofs.Computed.{◌▸◌, made_by, refused_by, aborts_by, commits_by, waits_by}
-use Rattle.sgt_model.proofs.ExampleSettings.{small_bank_with, opening, entry}
+use Rattle.sgt_model.proofs.ExampleConfigurations.{small_bank_with, opening, entry}
 
-abbrev pub small_bank_begin : Setting
+abbrev pub small_bank_begin : Configuration
 small_bank_begin = small_bank_with opening []
 
 -- 0 and 1 read two records; each is about to write one of them
@@ -58,10 +58,10 @@ abbrev pub the_call : Call
 the_call = record {
   procedure = 65535;
   args = [];
-  caller_accesses = told (3, pos 9) None ∷ wrote (2, pos 101) (Some (pos 800)) ∷ told (2, pos 102) (Some (pos 200)) ∷ told (2, pos 101) (Some (pos 1000)) ∷ [];
+  caller_accesses = reported (3, pos 9) None ∷ wrote (2, pos 101) (Some (pos 800)) ∷ reported (2, pos 102) (Some (pos 200)) ∷ reported (2, pos 101) (Some (pos 1000)) ∷ [];
 }
 
-write_skew-calls : told_calls write_skew ≡ the_call ∷ []
+write_skew-calls : reported_calls write_skew ≡ the_call ∷ []
 write_skew-calls = refl
 
 write_skew-results : (folded small_bank_begin write_skew).results ≡ GaveAnswers [] ∷ []
@@ -73,10 +73,10 @@ write_skew-last = refl
 write_skew-settled : settled opening write_skew (2, pos 101) ≡ Some (pos 800)
 write_skew-settled = refl
 
--- a read that was told anything else would not be replayed
-wrongly_told : outcome_in small_bank_begin.rules (record { procedure = 65535; args = []; caller_accesses = told (2, pos 101) (Some (pos 999)) ∷ [] }) opening
+-- a read that had returned anything else would not be replayed
+wrongly_reported : outcome_in small_bank_begin.rules (record { procedure = 65535; args = []; caller_accesses = reported (2, pos 101) (Some (pos 999)) ∷ [] }) opening
     ≡ Asked 0
-wrongly_told = refl
+wrongly_reported = refl
 
 -- 0 removes a record, and finds it absent itself; so does 1, before 0 commits
 abbrev pub own_removal : List Entry
@@ -102,9 +102,9 @@ removal_commits =
 removal_commits-legal : Legal small_bank_begin removal_commits
 removal_commits-legal = own_removal-legal ▸ inl (waits_by refl) ▸ inr (commits_by refl) ▸ inr (commits_by refl)
 
-removal_commits-calls : told_calls removal_commits
-    ≡ record { procedure = 65535; args = []; caller_accesses = told (2, pos 101) None ∷ [] }
-    ∷ record { procedure = 65535; args = []; caller_accesses = told (2, pos 101) None ∷ wrote (2, pos 101) None ∷ [] }
+removal_commits-calls : reported_calls removal_commits
+    ≡ record { procedure = 65535; args = []; caller_accesses = reported (2, pos 101) None ∷ [] }
+    ∷ record { procedure = 65535; args = []; caller_accesses = reported (2, pos 101) None ∷ wrote (2, pos 101) None ∷ [] }
     ∷ []
 removal_commits-calls = refl
 
@@ -117,7 +117,7 @@ removal_commits-last = refl
 removal_commits-settled : settled opening removal_commits (2, pos 101) ≡ None
 removal_commits-settled = refl
 
--- if 0 quits, 1 falls with it, and the record is there
+-- if 0 is aborted, 1 is aborted in cascade, and the record is there
 abbrev pub removal_undone : List Entry
 removal_undone = entry (Quit 0) (reply.Aborted cause.Quit (1 ∷ [])) ∷ own_removal
 
@@ -130,17 +130,17 @@ removal_undone-settled = refl
 -- wrong replies: a value that is not there, or that was removed; an access in the middle of a procedure; a write of what is no
 -- value
 
-abbrev tells : Reply → ℤ → Bool
-tells (reply.Looked k (Some v)) w = int_eq v w
-tells _ w = false
+abbrev reports : Reply → ℤ → Bool
+reports (reply.Looked k (Some v)) w = int_eq v w
+reports _ w = false
 
 not_that_value : LegalReply small_bank_begin both_read (Access 0 (Read (2, pos 101))) (reply.Looked (2, pos 101) (Some (pos 999))) → ⊥
 not_that_value (inl h) = cc h.aborts.is
-not_that_value (inr h) = true≢false (ap (λ r. tells r (pos 999)) h.is)
+not_that_value (inr h) = true≢false (ap (λ r. reports r (pos 999)) h.is)
 
 not_removed_value : LegalReply small_bank_begin own_removal (Access 0 (Read (2, pos 101))) (reply.Looked (2, pos 101) (Some (pos 1000))) → ⊥
 not_removed_value (inl h) = cc h.aborts.is
-not_removed_value (inr h) = true≢false (ap (λ r. tells r (pos 1000)) h.is)
+not_removed_value (inr h) = true≢false (ap (λ r. reports r (pos 1000)) h.is)
 
 not_in_the_middle : LegalReply small_bank_begin (entry (Start 0 (pos 1 ∷ [])) (reply.Started 0) ∷ [])
     (Access 0 (Read (2, pos 101))) (reply.Looked (2, pos 101) (Some (pos 1000))) → ⊥

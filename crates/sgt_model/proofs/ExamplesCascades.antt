@@ -9,7 +9,7 @@ use Rattle.sgt_model.specs.declared.entry.Entry.{Entry}
 use Rattle.sgt_model.specs.Values.{settled}
 use Rattle.sgt_model.specs.Legality.{Legal, LegalReply}
 use Rattle.sgt_model.proofs.Computed.{◌▸◌, made_by, aborts_by, refused_by, commits_by, waits_by}
-use Rattle.sgt_model.proofs.ExampleSettings.{small_bank, entry, small_bank_copy, small_bank_twice}
+use Rattle.sgt_model.proofs.ExampleConfigurations.{small_bank, entry, small_bank_copy, small_bank_twice}
 
 -- 1 has read from 0, and 2 from 1
 abbrev pub two_levels : List Entry
@@ -124,9 +124,9 @@ asked-legal : Legal (small_bank 8 100) asked
 asked-legal =
     tt ▸ refl ▸ inr (made_by (0 ∷ []) refl) ▸ aborts_by ([]) ([]) (0 ∷ []) refl refl refl ▸ refl
 
--- a transaction that is to raise a code cannot commit, and can be quit
-abbrev pub asking_is_no_end : List Entry
-asking_is_no_end =
+-- a transaction that is to raise a code cannot commit, and can be aborted
+abbrev pub raising_is_no_end : List Entry
+raising_is_no_end =
     entry (Quit 1) (reply.Unknown)
     ∷ entry (Commit 1) (reply.Unknown)
     ∷ entry (Commit 0) (reply.Over (fate.Aborted cause.Quit))
@@ -136,13 +136,13 @@ asking_is_no_end =
     ∷ entry (Start 0 (pos 9 ∷ [])) (reply.Started 0)
     ∷ []
 
-asking_is_no_end-legal : Legal (small_bank 8 100) asking_is_no_end
-asking_is_no_end-legal =
+raising_is_no_end-legal : Legal (small_bank 8 100) raising_is_no_end
+raising_is_no_end-legal =
     tt ▸ refl ▸ inr (made_by (0 ∷ []) refl) ▸ refl ▸ aborts_by ([]) ([]) (0 ∷ []) refl refl refl ▸ refl ▸ refl ▸ refl
 
 -- a write that would close three cycles: the reply may name any of them, and is otherwise the same
-abbrev pub several_walks : List Entry
-several_walks =
+abbrev pub several_cycles : List Entry
+several_cycles =
     entry (Step 1) (reply.Wrote (2, pos 103) (Some (pos 1000)))
     ∷ entry (Step 0) (reply.Wrote (2, pos 103) (Some (pos 1000)))
     ∷ entry (Step 2) (reply.Looked (2, pos 103) (Some (pos 300)))
@@ -153,16 +153,16 @@ several_walks =
     ∷ entry (Start 5 (pos 101 ∷ pos 103 ∷ [])) (reply.Started 0)
     ∷ []
 
-several_walks-legal : Legal small_bank_copy several_walks
-several_walks-legal =
+several_cycles-legal : Legal small_bank_copy several_cycles
+several_cycles-legal =
     tt ▸ refl ▸ refl ▸ refl ▸ inr (made_by (0 ∷ []) refl) ▸ inr (made_by (1 ∷ []) refl) ▸ inr (made_by (2 ∷ []) refl)
     ▸ inr (made_by (0 ∷ []) refl) ▸ inr (made_by (1 ∷ []) refl)
 
-several_walks-first : LegalReply small_bank_copy several_walks (Step 2) (reply.Aborted (cause.Cycle (2 ∷ 0 ∷ [])) [])
-several_walks-first = inl (refused_by (0 ∷ []) [] [] (2 ∷ []) refl refl refl refl)
+several_cycles-first : LegalReply small_bank_copy several_cycles (Step 2) (reply.Aborted (cause.Cycle (2 ∷ 0 ∷ [])) [])
+several_cycles-first = inl (refused_by (0 ∷ []) [] [] (2 ∷ []) refl refl refl refl)
 
-several_walks-second : LegalReply small_bank_copy several_walks (Step 2) (reply.Aborted (cause.Cycle (2 ∷ 1 ∷ [])) [])
-several_walks-second = inl (refused_by (1 ∷ []) [] [] (2 ∷ []) refl refl refl refl)
+several_cycles-second : LegalReply small_bank_copy several_cycles (Step 2) (reply.Aborted (cause.Cycle (2 ∷ 1 ∷ [])) [])
+several_cycles-second = inl (refused_by (1 ∷ []) [] [] (2 ∷ []) refl refl refl refl)
 
-several_walks-longest : LegalReply small_bank_copy several_walks (Step 2) (reply.Aborted (cause.Cycle (2 ∷ 0 ∷ 1 ∷ [])) [])
-several_walks-longest = inl (refused_by (0 ∷ 1 ∷ []) [] [] (2 ∷ []) refl refl refl refl)
+several_cycles-longest : LegalReply small_bank_copy several_cycles (Step 2) (reply.Aborted (cause.Cycle (2 ∷ 0 ∷ 1 ∷ [])) [])
+several_cycles-longest = inl (refused_by (0 ∷ 1 ∷ []) [] [] (2 ∷ []) refl refl refl refl)

@@ -9,7 +9,7 @@ use Rattle.sgt_model.specs.declared.entry.Entry.{Entry}
 use Rattle.sgt_model.specs.Values.{settled}
 use Rattle.sgt_model.specs.Legality.{Legal}
 use Rattle.sgt_model.proofs.Computed.{◌▸◌, made_by, aborts_by, refused_by, commits_by, waits_by}
-use Rattle.sgt_model.proofs.ExampleSettings.{entry, small_bank_copy}
+use Rattle.sgt_model.proofs.ExampleConfigurations.{entry, small_bank_copy}
 
 -- each of 1, 2 and 3 has read what the one before it wrote; 4 has written over what 0 wrote, and has read from none
 abbrev pub three_levels : List Entry
@@ -33,7 +33,7 @@ three_levels =
     ∷ entry (Start 1 (pos 1 ∷ pos 10 ∷ [])) (reply.Started 0)
     ∷ []
 
--- the first is quit: its readers are aborted in cascade, and the one that wrote over its value commits
+-- the first is aborted: its readers are aborted in cascade, and the one that wrote over its value commits
 abbrev pub three_level_cascade : List Entry
 three_level_cascade =
     entry (Commit 4) (reply.Committed [])

@@ -9,7 +9,7 @@ use Rattle.sgt_model.specs.declared.entry.Entry.{Entry}
 use Rattle.sgt_model.specs.Values.{settled}
 use Rattle.sgt_model.specs.Legality.{Legal}
 use Rattle.sgt_model.proofs.Computed.{◌▸◌, made_by, aborts_by, refused_by, commits_by, waits_by}
-use Rattle.sgt_model.proofs.ExampleSettings.{small_bank, entry, small_bank_look_twice, small_bank_put_and_tell, small_bank_put_over, small_bank_tell}
+use Rattle.sgt_model.proofs.ExampleConfigurations.{small_bank, entry, small_bank_look_twice, small_bank_put_and_read, small_bank_put_over, small_bank_read}
 
 -- 0 has written a record and not committed. 1 has read two others
 abbrev pub dirty_reader : List Entry
@@ -71,11 +71,11 @@ own_write_read_back =
     ∷ entry (Start 5 ([])) (reply.Started 0)
     ∷ []
 
-own_write_read_back-legal : Legal small_bank_put_and_tell own_write_read_back
+own_write_read_back-legal : Legal small_bank_put_and_read own_write_read_back
 own_write_read_back-legal =
     tt ▸ refl ▸ inr (made_by (0 ∷ []) refl) ▸ inr (made_by (0 ∷ []) refl) ▸ refl ▸ inr (commits_by refl)
 
-own_write_read_back-record : settled small_bank_put_and_tell.opening own_write_read_back (3, pos 7) ≡ Some (pos 4)
+own_write_read_back-record : settled small_bank_put_and_read.opening own_write_read_back (3, pos 7) ≡ Some (pos 4)
 own_write_read_back-record = refl
 
 -- 0 has read a record that 1 has written since
@@ -118,13 +118,13 @@ read_past_aborted =
     ∷ entry (Start 5 (pos 1 ∷ [])) (reply.Started 0)
     ∷ []
 
-read_past_aborted-legal : Legal small_bank_tell read_past_aborted
+read_past_aborted-legal : Legal small_bank_read read_past_aborted
 read_past_aborted-legal =
     tt ▸ refl ▸ refl ▸ refl ▸ inr (made_by (0 ∷ []) refl) ▸ inr (made_by (1 ∷ []) refl)
     ▸ aborts_by ([]) ([]) (1 ∷ []) refl refl refl ▸ inr (made_by (2 ∷ []) refl)
     ▸ aborts_by (2 ∷ []) ((2 ∷ []) ∷ []) (0 ∷ 2 ∷ []) refl refl refl
 
-read_past_aborted-record : settled small_bank_tell.opening read_past_aborted (3, pos 7) ≡ None
+read_past_aborted-record : settled small_bank_read.opening read_past_aborted (3, pos 7) ≡ None
 read_past_aborted-record = refl
 
 -- 1 has written over a value of 0, and has read its own value back
@@ -137,7 +137,7 @@ stored_over =
     ∷ entry (Start 5 (pos 1 ∷ [])) (reply.Started 0)
     ∷ []
 
--- a transaction that wrote over another's value before reading has read from none: it stays when the other quits
+-- a transaction that wrote over another's value before reading has read from none: it stays when the other is aborted
 abbrev pub own_store_over_anothers : List Entry
 own_store_over_anothers =
     entry (Commit 1) (reply.Committed (pos 4 ∷ []))

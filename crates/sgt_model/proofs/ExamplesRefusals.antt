@@ -11,15 +11,15 @@ use Rattle.sgt_model.specs.declared.limits.Asks.TheVariants.{AtCommit}
 use Rattle.sgt_model.specs.Syntax as text
 use Rattle.sgt_model.specs.Syntax.{ProcedureText, num, arg, reg, diff, less}
 use Rattle.sgt_model.specs.Values.{settled}
-use Rattle.sgt_model.specs.Settings.{Setting, setting}
+use Rattle.sgt_model.specs.Configurations.{Configuration, configuration}
 use Rattle.sgt_model.specs.Legality.{Legal}
-use Rattle.sgt_model.specs.Replay.{GaveAnswers, AskedCode, folded, told}
+use Rattle.sgt_model.specs.Replay.{GaveAnswers, RaisedCode, folded, reported}
 use Rattle.sgt_model.proofs.Computed.{◌▸◌, made_by, aborts_by, commits_by, waits_by, refuses_by}
-use Rattle.sgt_model.proofs.ExampleSettings.{opening, entry, tell}
+use Rattle.sgt_model.proofs.ExampleConfigurations.{opening, entry, read_and_answer}
 
 -- write, and raise a code
-abbrev pub put_and_ask : ProcedureText
-put_and_ask = record { args = 0; body = text.put 3 (num (pos 7)) (num (pos 4)) (text.ask 9 text.empty) }
+abbrev pub put_and_raise : ProcedureText
+put_and_raise = record { args = 0; body = text.put 3 (num (pos 7)) (num (pos 4)) (text.ask 9 text.empty) }
 
 -- spend an amount from one checking; raise a code if it has less
 abbrev pub spend : ProcedureText
@@ -32,8 +32,8 @@ spend = record {
 }
 
 -- these, and one that answers what is stored, with codes reported at commit
-abbrev pub refusing : Setting
-refusing = setting opening (put_and_ask ∷ tell ∷ spend ∷ []) (record { live = 8; begins = 100; asks = AtCommit })
+abbrev pub refusing : Configuration
+refusing = configuration opening (put_and_raise ∷ read_and_answer ∷ spend ∷ []) (record { live = 8; begins = 100; asks = AtCommit })
 
 -- a refused transaction aborts its reader in cascade
 abbrev pub refusal_takes_reader : List Entry
@@ -57,7 +57,7 @@ refusal_takes_reader-legal =
 refusal_takes_reader-settled : settled refusing.opening refusal_takes_reader (3, pos 7) ≡ None
 refusal_takes_reader-settled = refl
 
-refusal_takes_reader-results : (folded refusing refusal_takes_reader).results ≡ AskedCode 9 ∷ []
+refusal_takes_reader-results : (folded refusing refusal_takes_reader).results ≡ RaisedCode 9 ∷ []
 refusal_takes_reader-results = refl
 
 -- 0 is live and has spent. 1 has found too little to spend
@@ -105,10 +105,10 @@ refused_in_turn-legal =
     tt ▸ refl ▸ inr (made_by (0 ∷ []) refl) ▸ inr (made_by (0 ∷ []) refl) ▸ refl ▸ inr (made_by (1 ∷ []) refl) ▸ refl
     ▸ inl (waits_by refl) ▸ inr (commits_by refl) ▸ inr (refuses_by [] [] (1 ∷ []) refl refl refl refl)
 
-refused_in_turn-told : told refused_in_turn ≡ AskedCode 3 ∷ GaveAnswers [] ∷ []
-refused_in_turn-told = refl
+refused_in_turn-reported : reported refused_in_turn ≡ RaisedCode 3 ∷ GaveAnswers [] ∷ []
+refused_in_turn-reported = refl
 
-refused_in_turn-results : (folded refusing refused_in_turn).results ≡ AskedCode 3 ∷ GaveAnswers [] ∷ []
+refused_in_turn-results : (folded refusing refused_in_turn).results ≡ RaisedCode 3 ∷ GaveAnswers [] ∷ []
 refused_in_turn-results = refl
 
 refused_in_turn-folded : (folded refusing refused_in_turn).last (2, pos 101) ≡ Some (pos 400)

@@ -13,12 +13,12 @@ use Rattle.sgt_model.specs.Runs.{Done, Asked, serial}
 use Rattle.sgt_model.specs.Traces.{put, look, ended, trace}
 use Rattle.sgt_model.specs.Meaning.{run_with}
 use Rattle.sgt_model.specs.Executions.{execution}
-use Rattle.sgt_model.specs.Settings.{Setting}
+use Rattle.sgt_model.specs.Configurations.{Configuration}
 use Rattle.sgt_model.specs.Values.{settled}
 use Rattle.sgt_model.specs.Legality.{Legal}
 use Rattle.sgt_model.specs.Replay.{GaveAnswers, folded}
 use Rattle.sgt_model.proofs.Computed.{◌▸◌, made_by, aborts_by, commits_by, waits_by}
-use Rattle.sgt_model.proofs.ExampleSettings.{small_bank_with, opening, entry}
+use Rattle.sgt_model.proofs.ExampleConfigurations.{small_bank_with, opening, entry}
 
 -- remove a checking, and answer what is found after that, or 7
 abbrev pub remove_and_find : ProcedureText
@@ -56,11 +56,11 @@ remove_absent-trace = refl
 abbrev pub drop_it : ProcedureText
 drop_it = record { args = 0; body = text.remove 2 (num (pos 101)) text.empty }
 
-abbrev pub tell_it : ProcedureText
-tell_it = record { args = 0; body = text.find 0 2 (num (pos 101)) (num (pos 7)) (text.answer (reg 0) text.empty) }
+abbrev pub read_it : ProcedureText
+read_it = record { args = 0; body = text.find 0 2 (num (pos 101)) (num (pos 7)) (text.answer (reg 0) text.empty) }
 
-abbrev pub small_bank_remove : Setting
-small_bank_remove = small_bank_with opening (drop_it ∷ tell_it ∷ [])
+abbrev pub small_bank_remove : Configuration
+small_bank_remove = small_bank_with opening (drop_it ∷ read_it ∷ [])
 
 -- 1 reads what 0 has removed and not committed
 abbrev pub dirty_absence : List Entry

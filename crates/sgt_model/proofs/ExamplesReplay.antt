@@ -8,11 +8,11 @@ use Rattle.sgt_model.specs.declared.entry.Entry.{Entry}
 use Rattle.sgt_model.specs.Values.{settled}
 use Rattle.sgt_model.specs.Legality.{Legal}
 use Rattle.sgt_model.specs.Progress.{Call}
-use Rattle.sgt_model.specs.Replay.{GaveAnswers, told_calls, folded, told}
+use Rattle.sgt_model.specs.Replay.{GaveAnswers, reported_calls, folded, reported}
 use Rattle.sgt_model.proofs.Computed.{◌▸◌, made_by, aborts_by, commits_by, waits_by}
-use Rattle.sgt_model.proofs.ExampleSettings.{small_bank, entry}
+use Rattle.sgt_model.proofs.ExampleConfigurations.{small_bank, entry}
 
--- two deposits commit; a check is written between them, and quit
+-- two deposits commit; a check is written between them, and aborted
 abbrev pub two_deposits : List Entry
 two_deposits =
     entry (Commit 2) (reply.Committed (pos 1150 ∷ []))
@@ -49,7 +49,7 @@ the_deposits =
     ∷ record { procedure = 1; args = pos 1 ∷ pos 100 ∷ []; caller_accesses = [] }
     ∷ []
 
-two_deposits-committed : told_calls two_deposits ≡ the_deposits
+two_deposits-committed : reported_calls two_deposits ≡ the_deposits
 two_deposits-committed = refl
 
 -- run one after another, they give these answers
@@ -57,8 +57,8 @@ two_deposits-results : (folded (small_bank 8 100) two_deposits).results ≡ Gave
 two_deposits-results = refl
 
 -- and these are the answers that were reported
-two_deposits-told : told two_deposits ≡ GaveAnswers (pos 1150 ∷ []) ∷ GaveAnswers (pos 1100 ∷ []) ∷ []
-two_deposits-told = refl
+two_deposits-reported : reported two_deposits ≡ GaveAnswers (pos 1150 ∷ []) ∷ GaveAnswers (pos 1100 ∷ []) ∷ []
+two_deposits-reported = refl
 
 -- the balance at the end is the committed one
 two_deposits-folded : (folded (small_bank 8 100) two_deposits).last (2, pos 101) ≡ Some (pos 1150)

@@ -7,7 +7,7 @@ use Rattle.sgt_model.specs.declared.reply.Fate.TheVariants as fate
 use Rattle.sgt_model.specs.declared.entry.Entry.{Entry}
 use Rattle.sgt_model.specs.Legality.{Legal}
 use Rattle.sgt_model.proofs.Computed.{◌▸◌, made_by, commits_by, waits_by}
-use Rattle.sgt_model.proofs.ExampleSettings.{small_bank, entry, small_bank_twice}
+use Rattle.sgt_model.proofs.ExampleConfigurations.{small_bank, entry, small_bank_twice}
 
 -- limits of one live and two started
 abbrev pub limits_and_fates : List Entry

@@ -13,10 +13,10 @@ use Rattle.sgt_model.specs.Traces.{look, put, ended, trace}
 use Rattle.sgt_model.specs.Meaning.{run_with}
 use Rattle.sgt_model.specs.Executions.{execution}
 use Rattle.sgt_model.specs.Values.{settled}
-use Rattle.sgt_model.specs.Settings.{Setting, setting}
+use Rattle.sgt_model.specs.Configurations.{Configuration, configuration}
 use Rattle.sgt_model.specs.Legality.{Legal}
 use Rattle.sgt_model.proofs.Computed.{◌▸◌, made_by, commits_by, waits_by}
-use Rattle.sgt_model.proofs.ExampleSettings.{opening, entry}
+use Rattle.sgt_model.proofs.ExampleConfigurations.{opening, entry}
 
 -- draw the amount, the second argument, from the checking of a customer, the first: if it is at most what is there, and
 -- else nothing; answer what was drawn. The write and the answer come after the If
@@ -95,8 +95,8 @@ put_and_look-execution : execution put_and_look [] opening ≡ Done (pos 4 ∷ [
 put_and_look-execution = refl
 
 -- the configuration of this one procedure
-abbrev pub drawing : Setting
-drawing = setting opening (draw ∷ []) (record { live = 8; begins = 100; asks = AtStep })
+abbrev pub drawing : Configuration
+drawing = configuration opening (draw ∷ []) (record { live = 8; begins = 100; asks = AtStep })
 
 -- two draw from one checking: the second reads what the first has left, and waits for it
 abbrev pub two_draw : List Entry

@@ -8,7 +8,7 @@ use Rattle.sgt_model.specs.declared.entry.Entry.{Entry}
 use Rattle.sgt_model.specs.Values.{settled}
 use Rattle.sgt_model.specs.Legality.{Legal}
 use Rattle.sgt_model.proofs.Computed.{◌▸◌, made_by, aborts_by, refused_by, commits_by, waits_by}
-use Rattle.sgt_model.proofs.ExampleSettings.{small_bank, entry, small_bank_put}
+use Rattle.sgt_model.proofs.ExampleConfigurations.{small_bank, entry, small_bank_put}
 
 -- 0 has made all its accesses
 abbrev pub at_its_end : List Entry
@@ -72,7 +72,7 @@ lost_update-legal =
 lost_update-checking : settled (small_bank 8 100).opening lost_update (2, pos 101) ≡ Some (pos 900)
 lost_update-checking = refl
 
--- three have written a record, and the second has quit
+-- three have written a record, and the second was aborted
 abbrev pub three_writers : List Entry
 three_writers =
     entry (Quit 1) (reply.Aborted cause.Quit ([]))

@@ -117,53 +117,53 @@ test_step unknown r ys ns m next rest e yes_same no_same = rw e refl
 
 -- the outcome of the run along a way, from a workspace
 abbrev along : List ℤ → Way → Workspace → Outcome
-along args behind w = serial (run args behind w.registers w.answers) w.working
+along args following w = serial (run args following w.registers w.answers) w.working
 
 -- what the first statement does, and then what is after it
-behind_first : (args : List ℤ) (b : Block) (behind : Way) (r : OrCode Workspace) (first : Outcome)
-    → ((w : Workspace) → along args (onto b behind) w ≡ after (execute args b w) (along args behind))
-    → first ≡ after r (along args (onto b behind)) → first ≡ after (and_then r (λ next. execute args b next)) (along args behind)
-behind_first args b behind (Ok w) first same so = so ∙ same w
-behind_first args b behind (Err code) first same so = so
+following_first : (args : List ℤ) (b : Block) (following : Way) (r : OrCode Workspace) (first : Outcome)
+    → ((w : Workspace) → along args (onto b following) w ≡ after (execute args b w) (along args following))
+    → first ≡ after r (along args (onto b following)) → first ≡ after (and_then r (λ next. execute args b next)) (along args following)
+following_first args b following (Ok w) first same so = so ∙ same w
+following_first args b following (Err code) first same so = so
 
-block_is : (args : List ℤ) (b : Block) (behind : Way) (w : Workspace) → along args (onto b behind) w ≡ after (execute args b w)
-    (along args behind)
-block_is args empty behind w = refl
-block_is args (look to table id absent b) behind w =
-    behind_first args b behind (look_at_record args to table id absent w) _ (block_is args b behind)
-    (value_step (value_of id args w.registers) (evaluate id args w) _ w.working _ (along args (onto b behind)) (value_is id args w)
-    (λ n. key_step (is_key table n) (table, n) _ w.working _ (along args (onto b behind))
-    (found_step (w.working (table, n)) absent _ w.working _ (along args (onto b behind)) (λ v. refl))))
-block_is args (find to table id absent b) behind w =
-    behind_first args b behind (find_record args to table id absent w) _ (block_is args b behind)
-    (value_step (value_of id args w.registers) (evaluate id args w) _ w.working _ (along args (onto b behind)) (value_is id args w)
-    (λ n. value_step (value_of absent args w.registers) (evaluate absent args w) _ w.working _ (along args (onto b behind))
+block_is : (args : List ℤ) (b : Block) (following : Way) (w : Workspace) → along args (onto b following) w ≡ after (execute args b w)
+    (along args following)
+block_is args empty following w = refl
+block_is args (look to table id absent b) following w =
+    following_first args b following (look_at_record args to table id absent w) _ (block_is args b following)
+    (value_step (value_of id args w.registers) (evaluate id args w) _ w.working _ (along args (onto b following)) (value_is id args w)
+    (λ n. key_step (is_key table n) (table, n) _ w.working _ (along args (onto b following))
+    (found_step (w.working (table, n)) absent _ w.working _ (along args (onto b following)) (λ v. refl))))
+block_is args (find to table id absent b) following w =
+    following_first args b following (find_record args to table id absent w) _ (block_is args b following)
+    (value_step (value_of id args w.registers) (evaluate id args w) _ w.working _ (along args (onto b following)) (value_is id args w)
+    (λ n. value_step (value_of absent args w.registers) (evaluate absent args w) _ w.working _ (along args (onto b following))
     (value_is absent args w)
-    (λ v. key_step (is_key table n) (table, n) _ w.working _ (along args (onto b behind)) refl)))
-block_is args (put table id value b) behind w =
-    behind_first args b behind (put_record args table id value w) _ (block_is args b behind)
-    (value_step (value_of id args w.registers) (evaluate id args w) _ w.working _ (along args (onto b behind)) (value_is id args w)
-    (λ n. value_step (value_of value args w.registers) (evaluate value args w) _ w.working _ (along args (onto b behind))
+    (λ v. key_step (is_key table n) (table, n) _ w.working _ (along args (onto b following)) refl)))
+block_is args (put table id value b) following w =
+    following_first args b following (put_record args table id value w) _ (block_is args b following)
+    (value_step (value_of id args w.registers) (evaluate id args w) _ w.working _ (along args (onto b following)) (value_is id args w)
+    (λ n. value_step (value_of value args w.registers) (evaluate value args w) _ w.working _ (along args (onto b following))
     (value_is value args w)
-    (λ v. key_step (is_key table n) (table, n) _ w.working _ (along args (onto b behind))
-    (last_step (is_value v) _ _ w.working (along args (onto b behind)) refl))))
-block_is args (remove table id b) behind w =
-    behind_first args b behind (remove_record args table id w) _ (block_is args b behind)
-    (value_step (value_of id args w.registers) (evaluate id args w) _ w.working _ (along args (onto b behind)) (value_is id args w)
-    (λ n. key_step (is_key table n) (table, n) _ w.working _ (along args (onto b behind)) refl))
-block_is args (save to value b) behind w =
-    behind_first args b behind (let_register args to value w) _ (block_is args b behind)
-    (value_step (value_of value args w.registers) (evaluate value args w) _ w.working _ (along args (onto b behind))
+    (λ v. key_step (is_key table n) (table, n) _ w.working _ (along args (onto b following))
+    (last_step (is_value v) _ _ w.working (along args (onto b following)) refl))))
+block_is args (remove table id b) following w =
+    following_first args b following (remove_record args table id w) _ (block_is args b following)
+    (value_step (value_of id args w.registers) (evaluate id args w) _ w.working _ (along args (onto b following)) (value_is id args w)
+    (λ n. key_step (is_key table n) (table, n) _ w.working _ (along args (onto b following)) refl))
+block_is args (save to value b) following w =
+    following_first args b following (let_register args to value w) _ (block_is args b following)
+    (value_step (value_of value args w.registers) (evaluate value args w) _ w.working _ (along args (onto b following))
     (value_is value args w) (λ v. refl))
-block_is args (ask code b) behind w = refl
-block_is args (choose test ys ns b) behind w =
-    test_step (truth_of test args w.registers) (decide test args w) _ _ w.working _ (along args behind) (test_is test args w)
-    (behind_first args b behind (execute args ys w) _ (block_is args b behind) (block_is args ys (onto b behind) w))
-    (behind_first args b behind (execute args ns w) _ (block_is args b behind) (block_is args ns (onto b behind) w))
-block_is args (answer value b) behind w =
-    behind_first args b behind (give_answer args value w) _ (block_is args b behind)
-    (value_step (value_of value args w.registers) (evaluate value args w) _ w.working _ (along args (onto b behind)) (value_is value args w)
-    (λ v. last_step (nat_lt (length w.answers) 8) _ _ w.working (along args (onto b behind)) refl))
+block_is args (ask code b) following w = refl
+block_is args (choose test ys ns b) following w =
+    test_step (truth_of test args w.registers) (decide test args w) _ _ w.working _ (along args following) (test_is test args w)
+    (following_first args b following (execute args ys w) _ (block_is args b following) (block_is args ys (onto b following) w))
+    (following_first args b following (execute args ns w) _ (block_is args b following) (block_is args ns (onto b following) w))
+block_is args (answer value b) following w =
+    following_first args b following (give_answer args value w) _ (block_is args b following)
+    (value_step (value_of value args w.registers) (evaluate value args w) _ w.working _ (along args (onto b following)) (value_is value args w)
+    (λ v. last_step (nat_lt (length w.answers) 8) _ _ w.working (along args (onto b following)) refl))
 
 -- procedures
 

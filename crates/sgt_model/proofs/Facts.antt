@@ -12,18 +12,18 @@ use Rattle.sgt_model.specs.declared.entry.Entry.{Entry}
 use Rattle.sgt_model.specs.declared.kind.Kind.{Kind}
 use Rattle.sgt_model.specs.declared.kind.Kind.TheVariants.{Look}
 use Rattle.sgt_model.specs.Contents.{Key, key_eq}
-use Rattle.sgt_model.specs.Walks.{Member}
+use Rattle.sgt_model.specs.Paths.{Member}
 use Rattle.sgt_model.specs.Accesses.{Access, access_in, access_of}
 use Rattle.sgt_model.specs.Fates.{is_start, start_count, ending_in, fate_of, has_committed, has_aborted, aborted, committed, live}
 use Rattle.sgt_model.specs.Values.{visible}
 use Rattle.sgt_model.specs.Pairs.{one_stores, conflicts, has_conflicting, FollowsIn, Precedes}
 use Rattle.sgt_model.specs.Closes.{Closes}
-use Rattle.sgt_model.specs.Settings.{Setting}
+use Rattle.sgt_model.specs.Configurations.{Configuration}
 use Rattle.sgt_model.specs.Progress.{call_at, call_in, call_of, next_of}
 use Rattle.sgt_model.specs.Legality.{HasNoLivePredecessor, LegalReply, Legal}
-use Rattle.sgt_model.specs.Replay.{told_call_in, told_in}
+use Rattle.sgt_model.specs.Replay.{reported_call_in, reported_in}
 use Rattle.sgt_model.specs.Laws.{CommitAgrees}
-use Rattle.sgt_model.proofs.Effects.{Made, EndsNone, ends_none-no_end, ends_none-no_call, ends_none-tells_none, ends_none-agrees, no_start-no_call, Begins, Accesses, Commits, Undoing, Undoes, Effect, idle, begins, accesses, commits, undoes, Refusal, refuses, none_from, effect}
+use Rattle.sgt_model.proofs.Effects.{Made, EndsNone, ends_none-no_end, ends_none-no_call, ends_none-reports_none, ends_none-agrees, no_start-no_call, Begins, Accesses, Commits, Undoing, Undoes, Effect, idle, begins, accesses, commits, undoes, Refusal, refuses, none_from, effect}
 
 -- on options
 
@@ -56,26 +56,26 @@ live-no_fate past t h = none_from _ (and_parts _ _ h).1
 pub live_from : (past : List Entry) (t : ℕ) → t < start_count past → fate_of past t ≡ None → live past t ≡ true
 live_from past t started open_still = and_from _ _ (lt-ltb t (start_count past) started) (ap is_none open_still)
 
-Commits-ends : {s : Setting} {past : List Entry} {event : Event} {r : Reply} (c : Commits s past event r) (u : ℕ)
+Commits-ends : {s : Configuration} {past : List Entry} {event : Event} {r : Reply} (c : Commits s past event r) (u : ℕ)
     → ending_in event r u ≡ cond (nat_eq c.t u) (Some fate.Committed) None
 Commits-ends {s} {past} {event} {r} c u = ap₂ (λ x y. ending_in x y u) c.event_is c.reply_is
 
-Commits-no_access : {s : Setting} {past : List Entry} {event : Event} {r : Reply} → Commits s past event r → access_in event r ≡ None
+Commits-no_access : {s : Configuration} {past : List Entry} {event : Event} {r : Reply} → Commits s past event r → access_in event r ≡ None
 Commits-no_access {s} {past} {event} {r} c = ap (λ x. access_in event x) c.reply_is
 
-Begins-no_access : {s : Setting} {past : List Entry} {event : Event} {r : Reply} → Begins s past event r → access_in event r ≡ None
+Begins-no_access : {s : Configuration} {past : List Entry} {event : Event} {r : Reply} → Begins s past event r → access_in event r ≡ None
 Begins-no_access {s} {past} {event} {r} b = ap (λ x. access_in event x) b.reply_is
 
-Begins-no_end : {s : Setting} {past : List Entry} {event : Event} {r : Reply} → Begins s past event r → (u : ℕ) → ending_in event r u ≡ None
+Begins-no_end : {s : Configuration} {past : List Entry} {event : Event} {r : Reply} → Begins s past event r → (u : ℕ) → ending_in event r u ≡ None
 Begins-no_end {s} {past} {event} {r} b u = ap (λ x. ending_in event x u) b.reply_is
 
-Undoes-no_access : {s : Setting} {past : List Entry} {event : Event} {r : Reply} → Undoes s past event r → access_in event r ≡ None
+Undoes-no_access : {s : Configuration} {past : List Entry} {event : Event} {r : Reply} → Undoes s past event r → access_in event r ≡ None
 Undoes-no_access {s} {past} {event} {r} x = ap (λ y. access_in event y) x.reply_is
 
-Refusal-no_access : {s : Setting} {past : List Entry} {event : Event} {r : Reply} → Refusal s past event r → access_in event r ≡ None
+Refusal-no_access : {s : Configuration} {past : List Entry} {event : Event} {r : Reply} → Refusal s past event r → access_in event r ≡ None
 Refusal-no_access {s} {past} {event} {r} x = ap (λ y. access_in event y) x.reply_is
 
-access_case : {s : Setting} {past : List Entry} {event : Event} {r : Reply} → Effect s past event r → (a : Access)
+access_case : {s : Configuration} {past : List Entry} {event : Event} {r : Reply} → Effect s past event r → (a : Access)
     → access_in event r ≡ Some a → (x : Accesses s past event r) × (x.access ≡ a)
 access_case (idle i) a e = absurd (cc (sym i.no_access ∙ e))
 access_case (begins b) a e = absurd (cc (sym (Begins-no_access b) ∙ e))
@@ -85,31 +85,31 @@ access_case (undoes x) a e = absurd (cc (sym (Undoes-no_access x) ∙ e))
 access_case (refuses x) a e = absurd (cc (sym (Refusal-no_access x) ∙ e))
 
 -- an access is by a live transaction
-pub access-live : (s : Setting) (past : List Entry) (event : Event) (r : Reply) → LegalReply s past event r → (a : Access)
+pub access-live : (s : Configuration) (past : List Entry) (event : Event) (r : Reply) → LegalReply s past event r → (a : Access)
     → access_in event r ≡ Some a → live past a.by ≡ true
 access-live s past event r h a e = let x = access_case (effect s past event r h) a e in
     subst (λ (b : Access). live past b.by ≡ true) x.1 x.0.is_live
 
 -- and closes no cycle
-pub access-free : (s : Setting) (past : List Entry) (event : Event) (r : Reply) → LegalReply s past event r → (a : Access)
+pub access-free : (s : Configuration) (past : List Entry) (event : Event) (r : Reply) → LegalReply s past event r → (a : Access)
     → access_in event r ≡ Some a → (rest : List ℕ) → Closes past a.by a.key a.kind rest → ⊥
 access-free s past event r h a e = let x = access_case (effect s past event r h) a e in
     subst (λ (b : Access). (rest : List ℕ) → Closes past b.by b.key b.kind rest → ⊥) x.1 x.0.free
 
 -- and is what comes next, or what the caller requested at the end
-pub access-fits : (s : Setting) (past : List Entry) (event : Event) (r : Reply) → LegalReply s past event r → (a : Access)
+pub access-fits : (s : Configuration) (past : List Entry) (event : Event) (r : Reply) → LegalReply s past event r → (a : Access)
     → access_in event r ≡ Some a → Made (next_of s past a.by) event a
 access-fits s past event r h a e = let x = access_case (effect s past event r h) a e in
     subst (λ (b : Access). Made (next_of s past b.by) event b) x.1 x.0.made
 
 -- and where it is a read, returned what was visible
-pub look-found : (s : Setting) (past : List Entry) (event : Event) (r : Reply) → LegalReply s past event r → (a : Access)
+pub look-found : (s : Configuration) (past : List Entry) (event : Event) (r : Reply) → LegalReply s past event r → (a : Access)
     → access_in event r ≡ Some a → a.kind ≡ Look → a.value ≡ visible s.opening past a.key
 look-found s past event r h a e = let x = access_case (effect s past event r h) a e in
     subst (λ (b : Access). b.kind ≡ Look → b.value ≡ visible s.opening past b.key) x.1 x.0.found
 
 -- and ends none
-pub access-no_end : (s : Setting) (past : List Entry) (event : Event) (r : Reply) → LegalReply s past event r → (a : Access)
+pub access-no_end : (s : Configuration) (past : List Entry) (event : Event) (r : Reply) → LegalReply s past event r → (a : Access)
     → access_in event r ≡ Some a → (u : ℕ) → ending_in event r u ≡ None
 access-no_end s past event r h a e u = ends_none-no_end event r (access_case (effect s past event r h) a e).0.ends_none u
 
@@ -138,7 +138,7 @@ undone_at true c x y f hx hy e = (inl refl, ap has_aborted (sym e) ∙ hx)
 undone_at false true x y f hx hy e = (inr refl, ap has_aborted (sym e) ∙ hy)
 undone_at false false x y f hx hy e = absurd (cc)
 
-pub record Ended (s : Setting) (past : List Entry) (event : Event) (r : Reply) (t : ℕ) (f : Fate) : Type 0 where
+pub record Ended (s : Configuration) (past : List Entry) (event : Event) (r : Reply) (t : ℕ) (f : Fate) : Type 0 where
   pub commit : Commits s past event r
   pub is : commit.t ≡ t
   pub fate_is : f ≡ fate.Committed
@@ -155,7 +155,7 @@ undone_case x t f e =
     record { undo = x; is = elim h.0 [ inl q ↦ inl (eqb-true x.t t q) | inr q ↦ inr (member_from t x.fell q) ]; is_abort = h.1 }
 
 -- what ended a transaction: its commit, or an abort
-pub end_case : {s : Setting} {past : List Entry} {event : Event} {r : Reply} → Effect s past event r → (t : ℕ) (f : Fate)
+pub end_case : {s : Configuration} {past : List Entry} {event : Event} {r : Reply} → Effect s past event r → (t : ℕ) (f : Fate)
     → ending_in event r t ≡ Some f → Ended s past event r t f ⊎ Undone past event r t f
 end_case {event = event} {r = r} (idle i) t f e = absurd (cc (sym (ends_none-no_end event r i.ends_none t) ∙ e))
 end_case (begins b) t f e = absurd (cc (sym (Begins-no_end b t) ∙ e))
@@ -165,7 +165,7 @@ end_case (commits c) t f e = let h = ends_at c.t t _ f (sym (Commits-ends c t) �
 end_case (undoes x) t f e = inr (undone_case x.undoing t f e)
 end_case (refuses x) t f e = inr (undone_case x.undoing t f e)
 
-pub end_live : {s : Setting} {past : List Entry} {event : Event} {r : Reply} (t : ℕ) (f : Fate)
+pub end_live : {s : Configuration} {past : List Entry} {event : Event} {r : Reply} (t : ℕ) (f : Fate)
     → Ended s past event r t f ⊎ Undone past event r t f → live past t ≡ true
 end_live {past = past} t f (inl h) = subst (λ u. live past u ≡ true) h.is h.commit.is_live
 end_live {past = past} t f (inr h) = elim h.is [
@@ -174,17 +174,17 @@ end_live {past = past} t f (inr h) = elim h.is [
 ]
 
 -- what an entry ends was live
-pub end-live : (s : Setting) (past : List Entry) (event : Event) (r : Reply) → LegalReply s past event r → (t : ℕ) (f : Fate)
+pub end-live : (s : Configuration) (past : List Entry) (event : Event) (r : Reply) → LegalReply s past event r → (t : ℕ) (f : Fate)
     → ending_in event r t ≡ Some f → live past t ≡ true
 end-live s past event r h t f e = end_live t f (end_case (effect s past event r h) t f e)
 
 -- what has ended is not ended again
-pub ended-no_end : (s : Setting) (past : List Entry) (event : Event) (r : Reply) → LegalReply s past event r → (t : ℕ) (f : Fate)
+pub ended-no_end : (s : Configuration) (past : List Entry) (event : Event) (r : Reply) → LegalReply s past event r → (t : ℕ) (f : Fate)
     → fate_of past t ≡ Some f → ending_in event r t ≡ None
 ended-no_end s past event r h t f e = none_unless _ (λ g q. absurd (cc (sym (live-no_fate past t (end-live s past event r h t g q)) ∙ e)))
 
 -- a transaction that commits had no live one before it, and no other ends with it
-pub commit-none_live : (s : Setting) (past : List Entry) (event : Event) (r : Reply) → LegalReply s past event r → (t : ℕ)
+pub commit-none_live : (s : Configuration) (past : List Entry) (event : Event) (r : Reply) → LegalReply s past event r → (t : ℕ)
     → ending_in event r t ≡ Some fate.Committed → HasNoLivePredecessor past t
 commit-none_live s past event r h t e =
     elim (end_case (effect s past event r h) t fate.Committed e) [
@@ -192,7 +192,7 @@ commit-none_live s past event r h t e =
       | inr q ↦ absurd (cc q.is_abort)
     ]
 
-pub commit-no_end : (s : Setting) (past : List Entry) (event : Event) (r : Reply) → LegalReply s past event r → (t : ℕ)
+pub commit-no_end : (s : Configuration) (past : List Entry) (event : Event) (r : Reply) → LegalReply s past event r → (t : ℕ)
     → ending_in event r t ≡ Some fate.Committed → (u : ℕ) → t ≢ u → ending_in event r u ≡ None
 commit-no_end s past event r h t e u apart =
     elim (end_case (effect s past event r h) t fate.Committed e) [
@@ -214,12 +214,12 @@ pub started-stays : (e : Entry) (past : List Entry) (t : ℕ) → t < start_coun
 started-stays e past t h = lt_of_lt_of_le h (starts-grow e past)
 
 -- a fate is final
-pub fate-final : (s : Setting) (e : Entry) (past : List Entry) → Legal s (e ∷ past) → (t : ℕ) (f : Fate) → fate_of past t ≡ Some f
+pub fate-final : (s : Configuration) (e : Entry) (past : List Entry) → Legal s (e ∷ past) → (t : ℕ) (f : Fate) → fate_of past t ≡ Some f
     → fate_of (e ∷ past) t ≡ Some f
 fate-final s e past h t f ended = option_or-at_none _ _ (ended-no_end s past e.event e.reply h.1 t f ended) ∙ ended
 
 -- what has ended was started
-pub ended-started : (s : Setting) (past : List Entry) → Legal s past → (t : ℕ) (f : Fate) → fate_of past t ≡ Some f → t < start_count past
+pub ended-started : (s : Configuration) (past : List Entry) → Legal s past → (t : ℕ) (f : Fate) → fate_of past t ≡ Some f → t < start_count past
 ended-started s [] h t f ended = absurd (cc)
 ended-started s (e ∷ past) h t f ended =
     elim (option_or-cases _ _ f ended) [
@@ -228,7 +228,7 @@ ended-started s (e ∷ past) h t f ended =
       | inr before ↦ started-stays e past t (ended-started s past h.0 t f before.1)
     ]
 
-pub unstarted-no_fate : (s : Setting) (past : List Entry) → Legal s past → (t : ℕ) → start_count past ≤ t → fate_of past t ≡ None
+pub unstarted-no_fate : (s : Configuration) (past : List Entry) → Legal s past → (t : ℕ) → start_count past ≤ t → fate_of past t ≡ None
 unstarted-no_fate s past h t unstarted = none_unless _ (λ f ended. let started = ended-started s past h t f ended in omega arith)
 
 -- what is live after an entry was live before it, or was started by it
@@ -244,7 +244,7 @@ committed-fate past t h = go (fate_of past t) h
     go (Some (fate.Aborted why)) h = absurd (cc)
     go (Some (fate.Fell u)) h = absurd (cc)
 
-pub committed-stays : (s : Setting) (e : Entry) (past : List Entry) → Legal s (e ∷ past) → (t : ℕ) → committed past t ≡ true
+pub committed-stays : (s : Configuration) (e : Entry) (past : List Entry) → Legal s (e ∷ past) → (t : ℕ) → committed past t ≡ true
     → committed (e ∷ past) t ≡ true
 committed-stays s e past h t c = ap has_committed (fate-final s e past h t fate.Committed (committed-fate past t c))
 
@@ -256,12 +256,12 @@ pub aborted-fate : (past : List Entry) (t : ℕ) → aborted past t ≡ true
     → (f : Fate) × (fate_of past t ≡ Some f) × (has_aborted (Some f) ≡ true)
 aborted-fate past t h = let a = aborted_fate (fate_of past t) h in (a.0, a.1, sym (ap has_aborted a.1) ∙ h)
 
-pub aborted-stays : (s : Setting) (e : Entry) (past : List Entry) → Legal s (e ∷ past) → (t : ℕ) → aborted past t ≡ true
+pub aborted-stays : (s : Configuration) (e : Entry) (past : List Entry) → Legal s (e ∷ past) → (t : ℕ) → aborted past t ≡ true
     → aborted (e ∷ past) t ≡ true
 aborted-stays s e past h t a = let f = aborted-fate past t a in ap has_aborted (fate-final s e past h t f.0 f.1) ∙ f.2
 
 -- the other way: what is not aborted after an entry was not aborted before it
-pub stood-before : (s : Setting) (e : Entry) (past : List Entry) → Legal s (e ∷ past) → (t : ℕ) → aborted (e ∷ past) t ≡ false
+pub stood-before : (s : Configuration) (e : Entry) (past : List Entry) → Legal s (e ∷ past) → (t : ℕ) → aborted (e ∷ past) t ≡ false
     → aborted past t ≡ false
 stood-before s e past h t stands = go (aborted past t) refl
   where
@@ -315,7 +315,7 @@ abort-case e past t h = let a = aborted-fate (e ∷ past) t h in elim (option_or
 ]
 
 -- at an access no fate changes
-pub access-same_fate : (s : Setting) (e : Entry) (past : List Entry) → Legal s (e ∷ past) → (a : Access) → access_of e ≡ Some a
+pub access-same_fate : (s : Configuration) (e : Entry) (past : List Entry) → Legal s (e ∷ past) → (a : Access) → access_of e ≡ Some a
     → (t : ℕ) → fate_of (e ∷ past) t ≡ fate_of past t
 access-same_fate s e past h a is t = option_or-at_none _ _ (access-no_end s past e.event e.reply h.1 a is t)
 
@@ -344,7 +344,7 @@ follows-access past None t u h = absurd h
 follows-access past (Some a) t u h = record { access = a; is = refl; by = h.0; access_list = h.1 }
 
 -- a transaction with an access was started, so unstarted transactions have none
-pub has_conflicting-started : (s : Setting) (past : List Entry) → Legal s past → (t : ℕ) (k : Key) (kind : Kind)
+pub has_conflicting-started : (s : Configuration) (past : List Entry) → Legal s past → (t : ℕ) (k : Key) (kind : Kind)
     → has_conflicting past t k kind ≡ true → t < start_count past
 has_conflicting-started s [] h t k kind q = absurd (cc)
 has_conflicting-started s (e ∷ past) h t k kind q = elim (or_cases _ _ q) [
@@ -354,7 +354,7 @@ has_conflicting-started s (e ∷ past) h t k kind q = elim (or_cases _ _ q) [
   | inr before ↦ started-stays e past t (has_conflicting-started s past h.0 t k kind before)
 ]
 
-pub precedes-started : (s : Setting) (past : List Entry) → Legal s past → (t u : ℕ) → Precedes past t u
+pub precedes-started : (s : Configuration) (past : List Entry) → Legal s past → (t u : ℕ) → Precedes past t u
     → (t < start_count past) × (u < start_count past)
 precedes-started s [] h t u p = absurd p
 precedes-started s (e ∷ past) h t u (inl now) = let f = follows-access past (access_of e) t u now in (
@@ -366,24 +366,24 @@ precedes-started s (e ∷ past) h t u (inr before) = let p = precedes-started s 
     (started-stays e past t p.0, started-stays e past u p.1)
 
 -- an entry that commits and refuses no transaction
-pub record Uncommitted (s : Setting) (past : List Entry) (event : Event) (r : Reply) : Type 0 where
-  pub no_call : told_call_in past event r ≡ []
-  pub tells_none : told_in r ≡ []
+pub record Uncommitted (s : Configuration) (past : List Entry) (event : Event) (r : Reply) : Type 0 where
+  pub no_call : reported_call_in past event r ≡ []
+  pub reports_none : reported_in r ≡ []
   pub no_commit : (u : ℕ) → ending_in event r u ≡ Some fate.Committed → ⊥
   pub agrees : CommitAgrees s past event r
 
-uncommitted : (s : Setting) (past : List Entry) (event : Event) (r : Reply) → EndsNone r → Uncommitted s past event r
+uncommitted : (s : Configuration) (past : List Entry) (event : Event) (r : Reply) → EndsNone r → Uncommitted s past event r
 uncommitted s past event r h = record {
   no_call = ends_none-no_call past event r h;
-  tells_none = ends_none-tells_none r h;
+  reports_none = ends_none-reports_none r h;
   no_commit = λ u e. cc (sym (ends_none-no_end event r h u) ∙ e);
   agrees = ends_none-agrees s past event r h;
 }
 
-undone_uncommitted : (s : Setting) (past : List Entry) (event : Event) (r : Reply) → Undoes s past event r → Uncommitted s past event r
+undone_uncommitted : (s : Configuration) (past : List Entry) (event : Event) (r : Reply) → Undoes s past event r → Uncommitted s past event r
 undone_uncommitted s past event r x = record {
-  no_call = ap (λ y. told_call_in past event y) x.reply_is;
-  tells_none = ap told_in x.reply_is;
+  no_call = ap (λ y. reported_call_in past event y) x.reply_is;
+  reports_none = ap reported_in x.reply_is;
   no_commit = λ u e. no_commit u (end_case (undoes x) u fate.Committed e);
   agrees = subst (λ y. CommitAgrees s past event y) (sym x.reply_is) tt;
 }
@@ -392,7 +392,7 @@ undone_uncommitted s past event r x = record {
     no_commit u (inl c) = cc (sym x.reply_is ∙ c.commit.reply_is)
     no_commit u (inr y) = cc y.is_abort
 
-pub commits_or_not : {s : Setting} {past : List Entry} {event : Event} {r : Reply} → Effect s past event r
+pub commits_or_not : {s : Configuration} {past : List Entry} {event : Event} {r : Reply} → Effect s past event r
     → Commits s past event r ⊎ (Refusal s past event r ⊎ Uncommitted s past event r)
 commits_or_not {s} {past} {event} {r} (idle i) = inr (inr (uncommitted s past event r i.ends_none))
 commits_or_not {s} {past} {event} {r} (begins b) =
@@ -403,7 +403,7 @@ commits_or_not {s} {past} {event} {r} (undoes x) = inr (inr (undone_uncommitted 
 commits_or_not (refuses x) = inr (inl x)
 
 -- the call of a transaction that was started stays
-call_in-kept : {s : Setting} {past : List Entry} {event : Event} {r : Reply} → Effect s past event r → (t : ℕ) → t < start_count past
+call_in-kept : {s : Configuration} {past : List Entry} {event : Event} {r : Reply} → Effect s past event r → (t : ℕ) → t < start_count past
     → call_in event r t ≡ None
 call_in-kept {s} {past} {event} {r} (idle i) t h = no_start-no_call event r i.no_start t
 call_in-kept {s} {past} {event} {r} (begins b) t h = ap (λ x. call_in event x t) b.reply_is ∙ ap (λ c. cond c (call_at event) None)
@@ -413,17 +413,17 @@ call_in-kept {s} {past} {event} {r} (commits c) t h = ap (λ x. call_in event x 
 call_in-kept {s} {past} {event} {r} (undoes x) t h = ap (λ y. call_in event y t) x.reply_is
 call_in-kept {s} {past} {event} {r} (refuses x) t h = ap (λ y. call_in event y t) x.reply_is
 
-pub call-kept : (s : Setting) (past : List Entry) (e : Entry) (t : ℕ) → LegalReply s past e.event e.reply → t < start_count past
+pub call-kept : (s : Configuration) (past : List Entry) (e : Entry) (t : ℕ) → LegalReply s past e.event e.reply → t < start_count past
     → call_of (e ∷ past) t ≡ call_of past t
 call-kept s past e t h started = ap (λ x. unwrap_or x (call_of past t)) (call_in-kept (effect s past e.event e.reply h) t started)
 
 -- finality over several entries
 
-pub legal_older : (s : Setting) (newer older : List Entry) → Legal s (newer ++ older) → Legal s older
+pub legal_older : (s : Configuration) (newer older : List Entry) → Legal s (newer ++ older) → Legal s older
 legal_older s [] older h = h
 legal_older s (e ∷ newer) older h = legal_older s newer older h.0
 
-pub aborts-stay : (s : Setting) (newer older : List Entry) (u : ℕ) → Legal s (newer ++ older) → aborted older u ≡ true
+pub aborts-stay : (s : Configuration) (newer older : List Entry) (u : ℕ) → Legal s (newer ++ older) → aborted older u ≡ true
     → aborted (newer ++ older) u ≡ true
 aborts-stay s [] older u legal h = h
 aborts-stay s (e ∷ newer) older u legal h = aborted-stays s e (newer ++ older) legal u (aborts-stay s newer older u legal.0 h)

@@ -2,7 +2,7 @@
 use Rattle.std.specs.Prelude.{◌≡◌, ℕ, Bool, true, ◌&&◌, ◌||◌, nat_eq, List, [], ◌∷◌}
 use Rattle.std.proofs.Common.{refl, subst, inl, inr}
 use Rattle.std.proofs.lemmas.Bool.{and_parts, and_from, or_cases, or_left, or_right, eq-eqb, eqb-true}
-use Rattle.sgt_model.specs.Walks.{PathOf, last_of, Member, Reaches}
+use Rattle.sgt_model.specs.Paths.{PathOf, last_of, Member, Reaches}
 use Rattle.sgt_model.proofs.Paths.{reaches_self, reaches_trans}
 
 -- a leads to b in one step at most, or by way of the nodes

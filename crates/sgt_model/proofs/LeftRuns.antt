@@ -10,106 +10,106 @@ use Rattle.sgt_model.specs.Ways.{Way, onto}
 use Rattle.sgt_model.specs.Ways as way
 use Rattle.sgt_model.specs.Meaning.{Got, is, over, missing, Truth, holds, too_far, unknown, Registers, value_of, truth_of, wrong, with_value, with_condition, is_key, if_found, found_or, run, run_with}
 use Rattle.sgt_model.specs.Executions.{OrCode, and_then, provided}
-use Rattle.sgt_model.specs.Left.{Rest, Left, ToRun, ToAsk, left_at_start, followed_by, Reached, AtLook, AtFind, AtStore, AtEnd, then_behind, number_or_code, choice_or_code, reach, reached, next_of_reached, next_left, with_found, behind_look, after_look, behind_store, after_store, after_next, left_after, NextIsOfLeft, LeftAfterLook, LeftAfterStore}
+use Rattle.sgt_model.specs.Left.{Rest, Left, ToRun, ToRaise, left_at_start, followed_by, Reached, AtLook, AtFind, AtStore, AtEnd, then_after, number_or_code, choice_or_code, reach, reached, next_of_reached, next_left, with_found, left_with_found, after_look, left_with_write, after_store, after_next, left_after, NextIsOfLeft, LeftAfterLook, LeftAfterStore}
 
 -- up to the next access
 
-onto_followed : (b more : Block) (behind : Way) → onto b (onto more behind) ≡ onto (followed_by b more) behind
-onto_followed empty more behind = refl
-onto_followed (look to table id absent b) more behind = ap (way.look to table id absent) (onto_followed b more behind)
-onto_followed (find to table id absent b) more behind = ap (way.find to table id absent) (onto_followed b more behind)
-onto_followed (put table id value b) more behind = ap (way.put table id value) (onto_followed b more behind)
-onto_followed (remove table id b) more behind = ap (way.remove table id) (onto_followed b more behind)
-onto_followed (save to value b) more behind = ap (way.save to value) (onto_followed b more behind)
-onto_followed (ask code b) more behind = refl
-onto_followed (choose test ys ns b) more behind = ap (λ w. way.fork test (onto ys w) (onto ns w)) (onto_followed b more behind)
-onto_followed (answer value b) more behind = ap (way.answer value) (onto_followed b more behind)
+onto_followed : (b more : Block) (following : Way) → onto b (onto more following) ≡ onto (followed_by b more) following
+onto_followed empty more following = refl
+onto_followed (look to table id absent b) more following = ap (way.look to table id absent) (onto_followed b more following)
+onto_followed (find to table id absent b) more following = ap (way.find to table id absent) (onto_followed b more following)
+onto_followed (put table id value b) more following = ap (way.put table id value) (onto_followed b more following)
+onto_followed (remove table id b) more following = ap (way.remove table id) (onto_followed b more following)
+onto_followed (save to value b) more following = ap (way.save to value) (onto_followed b more following)
+onto_followed (ask code b) more following = refl
+onto_followed (choose test ys ns b) more following = ap (λ w. way.fork test (onto ys w) (onto ns w)) (onto_followed b more following)
+onto_followed (answer value b) more following = ap (way.answer value) (onto_followed b more following)
 
 -- the run from where statements came to, with a way after them
 abbrev run_reached : List ℤ → Way → OrCode Reached → Run
-run_reached args behind (Ok (AtLook key to absent r)) =
-    looks key (λ found. if_found absent found (λ v. run r.args (onto r.statements behind) (slice_set r.registers to (Some v)) r.answers))
-run_reached args behind (Ok (AtFind key to absent r)) =
-    looks key (λ found. run r.args (onto r.statements behind) (slice_set r.registers to (Some (found_or absent found))) r.answers)
-run_reached args behind (Ok (AtStore key v r)) = puts key v (run r.args (onto r.statements behind) r.registers r.answers)
-run_reached args behind (Ok (AtEnd registers answers)) = run args behind registers answers
-run_reached args behind (Err code) = raises code
+run_reached args following (Ok (AtLook key to absent r)) =
+    looks key (λ found. if_found absent found (λ v. run r.args (onto r.statements following) (slice_set r.registers to (Some v)) r.answers))
+run_reached args following (Ok (AtFind key to absent r)) =
+    looks key (λ found. run r.args (onto r.statements following) (slice_set r.registers to (Some (found_or absent found))) r.answers)
+run_reached args following (Ok (AtStore key v r)) = puts key v (run r.args (onto r.statements following) r.registers r.answers)
+run_reached args following (Ok (AtEnd registers answers)) = run args following registers answers
+run_reached args following (Err code) = raises code
 
 -- the tests of a run, one by one
 
-value_step : (args : List ℤ) (behind : Way) (g : Got) (go : ℤ → Run) (next : ℤ → OrCode Reached)
-    → ((v : ℤ) → go v ≡ run_reached args behind (next v)) → with_value g go ≡ run_reached args behind (and_then (number_or_code g) next)
-value_step args behind (is v) go next same = same v
-value_step args behind over go next same = refl
-value_step args behind missing go next same = refl
+value_step : (args : List ℤ) (following : Way) (g : Got) (go : ℤ → Run) (next : ℤ → OrCode Reached)
+    → ((v : ℤ) → go v ≡ run_reached args following (next v)) → with_value g go ≡ run_reached args following (and_then (number_or_code g) next)
+value_step args following (is v) go next same = same v
+value_step args following over go next same = refl
+value_step args following missing go next same = refl
 
-provided_step : {A : Type 0} (args : List ℤ) (behind : Way) (fits : Bool) (a : A) (go : Run) (next : A → OrCode Reached)
-    → go ≡ run_reached args behind (next a) → cond fits go wrong ≡ run_reached args behind (and_then (provided fits a 0) next)
-provided_step args behind true a go next same = same
-provided_step args behind false a go next same = refl
+provided_step : {A : Type 0} (args : List ℤ) (following : Way) (fits : Bool) (a : A) (go : Run) (next : A → OrCode Reached)
+    → go ≡ run_reached args following (next a) → cond fits go wrong ≡ run_reached args following (and_then (provided fits a 0) next)
+provided_step args following true a go next same = same
+provided_step args following false a go next same = refl
 
-last_step : (args : List ℤ) (behind : Way) (fits : Bool) (r : Reached) (go : Run) → go ≡ run_reached args behind (Ok r)
-    → cond fits go wrong ≡ run_reached args behind (provided fits r 0)
-last_step args behind true r go same = same
-last_step args behind false r go same = refl
+last_step : (args : List ℤ) (following : Way) (fits : Bool) (r : Reached) (go : Run) → go ≡ run_reached args following (Ok r)
+    → cond fits go wrong ≡ run_reached args following (provided fits r 0)
+last_step args following true r go same = same
+last_step args following false r go same = refl
 
-test_step : (args : List ℤ) (behind : Way) (h : Truth) (ys ns : Run) (next : Bool → OrCode Reached) → ys ≡ run_reached args behind
-    (next true) → ns ≡ run_reached args behind (next false)
-    → with_condition h ys ns ≡ run_reached args behind (and_then (choice_or_code h) next)
-test_step args behind (holds true) ys ns next yes_same no_same = yes_same
-test_step args behind (holds false) ys ns next yes_same no_same = no_same
-test_step args behind too_far ys ns next yes_same no_same = refl
-test_step args behind unknown ys ns next yes_same no_same = refl
+test_step : (args : List ℤ) (following : Way) (h : Truth) (ys ns : Run) (next : Bool → OrCode Reached) → ys ≡ run_reached args following
+    (next true) → ns ≡ run_reached args following (next false)
+    → with_condition h ys ns ≡ run_reached args following (and_then (choice_or_code h) next)
+test_step args following (holds true) ys ns next yes_same no_same = yes_same
+test_step args following (holds false) ys ns next yes_same no_same = no_same
+test_step args following too_far ys ns next yes_same no_same = refl
+test_step args following unknown ys ns next yes_same no_same = refl
 
 -- what is after an If: with the branch's end its run goes on
-if_step : (args : List ℤ) (b : Block) (behind : Way) (o : OrCode Reached) → ((registers : Registers) (answers : List ℤ)
-    → run args (onto b behind) registers answers ≡ run_reached args behind (reach b args registers answers))
-    → run_reached args (onto b behind) o ≡ run_reached args behind
-    (and_then o (then_behind b (λ registers answers. reach b args registers answers)))
-if_step args b behind (Ok (AtLook key to absent r)) same =
+if_step : (args : List ℤ) (b : Block) (following : Way) (o : OrCode Reached) → ((registers : Registers) (answers : List ℤ)
+    → run args (onto b following) registers answers ≡ run_reached args following (reach b args registers answers))
+    → run_reached args (onto b following) o ≡ run_reached args following
+    (and_then o (then_after b (λ registers answers. reach b args registers answers)))
+if_step args b following (Ok (AtLook key to absent r)) same =
     ap (λ w. looks key (λ found. if_found absent found (λ v. run r.args w (slice_set r.registers to (Some v)) r.answers)))
-    (onto_followed r.statements b behind)
-if_step args b behind (Ok (AtFind key to absent r)) same =
+    (onto_followed r.statements b following)
+if_step args b following (Ok (AtFind key to absent r)) same =
     ap (λ w. looks key (λ found. run r.args w (slice_set r.registers to (Some (found_or absent found))) r.answers))
-    (onto_followed r.statements b behind)
-if_step args b behind (Ok (AtStore key v r)) same = ap (λ w. puts key v (run r.args w r.registers r.answers))
-    (onto_followed r.statements b behind)
-if_step args b behind (Ok (AtEnd registers answers)) same = same registers answers
-if_step args b behind (Err code) same = refl
+    (onto_followed r.statements b following)
+if_step args b following (Ok (AtStore key v r)) same = ap (λ w. puts key v (run r.args w r.registers r.answers))
+    (onto_followed r.statements b following)
+if_step args b following (Ok (AtEnd registers answers)) same = same registers answers
+if_step args b following (Err code) same = refl
 
-reach_is : (args : List ℤ) (b : Block) (behind : Way) (registers : Registers) (answers : List ℤ)
-    → run args (onto b behind) registers answers ≡ run_reached args behind (reach b args registers answers)
-reach_is args empty behind registers answers = refl
-reach_is args (look to table id absent b) behind registers answers =
-    value_step args behind (value_of id args registers) _ _ (λ n. provided_step args behind (is_key table n) (table, n) _ _ refl)
-reach_is args (find to table id absent b) behind registers answers =
-    value_step args behind (value_of id args registers) _ _
-    (λ n. value_step args behind (value_of absent args registers) _ _
-    (λ v. provided_step args behind (is_key table n) (table, n) _ _ refl))
-reach_is args (put table id value b) behind registers answers =
-    value_step args behind (value_of id args registers) _ _
-    (λ n. value_step args behind (value_of value args registers) _ _
-    (λ v. provided_step args behind (is_key table n) (table, n) _ _ (last_step args behind (is_value v) _ _ refl)))
-reach_is args (remove table id b) behind registers answers =
-    value_step args behind (value_of id args registers) _ _
-    (λ n. provided_step args behind (is_key table n) (table, n) _ _ refl)
-reach_is args (save to value b) behind registers answers =
-    value_step args behind (value_of value args registers) _ _ (λ v. reach_is args b behind (slice_set registers to (Some v)) answers)
-reach_is args (ask code b) behind registers answers = refl
-reach_is args (choose test ys ns b) behind registers answers =
-    test_step args behind (truth_of test args registers) _ _ _
-    (reach_is args ys (onto b behind) registers answers ∙ if_step args b behind (reach ys args registers answers) (reach_is args b behind))
-    (reach_is args ns (onto b behind) registers answers ∙ if_step args b behind (reach ns args registers answers) (reach_is args b behind))
-reach_is args (answer value b) behind registers answers =
-    value_step args behind (value_of value args registers) _ _
-    (λ v. provided_step args behind (nat_lt (length answers) 8) (answers ++ v ∷ []) _ _
-    (reach_is args b behind registers (answers ++ v ∷ [])))
+reach_is : (args : List ℤ) (b : Block) (following : Way) (registers : Registers) (answers : List ℤ)
+    → run args (onto b following) registers answers ≡ run_reached args following (reach b args registers answers)
+reach_is args empty following registers answers = refl
+reach_is args (look to table id absent b) following registers answers =
+    value_step args following (value_of id args registers) _ _ (λ n. provided_step args following (is_key table n) (table, n) _ _ refl)
+reach_is args (find to table id absent b) following registers answers =
+    value_step args following (value_of id args registers) _ _
+    (λ n. value_step args following (value_of absent args registers) _ _
+    (λ v. provided_step args following (is_key table n) (table, n) _ _ refl))
+reach_is args (put table id value b) following registers answers =
+    value_step args following (value_of id args registers) _ _
+    (λ n. value_step args following (value_of value args registers) _ _
+    (λ v. provided_step args following (is_key table n) (table, n) _ _ (last_step args following (is_value v) _ _ refl)))
+reach_is args (remove table id b) following registers answers =
+    value_step args following (value_of id args registers) _ _
+    (λ n. provided_step args following (is_key table n) (table, n) _ _ refl)
+reach_is args (save to value b) following registers answers =
+    value_step args following (value_of value args registers) _ _ (λ v. reach_is args b following (slice_set registers to (Some v)) answers)
+reach_is args (ask code b) following registers answers = refl
+reach_is args (choose test ys ns b) following registers answers =
+    test_step args following (truth_of test args registers) _ _ _
+    (reach_is args ys (onto b following) registers answers ∙ if_step args b following (reach ys args registers answers) (reach_is args b following))
+    (reach_is args ns (onto b following) registers answers ∙ if_step args b following (reach ns args registers answers) (reach_is args b following))
+reach_is args (answer value b) following registers answers =
+    value_step args following (value_of value args registers) _ _
+    (λ v. provided_step args following (nat_lt (length answers) 8) (answers ++ v ∷ []) _ _
+    (reach_is args b following registers (answers ++ v ∷ [])))
 
 -- the run that is still to be done
 
 abbrev pub run_left : Left → Run
 run_left (ToRun r) = run r.args (onto r.statements way.end) r.registers r.answers
-run_left (ToAsk code) = raises code
+run_left (ToRaise code) = raises code
 
 -- at the end nothing depends on the arguments
 at_end : (args : List ℤ) (o : OrCode Reached) → run_reached args way.end o ≡ run_reached [] way.end o
@@ -122,7 +122,7 @@ at_end args (Err code) = refl
 run_left_is : (l : Left) → run_left l ≡ run_reached [] way.end (reached l)
 run_left_is (ToRun r) = reach_is r.args r.statements way.end r.registers r.answers
     ∙ at_end r.args (reach r.statements r.args r.registers r.answers)
-run_left_is (ToAsk code) = refl
+run_left_is (ToRaise code) = refl
 
 -- what a run does next
 
@@ -150,13 +150,13 @@ next_is l r same = next_reached (reached l) ∙ ap next_of_run (sym (run_left_is
 
 -- one more access
 
-abbrev behind_first_look : Option ℤ → Run → Run
-behind_first_look found (looks k go) = go found
-behind_first_look found r = r
+abbrev following_first_look : Option ℤ → Run → Run
+following_first_look found (looks k go) = go found
+following_first_look found r = r
 
-abbrev behind_first_store : Run → Run
-behind_first_store (puts k v rest) = rest
-behind_first_store r = r
+abbrev following_first_store : Run → Run
+following_first_store (puts k v rest) = rest
+following_first_store r = r
 
 found_is : (found : Option ℤ) (to absent : ℕ) (r : Rest) → run_left (with_found found to absent r) ≡ if_found absent found
     (λ v. run r.args (onto r.statements way.end) (slice_set r.registers to (Some v)) r.answers)
@@ -164,7 +164,7 @@ found_is None to absent r = refl
 found_is (Some v) to absent r = refl
 
 look_reached : (found : Option ℤ) (o : OrCode Reached) (l : Left) → run_left l ≡ run_reached [] way.end o
-    → run_left (behind_look found o l) ≡ behind_first_look found (run_reached [] way.end o)
+    → run_left (left_with_found found o l) ≡ following_first_look found (run_reached [] way.end o)
 look_reached found (Ok (AtLook key to absent r)) l same = found_is found to absent r
 look_reached found (Ok (AtFind key to absent r)) l same = refl
 look_reached found (Ok (AtStore key v r)) l same = same
@@ -172,18 +172,18 @@ look_reached found (Ok (AtEnd registers answers)) l same = same
 look_reached found (Err code) l same = same
 
 store_reached : (o : OrCode Reached) (l : Left) → run_left l ≡ run_reached [] way.end o
-    → run_left (behind_store o l) ≡ behind_first_store (run_reached [] way.end o)
+    → run_left (left_with_write o l) ≡ following_first_store (run_reached [] way.end o)
 store_reached (Ok (AtLook key to absent r)) l same = same
 store_reached (Ok (AtFind key to absent r)) l same = same
 store_reached (Ok (AtStore key v r)) l same = refl
 store_reached (Ok (AtEnd registers answers)) l same = same
 store_reached (Err code) l same = same
 
-look_is : (found : Option ℤ) (l : Left) (r : Run) → run_left l ≡ r → run_left (after_look found l) ≡ behind_first_look found r
-look_is found l r same = look_reached found (reached l) l (run_left_is l) ∙ ap (behind_first_look found) (sym (run_left_is l) ∙ same)
+look_is : (found : Option ℤ) (l : Left) (r : Run) → run_left l ≡ r → run_left (after_look found l) ≡ following_first_look found r
+look_is found l r same = look_reached found (reached l) l (run_left_is l) ∙ ap (following_first_look found) (sym (run_left_is l) ∙ same)
 
-store_is : (l : Left) (r : Run) → run_left l ≡ r → run_left (after_store l) ≡ behind_first_store r
-store_is l r same = store_reached (reached l) l (run_left_is l) ∙ ap behind_first_store (sym (run_left_is l) ∙ same)
+store_is : (l : Left) (r : Run) → run_left l ≡ r → run_left (after_store l) ≡ following_first_store r
+store_is l r same = store_reached (reached l) l (run_left_is l) ∙ ap following_first_store (sym (run_left_is l) ∙ same)
 
 -- the first access of some
 
@@ -285,14 +285,14 @@ left_past (suc made) (suc total) (raises code) l values more answers few same us
 
 -- and a read or a write that is made there leaves it
 
-look_stays : (found : Option ℤ) (l : Left) (answers : List ℤ) (o : OrCode Reached) → next_of_reached o ≡ Ends answers → behind_look found o l ≡ l
+look_stays : (found : Option ℤ) (l : Left) (answers : List ℤ) (o : OrCode Reached) → next_of_reached o ≡ Ends answers → left_with_found found o l ≡ l
 look_stays found l answers (Ok (AtLook key to absent r)) e = absurd (cc e)
 look_stays found l answers (Ok (AtFind key to absent r)) e = absurd (cc e)
 look_stays found l answers (Ok (AtStore key v r)) e = refl
 look_stays found l answers (Ok (AtEnd registers given)) e = refl
 look_stays found l answers (Err code) e = refl
 
-store_stays : (l : Left) (answers : List ℤ) (o : OrCode Reached) → next_of_reached o ≡ Ends answers → behind_store o l ≡ l
+store_stays : (l : Left) (answers : List ℤ) (o : OrCode Reached) → next_of_reached o ≡ Ends answers → left_with_write o l ≡ l
 store_stays l answers (Ok (AtLook key to absent r)) e = refl
 store_stays l answers (Ok (AtFind key to absent r)) e = refl
 store_stays l answers (Ok (AtStore key v r)) e = absurd (cc e)

@@ -9,19 +9,19 @@ use Rattle.sgt_model.specs.Runs.{Run, CallerAccess}
 use Rattle.sgt_model.specs.Traces.{Used, trace, Next, Looks, Puts, Ends, Raises, next_at}
 use Rattle.sgt_model.specs.Left.{Left, next_left, after_look, after_store, left_after}
 use Rattle.sgt_model.specs.Accesses.{Access, acts}
-use Rattle.sgt_model.specs.Settings.{Setting, run_if}
+use Rattle.sgt_model.specs.Configurations.{Configuration, run_if}
 use Rattle.sgt_model.specs.Progress.{Call, call_of, caller_accesses, if_look, values_read, reads, made, next_of}
 use Rattle.sgt_model.specs.Legality.{Legal}
 use Rattle.sgt_model.specs.LiveLeft.{left_if, left_of_call, left_of}
 use Rattle.sgt_model.proofs.Effects.{Fits}
-use Rattle.sgt_model.proofs.Acts.{asks_of, AsAsked, PlayedOn}
+use Rattle.sgt_model.proofs.Acts.{requests_of, AsRequested, PlayedOn}
 use Rattle.sgt_model.proofs.Traces.{values_append, past_end}
 use Rattle.sgt_model.proofs.Uses.{used_look-suc, used_store-suc}
 use Rattle.sgt_model.proofs.Plays.{only_own, plays}
 use Rattle.sgt_model.proofs.LeftRuns.{run_left, next_after, look_after, store_after, left_past, end_looked, end_stored}
 
 -- the remainder of a call after these accesses, newest first
-abbrev pub left_by : Setting → Call → List Access → Left
+abbrev pub left_by : Configuration → Call → List Access → Left
 left_by s c all = left_after (left_of_call s.rules c) (values_read all) (length all)
 
 -- accesses that the run wanted use the values that they read
@@ -36,7 +36,7 @@ one_used r done a (Puts k v) next fits used = subst (λ kind. Used r (values_rea
 one_used r done a (Ends answers) next fits used = absurd fits
 one_used r done a (Raises code) next fits used = absurd fits
 
-all_used : (r : Run) (done : List Access) → AsAsked (asks_of r) done → Used r (values_read done) (length done)
+all_used : (r : Run) (done : List Access) → AsRequested (requests_of r) done → Used r (values_read done) (length done)
 all_used r [] h = tt
 all_used r (a ∷ done) h = one_used r done a (next_at (trace r (values_read done)) (length done)) refl h.1 (all_used r done h.0)
 
@@ -62,14 +62,14 @@ module _ (p : Option ProcedureText) (args : List ℤ) (values : List (Option ℤ
 -- so it does for a transaction whose caller requests accesses after the end
 module _ (p : Option ProcedureText) (args : List ℤ) (xs : List CallerAccess) (all : List Access) (h : PlayedOn (run_if p args) xs all) where
   own_used : Used (run_if p args) (values_read h.own) (length h.own)
-  own_used = all_used (run_if p args) h.own h.as_asked
+  own_used = all_used (run_if p args) h.own h.as_requested
 
   own_next : next_left (left_after (left_if p args) (values_read h.own) (length h.own)) ≡ next_at (trace (run_if p args)
       (values_read h.own)) (length h.own)
   own_next = next_if p args (values_read h.own) (length h.own) own_used
 
   -- past the end the remainder is the one at the end
-  past_own : (answers : List ℤ) → asks_of (run_if p args) (values_read h.own) (length h.own) ≡ Ends answers → (more : List Access)
+  past_own : (answers : List ℤ) → requests_of (run_if p args) (values_read h.own) (length h.own) ≡ Ends answers → (more : List Access)
       → left_after (left_if p args) (values_read (more ++ h.own)) (length (more ++ h.own))
       ≡ left_after (left_if p args) (values_read h.own) (length h.own)
   past_own answers e more =
@@ -86,41 +86,41 @@ module _ (p : Option ProcedureText) (args : List ℤ) (xs : List CallerAccess) (
     | inr end ↦ past_own end.0 end.1 h.more
   ]
 
-  asks_own : asks_of (run_if p args) (values_read all) (length all) ≡ asks_of (run_if p args) (values_read h.own) (length h.own)
-  asks_own = ap (λ l. asks_of (run_if p args) (values_read l) (length l)) h.all_are ∙ elim h.at_end [
-    | inl none ↦ ap (λ m. asks_of (run_if p args) (values_read (m ++ h.own)) (length (m ++ h.own))) none
-    | inr end ↦ past_end (run_if p args) h.own end.0 h.as_asked end.1 h.more ∙ sym end.1
+  requests_own : requests_of (run_if p args) (values_read all) (length all) ≡ requests_of (run_if p args) (values_read h.own) (length h.own)
+  requests_own = ap (λ l. requests_of (run_if p args) (values_read l) (length l)) h.all_are ∙ elim h.at_end [
+    | inl none ↦ ap (λ m. requests_of (run_if p args) (values_read (m ++ h.own)) (length (m ++ h.own))) none
+    | inr end ↦ past_end (run_if p args) h.own end.0 h.as_requested end.1 h.more ∙ sym end.1
   ]
 
-  pub next_played : next_left (left_after (left_if p args) (values_read all) (length all)) ≡ asks_of (run_if p args) (values_read all) (length all)
-  next_played = ap next_left left_own ∙ (own_next ∙ sym asks_own)
+  pub next_played : next_left (left_after (left_if p args) (values_read all) (length all)) ≡ requests_of (run_if p args) (values_read all) (length all)
+  next_played = ap next_left left_own ∙ (own_next ∙ sym requests_own)
 
-  pub looked_played : (key : Key) (found : Option ℤ) → asks_of (run_if p args) (values_read all) (length all) ≡ Looks key
+  pub looked_played : (key : Key) (found : Option ℤ) → requests_of (run_if p args) (values_read all) (length all) ≡ Looks key
       → left_after (left_if p args) (values_read all ++ found ∷ []) (suc (length all)) ≡ after_look found
       (left_after (left_if p args) (values_read all) (length all))
   looked_played key found next =
       let only = only_own (run_if p args) xs all h (λ answers e. cc (sym next ∙ e)) in
       subst (λ l. left_after (left_if p args) (values_read l ++ found ∷ []) (suc (length l)) ≡ after_look found
       (left_after (left_if p args) (values_read l) (length l))) (sym only.1)
-      (looked_if p args (values_read h.own) (length h.own) own_used key found (sym asks_own ∙ next))
+      (looked_if p args (values_read h.own) (length h.own) own_used key found (sym requests_own ∙ next))
 
-  pub stored_played : (key : Key) (v : Option ℤ) → asks_of (run_if p args) (values_read all) (length all) ≡ Puts key v
+  pub stored_played : (key : Key) (v : Option ℤ) → requests_of (run_if p args) (values_read all) (length all) ≡ Puts key v
       → left_after (left_if p args) (values_read all) (suc (length all)) ≡ after_store (left_after (left_if p args) (values_read all) (length all))
   stored_played key v next =
       let only = only_own (run_if p args) xs all h (λ answers e. cc (sym next ∙ e)) in
       subst (λ l. left_after (left_if p args) (values_read l) (suc (length l)) ≡ after_store
       (left_after (left_if p args) (values_read l) (length l))) (sym only.1)
-      (stored_if p args (values_read h.own) (length h.own) own_used key v (sym asks_own ∙ next))
+      (stored_if p args (values_read h.own) (length h.own) own_used key v (sym requests_own ∙ next))
 
   -- an access that the caller requests leaves the remainder
-  pub request_played : (answers : List ℤ) → asks_of (run_if p args) (values_read all) (length all) ≡ Ends answers → (a : Access)
+  pub request_played : (answers : List ℤ) → requests_of (run_if p args) (values_read all) (length all) ≡ Ends answers → (a : Access)
       → left_after (left_if p args) (values_read (a ∷ all)) (length (a ∷ all)) ≡ left_after (left_if p args) (values_read all) (length all)
   request_played answers e a =
       ap (λ l. left_after (left_if p args) (values_read (a ∷ l)) (length (a ∷ l))) h.all_are
-      ∙ (past_own answers (sym asks_own ∙ e) (a ∷ h.more) ∙ sym left_own)
+      ∙ (past_own answers (sym requests_own ∙ e) (a ∷ h.more) ∙ sym left_own)
 
 -- so it is in a legal history
-module _ (s : Setting) (past : List Entry) (h : Legal s past) (t : ℕ) where
+module _ (s : Configuration) (past : List Entry) (h : Legal s past) (t : ℕ) where
   pub next_is_left : next_left (left_of s.rules past t) ≡ next_of s past t
   next_is_left = next_played (s.rules.procedures (call_of past t).procedure) (call_of past t).args (caller_accesses past t) (acts past t) (plays s past t h)
 

@@ -2,12 +2,12 @@
 use Rattle.std.proofs.Common.{◌≡◌, ℕ, true, false, ◌&&◌, [], sym, ap, subst, ◌∙◌, arith}
 use Rattle.std.proofs.lemmas.Bool.{both_ways, le-ltb}
 use Rattle.sgt_model.specs.Fates.{live}
-use Rattle.sgt_model.specs.Settings.{Setting}
+use Rattle.sgt_model.specs.Configurations.{Configuration}
 use Rattle.sgt_model.specs.State.{Has, State}
 use Rattle.sgt_model.specs.StateAfter.{IsStateAfter}
 use Rattle.sgt_model.specs.NewState.{IsNew}
 
-pub state_new : (s : Setting) (c : State) → IsNew s.opening c → IsStateAfter s [] c
+pub state_new : (s : Configuration) (c : State) → IsNew s.opening c → IsStateAfter s [] c
 state_new s c n = record {
   lives = n.live;
   nodes = λ t. n.nodes t ∙ sym (none t);

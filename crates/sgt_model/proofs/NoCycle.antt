@@ -4,12 +4,12 @@ use Rattle.std.proofs.Common.{refl, sym, ◌∙◌, inl, inr, arith}
 use Rattle.sgt_model.specs.declared.entry.Entry.{Entry}
 use Rattle.sgt_model.specs.declared.kind.Kind.{Kind}
 use Rattle.sgt_model.specs.Contents.{Key}
-use Rattle.sgt_model.specs.Walks.{PathOf, last_of, Reaches, Acyclic}
+use Rattle.sgt_model.specs.Paths.{PathOf, last_of, Reaches, Acyclic}
 use Rattle.sgt_model.specs.Accesses.{Access, access_of}
 use Rattle.sgt_model.specs.Fates.{aborted}
 use Rattle.sgt_model.specs.Pairs.{has_conflicting, FollowsIn, Precedes, Pair}
 use Rattle.sgt_model.specs.Closes.{Closes}
-use Rattle.sgt_model.specs.Settings.{Setting}
+use Rattle.sgt_model.specs.Configurations.{Configuration}
 use Rattle.sgt_model.specs.Legality.{LegalReply, Legal}
 use Rattle.sgt_model.proofs.Paths.{Simple, simple, simple_some, acyclic_grows, acyclic_map}
 use Rattle.sgt_model.proofs.Facts.{access-free, stood-before}
@@ -34,7 +34,7 @@ abbrev pub Granted : List Entry → Option Access → Type 0
 Granted past None = Unit {0}
 Granted past (Some a) = (rest : List ℕ) → Closes past a.by a.key a.kind rest → ⊥
 
-granted : (s : Setting) (e : Entry) (past : List Entry) → LegalReply s past e.event e.reply → (o : Option Access) → access_of e ≡ o
+granted : (s : Configuration) (e : Entry) (past : List Entry) → LegalReply s past e.event e.reply → (o : Option Access) → access_of e ≡ o
     → Granted past o
 granted s e past l None is = tt
 granted s e past l (Some a) is = access-free s past e.event e.reply l a is
@@ -43,7 +43,7 @@ granted s e past l (Some a) is = access-free s past e.event e.reply l a is
 abbrev pub Earlier : List Entry → Option Access → ℕ → ℕ → Type 0
 Earlier past access a b = (a ≢ b) × (aborted past a ≡ false) × (aborted past b ≡ false) × (FollowsIn past access a b ⊎ Precedes past a b)
 
-pub earlier : (s : Setting) (e : Entry) (past : List Entry) → Legal s (e ∷ past) → (a b : ℕ) → Pair (e ∷ past) a b
+pub earlier : (s : Configuration) (e : Entry) (past : List Entry) → Legal s (e ∷ past) → (a b : ℕ) → Pair (e ∷ past) a b
     → Earlier past (access_of e) a b
 earlier s e past l a b p = (p.apart, stood-before s e past l a p.first_stands, stood-before s e past l b p.second_stands, p.precedes)
 
@@ -67,7 +67,7 @@ no_cycle_grows past (Some x) later free before acyclic =
     go a b (apart, first, second, inr old) = inl (record { apart = apart; first_stands = first; second_stands = second; precedes = old })
 
 -- the edges of a legal history have no cycle
-pub no_cycle : (s : Setting) (past : List Entry) → Legal s past → Acyclic (Pair past)
+pub no_cycle : (s : Configuration) (past : List Entry) → Legal s past → Acyclic (Pair past)
 no_cycle s [] l = go
   where
     go : (t : ℕ) (path : List ℕ) → 0 < length path → PathOf (Pair []) t path → last_of t path ≡ t → ⊥

@@ -10,7 +10,7 @@ use Rattle.sgt_model.specs.declared.reply.Reply.TheVariants as reply
 use Rattle.sgt_model.specs.declared.entry.Entry.{Entry}
 use Rattle.sgt_model.specs.declared.kind.Kind.{Kind}
 use Rattle.sgt_model.specs.Contents.{Key}
-use Rattle.sgt_model.specs.Walks.{PathOf, last_of, Member, Distinct, StandsBefore, Orders}
+use Rattle.sgt_model.specs.Paths.{PathOf, last_of, Member, Distinct, StandsBefore, Orders}
 use Rattle.sgt_model.specs.Accesses.{Access, access_in, access_of}
 use Rattle.sgt_model.specs.Fates.{ending_in, fate_of, has_aborted, aborted}
 use Rattle.sgt_model.specs.Pairs.{has_conflicting, FollowsIn, Pair}

@@ -15,13 +15,13 @@ use Rattle.sgt_model.specs.declared.limits.Asks.{Asks}
 use Rattle.sgt_model.specs.declared.limits.Asks.TheVariants.{AtStep, AtCommit}
 use Rattle.sgt_model.specs.Contents.{Key}
 use Rattle.sgt_model.specs.Traces.{Next, Looks, Puts, Ends, Raises}
-use Rattle.sgt_model.specs.Walks.{Member, Rising, IsLeastPredecessor}
+use Rattle.sgt_model.specs.Paths.{Member, Rising, IsLeastPredecessor}
 use Rattle.sgt_model.specs.Fates.{start_count, fate_of}
 use Rattle.sgt_model.specs.Falls.{Falls}
-use Rattle.sgt_model.specs.Settings.{Setting}
+use Rattle.sgt_model.specs.Configurations.{Configuration}
 use Rattle.sgt_model.specs.Progress.{next_of, requested, is_fit}
 use Rattle.sgt_model.specs.Legality.{AbortReply, CycleAbortReply, RaisedStep, RaisedCommit, Makes, StepReply, OfFit, RequestReply, LivePredecessor, MustWait, MayCommit, CommitReply, OfStarted}
-use Rattle.sgt_model.specs.OneReply.{SameButWalk, RepliesAreUnique}
+use Rattle.sgt_model.specs.OneReply.{SameButCycle, RepliesAreUnique}
 use Rattle.sgt_model.proofs.Paths.{Within}
 
 -- rising lists
@@ -77,10 +77,10 @@ one_abort past t why r q a b = a.is ∙ (ap (λ l. reply.Aborted why l) (same_fa
 
 one_access : (past : List Entry) (t : ℕ) (k : Key) (kind : Kind) (given r q : Reply)
     → CycleAbortReply past t k kind r ⊎ Makes past t k kind given r → CycleAbortReply past t k kind q ⊎ Makes past t k kind given q
-    → SameButWalk r q
+    → SameButCycle r q
 one_access past t k kind given r q (inl a) (inl b) = inr (record {
-  walk = t ∷ a.rest;
-  other_walk = t ∷ b.rest;
+  cycle = t ∷ a.rest;
+  other_path = t ∷ b.rest;
   fell = a.aborts.fell;
   one = a.aborts.is;
   other = b.aborts.is ∙ ap (λ l. reply.Aborted (cause.Cycle (t ∷ b.rest)) l)
@@ -90,25 +90,25 @@ one_access past t k kind given r q (inl a) (inr b) = absurd (b.free a.rest a.clo
 one_access past t k kind given r q (inr a) (inl b) = absurd (a.free b.rest b.closes)
 one_access past t k kind given r q (inr a) (inr b) = inl (a.is ∙ sym b.is)
 
-one_asked_step : (asks : Asks) (past : List Entry) (t code : ℕ) (r q : Reply) → RaisedStep asks past t code r
+one_raised_step : (asks : Asks) (past : List Entry) (t code : ℕ) (r q : Reply) → RaisedStep asks past t code r
     → RaisedStep asks past t code q → r ≡ q
-one_asked_step AtStep past t code r q a b = one_abort past t (cause.Asked code) r q a b
-one_asked_step AtCommit past t code r q a b = a ∙ sym b
+one_raised_step AtStep past t code r q a b = one_abort past t (cause.Asked code) r q a b
+one_raised_step AtCommit past t code r q a b = a ∙ sym b
 
-one_step : (s : Setting) (past : List Entry) (t : ℕ) (next : Next) (r q : Reply) → StepReply s past t next r
-    → StepReply s past t next q → SameButWalk r q
+one_step : (s : Configuration) (past : List Entry) (t : ℕ) (next : Next) (r q : Reply) → StepReply s past t next r
+    → StepReply s past t next q → SameButCycle r q
 one_step s past t (Looks k) r q a b = one_access past t k Look _ r q a b
 one_step s past t (Puts k v) r q a b = one_access past t k Store _ r q a b
 one_step s past t (Ends answers) r q a b = inl (a ∙ sym b)
-one_step s past t (Raises code) r q a b = inl (one_asked_step s.rules.limits.asks past t code r q a b)
+one_step s past t (Raises code) r q a b = inl (one_raised_step s.rules.limits.asks past t code r q a b)
 
-one_fit : (s : Setting) (past : List Entry) (t : ℕ) (n : Next) (fit : Bool) (r q : Reply) → OfFit fit r (StepReply s past t n r)
-    → OfFit fit q (StepReply s past t n q) → SameButWalk r q
+one_fit : (s : Configuration) (past : List Entry) (t : ℕ) (n : Next) (fit : Bool) (r q : Reply) → OfFit fit r (StepReply s past t n r)
+    → OfFit fit q (StepReply s past t n q) → SameButCycle r q
 one_fit s past t n true r q a b = one_step s past t n r q a b
 one_fit s past t n false r q a b = inl (a ∙ sym b)
 
-one_request : (s : Setting) (past : List Entry) (t : ℕ) (d : Request) (next : Next) (r q : Reply) → RequestReply s past t d next r
-    → RequestReply s past t d next q → SameButWalk r q
+one_request : (s : Configuration) (past : List Entry) (t : ℕ) (d : Request) (next : Next) (r q : Reply) → RequestReply s past t d next r
+    → RequestReply s past t d next q → SameButCycle r q
 one_request s past t d (Ends answers) r q a b = one_fit s past t (requested d) (is_fit d) r q a b
 one_request s past t d (Looks k) r q a b = inl (a ∙ sym b)
 one_request s past t d (Puts k v) r q a b = inl (a ∙ sym b)
@@ -128,27 +128,27 @@ one_end past t answers r q (inl a) (inr b) = absurd (b.none_live a.predecessor a
 one_end past t answers r q (inr a) (inl b) = absurd (a.none_live b.predecessor b.least.pair)
 one_end past t answers r q (inr a) (inr b) = a.is ∙ sym b.is
 
-one_asked_commit : (asks : Asks) (past : List Entry) (t code : ℕ) (r q : Reply) → RaisedCommit asks past t code r
+one_raised_commit : (asks : Asks) (past : List Entry) (t code : ℕ) (r q : Reply) → RaisedCommit asks past t code r
     → RaisedCommit asks past t code q → r ≡ q
-one_asked_commit AtStep past t code r q a b = a ∙ sym b
-one_asked_commit AtCommit past t code r q (inl a) (inl b) = a.is
+one_raised_commit AtStep past t code r q a b = a ∙ sym b
+one_raised_commit AtCommit past t code r q (inl a) (inl b) = a.is
     ∙ (ap (λ u. reply.Waits u) (one_least past t a.predecessor b.predecessor a.least b.least) ∙ sym b.is)
-one_asked_commit AtCommit past t code r q (inl a) (inr b) = absurd (b.none_live a.predecessor a.least.pair)
-one_asked_commit AtCommit past t code r q (inr a) (inl b) = absurd (a.none_live b.predecessor b.least.pair)
-one_asked_commit AtCommit past t code r q (inr a) (inr b) =
+one_raised_commit AtCommit past t code r q (inl a) (inr b) = absurd (b.none_live a.predecessor a.least.pair)
+one_raised_commit AtCommit past t code r q (inr a) (inl b) = absurd (a.none_live b.predecessor b.least.pair)
+one_raised_commit AtCommit past t code r q (inr a) (inr b) =
     a.is ∙ (ap (λ l. reply.Refused code l) (same_fall past t a.fell b.fell a.falls b.falls) ∙ sym b.is)
 
-one_commit : (s : Setting) (past : List Entry) (t : ℕ) (next : Next) (r q : Reply) → CommitReply s past t next r
+one_commit : (s : Configuration) (past : List Entry) (t : ℕ) (next : Next) (r q : Reply) → CommitReply s past t next r
     → CommitReply s past t next q → r ≡ q
 one_commit s past t (Ends answers) r q a b = one_end past t answers r q a b
 one_commit s past t (Looks k) r q a b = a ∙ sym b
 one_commit s past t (Puts k v) r q a b = a ∙ sym b
-one_commit s past t (Raises code) r q a b = one_asked_commit s.rules.limits.asks past t code r q a b
+one_commit s past t (Raises code) r q a b = one_raised_commit s.rules.limits.asks past t code r q a b
 
 -- every event
 
-one_of_started : (P : Reply → Type 0) → ((r q : Reply) → P r → P q → SameButWalk r q) → (started : Bool) (ended : Option Fate)
-    (r q : Reply) → OfStarted started ended r (P r) → OfStarted started ended q (P q) → SameButWalk r q
+one_of_started : (P : Reply → Type 0) → ((r q : Reply) → P r → P q → SameButCycle r q) → (started : Bool) (ended : Option Fate)
+    (r q : Reply) → OfStarted started ended r (P r) → OfStarted started ended q (P q) → SameButCycle r q
 one_of_started P if_live true None r q a b = if_live r q a b
 one_of_started P if_live true (Some fate) r q a b = inl (a ∙ sym b)
 one_of_started P if_live false ended r q a b = inl (a ∙ sym b)

@@ -10,7 +10,7 @@ use Rattle.sgt_model.specs.Contents.{Key, key_eq, Contents}
 use Rattle.sgt_model.specs.Accesses.{Access, access_of, act_in, acts}
 use Rattle.sgt_model.specs.Fates.{live}
 use Rattle.sgt_model.specs.Values.{stores, newest_store, value_or, settled}
-use Rattle.sgt_model.specs.Settings.{Setting}
+use Rattle.sgt_model.specs.Configurations.{Configuration}
 use Rattle.sgt_model.specs.Legality.{HasNoLivePredecessor, Legal}
 use Rattle.sgt_model.specs.Laws.{LookAgrees, LooksAgree}
 use Rattle.sgt_model.proofs.Acts.{over, FindsIn}
@@ -45,7 +45,7 @@ over-acts m (e ∷ past) t k =
     ∙ sym (value_or-option_or (stores (λ u. nat_eq u t) k (access_of e)) (newest_store (λ u. nat_eq u t) k past) (m k)))
 
 -- what `finds` says, with the past and the transaction named
-finds_at : (s : Setting) (newer older past : List Entry) (e : Entry) (a : Access) (t : ℕ) → newer ++ e ∷ older ≡ past → a.by ≡ t
+finds_at : (s : Configuration) (newer older past : List Entry) (e : Entry) (a : Access) (t : ℕ) → newer ++ e ∷ older ≡ past → a.by ≡ t
     → Legal s past → access_of e ≡ Some a → a.kind ≡ Look → live past t ≡ true → HasNoLivePredecessor past t → a.value ≡ value_or
     (newest_store (λ u. nat_eq u t) a.key older) (settled s.opening past a.key)
 finds_at s newer older past e a t split by legal is is_look is_live none_live =
@@ -55,7 +55,7 @@ finds_at s newer older past e a t split by legal is is_look is_live none_live =
     (subst₂ At split by at) legal is_live none_live
 
 -- each read of a transaction that may commit agrees with what is committed by then
-pub looks_agree : (s : Setting) (newer older past : List Entry) (t : ℕ) → newer ++ older ≡ past → Legal s past → live past t ≡ true
+pub looks_agree : (s : Configuration) (newer older past : List Entry) (t : ℕ) → newer ++ older ≡ past → Legal s past → live past t ≡ true
     → HasNoLivePredecessor past t → LooksAgree (settled s.opening past) t older
 looks_agree s newer [] past t split legal is_live none_live = tt
 looks_agree s newer (e ∷ older) past t split legal is_live none_live = (

@@ -5,13 +5,13 @@ use Rattle.sgt_model.specs.declared.entry.Entry.{Entry}
 use Rattle.sgt_model.specs.Accesses.{access_of}
 use Rattle.sgt_model.specs.Fates.{ending_in, committed, live}
 use Rattle.sgt_model.specs.Pairs.{FollowsIn, Precedes, Pair}
-use Rattle.sgt_model.specs.Settings.{Setting}
+use Rattle.sgt_model.specs.Configurations.{Configuration}
 use Rattle.sgt_model.specs.Legality.{Legal}
 use Rattle.sgt_model.specs.CommitOrder.{CommitsBefore}
 use Rattle.sgt_model.proofs.Facts.{live-no_fate, access-live, end-live, commit-none_live, commit-no_end, live-before, committed-fate, live-stands, commit-case, access-same_fate, follows-access, precedes-started}
 
 -- what an access follows is not of a committed transaction
-follows-not_committed : (s : Setting) (e : Entry) (past : List Entry) → Legal s (e ∷ past) → (t u : ℕ)
+follows-not_committed : (s : Configuration) (e : Entry) (past : List Entry) → Legal s (e ∷ past) → (t u : ℕ)
     → FollowsIn past (access_of e) t u → committed (e ∷ past) u ≡ true → ⊥
 follows-not_committed s e past h t u now c =
     let f = follows-access past (access_of e) t u now in
@@ -19,7 +19,7 @@ follows-not_committed s e past h t u now c =
     cc (sym (committed-fate (e ∷ past) u c) ∙ (access-same_fate s e past h f.access f.is u ∙ live-no_fate past u alive))
 
 -- at the entry in which u commits, no live transaction has an edge into it
-at_commit : (s : Setting) (e : Entry) (past : List Entry) → Legal s (e ∷ past) → (t u : ℕ) → t ≢ u → live past t ≡ true
+at_commit : (s : Configuration) (e : Entry) (past : List Entry) → Legal s (e ∷ past) → (t u : ℕ) → t ≢ u → live past t ≡ true
     → Precedes past t u → ending_in e.event e.reply u ≡ Some fate.Committed → ⊥
 at_commit s e past h t u apart alive p now =
     let u_alive = end-live s past e.event e.reply h.1 u fate.Committed now in
@@ -34,7 +34,7 @@ at_commit s e past h t u apart alive p now =
       };
     })
 
-live_precedes : (s : Setting) (past : List Entry) → Legal s past → (t u : ℕ) → t ≢ u → live past t ≡ true → committed past u ≡ true
+live_precedes : (s : Configuration) (past : List Entry) → Legal s past → (t u : ℕ) → t ≢ u → live past t ≡ true → committed past u ≡ true
     → Precedes past t u → ⊥
 live_precedes s [] h t u apart alive c p = p
 live_precedes s (e ∷ past) h t u apart alive c (inl now) = follows-not_committed s e past h t u now c
@@ -46,11 +46,11 @@ live_precedes s (e ∷ past) h t u apart alive c (inr p) =
     ]
 
 -- no edge leads from a live to a committed transaction
-pub no_pair_from_live : (s : Setting) (past : List Entry) → Legal s past → (t u : ℕ) → live past t ≡ true → committed past u ≡ true
+pub no_pair_from_live : (s : Configuration) (past : List Entry) → Legal s past → (t u : ℕ) → live past t ≡ true → committed past u ≡ true
     → Pair past t u → ⊥
 no_pair_from_live s past h t u alive c p = live_precedes s past h t u p.apart alive c p.precedes
 
-committed_precedes : (s : Setting) (past : List Entry) → Legal s past → (t u : ℕ) → t ≢ u → committed past t ≡ true
+committed_precedes : (s : Configuration) (past : List Entry) → Legal s past → (t u : ℕ) → t ≢ u → committed past t ≡ true
     → committed past u ≡ true → Precedes past t u → CommitsBefore past t u
 committed_precedes s [] h t u apart ct cu p = p
 committed_precedes s (e ∷ past) h t u apart ct cu (inl now) = absurd (follows-not_committed s e past h t u now cu)
@@ -69,6 +69,6 @@ committed_precedes s (e ∷ past) h t u apart ct cu (inr p) =
     ]
 
 -- of two committed transactions with an edge the first committed first
-pub pair_commits_before : (s : Setting) (past : List Entry) → Legal s past → (t u : ℕ) → committed past t ≡ true
+pub pair_commits_before : (s : Configuration) (past : List Entry) → Legal s past → (t u : ℕ) → committed past t ≡ true
     → committed past u ≡ true → Pair past t u → CommitsBefore past t u
 pair_commits_before s past h t u ct cu p = committed_precedes s past h t u p.apart ct cu p.precedes

@@ -13,12 +13,12 @@ use Rattle.std.proofs.lemmas.Bool.{cases_eq, cases_lt, eq-eqb, ne_eqb, cond-true
 use Rattle.sgt_model.specs.declared.entry.Entry.{Entry}
 use Rattle.sgt_model.specs.Accesses.{Access, access_in, access_of, act_in, acts}
 use Rattle.sgt_model.specs.Fates.{start_count}
-use Rattle.sgt_model.specs.Settings.{Setting}
+use Rattle.sgt_model.specs.Configurations.{Configuration}
 use Rattle.sgt_model.specs.Progress.{Call, call_of, caller_access_in, caller_accesses, values_read, requested, is_fit, run_of, next_of}
 use Rattle.sgt_model.specs.Legality.{LegalReply, Legal}
 use Rattle.sgt_model.proofs.Effects.{Fits, Made}
 use Rattle.sgt_model.proofs.Facts.{live-started, access-live, access-fits, starts-grow, call-kept}
-use Rattle.sgt_model.proofs.Acts.{asks_of, caller_access_of, AtEnd, PlayedOn}
+use Rattle.sgt_model.proofs.Acts.{requests_of, caller_access_of, AtEnd, PlayedOn}
 use Rattle.sgt_model.proofs.Traces.{past_end}
 
 -- an access of t's own comes first
@@ -32,7 +32,7 @@ pub act_none : (x : Option Access) (t : ℕ) (rest : List Access) → x ≡ None
 act_none x t rest h = ap (λ y. act_in y t rest) h
 
 -- a transaction that was not started does not act
-skip_unstarted : (s : Setting) (past : List Entry) (e : Entry) (t : ℕ) → LegalReply s past e.event e.reply → start_count past ≤ t
+skip_unstarted : (s : Configuration) (past : List Entry) (e : Entry) (t : ℕ) → LegalReply s past e.event e.reply → start_count past ≤ t
     → acts (e ∷ past) t ≡ acts past t
 skip_unstarted s past e t h unstarted = by_access (access_of e) refl
   where
@@ -43,7 +43,7 @@ skip_unstarted s past e t h unstarted = by_access (access_of e) refl
     by_access None is = act_none (access_of e) t (acts past t) is
     by_access (Some a) is = act_other (access_of e) a t (acts past t) is (apart a is)
 
-pub acts_unstarted : (s : Setting) (past : List Entry) (t : ℕ) → Legal s past → start_count past ≤ t → acts past t ≡ []
+pub acts_unstarted : (s : Configuration) (past : List Entry) (t : ℕ) → Legal s past → start_count past ≤ t → acts past t ≡ []
 acts_unstarted s [] t h unstarted = refl
 acts_unstarted s (e ∷ past) t h unstarted =
     let grow = starts-grow e past in
@@ -76,13 +76,13 @@ caller_access_if-other _ a t n = refl
 -- one more access
 
 ended_on : (r : Run) (xs : List CallerAccess) (all : List Access) (p : PlayedOn r xs all) (end : AtEnd r p.own)
-    → asks_of r (values_read all) (length all) ≡ Ends end.0
-ended_on r xs all p end = subst (λ l. asks_of r (values_read l) (length l) ≡ Ends end.0) (sym p.all_are)
-    (past_end r p.own end.0 p.as_asked end.1 p.more)
+    → requests_of r (values_read all) (length all) ≡ Ends end.0
+ended_on r xs all p end = subst (λ l. requests_of r (values_read l) (length l) ≡ Ends end.0) (sym p.all_are)
+    (past_end r p.own end.0 p.as_requested end.1 p.more)
 
 -- where the end does not come next, there are no accesses but the run's own
 pub only_own : (r : Run) (xs : List CallerAccess) (all : List Access) (p : PlayedOn r xs all)
-    → ((answers : List ℤ) → asks_of r (values_read all) (length all) ≡ Ends answers → ⊥) → (p.more ≡ []) × (all ≡ p.own) × (xs ≡ [])
+    → ((answers : List ℤ) → requests_of r (values_read all) (length all) ≡ Ends answers → ⊥) → (p.more ≡ []) × (all ≡ p.own) × (xs ≡ [])
 only_own r xs all p not_end = elim p.at_end [
   | inl none ↦ (none, p.all_are ∙ ap (λ l. l ++ p.own) none, p.caller_accesses_are ∙ ap (map caller_access_of) none)
   | inr end ↦ absurd (not_end end.0 (ended_on r xs all p end))
@@ -92,7 +92,7 @@ pub not_fit : (n : Next) (a : Access) (answers : List ℤ) → n ≡ Ends answer
 not_fit n a answers e h = subst (λ x. Fits x a) e h
 
 played_step : (r : Run) (xs : List CallerAccess) (all : List Access) (a : Access) → PlayedOn r xs all
-    → Fits (asks_of r (values_read all) (length all)) a → PlayedOn r xs (a ∷ all)
+    → Fits (requests_of r (values_read all) (length all)) a → PlayedOn r xs (a ∷ all)
 played_step r xs all a p fits =
     let only = only_own r xs all p (λ answers e. not_fit _ a answers e fits) in
     record {
@@ -100,38 +100,38 @@ played_step r xs all a p fits =
       more = [];
       all_are = ap (λ l. a ∷ l) only.1;
       caller_accesses_are = only.2;
-      as_asked = (p.as_asked, subst (λ l. Fits (asks_of r (values_read l) (length l)) a) only.1 fits);
+      as_requested = (p.as_requested, subst (λ l. Fits (requests_of r (values_read l) (length l)) a) only.1 fits);
       fit = tt;
       at_end = inl refl;
     }
 
 -- the run's own accesses brought it to its end
 pub own_end : (r : Run) (xs : List CallerAccess) (all : List Access) (answers : List ℤ) (p : PlayedOn r xs all)
-    → asks_of r (values_read all) (length all) ≡ Ends answers → asks_of r (values_read p.own) (length p.own) ≡ Ends answers
+    → requests_of r (values_read all) (length all) ≡ Ends answers → requests_of r (values_read p.own) (length p.own) ≡ Ends answers
 own_end r xs all answers p e = elim p.at_end [
-  | inl none ↦ subst (λ l. asks_of r (values_read l) (length l) ≡ Ends answers) (p.all_are ∙ ap (λ l. l ++ p.own) none) e
+  | inl none ↦ subst (λ l. requests_of r (values_read l) (length l) ≡ Ends answers) (p.all_are ∙ ap (λ l. l ++ p.own) none) e
   | inr end ↦ end.1 ∙ (sym (ended_on r xs all p end) ∙ e)
 ]
 
 played_more : (r : Run) (xs : List CallerAccess) (all : List Access) (a : Access) (d : Request) (answers : List ℤ) → PlayedOn r xs all
-    → asks_of r (values_read all) (length all) ≡ Ends answers → is_fit d ≡ true → Fits (requested d) a
+    → requests_of r (values_read all) (length all) ≡ Ends answers → is_fit d ≡ true → Fits (requested d) a
     → PlayedOn r (caller_access_of a ∷ xs) (a ∷ all)
 played_more r xs all a d answers p e fit fits = record {
   own = p.own;
   more = a ∷ p.more;
   all_are = ap (λ l. a ∷ l) p.all_are;
   caller_accesses_are = ap (λ l. caller_access_of a ∷ l) p.caller_accesses_are;
-  as_asked = p.as_asked;
+  as_requested = p.as_requested;
   fit = (p.fit, (d, fit, fits));
   at_end = inr (answers, own_end r xs all answers p e);
 }
 
 -- these accesses are what the call's run wants, and then what its caller requested
-abbrev pub PlaysCall : Setting → Call → List CallerAccess → List Access → Type 0
+abbrev pub PlaysCall : Configuration → Call → List CallerAccess → List Access → Type 0
 PlaysCall s c xs all = PlayedOn (run_of s.rules c) xs all
 
 made_one : (r : Run) (xs : List CallerAccess) (all : List Access) (a : Access) (t : ℕ) (event : Event) → a.by ≡ t → PlayedOn r xs all
-    → Made (asks_of r (values_read all) (length all)) event a → PlayedOn r (caller_access_if event (Some a) t ++ xs) (a ∷ all)
+    → Made (requests_of r (values_read all) (length all)) event a → PlayedOn r (caller_access_if event (Some a) t ++ xs) (a ∷ all)
 made_one r xs all a t (Step u) z p made = played_step r xs all a p made
 made_one r xs all a t (event.Access u d) z p (answers, e, fit, fits) = subst (λ l. PlayedOn r (l ++ xs) (a ∷ all))
     (sym (cond-true (nat_eq a.by t) (caller_access_of a ∷ []) [] (eq-eqb a.by t z))) (played_more r xs all a d answers p e fit fits)
@@ -139,7 +139,7 @@ made_one r xs all a t (Start p args) z played made = absurd made
 made_one r xs all a t (Commit u) z played made = absurd made
 made_one r xs all a t (Quit u) z played made = absurd made
 
-plays_on : (s : Setting) (past : List Entry) (e : Entry) (t : ℕ) → LegalReply s past e.event e.reply → PlaysCall s (call_of past t)
+plays_on : (s : Configuration) (past : List Entry) (e : Entry) (t : ℕ) → LegalReply s past e.event e.reply → PlaysCall s (call_of past t)
     (caller_accesses past t) (acts past t) → PlaysCall s (call_of past t) (caller_accesses (e ∷ past) t) (acts (e ∷ past) t)
 plays_on s past e t h ih = by_access (access_of e) refl
   where
@@ -165,15 +165,15 @@ plays_on s past e t h ih = by_access (access_of e) refl
         (cases_eq a.by t)
 
 played_none : (r : Run) → PlayedOn r [] []
-played_none r = record { own = []; more = []; all_are = refl; caller_accesses_are = refl; as_asked = tt; fit = tt; at_end = inl refl }
+played_none r = record { own = []; more = []; all_are = refl; caller_accesses_are = refl; as_requested = tt; fit = tt; at_end = inl refl }
 
 -- with no access there is none that a caller requested
-none_asked : (s : Setting) (past : List Entry) (t : ℕ) → Legal s past → start_count past ≤ t → caller_accesses past t ≡ []
-none_asked s [] t h unstarted = refl
-none_asked s (e ∷ past) t h unstarted =
+none_requested : (s : Configuration) (past : List Entry) (t : ℕ) → Legal s past → start_count past ≤ t → caller_accesses past t ≡ []
+none_requested s [] t h unstarted = refl
+none_requested s (e ∷ past) t h unstarted =
     let grow = starts-grow e past in
     let before : start_count past ≤ t = omega arith in
-    ap (λ z. z ++ caller_accesses past t) (caller_access_in-is e.event e.reply t ∙ by_access (access_of e) refl before) ∙ none_asked s past t h.0 before
+    ap (λ z. z ++ caller_accesses past t) (caller_access_in-is e.event e.reply t ∙ by_access (access_of e) refl before) ∙ none_requested s past t h.0 before
   where
     by_access : (x : Option Access) → access_of e ≡ x → start_count past ≤ t → caller_access_if e.event (access_of e) t ≡ []
     by_access None is before = ap (λ y. caller_access_if e.event y t) is ∙ caller_access_if-none e.event t
@@ -181,7 +181,7 @@ none_asked s (e ∷ past) t h unstarted =
         (λ z. let started : a.by < start_count past = live-started past a.by (access-live s past e.event e.reply h.1 a is) in absurd (omega arith))
 
 -- what a transaction did is what its procedure wanted, and then what its caller requested
-pub plays : (s : Setting) (past : List Entry) (t : ℕ) → Legal s past → PlaysCall s (call_of past t) (caller_accesses past t) (acts past t)
+pub plays : (s : Configuration) (past : List Entry) (t : ℕ) → Legal s past → PlaysCall s (call_of past t) (caller_accesses past t) (acts past t)
 plays s [] t h = played_none _
 plays s (e ∷ past) t h = by_start (plays s past t h.0) (cases_lt t (start_count past))
   where
@@ -191,7 +191,7 @@ plays s (e ∷ past) t h = by_start (plays s past t h.0) (cases_lt t (start_coun
         (sym (call-kept s past e t h.1 started)) (plays_on s past e t h.1 ih)
     by_start ih (inr unstarted) =
         let xs : caller_accesses (e ∷ past) t ≡ [] = ap (λ z. z ++ caller_accesses past t) (caller_access_in-is e.event e.reply t ∙ new (access_of e) refl unstarted)
-        ∙ none_asked s past t h.0 unstarted in
+        ∙ none_requested s past t h.0 unstarted in
         subst₂ (λ xs l. PlaysCall s (call_of (e ∷ past) t) xs l) (sym xs)
         (sym (skip_unstarted s past e t h.1 unstarted ∙ acts_unstarted s past t h.0 unstarted)) (played_none _)
       where

@@ -17,8 +17,8 @@ use Rattle.sgt_model.specs.declared.limits.Asks.{Asks}
 use Rattle.sgt_model.specs.declared.limits.Asks.TheVariants.{AtStep, AtCommit}
 use Rattle.sgt_model.specs.Traces.{Next, Looks, Puts, Ends, Raises}
 use Rattle.sgt_model.specs.Fates.{is_start, start_count, concerns, subject, ending_in, fate_of, live}
-use Rattle.sgt_model.specs.Questions.{named_by, started_number, started_in, tells_end, over_in, is_ending}
-use Rattle.sgt_model.specs.Settings.{Setting}
+use Rattle.sgt_model.specs.Questions.{named_by, started_number, started_in, reports_end, over_in, is_ending}
+use Rattle.sgt_model.specs.Configurations.{Configuration}
 use Rattle.sgt_model.specs.Progress.{next_of, requested, is_fit}
 use Rattle.sgt_model.specs.Legality.{RaisedStep, RaisedCommit, AbortReply, StepReply, OfFit, RequestReply, CommitReply, OfStarted, OfLive, LegalReply, Legal}
 use Rattle.sgt_model.specs.Aborts.{CauseHolds}
@@ -58,48 +58,48 @@ ends_named event _ t own e = absurd (cc)
 
 -- no reply to a live transaction is Over, so a reply that reports its end ends it
 
-ending_of : (r answer : Reply) → r ≡ answer → (tells_end answer ≡ true → is_ending answer ≡ true) → tells_end r ≡ true → is_ending r ≡ true
-ending_of r answer is so e = subst (λ x. tells_end x ≡ true → is_ending x ≡ true) (sym is) so e
+ending_of : (r answer : Reply) → r ≡ answer → (reports_end answer ≡ true → is_ending answer ≡ true) → reports_end r ≡ true → is_ending r ≡ true
+ending_of r answer is so e = subst (λ x. reports_end x ≡ true → is_ending x ≡ true) (sym is) so e
 
-asked_step_ends : (asks : Asks) (past : List Entry) (t code : ℕ) (r : Reply) → RaisedStep asks past t code r → tells_end r ≡ true
+raised_step_ends : (asks : Asks) (past : List Entry) (t code : ℕ) (r : Reply) → RaisedStep asks past t code r → reports_end r ≡ true
     → is_ending r ≡ true
-asked_step_ends AtStep past t code r h = ending_of r _ h.is (λ e. refl)
-asked_step_ends AtCommit past t code r h = ending_of r _ h (λ e. e)
+raised_step_ends AtStep past t code r h = ending_of r _ h.is (λ e. refl)
+raised_step_ends AtCommit past t code r h = ending_of r _ h (λ e. e)
 
-step_ends : (s : Setting) (past : List Entry) (t : ℕ) (n : Next) (r : Reply) → StepReply s past t n r → tells_end r ≡ true
+step_ends : (s : Configuration) (past : List Entry) (t : ℕ) (n : Next) (r : Reply) → StepReply s past t n r → reports_end r ≡ true
     → is_ending r ≡ true
 step_ends s past t (Looks k) r (inl h) = ending_of r _ h.aborts.is (λ e. refl)
 step_ends s past t (Looks k) r (inr h) = ending_of r _ h.is (λ e. e)
 step_ends s past t (Puts k v) r (inl h) = ending_of r _ h.aborts.is (λ e. refl)
 step_ends s past t (Puts k v) r (inr h) = ending_of r _ h.is (λ e. e)
 step_ends s past t (Ends answers) r h = ending_of r _ h (λ e. e)
-step_ends s past t (Raises code) r h = asked_step_ends s.rules.limits.asks past t code r h
+step_ends s past t (Raises code) r h = raised_step_ends s.rules.limits.asks past t code r h
 
-fit_ends : (s : Setting) (past : List Entry) (t : ℕ) (n : Next) (fit : Bool) (r : Reply) → OfFit fit r (StepReply s past t n r)
-    → tells_end r ≡ true → is_ending r ≡ true
+fit_ends : (s : Configuration) (past : List Entry) (t : ℕ) (n : Next) (fit : Bool) (r : Reply) → OfFit fit r (StepReply s past t n r)
+    → reports_end r ≡ true → is_ending r ≡ true
 fit_ends s past t n true r h = step_ends s past t n r h
 fit_ends s past t n false r h = ending_of r _ h (λ e. e)
 
-request_ends : (s : Setting) (past : List Entry) (t : ℕ) (d : Request) (n : Next) (r : Reply) → RequestReply s past t d n r
-    → tells_end r ≡ true → is_ending r ≡ true
+request_ends : (s : Configuration) (past : List Entry) (t : ℕ) (d : Request) (n : Next) (r : Reply) → RequestReply s past t d n r
+    → reports_end r ≡ true → is_ending r ≡ true
 request_ends s past t d (Ends answers) r h = fit_ends s past t (requested d) (is_fit d) r h
 request_ends s past t d (Looks k) r h = ending_of r _ h (λ e. e)
 request_ends s past t d (Puts k v) r h = ending_of r _ h (λ e. e)
 request_ends s past t d (Raises code) r h = ending_of r _ h (λ e. e)
 
-asked_commit_ends : (asks : Asks) (past : List Entry) (t code : ℕ) (r : Reply) → RaisedCommit asks past t code r → tells_end r ≡ true
+raised_commit_ends : (asks : Asks) (past : List Entry) (t code : ℕ) (r : Reply) → RaisedCommit asks past t code r → reports_end r ≡ true
     → is_ending r ≡ true
-asked_commit_ends AtStep past t code r h = ending_of r _ h (λ e. e)
-asked_commit_ends AtCommit past t code r (inl h) = ending_of r _ h.is (λ e. e)
-asked_commit_ends AtCommit past t code r (inr h) = ending_of r _ h.is (λ e. refl)
+raised_commit_ends AtStep past t code r h = ending_of r _ h (λ e. e)
+raised_commit_ends AtCommit past t code r (inl h) = ending_of r _ h.is (λ e. e)
+raised_commit_ends AtCommit past t code r (inr h) = ending_of r _ h.is (λ e. refl)
 
-commit_ends : (s : Setting) (past : List Entry) (t : ℕ) (n : Next) (r : Reply) → CommitReply s past t n r → tells_end r ≡ true
+commit_ends : (s : Configuration) (past : List Entry) (t : ℕ) (n : Next) (r : Reply) → CommitReply s past t n r → reports_end r ≡ true
     → is_ending r ≡ true
 commit_ends s past t (Ends answers) r (inl h) = ending_of r _ h.is (λ e. e)
 commit_ends s past t (Ends answers) r (inr h) = ending_of r _ h.is (λ e. refl)
 commit_ends s past t (Looks k) r h = ending_of r _ h (λ e. e)
 commit_ends s past t (Puts k v) r h = ending_of r _ h (λ e. e)
-commit_ends s past t (Raises code) r h = asked_commit_ends s.rules.limits.asks past t code r h
+commit_ends s past t (Raises code) r h = raised_commit_ends s.rules.limits.asks past t code r h
 
 -- the transaction of an event is not live after it, where it ends if it was live: else it was not started, or has ended
 over_at : (past : List Entry) (e : Entry) (t : ℕ) (P : Type 0) → (P → EndsIt e.event e.reply t) → (b : Bool) (o : Option Fate)
@@ -118,10 +118,10 @@ over past e t P ends h = over_at past e t P ends (nat_lt t (start_count past)) (
 named_own : (u t : ℕ) → Some u ≡ Some t → nat_eq u t ≡ true
 named_own u t e = eq-eqb u t (some_is u t e)
 
--- where a test holds, so many are reported
-told : (b : Bool) (u t : ℕ) → cond b (Some u) None ≡ Some t → (b ≡ true) × (Some u ≡ Some t)
-told true u t e = (refl, e)
-told false u t e = absurd (cc)
+-- if a test holds, this many are reported
+reported : (b : Bool) (u t : ℕ) → cond b (Some u) None ≡ Some t → (b ≡ true) × (Some u ≡ Some t)
+reported true u t e = (refl, e)
+reported false u t e = absurd (cc)
 
 pub over_are_not_live : OverAreNotLive
 over_are_not_live s past e legal t is = by_event e.event refl is
@@ -129,19 +129,19 @@ over_are_not_live s past e legal t is = by_event e.event refl is
     by_event : (event : Event) → e.event ≡ event → over_in event e.reply ≡ Some t → live (e ∷ past) t ≡ false
     by_event (Start p args) same x = absurd (cc)
     by_event (Step u) same x =
-        let h = told (tells_end e.reply) u t x in
+        let h = reported (reports_end e.reply) u t x in
         let now : LegalReply s past (Step u) e.reply = subst (λ v. LegalReply s past v e.reply) same legal.1 in
         let own : concerns e.event u ≡ true = ap (λ v. concerns v u) same ∙ eq-eqb u u refl in
         subst (λ v. live (e ∷ past) v ≡ false) (some_is u t h.1) (over past e u (StepReply s past u (next_of s past u) e.reply)
         (λ y. ends_named e.event e.reply u own (step_ends s past u (next_of s past u) e.reply y h.0)) now)
     by_event (Access u d) same x =
-        let h = told (tells_end e.reply) u t x in
+        let h = reported (reports_end e.reply) u t x in
         let now : LegalReply s past (Access u d) e.reply = subst (λ v. LegalReply s past v e.reply) same legal.1 in
         let own : concerns e.event u ≡ true = ap (λ v. concerns v u) same ∙ eq-eqb u u refl in
         subst (λ v. live (e ∷ past) v ≡ false) (some_is u t h.1) (over past e u (RequestReply s past u d (next_of s past u) e.reply)
         (λ y. ends_named e.event e.reply u own (request_ends s past u d (next_of s past u) e.reply y h.0)) now)
     by_event (Commit u) same x =
-        let h = told (tells_end e.reply) u t x in
+        let h = reported (reports_end e.reply) u t x in
         let now : LegalReply s past (Commit u) e.reply = subst (λ v. LegalReply s past v e.reply) same legal.1 in
         let own : concerns e.event u ≡ true = ap (λ v. concerns v u) same ∙ eq-eqb u u refl in
         subst (λ v. live (e ∷ past) v ≡ false) (some_is u t h.1) (over past e u (CommitReply s past u (next_of s past u) e.reply)
@@ -154,7 +154,7 @@ over_are_not_live s past e legal t is = by_event e.event refl is
 
 -- what is started
 
-started_live : (s : Setting) (past : List Entry) (e : Entry) → Legal s past → e.reply ≡ reply.Started (start_count past)
+started_live : (s : Configuration) (past : List Entry) (e : Entry) → Legal s past → e.reply ≡ reply.Started (start_count past)
     → live (e ∷ past) (start_count past) ≡ true
 started_live s past e h is =
     let more : start_count (e ∷ past) ≡ start_count past + 1 = ap (λ r. cond (is_start r) (start_count past + 1) (start_count past)) is in
@@ -212,7 +212,7 @@ pub others_end_none : OthersEndNone
 others_end_none past e is t alive = live_from (e ∷ past) t (started-stays e past t (live-started past t alive))
     (option_or-at_none _ _ (ends_none-no_end e.event e.reply (ends_nobody e.reply is) t) ∙ live-no_fate past t alive)
 
-named_cause : (s : Setting) (past : List Entry) (event : Event) (why : Cause) → CauseHolds s past event why → named_by event ≡ Some
+named_cause : (s : Configuration) (past : List Entry) (event : Event) (why : Cause) → CauseHolds s past event why → named_by event ≡ Some
     (subject event)
 named_cause s past (Start p args) why h = absurd h
 named_cause s past (Step t) why h = refl

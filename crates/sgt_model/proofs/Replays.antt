@@ -16,16 +16,16 @@ use Rattle.sgt_model.specs.Accesses.{Access, access_of, acts}
 use Rattle.sgt_model.specs.Fates.{ending_in, fate_of, has_committed, committed, live}
 use Rattle.sgt_model.specs.Values.{stores, newest_store, value_or, settled}
 use Rattle.sgt_model.specs.Pairs.{Precedes}
-use Rattle.sgt_model.specs.Settings.{Setting}
+use Rattle.sgt_model.specs.Configurations.{Configuration}
 use Rattle.sgt_model.specs.Progress.{Call, call_of, caller_accesses, with_caller_accesses, run_of, outcome_in, values_read}
 use Rattle.sgt_model.specs.Legality.{Legal}
-use Rattle.sgt_model.specs.Replay.{result_of, run_in_turn, told_call_in, told_in, told_calls, folded, told, ReplayAgrees}
+use Rattle.sgt_model.specs.Replay.{result_of, run_in_turn, reported_call_in, reported_in, reported_calls, folded, reported, ReplayAgrees}
 use Rattle.sgt_model.specs.Laws.{LooksAgree, CommitAgrees, CommitsAgree}
 use Rattle.sgt_model.proofs.Effects.{Commits, Refusal, effect}
 use Rattle.sgt_model.proofs.Facts.{undone_case, access-live, committed-stays, live-stands, live-not_committed, committed-stands, commit-case, Uncommitted, commits_or_not}
 use Rattle.sgt_model.proofs.PairOrder.{no_pair_from_live}
 use Rattle.sgt_model.proofs.Stores.{found, StoreOf, store_or_not, newest_skip, not_counted, newest_agree, own_or}
-use Rattle.sgt_model.proofs.Acts.{asks_of, over, FindsIn, DoneWith}
+use Rattle.sgt_model.proofs.Acts.{requests_of, over, FindsIn, DoneWith}
 use Rattle.sgt_model.proofs.Traces.{run_is_trace, law_over_acts, gone_done, finds_own}
 use Rattle.sgt_model.proofs.Plays.{only_own, own_end, plays}
 use Rattle.sgt_model.proofs.Overs.{over-acts, looks_agree, finds_in}
@@ -43,7 +43,7 @@ committed_other past t answers u n = ap (λ b. has_committed (option_or (cond b 
     (ne_eqb t u (λ z. n (sym z)))
 
 -- after t's commit the committed value is t's own last one, or else what it was
-pub settled_commit : (s : Setting) (past : List Entry) (t : ℕ) (answers : List ℤ) (k : Key) → Legal s past → live past t ≡ true
+pub settled_commit : (s : Configuration) (past : List Entry) (t : ℕ) (answers : List ℤ) (k : Key) → Legal s past → live past t ≡ true
     → settled s.opening (commit_entry t answers ∷ past) k ≡ value_or (newest_store (λ u. nat_eq u t) k past) (settled s.opening past k)
 settled_commit s past t answers k legal is_live = own_or (committed past) (committed (commit_entry t answers ∷ past)) k past t
     (s.opening k) below (committed_own past t answers) others first
@@ -66,7 +66,7 @@ settled_commit s past t answers k legal is_live = own_or (committed past) (commi
         })
 
 -- an entry at which nothing commits changes no committed value
-pub settled_quiet : (s : Setting) (past : List Entry) (e : Entry) (k : Key) → Legal s (e ∷ past)
+pub settled_quiet : (s : Configuration) (past : List Entry) (e : Entry) (k : Key) → Legal s (e ∷ past)
     → ((u : ℕ) → ending_in e.event e.reply u ≡ Some fate.Committed → ⊥) → settled s.opening (e ∷ past) k ≡ settled s.opening past k
 settled_quiet s past e k h no_commit =
     ap (λ x. value_or x (s.opening k)) (newest_skip (committed (e ∷ past)) k e past (skipped (store_or_not k (access_of e)))
@@ -83,23 +83,23 @@ settled_quiet s past e k h no_commit =
     skipped (inr none) = none (committed (e ∷ past))
 
 -- after t's commit the contents of its run are the committed ones
-same_after : (s : Setting) (past : List Entry) (t : ℕ) (answers : List ℤ) → Legal s past → live past t ≡ true
+same_after : (s : Configuration) (past : List Entry) (t : ℕ) (answers : List ℤ) → Legal s past → live past t ≡ true
     → ReplayAgrees s past → (k : Key) → over (folded s past).last (acts past t) k ≡ settled s.opening (commit_entry t answers ∷ past) k
 same_after s past t answers h is_live ih k =
     over-acts (folded s past).last past t k
     ∙ (ap (λ v. value_or (newest_store (λ u. nat_eq u t) k past) v) (ih.database k)
     ∙ sym (settled_commit s past t answers k h is_live))
 
-pub commit_agrees : (s : Setting) (past : List Entry) (event : Event) (r : Reply) → Legal s past → (c : Commits s past event r)
+pub commit_agrees : (s : Configuration) (past : List Entry) (event : Event) (r : Reply) → Legal s past → (c : Commits s past event r)
     → LooksAgree (settled s.opening past) c.t past
 commit_agrees s past event r h c = looks_agree s [] past past c.t refl h c.is_live c.none_live
 
-pub refusal_agrees : (s : Setting) (past : List Entry) (event : Event) (r : Reply) → Legal s past → (x : Refusal s past event r)
+pub refusal_agrees : (s : Configuration) (past : List Entry) (event : Event) (r : Reply) → Legal s past → (x : Refusal s past event r)
     → LooksAgree (settled s.opening past) x.undoing.t past
 refusal_agrees s past event r h x = looks_agree s [] past past x.undoing.t refl h x.undoing.is_live x.none_live
 
 -- at each commit and refusal, each read of its transaction found its own newest write or the committed value
-pub commits_agree : (s : Setting) (past : List Entry) → Legal s past → CommitsAgree s past
+pub commits_agree : (s : Configuration) (past : List Entry) → Legal s past → CommitsAgree s past
 commits_agree s [] h = tt
 commits_agree s (e ∷ past) h = (commits_agree s past h.0, now (commits_or_not (effect s past e.event e.reply h.1)))
   where
@@ -116,7 +116,7 @@ commits_agree s (e ∷ past) h = (commits_agree s past h.0, now (commits_or_not 
 abbrev again : List Entry → ℕ → Call
 again past t = with_caller_accesses (caller_accesses past t) (call_of past t)
 
-run_done : (s : Setting) (past : List Entry) (event : Event) (r : Reply) → Legal s past → (c : Commits s past event r)
+run_done : (s : Configuration) (past : List Entry) (event : Event) (r : Reply) → Legal s past → (c : Commits s past event r)
     → ReplayAgrees s past → DoneWith (outcome_in s.rules (again past c.t) (folded s past).last) c.answers
     (over (folded s past).last (acts past c.t))
 run_done s past event r h c ih =
@@ -125,12 +125,12 @@ run_done s past event r h c ih =
     let p = plays s past c.t h in
     let finds : FindsIn m (p.more ++ p.own) = subst (FindsIn m) p.all_are
     (finds_in m (settled s.opening past) past c.t ih.database (commit_agrees s past event r h c)) in
-    let own = (law_over_acts run (run_is_trace run)).done m p.own c.answers p.as_asked (finds_own m p.more p.own finds)
+    let own = (law_over_acts run (run_is_trace run)).done m p.own c.answers p.as_requested (finds_own m p.more p.own finds)
     (own_end run (caller_accesses past c.t) (acts past c.t) c.answers p c.next) in
     subst₂ (λ xs l. DoneWith (with_accesses xs (serial run m)) c.answers (over m l)) (sym p.caller_accesses_are) (sym p.all_are)
     (gone_done m p.own p.more (serial run m) c.answers p.fit finds own)
 
-at_commit : (s : Setting) (past : List Entry) (t : ℕ) (answers : List ℤ) → Legal s past → live past t ≡ true
+at_commit : (s : Configuration) (past : List Entry) (t : ℕ) (answers : List ℤ) → Legal s past → live past t ≡ true
     → DoneWith (outcome_in s.rules (again past t) (folded s past).last) answers (over (folded s past).last (acts past t))
     → ReplayAgrees s past → ReplayAgrees s (commit_entry t answers ∷ past)
 at_commit s past t answers h is_live d ih = record {
@@ -138,49 +138,49 @@ at_commit s past t answers h is_live d ih = record {
   database = λ k. ap (λ o. contents_after o (folded s past).last k) d.1 ∙ (d.2 k ∙ same_after s past t answers h is_live ih k);
 }
 
-at_quiet : (s : Setting) (e : Entry) (past : List Entry) → Legal s (e ∷ past) → Uncommitted s past e.event e.reply
+at_quiet : (s : Configuration) (e : Entry) (past : List Entry) → Legal s (e ∷ past) → Uncommitted s past e.event e.reply
     → ReplayAgrees s past → ReplayAgrees s (e ∷ past)
 at_quiet s e past h quiet ih = record {
-  answers = ap (λ l. (run_in_turn s (l ++ told_calls past)).results) quiet.no_call
-      ∙ (ih.answers ∙ ap (λ l. l ++ told past) (sym quiet.tells_none));
-  database = λ k. ap (λ l. (run_in_turn s (l ++ told_calls past)).last k) quiet.no_call
+  answers = ap (λ l. (run_in_turn s (l ++ reported_calls past)).results) quiet.no_call
+      ∙ (ih.answers ∙ ap (λ l. l ++ reported past) (sym quiet.reports_none));
+  database = λ k. ap (λ l. (run_in_turn s (l ++ reported_calls past)).last k) quiet.no_call
       ∙ (ih.database k ∙ sym (settled_quiet s past e k h quiet.no_commit));
 }
 
 -- the run of a transaction that is refused raises its code
-run_asked : (s : Setting) (past : List Entry) (event : Event) (r : Reply) → Legal s past → (x : Refusal s past event r)
+run_raised : (s : Configuration) (past : List Entry) (event : Event) (r : Reply) → Legal s past → (x : Refusal s past event r)
     → ReplayAgrees s past → outcome_in s.rules (again past x.undoing.t) (folded s past).last ≡ Asked x.code
-run_asked s past event r h x ih =
+run_raised s past event r h x ih =
     let t : ℕ = x.undoing.t in
     let run : Run = run_of s.rules (call_of past t) in
     let m : Contents = (folded s past).last in
     let p = plays s past t h in
     let only = only_own run (caller_accesses past t) (acts past t) p (λ answers e. cc (sym x.next ∙ e)) in
-    let asked : serial run m ≡ Asked x.code = (law_over_acts run (run_is_trace run)).asked m p.own x.code p.as_asked
+    let raised : serial run m ≡ Asked x.code = (law_over_acts run (run_is_trace run)).raised m p.own x.code p.as_requested
     (subst (FindsIn m) only.1 (finds_in m (settled s.opening past) past t ih.database (refusal_agrees s past event r h x)))
-    (subst (λ l. asks_of run (values_read l) (length l) ≡ Raises x.code) only.1 x.next) in
-    ap (λ xs. with_accesses xs (serial run m)) only.2 ∙ asked
+    (subst (λ l. requests_of run (values_read l) (length l) ≡ Raises x.code) only.1 x.next) in
+    ap (λ xs. with_accesses xs (serial run m)) only.2 ∙ raised
 
-pub refusal-no_commit : {s : Setting} {past : List Entry} {event : Event} {r : Reply} → Refusal s past event r → (u : ℕ)
+pub refusal-no_commit : {s : Configuration} {past : List Entry} {event : Event} {r : Reply} → Refusal s past event r → (u : ℕ)
     → ending_in event r u ≡ Some fate.Committed → ⊥
 refusal-no_commit x u e = let a = (undone_case x.undoing u fate.Committed e).is_abort in cc a
 
-at_refusal : (s : Setting) (e : Entry) (past : List Entry) → Legal s (e ∷ past) → Refusal s past e.event e.reply
+at_refusal : (s : Configuration) (e : Entry) (past : List Entry) → Legal s (e ∷ past) → Refusal s past e.event e.reply
     → ReplayAgrees s past → ReplayAgrees s (e ∷ past)
 at_refusal s e past h x ih =
-    let asked = run_asked s past e.event e.reply h.0 x ih in
-    let call : told_call_in past e.event e.reply ≡ again past x.undoing.t ∷ [] = ap₂ (λ ev r. told_call_in past ev r) x.event_is
+    let raised = run_raised s past e.event e.reply h.0 x ih in
+    let call : reported_call_in past e.event e.reply ≡ again past x.undoing.t ∷ [] = ap₂ (λ ev r. reported_call_in past ev r) x.event_is
     x.reply_is in
     record {
-      answers = ap (λ l. (run_in_turn s (l ++ told_calls past)).results) call
-          ∙ (ap₂ (λ r l. r ∷ l) (ap result_of asked) ih.answers ∙ ap (λ l. l ++ told past) (sym (ap told_in x.reply_is)));
-      database = λ k. ap (λ l. (run_in_turn s (l ++ told_calls past)).last k) call
-          ∙ (ap (λ o. contents_after o (folded s past).last k) asked
+      answers = ap (λ l. (run_in_turn s (l ++ reported_calls past)).results) call
+          ∙ (ap₂ (λ r l. r ∷ l) (ap result_of raised) ih.answers ∙ ap (λ l. l ++ reported past) (sym (ap reported_in x.reply_is)));
+      database = λ k. ap (λ l. (run_in_turn s (l ++ reported_calls past)).last k) call
+          ∙ (ap (λ o. contents_after o (folded s past).last k) raised
           ∙ (ih.database k ∙ sym (settled_quiet s past e k h (λ u g. refusal-no_commit x u g))));
     }
 
 -- reply order is serial
-pub is_serializable : (s : Setting) (past : List Entry) → Legal s past → ReplayAgrees s past
+pub is_serializable : (s : Configuration) (past : List Entry) → Legal s past → ReplayAgrees s past
 is_serializable s [] h = record { answers = refl; database = λ k. refl }
 is_serializable s (e ∷ past) h = now (is_serializable s past h.0) (commits_or_not (effect s past e.event e.reply h.1))
   where

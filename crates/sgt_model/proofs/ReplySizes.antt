@@ -20,18 +20,18 @@ use Rattle.sgt_model.specs.declared.limits.Asks.{Asks}
 use Rattle.sgt_model.specs.declared.limits.Asks.TheVariants.{AtStep, AtCommit}
 use Rattle.sgt_model.specs.Contents.{Key}
 use Rattle.sgt_model.specs.Traces.{Next, Looks, Puts, Ends, Raises}
-use Rattle.sgt_model.specs.Walks.{PathOf, Member, Distinct, Rising}
+use Rattle.sgt_model.specs.Paths.{PathOf, Member, Distinct, Rising}
 use Rattle.sgt_model.specs.Fates.{concerns, subject, ending_in, start_count, fate_of, started_ones, live, live_ones}
 use Rattle.sgt_model.specs.Pairs.{Pair}
 use Rattle.sgt_model.specs.Falls.{Falls}
-use Rattle.sgt_model.specs.Settings.{Rules, Setting, takes}
+use Rattle.sgt_model.specs.Configurations.{Rules, Configuration, takes}
 use Rattle.sgt_model.specs.Progress.{next_of, requested, is_fit}
-use Rattle.sgt_model.specs.StartReply.{args_fit, room_reply, taken_reply, start_reply}
+use Rattle.sgt_model.specs.StartReply.{args_fit, capacity_reply, taken_reply, start_reply}
 use Rattle.sgt_model.specs.Legality.{RaisedStep, RaisedCommit, AbortReply, CycleAbortReply, Makes, StepReply, OfFit, RequestReply, CommitReply, OfStarted, LegalReply, Legal}
 use Rattle.sgt_model.specs.ReplySizes.{CauseNamesAtMost, FateNamesAtMost, ReplyNamesAtMost, RepliesNameFew}
 use Rattle.sgt_model.proofs.Facts.{some_is, option_or-cases}
 use Rattle.sgt_model.proofs.Listed.{kept_member}
-use Rattle.sgt_model.proofs.Room.{limits_are_kept}
+use Rattle.sgt_model.proofs.Capacity.{limits_are_kept}
 use Rattle.sgt_model.proofs.Verdict.{pair_live}
 use Rattle.sgt_model.proofs.Conditions.{distinct_fits}
 use Rattle.sgt_model.proofs.OneReply.{rising_below, rising_rest}
@@ -78,7 +78,7 @@ start_names most rules begun living p args = called (takes rules p)
     one_of false true = tt
     one_of false false = tt
 
-    fits : (b : Bool) → ReplyNamesAtMost most (cond b (room_reply rules.limits begun living) reply.BadArgs)
+    fits : (b : Bool) → ReplyNamesAtMost most (cond b (capacity_reply rules.limits begun living) reply.BadArgs)
     fits true = one_of _ _
     fits false = tt
 
@@ -86,7 +86,7 @@ start_names most rules begun living p args = called (takes rules p)
     called None = tt
     called (Some count) = fits (args_fit count args)
 
-module _ (s : Setting) (past : List Entry) (h : Legal s past) where
+module _ (s : Configuration) (past : List Entry) (h : Legal s past) where
   live_listed : (l : List ℕ) → Distinct l → ((u : ℕ) → Member u l → live past u ≡ true) → length l ≤ s.rules.limits.live
   live_listed l d alive =
       let fits : length l ≤ length (live_ones past) =
@@ -96,10 +96,10 @@ module _ (s : Setting) (past : List Entry) (h : Legal s past) where
       omega arith
 
   -- all on a path from a live one are live
-  walk_live : (t : ℕ) (rest : List ℕ) → live past t ≡ true → PathOf (Pair past) t rest → (u : ℕ) → Member u (t ∷ rest) → live past u ≡ true
-  walk_live t rest alive p u (inl e) = subst (λ x. live past x ≡ true) (sym e) alive
-  walk_live t [] alive p u (inr m) = absurd m
-  walk_live t (v ∷ rest) alive p u (inr m) = walk_live v rest (pair_live s past h t v alive p.0) p.1 u m
+  path_live : (t : ℕ) (rest : List ℕ) → live past t ≡ true → PathOf (Pair past) t rest → (u : ℕ) → Member u (t ∷ rest) → live past u ≡ true
+  path_live t rest alive p u (inl e) = subst (λ x. live past x ≡ true) (sym e) alive
+  path_live t [] alive p u (inr m) = absurd m
+  path_live t (v ∷ rest) alive p u (inr m) = path_live v rest (pair_live s past h t v alive p.0) p.1 u m
 
   -- with t, those aborted in cascade with it are no more than may be live at once
   few_fall : (t : ℕ) → live past t ≡ true → (fell : List ℕ) → Falls past t fell → length fell < s.rules.limits.live
@@ -118,19 +118,19 @@ module _ (s : Setting) (past : List Entry) (h : Legal s past) where
       → ReplyNamesAtMost s.rules.limits.live given → CycleAbortReply past t k kind r ⊎ Makes past t k kind given r
       → ReplyNamesAtMost s.rules.limits.live r
   access_names t alive k kind given r few (inl x) = abort_names t alive (cause.Cycle (t ∷ x.rest))
-      (live_listed (t ∷ x.rest) x.closes.distinct (walk_live t x.rest alive x.closes.pairs)) r x.aborts
+      (live_listed (t ∷ x.rest) x.closes.distinct (path_live t x.rest alive x.closes.pairs)) r x.aborts
   access_names t alive k kind given r few (inr x) = subst (λ y. ReplyNamesAtMost s.rules.limits.live y) (sym x.is) few
 
-  asked_step_names : (t : ℕ) → live past t ≡ true → (code : ℕ) (asks : Asks) (r : Reply) → RaisedStep asks past t code r
+  raised_step_names : (t : ℕ) → live past t ≡ true → (code : ℕ) (asks : Asks) (r : Reply) → RaisedStep asks past t code r
       → ReplyNamesAtMost s.rules.limits.live r
-  asked_step_names t alive code AtStep r x = abort_names t alive (cause.Asked code) tt r x
-  asked_step_names t alive code AtCommit r x = subst (λ y. ReplyNamesAtMost s.rules.limits.live y) (sym x) tt
+  raised_step_names t alive code AtStep r x = abort_names t alive (cause.Asked code) tt r x
+  raised_step_names t alive code AtCommit r x = subst (λ y. ReplyNamesAtMost s.rules.limits.live y) (sym x) tt
 
   step_names : (t : ℕ) → live past t ≡ true → (next : Next) (r : Reply) → StepReply s past t next r → ReplyNamesAtMost s.rules.limits.live r
   step_names t alive (Looks k) r x = access_names t alive k Look _ r tt x
   step_names t alive (Puts k v) r x = access_names t alive k Store _ r tt x
   step_names t alive (Ends answers) r x = subst (λ y. ReplyNamesAtMost s.rules.limits.live y) (sym x) tt
-  step_names t alive (Raises code) r x = asked_step_names t alive code s.rules.limits.asks r x
+  step_names t alive (Raises code) r x = raised_step_names t alive code s.rules.limits.asks r x
 
   fit_names : (t : ℕ) → live past t ≡ true → (n : Next) (fit : Bool) (r : Reply) → OfFit fit r (StepReply s past t n r)
       → ReplyNamesAtMost s.rules.limits.live r
@@ -144,11 +144,11 @@ module _ (s : Setting) (past : List Entry) (h : Legal s past) where
   request_names t alive d (Puts k v) r x = subst (λ y. ReplyNamesAtMost s.rules.limits.live y) (sym x) tt
   request_names t alive d (Raises code) r x = subst (λ y. ReplyNamesAtMost s.rules.limits.live y) (sym x) tt
 
-  asked_commit_names : (t : ℕ) → live past t ≡ true → (code : ℕ) (asks : Asks) (r : Reply) → RaisedCommit asks past t code r
+  raised_commit_names : (t : ℕ) → live past t ≡ true → (code : ℕ) (asks : Asks) (r : Reply) → RaisedCommit asks past t code r
       → ReplyNamesAtMost s.rules.limits.live r
-  asked_commit_names t alive code AtStep r x = subst (λ y. ReplyNamesAtMost s.rules.limits.live y) (sym x) tt
-  asked_commit_names t alive code AtCommit r (inl x) = subst (λ y. ReplyNamesAtMost s.rules.limits.live y) (sym x.is) tt
-  asked_commit_names t alive code AtCommit r (inr x) = subst (λ y. ReplyNamesAtMost s.rules.limits.live y) (sym x.is)
+  raised_commit_names t alive code AtStep r x = subst (λ y. ReplyNamesAtMost s.rules.limits.live y) (sym x) tt
+  raised_commit_names t alive code AtCommit r (inl x) = subst (λ y. ReplyNamesAtMost s.rules.limits.live y) (sym x.is) tt
+  raised_commit_names t alive code AtCommit r (inr x) = subst (λ y. ReplyNamesAtMost s.rules.limits.live y) (sym x.is)
       (few_fall t alive x.fell x.falls)
 
   commit_names : (t : ℕ) → live past t ≡ true → (next : Next) (r : Reply) → CommitReply s past t next r
@@ -157,7 +157,7 @@ module _ (s : Setting) (past : List Entry) (h : Legal s past) where
   commit_names t alive (Ends answers) r (inr x) = subst (λ y. ReplyNamesAtMost s.rules.limits.live y) (sym x.is) tt
   commit_names t alive (Looks k) r x = subst (λ y. ReplyNamesAtMost s.rules.limits.live y) (sym x) tt
   commit_names t alive (Puts k v) r x = subst (λ y. ReplyNamesAtMost s.rules.limits.live y) (sym x) tt
-  commit_names t alive (Raises code) r x = asked_commit_names t alive code s.rules.limits.asks r x
+  commit_names t alive (Raises code) r x = raised_commit_names t alive code s.rules.limits.asks r x
 
   module _ (fates : (t : ℕ) (f : Fate) → fate_of past t ≡ Some f → FateNamesAtMost s.rules.limits.live f) where
     of_started : (t : ℕ) (r : Reply) (P : Type 0) → (live past t ≡ true → P → ReplyNamesAtMost s.rules.limits.live r)
@@ -179,7 +179,7 @@ module _ (s : Setting) (past : List Entry) (h : Legal s past) where
     reply_names (Quit t) r x = of_started t r (AbortReply past t cause.Quit r) (λ alive. abort_names t alive cause.Quit tt r)
         (nat_lt t (start_count past)) (fate_of past t) refl refl x
 
-fates_name : (s : Setting) (past : List Entry) → Legal s past → (t : ℕ) (f : Fate) → fate_of past t ≡ Some f
+fates_name : (s : Configuration) (past : List Entry) → Legal s past → (t : ℕ) (f : Fate) → fate_of past t ≡ Some f
     → FateNamesAtMost s.rules.limits.live f
 fates_name s [] h t f e = absurd (cc)
 fates_name s (x ∷ past) h t f e = elim (option_or-cases (ending_in x.event x.reply t) (fate_of past t) f e) [

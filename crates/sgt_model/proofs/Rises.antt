@@ -2,7 +2,7 @@
 use Rattle.std.proofs.Common.{ℕ, ◌+◌, ◌<◌, Bool, true, false, cond, List, [], ◌∷◌, ◌++◌, arith}
 use Rattle.std.specs.List.{filter}
 use Rattle.sgt_model.specs.declared.entry.Entry.{Entry}
-use Rattle.sgt_model.specs.Walks.{Rising}
+use Rattle.sgt_model.specs.Paths.{Rising}
 use Rattle.sgt_model.specs.Fates.{is_start, start_count, live, started_ones, live_ones}
 
 -- t is below each of the list

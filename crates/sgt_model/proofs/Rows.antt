@@ -283,14 +283,14 @@ insert_rows k v w rows seen new n value same is found fits all =
       index : IsRowIndex k rows n
       index = subst (λ l. IsRowIndex k l n) (sym same) found.0
 
-pub set_told : (k : Key) (v w : ℤ) (rows seen : List Row) (n : ℕ) (old : ℤ) → w ≡ v → rows ≡ seen → IsRowIndex k seen n
+pub set_reported : (k : Key) (v w : ℤ) (rows seen : List Row) (n : ℕ) (old : ℤ) → w ≡ v → rows ≡ seen → IsRowIndex k seen n
     → slice_get seen n ≡ Some (k, old) → (j : Key) → contents_of (slice_set rows n (k, w)) j ≡ put_in (contents_of seen) k v j
-set_told k v w rows seen n old value same index at j =
+set_reported k v w rows seen n old value same index at j =
     ap (λ l. contents_of (slice_set l n (k, w)) j) same ∙ ap (λ z. contents_of (slice_set seen n (k, z)) j) value
     ∙ set_contents k v seen n (k, old) index at refl j
 
-pub insert_told : (k : Key) (v w : ℤ) (rows seen new : List Row) (n : ℕ) → w ≡ v → rows ≡ seen → new ≡ insert rows n (k, w)
+pub insert_reported : (k : Key) (v w : ℤ) (rows seen new : List Row) (n : ℕ) → w ≡ v → rows ≡ seen → new ≡ insert rows n (k, w)
     → IsRowIndex k seen n → (j : Key) → contents_of new j ≡ put_in (contents_of seen) k v j
-insert_told k v w rows seen new n value same is index j =
+insert_reported k v w rows seen new n value same is index j =
     ap (λ l. contents_of l j) (is ∙ ap (λ l. insert l n (k, w)) same ∙ ap (λ z. insert seen n (k, z)) value)
     ∙ insert_contents k v seen n index j

@@ -21,7 +21,7 @@ use Rattle.sgt_model.specs.Contents.{Key}
 use Rattle.sgt_model.specs.Traces.{Raises, Ends, Looks, Next, Puts}
 use Rattle.sgt_model.specs.Fates.{fate_of, live, live_ones, start_count}
 use Rattle.sgt_model.specs.Closes.{Closes}
-use Rattle.sgt_model.specs.Settings.{Setting, takes}
+use Rattle.sgt_model.specs.Configurations.{Configuration, takes}
 use Rattle.sgt_model.specs.Progress.{next_of, requested, is_fit}
 use Rattle.sgt_model.specs.Legality.{AbortReply, RaisedCommit, RaisedStep, CommitReply, MayRefuse, MustWait, Legal, LegalReply, OfStarted, CycleAbortReply, StepReply, OfFit, RequestReply}
 use Rattle.sgt_model.specs.Left.{next_left}
@@ -34,7 +34,7 @@ use Rattle.sgt_model.proofs.Effects.{Idle, ends_none-no_end, no_start-no_call}
 use Rattle.sgt_model.proofs.Facts.{live_from, member_from}
 use Rattle.sgt_model.proofs.Verdict.{blocks_from_closes, closes_from_blocks, falls_from, found-visible, least_from, none_from}
 use Rattle.sgt_model.proofs.LiveLeft.{next_is_left, left_looked, left_stored, request_looked, request_stored}
-use Rattle.sgt_model.proofs.AfterAccess.{after_look, after_store, look_asked, store_asked}
+use Rattle.sgt_model.proofs.AfterAccess.{after_look, after_store, look_requested, store_requested}
 use Rattle.sgt_model.proofs.AfterEnd.{Of, aborted_so, refused_so, after_undo, after_commit, after_nothing, gone_with, no_one, of_quit, of_step, of_request}
 use Rattle.sgt_model.proofs.AfterStart.{after_start}
 
@@ -61,7 +61,7 @@ quiet_idle event _ q = record { no_start = refl; no_access = refl; ends_none = t
 abbrev pub entry : Event → Reply → Entry
 entry event r = record { event = event; reply = r }
 
-pub after_quiet : (s : Setting) (past : List Entry) (event : Event) (r : Reply) (c : State) → quiet r ≡ true → IsStateAfter s past c
+pub after_quiet : (s : Configuration) (past : List Entry) (event : Event) (r : Reply) (c : State) → quiet r ≡ true → IsStateAfter s past c
     → IsStateAfter s (entry event r ∷ past) c
 after_quiet s past event r c q i =
     let idle = quiet_idle event r q in
@@ -76,12 +76,12 @@ after_quiet s past event r c q i =
     never : (u : ℕ) → no_one u ≡ true → ⊥
     never u g = cc
 
-pub stayed : (s : Setting) (past : List Entry) (event : Event) (answer r : Reply) (before after : State) → quiet answer ≡ true
+pub stayed : (s : Configuration) (past : List Entry) (event : Event) (answer r : Reply) (before after : State) → quiet answer ≡ true
     → IsStateAfter s past before → Stays answer before r after → (r ≡ answer) × IsStateAfter s (entry event r ∷ past) after
 stayed s past event answer r before after q i x =
     (x.reply, after_quiet s past event r after (ap quiet x.reply ∙ q) (subst (λ c. IsStateAfter s past c) (sym x.same) i))
 
-module _ (s : Setting) (past : List Entry) (h : Legal s past) (before after : State) (i : IsStateAfter s past before) (t : ℕ) where
+module _ (s : Configuration) (past : List Entry) (h : Legal s past) (before after : State) (i : IsStateAfter s past before) (t : ℕ) where
   lived : (why : Cause) (fell : List ℕ) → live past t ≡ true → Undo t why fell before after → (u : ℕ) → gone_with t fell u ≡ true
       → live past u ≡ true
   lived why fell alive x u g = elim (or_cases (nat_eq t u) (list_any (λ v. nat_eq v u) fell) g) [
@@ -122,10 +122,10 @@ module _ (s : Setting) (past : List Entry) (h : Legal s past) (before after : St
       → Closes past t k kind rest → ⊥
   free_of k kind alive free rest c = free rest (blocks_from_closes s past h before i t k kind rest alive c)
 
-  asked_step_on : (asks : Asks) (code : ℕ) (r : Reply) → live past t ≡ true → RaisedStepOn asks t code before r after
+  raised_step_on : (asks : Asks) (code : ℕ) (r : Reply) → live past t ≡ true → RaisedStepOn asks t code before r after
       → RaisedStep asks past t code r × IsStateAfter s (entry (Step t) r ∷ past) after
-  asked_step_on AtStep code r alive x = aborted_in (Step t) (cause.Asked code) r (of_step t) alive x
-  asked_step_on AtCommit code r alive x = stayed s past (Step t) reply.Ended r before after refl i x
+  raised_step_on AtStep code r alive x = aborted_in (Step t) (cause.Asked code) r (of_step t) alive x
+  raised_step_on AtCommit code r alive x = stayed s past (Step t) reply.Ended r before after refl i x
 
   step_on : (n : Next) (r : Reply) → next_of s past t ≡ n → live past t ≡ true → StepOn s.rules.limits.asks t n before r after
       → StepReply s past t n r × IsStateAfter s (entry (Step t) r ∷ past) after
@@ -141,7 +141,7 @@ module _ (s : Setting) (past : List Entry) (h : Legal s past) (before after : St
         (after_store s past h before after i t k alive v (left_stored s past h t k v next) x.stores),
   )
   step_on (Ends answers) r next alive x = stayed s past (Step t) reply.Ended r before after refl i x
-  step_on (Raises code) r next alive x = asked_step_on s.rules.limits.asks code r alive x
+  step_on (Raises code) r next alive x = raised_step_on s.rules.limits.asks code r alive x
 
   requested_on : (d : Request) (r : Reply) (answers : List ℤ) → next_of s past t ≡ Ends answers → live past t ≡ true
       → StepOn s.rules.limits.asks t (requested d) before r after
@@ -151,7 +151,7 @@ module _ (s : Setting) (past : List Entry) (h : Legal s past) (before after : St
   requested_on (Read k) r answers next alive (inr x) = (
     inr (record { free = free_of k Look alive x.free; is = x.reply ∙ ap (reply.Looked k) (found-visible s past h before i k) }),
     subst (λ z. IsStateAfter s (entry (Access t (Read k)) z ∷ past) after) (sym x.reply)
-        (look_asked s past t (Read k) k _ after
+        (look_requested s past t (Read k) k _ after
         (after_look s past h before after i t k alive (λ v. request_looked s past h t answers k v next) x.looks)),
   )
   requested_on (Write k v) r answers next alive (inl x) =
@@ -159,7 +159,7 @@ module _ (s : Setting) (past : List Entry) (h : Legal s past) (before after : St
   requested_on (Write k v) r answers next alive (inr x) = (
     inr (record { free = free_of k Store alive x.free; is = x.reply }),
     subst (λ z. IsStateAfter s (entry (Access t (Write k v)) z ∷ past) after) (sym x.reply)
-        (store_asked s past t (Write k v) k v after
+        (store_requested s past t (Write k v) k v after
         (after_store s past h before after i t k alive v (request_stored s past h t answers k v next) x.stores)),
   )
 
@@ -181,11 +181,11 @@ module _ (s : Setting) (past : List Entry) (h : Legal s past) (before after : St
   waits_on r x = let y = stayed s past (Commit t) (reply.Waits x.on) r before after refl i x.stays in
       (record { predecessor = x.on; least = least_from s past h before i t x.on x.least; is = y.0 }, y.1)
 
-  asked_commit_on : (asks : Asks) (code : ℕ) (r : Reply) → live past t ≡ true → RaisedCommitOn asks t code before r after
+  raised_commit_on : (asks : Asks) (code : ℕ) (r : Reply) → live past t ≡ true → RaisedCommitOn asks t code before r after
       → RaisedCommit asks past t code r × IsStateAfter s (entry (Commit t) r ∷ past) after
-  asked_commit_on AtStep code r alive x = stayed s past (Commit t) reply.NotEnded r before after refl i x
-  asked_commit_on AtCommit code r alive (inl x) = let y = waits_on r x in (inl y.0, y.1)
-  asked_commit_on AtCommit code r alive (inr x) = let y = refused_at_commit code r alive x in (inr y.0, y.1)
+  raised_commit_on AtStep code r alive x = stayed s past (Commit t) reply.NotEnded r before after refl i x
+  raised_commit_on AtCommit code r alive (inl x) = let y = waits_on r x in (inl y.0, y.1)
+  raised_commit_on AtCommit code r alive (inr x) = let y = refused_at_commit code r alive x in (inr y.0, y.1)
 
   commit_on : (n : Next) (r : Reply) → live past t ≡ true → CommitOn s.rules.limits.asks t n before r after
       → CommitReply s past t n r × IsStateAfter s (entry (Commit t) r ∷ past) after
@@ -197,7 +197,7 @@ module _ (s : Setting) (past : List Entry) (h : Legal s past) (before after : St
   )
   commit_on (Looks k) r alive x = stayed s past (Commit t) reply.NotEnded r before after refl i x
   commit_on (Puts k v) r alive x = stayed s past (Commit t) reply.NotEnded r before after refl i x
-  commit_on (Raises code) r alive x = asked_commit_on s.rules.limits.asks code r alive x
+  commit_on (Raises code) r alive x = raised_commit_on s.rules.limits.asks code r alive x
 
   -- what every call on a transaction shares
   if_open : (event : Event) (r : Reply) (OnContents OnPast : Type 0)
@@ -244,7 +244,7 @@ module _ (s : Setting) (past : List Entry) (h : Legal s past) (before after : St
 
 -- a start
 
-module _ (s : Setting) (past : List Entry) (h : Legal s past) (before after : State) (i : IsStateAfter s past before) (p : ℕ)
+module _ (s : Configuration) (past : List Entry) (h : Legal s past) (before after : State) (i : IsStateAfter s past before) (p : ℕ)
     (args : List ℤ) where
   start_cases : (begun living : ℕ) (o : Option ℕ) → (taken_reply s.rules.limits begun living o args ≡ reply.Started begun) ⊎ (quiet
       (taken_reply s.rules.limits begun living o args) ≡ true)

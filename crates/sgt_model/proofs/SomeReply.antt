@@ -17,14 +17,14 @@ use Rattle.sgt_model.specs.declared.kind.Kind.TheVariants.{Look, Store}
 use Rattle.sgt_model.specs.declared.limits.Asks.{Asks}
 use Rattle.sgt_model.specs.declared.limits.Asks.TheVariants.{AtStep, AtCommit}
 use Rattle.sgt_model.specs.Contents.{Key}
-use Rattle.sgt_model.specs.Walks.{last_of, Member, Reaches}
+use Rattle.sgt_model.specs.Paths.{last_of, Member, Reaches}
 use Rattle.sgt_model.specs.Traces.{Next, Looks, Puts, Ends, Raises}
 use Rattle.sgt_model.specs.Fates.{is_start, start_count, fate_of, started_ones, live, live_ones}
 use Rattle.sgt_model.specs.Values.{visible}
 use Rattle.sgt_model.specs.Falls.{Feeds, Falls}
 use Rattle.sgt_model.specs.Pairs.{has_conflicting, Pair}
 use Rattle.sgt_model.specs.Closes.{Closes}
-use Rattle.sgt_model.specs.Settings.{Setting}
+use Rattle.sgt_model.specs.Configurations.{Configuration}
 use Rattle.sgt_model.specs.Progress.{next_of, requested, is_fit}
 use Rattle.sgt_model.specs.StartReply.{start_reply}
 use Rattle.sgt_model.specs.Legality.{RaisedStep, RaisedCommit, HasNoLivePredecessor, AbortReply, CycleAbortReply, Makes, StepReply, OfFit, RequestReply, MustWait, MayCommit, CommitReply, OfStarted}
@@ -131,8 +131,8 @@ module _ (past : List Entry) (t : ℕ) where
     abbrev closing : ℕ → Bool
     closing u = not (nat_eq t u) && (has_conflicting past u k kind && leads (pair past) (actors past) t u)
 
-    walk_to : (u : ℕ) → closing u ≡ true → (rest : List ℕ) × Closes past t k kind rest
-    walk_to u h = let p = and_parts _ _ h in let q = and_parts _ _ p.1 in
+    path_to : (u : ℕ) → closing u ≡ true → (rest : List ℕ) × Closes past t k kind rest
+    path_to u h = let p = and_parts _ _ h in let q = and_parts _ _ p.1 in
         go p.0 q.0 (leads-reaches (pair past) (Pair past) (pair-so past) (actors past) t u q.1)
       where
         go : not (nat_eq t u) ≡ true → has_conflicting past u k kind ≡ true → Reaches (Pair past) t u
@@ -160,9 +160,9 @@ module _ (past : List Entry) (t : ℕ) where
     some_access : (given : Reply) → (r : Reply) × (CycleAbortReply past t k kind r ⊎ Makes past t k kind given r)
     some_access given = elim (least_or_none closing (actors past)) [
       | inl w ↦
-          let walk = walk_to w.at w.passes in
-          let abort = some_abort (cause.Cycle (t ∷ walk.0)) in
-          (abort.0, inl (record { rest = walk.0; closes = walk.1; aborts = abort.1 }))
+          let cycle = path_to w.at w.passes in
+          let abort = some_abort (cause.Cycle (t ∷ cycle.0)) in
+          (abort.0, inl (record { rest = cycle.0; closes = cycle.1; aborts = abort.1 }))
       | inr none ↦ (
         given,
         inr (record {
@@ -203,13 +203,13 @@ module _ (past : List Entry) (t : ℕ) where
     | inr none ↦ (reply.Committed answers, inr (record { none_live = none; is = refl }))
   ]
 
-  some_asked_step : (asks : Asks) (code : ℕ) → (r : Reply) × RaisedStep asks past t code r
-  some_asked_step AtStep code = some_abort (cause.Asked code)
-  some_asked_step AtCommit code = (reply.Ended, refl)
+  some_raised_step : (asks : Asks) (code : ℕ) → (r : Reply) × RaisedStep asks past t code r
+  some_raised_step AtStep code = some_abort (cause.Asked code)
+  some_raised_step AtCommit code = (reply.Ended, refl)
 
-  some_asked_commit : (asks : Asks) (code : ℕ) → (r : Reply) × RaisedCommit asks past t code r
-  some_asked_commit AtStep code = (reply.NotEnded, refl)
-  some_asked_commit AtCommit code = elim some_wait [
+  some_raised_commit : (asks : Asks) (code : ℕ) → (r : Reply) × RaisedCommit asks past t code r
+  some_raised_commit AtStep code = (reply.NotEnded, refl)
+  some_raised_commit AtCommit code = elim some_wait [
     | inl w ↦ (w.0, inl w.1)
     | inr none ↦ (
       reply.Refused code some_fall.0,
@@ -219,27 +219,27 @@ module _ (past : List Entry) (t : ℕ) where
 
   -- to each kind of event
 
-  some_step : (s : Setting) (next : Next) → (r : Reply) × StepReply s past t next r
+  some_step : (s : Configuration) (next : Next) → (r : Reply) × StepReply s past t next r
   some_step s (Looks k) = some_access k Look (reply.Looked k (visible s.opening past k))
   some_step s (Puts k v) = some_access k Store (reply.Wrote k v)
   some_step s (Ends answers) = (reply.Ended, refl)
-  some_step s (Raises code) = some_asked_step s.rules.limits.asks code
+  some_step s (Raises code) = some_raised_step s.rules.limits.asks code
 
-  some_fit : (s : Setting) (n : Next) (fit : Bool) → (r : Reply) × OfFit fit r (StepReply s past t n r)
+  some_fit : (s : Configuration) (n : Next) (fit : Bool) → (r : Reply) × OfFit fit r (StepReply s past t n r)
   some_fit s n true = some_step s n
   some_fit s n false = (reply.BadArgs, refl)
 
-  some_request : (s : Setting) (d : Request) (next : Next) → (r : Reply) × RequestReply s past t d next r
+  some_request : (s : Configuration) (d : Request) (next : Next) → (r : Reply) × RequestReply s past t d next r
   some_request s d (Ends answers) = some_fit s (requested d) (is_fit d)
   some_request s d (Looks k) = (reply.NotEnded, refl)
   some_request s d (Puts k v) = (reply.NotEnded, refl)
   some_request s d (Raises code) = (reply.NotEnded, refl)
 
-  some_commit : (s : Setting) (next : Next) → (r : Reply) × CommitReply s past t next r
+  some_commit : (s : Configuration) (next : Next) → (r : Reply) × CommitReply s past t next r
   some_commit s (Ends answers) = some_end answers
   some_commit s (Looks k) = (reply.NotEnded, refl)
   some_commit s (Puts k v) = (reply.NotEnded, refl)
-  some_commit s (Raises code) = some_asked_commit s.rules.limits.asks code
+  some_commit s (Raises code) = some_raised_commit s.rules.limits.asks code
 
 some_of_started : (P : Reply → Type 0) → (r : Reply) × P r → (started : Bool) (ended : Option Fate)
     → (r : Reply) × OfStarted started ended r (P r)

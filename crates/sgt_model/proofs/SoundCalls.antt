@@ -7,7 +7,7 @@ use Rattle.std.specs.List.{filter}
 use Rattle.sgt_model.specs.declared.kind.Kind.{Kind}
 use Rattle.sgt_model.specs.declared.kind.Kind.TheVariants.{Look, Store}
 use Rattle.sgt_model.specs.Contents.{Key, key_eq}
-use Rattle.sgt_model.specs.Walks.{Member}
+use Rattle.sgt_model.specs.Paths.{Member}
 use Rattle.sgt_model.specs.Pairs.{one_stores}
 use Rattle.sgt_model.specs.Left.{Left}
 use Rattle.sgt_model.specs.AccessList.{ListedAccess, is_conflicting, lists_conflicting}
@@ -19,7 +19,7 @@ use Rattle.sgt_model.specs.Changes.{LooksAt, Notes, Removes, Starts}
 use Rattle.sgt_model.specs.Soundness.{Sound}
 use Rattle.sgt_model.proofs.Stores.{key_eq-true}
 use Rattle.sgt_model.proofs.ChainOrder.{any-filter, in_order-add, in_order-filter, in_order-map, last_writes, chain_without-apart, written-cases, in_order-within}
-use Rattle.sgt_model.proofs.Room.{member_append}
+use Rattle.sgt_model.proofs.Capacity.{member_append}
 use Rattle.sgt_model.proofs.Listed.{member_added, kept_member, member_kept}
 
 module _ (most : ℕ) (before after : State) (sound : Sound most before) where
@@ -239,7 +239,7 @@ module _ (most : ℕ) (before after : State) (sound : Sound most before) where
           one false e ih q = ((ih q).0, or_right (nat_eq x.0 u) (writes_in u l) (ih q).1)
 
   pub sound_starts : (at_start : Left) → length before.live < most → Starts at_start before after → Sound most after
-  sound_starts call room x = record {
+  sound_starts call capacity x = record {
     begun = λ u q. elim (or_cases (before.nodes u) (nat_eq u before.start_count)
         (sym (x.nodes u) ∙ q)) [
           | inl old ↦ (let b = sound.begun u old in let e = x.start_count in omega arith)

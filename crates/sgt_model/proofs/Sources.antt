@@ -12,14 +12,14 @@ use Rattle.sgt_model.specs.declared.reply.Fate.TheVariants as fate
 use Rattle.sgt_model.specs.declared.entry.Entry.{Entry}
 use Rattle.sgt_model.specs.declared.kind.Kind.TheVariants.{Look}
 use Rattle.sgt_model.specs.Contents.{Key}
-use Rattle.sgt_model.specs.Walks.{Member, Reaches}
+use Rattle.sgt_model.specs.Paths.{Member, Reaches}
 use Rattle.sgt_model.specs.Accesses.{Access}
 use Rattle.sgt_model.specs.Fates.{ending_in, has_aborted, aborted, committed, live}
 use Rattle.sgt_model.specs.Values.{newest_store}
 use Rattle.sgt_model.specs.ReadFrom.{IsBy, LooksFrom, ReadFrom}
 use Rattle.sgt_model.specs.Falls.{Feeds}
 use Rattle.sgt_model.specs.Pairs.{has_conflicting, Precedes}
-use Rattle.sgt_model.specs.Settings.{Setting}
+use Rattle.sgt_model.specs.Configurations.{Configuration}
 use Rattle.sgt_model.specs.Progress.{reads}
 use Rattle.sgt_model.specs.Legality.{Legal, HasNoLivePredecessor}
 use Rattle.sgt_model.specs.CommitOrder.{CommitsBefore}
@@ -89,7 +89,7 @@ abort_wins None p h = absurd (cc)
 abort_wins (Some f) p h = h
 
 -- a live transaction is aborted in cascade with what it has read from
-pub falls_with : (s : Setting) (e : Entry) (past : List Entry) → Legal s (e ∷ past) → (t u : ℕ) → live past t ≡ true
+pub falls_with : (s : Configuration) (e : Entry) (past : List Entry) → Legal s (e ∷ past) → (t u : ℕ) → live past t ≡ true
     → ReadFrom past t u → (f : Fate) → ending_in e.event e.reply u ≡ Some f → has_aborted (Some f) ≡ true → aborted (e ∷ past) t ≡ true
 falls_with s e past h t u alive reads f now is =
     elim (end_case (effect s past e.event e.reply h.1) u f now) [
@@ -98,7 +98,7 @@ falls_with s e past h t u alive reads f now is =
       | inr x ↦ abort_wins _ _ (undoes_aborts x.undo t (undoes_more x.undo t u alive reads x.is))
     ]
 
-ends_none-sources : (s : Setting) (past : List Entry) (event : Event) (r : Reply) → EndsNone r → SourcesAreCommitted s past event r
+ends_none-sources : (s : Configuration) (past : List Entry) (event : Event) (r : Reply) → EndsNone r → SourcesAreCommitted s past event r
 ends_none-sources s past event (reply.Committed answers) h = absurd h
 ends_none-sources s past event (reply.Refused code fell) h = absurd h
 ends_none-sources s past event _ h = tt
@@ -112,7 +112,7 @@ source_stands : (past : List Entry) (u : ℕ) (k : Key) → IsBy (newest_store (
 source_stands past u k h = not-true _ (newest-by (λ v. not (aborted past v)) k past u h).0
 
 -- a source of one that stands after an entry was not aborted in cascade at it
-no_fall : (s : Setting) (e : Entry) (past : List Entry) → Legal s (e ∷ past) → Sound past → (t u : ℕ) → aborted (e ∷ past) t ≡ false
+no_fall : (s : Configuration) (e : Entry) (past : List Entry) → Legal s (e ∷ past) → Sound past → (t u : ℕ) → aborted (e ∷ past) t ≡ false
     → ReadFrom past t u → (f : Fate) → ending_in e.event e.reply u ≡ Some f → has_aborted (Some f) ≡ true → ⊥
 no_fall s e past h sound t u stands reads f now is = go (status past t (precedes-started s past h.0 u t (read-precedes past t u reads)).1)
   where
@@ -121,7 +121,7 @@ no_fall s e past h sound t u stands reads f now is = go (status past t (precedes
     go (inr (inl c)) = live-not_committed past u (end-live s past e.event e.reply h.1 u f now) (sound.commits t u c reads).0
     go (inr (inr a)) = both_ways _ (stood-before s e past h t stands) a
 
-stands_after : (s : Setting) (e : Entry) (past : List Entry) → Legal s (e ∷ past) → Sound past → (t u : ℕ)
+stands_after : (s : Configuration) (e : Entry) (past : List Entry) → Legal s (e ∷ past) → Sound past → (t u : ℕ)
     → aborted (e ∷ past) t ≡ false → ReadFrom (e ∷ past) t u → aborted (e ∷ past) u ≡ false
 stands_after s e past h sound t u stands (inl now) =
     let l = looks-access past _ t u now.1 in
@@ -136,7 +136,7 @@ stands_after s e past h sound t u stands (inr reads) = go (aborted (e ∷ past) 
     ])
 
 -- what a live transaction that waits for none has read from has committed
-source_committed : (s : Setting) (past : List Entry) → Legal s past → Sound past → (t u : ℕ) → live past t ≡ true
+source_committed : (s : Configuration) (past : List Entry) → Legal s past → Sound past → (t u : ℕ) → live past t ≡ true
     → HasNoLivePredecessor past t → ReadFrom past t u → committed past u ≡ true
 source_committed s past h sound t u t_alive none_live reads = go (status past u (precedes-started s past h u t precedes).0)
   where
@@ -164,7 +164,7 @@ source_committed s past h sound t u t_alive none_live reads = go (status past u 
     go (inr (inl c)) = c
     go (inr (inr a)) = absurd (both_ways _ u_stands a)
 
-commits_after : (s : Setting) (e : Entry) (past : List Entry) → Legal s (e ∷ past) → Sound past → (t u : ℕ)
+commits_after : (s : Configuration) (e : Entry) (past : List Entry) → Legal s (e ∷ past) → Sound past → (t u : ℕ)
     → committed (e ∷ past) t ≡ true → ReadFrom (e ∷ past) t u → (committed (e ∷ past) u ≡ true) × CommitsBefore (e ∷ past) u t
 commits_after s e past h sound t u c (inl now) =
     let l = looks-access past _ t u now.1 in
@@ -179,23 +179,23 @@ commits_after s e past h sound t u c (inr reads) =
           (committed-stays s e past h u both.0, inr both.1)
     ]
 
-sound : (s : Setting) (past : List Entry) → Legal s past → Sound past
+sound : (s : Configuration) (past : List Entry) → Legal s past → Sound past
 sound s [] h = record { stands = λ t u q r. absurd r; commits = λ t u q r. absurd r }
 sound s (e ∷ past) h = let before = sound s past h.0 in
     record { stands = λ t u. stands_after s e past h before t u; commits = λ t u. commits_after s e past h before t u }
 
 -- who stands has read only from such as stand
-pub source_of_standing_stands : (s : Setting) (past : List Entry) → Legal s past → (t u : ℕ) → aborted past t ≡ false
+pub source_of_standing_stands : (s : Configuration) (past : List Entry) → Legal s past → (t u : ℕ) → aborted past t ≡ false
     → ReadFrom past t u → aborted past u ≡ false
 source_of_standing_stands s past h = (sound s past h).stands
 
 -- a committed reader's sources are committed, and earlier
-pub source_commits_before : (s : Setting) (past : List Entry) → Legal s past → (t u : ℕ) → committed past t ≡ true
+pub source_commits_before : (s : Configuration) (past : List Entry) → Legal s past → (t u : ℕ) → committed past t ≡ true
     → ReadFrom past t u → (committed past u ≡ true) × CommitsBefore past u t
 source_commits_before s past h = (sound s past h).commits
 
 -- at each reply that reports answers or a code, what its transaction has read from is committed
-pub sources_are_committed : (s : Setting) (past : List Entry) → Legal s past → AllSourcesAreCommitted s past
+pub sources_are_committed : (s : Configuration) (past : List Entry) → Legal s past → AllSourcesAreCommitted s past
 sources_are_committed s [] h = tt
 sources_are_committed s (e ∷ past) h = (sources_are_committed s past h.0, now (effect s past e.event e.reply h.1))
   where

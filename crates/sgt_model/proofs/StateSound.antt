@@ -5,9 +5,9 @@ use Rattle.std.proofs.lemmas.Bool.{cases_lt}
 use Rattle.sgt_model.specs.declared.entry.Entry.{Entry}
 use Rattle.sgt_model.specs.declared.kind.Kind.TheVariants.{Store}
 use Rattle.sgt_model.specs.Contents.{Key}
-use Rattle.sgt_model.specs.Walks.{Member}
+use Rattle.sgt_model.specs.Paths.{Member}
 use Rattle.sgt_model.specs.Fates.{is_start, start_count, live, started_ones}
-use Rattle.sgt_model.specs.Settings.{Setting}
+use Rattle.sgt_model.specs.Configurations.{Configuration}
 use Rattle.sgt_model.specs.Legality.{Legal}
 use Rattle.sgt_model.specs.AccessList.{lists_conflicting}
 use Rattle.sgt_model.specs.Chains.{chain_of, writes_in}
@@ -17,11 +17,11 @@ use Rattle.sgt_model.specs.StateAfter.{IsStateAfter}
 use Rattle.sgt_model.specs.Soundness.{Sound}
 use Rattle.sgt_model.proofs.Facts.{live-started, live-stands}
 use Rattle.sgt_model.proofs.ChainOrder.{Before, chain-ordered, chain-wrote, in_order-among}
-use Rattle.sgt_model.proofs.Room.{limits_are_kept}
+use Rattle.sgt_model.proofs.Capacity.{limits_are_kept}
 use Rattle.sgt_model.proofs.Listed.{member_added, kept_member, member_kept}
 use Rattle.sgt_model.proofs.Verdict.{listed_in-state, listed_live}
 
-pub order_from_state : (s : Setting) (past : List Entry) → Legal s past → (c : State) → IsStateAfter s past c → (k : Key)
+pub order_from_state : (s : Configuration) (past : List Entry) → Legal s past → (c : State) → IsStateAfter s past c → (k : Key)
     → InOrder (PairIn c) (c.chain k)
 order_from_state s past h c i k = subst (λ l. InOrder (PairIn c) l) (sym (i.chain k))
     (in_order-among (Before past) (PairIn c) (chain_of (live past) k past)
@@ -37,7 +37,7 @@ order_from_state s past h c i k = subst (λ l. InOrder (PairIn c) l) (sym (i.cha
       };
     })) (chain-ordered (live past) k past))
 
-pub writers_from_state : (s : Setting) (past : List Entry) (h : Legal s past) (c : State) (i : IsStateAfter s past c) (k : Key)
+pub writers_from_state : (s : Configuration) (past : List Entry) (h : Legal s past) (c : State) (i : IsStateAfter s past c) (k : Key)
     (t : ℕ) → writes_in t (c.chain k) ≡ true → lists_conflicting c.accesses t k Store ≡ true
 writers_from_state s past h c i k t m = let w = chain-wrote (live past) k past t (ap (writes_in t) (sym (i.chain k)) ∙ m) in
     listed_in-state s past h c i t k Store w.counts ∙ w.stored
@@ -57,7 +57,7 @@ begun_has (e ∷ past) t lt = go (is_start e.reply) (begun_has past t) lt
     go true before lt = member_added t (started_ones past) (start_count past) (now_or lt before)
     go false before lt = before lt
 
-pub state_is_sound : (s : Setting) (past : List Entry) → Legal s past → (c : State) → IsStateAfter s past c → Sound s.rules.limits.live c
+pub state_is_sound : (s : Configuration) (past : List Entry) → Legal s past → (c : State) → IsStateAfter s past c → Sound s.rules.limits.live c
 state_is_sound s past h c i = record {
   begun = λ t q. subst (λ n. t < n) (sym i.start_count) (live-started past t (sym (i.nodes t) ∙ q));
   listed = λ t. (

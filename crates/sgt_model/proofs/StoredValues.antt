@@ -7,11 +7,11 @@ use Rattle.sgt_model.specs.Contents.{Key, key_eq, Contents, set_in}
 use Rattle.sgt_model.specs.Syntax.{ProcedureText}
 use Rattle.sgt_model.specs.Ways.{Way, onto}
 use Rattle.sgt_model.specs.Ways as way
-use Rattle.sgt_model.specs.Runs.{Run, looks, puts, ends, raises, Outcome, Done, Asked, serial, contents_after, CallerAccess, told, wrote, same_told, with_access, with_accesses}
+use Rattle.sgt_model.specs.Runs.{Run, looks, puts, ends, raises, Outcome, Done, Asked, serial, contents_after, CallerAccess, reported, wrote, same_reported, with_access, with_accesses}
 use Rattle.sgt_model.specs.Meaning.{Got, is, over, missing, Registers, fresh, value_of, Truth, holds, too_far, unknown, truth_of, wrong, with_value, with_condition, is_key, with_key, with_stored, if_found, found_or, run}
-use Rattle.sgt_model.specs.Settings.{setting, run_if, procedure_at}
+use Rattle.sgt_model.specs.Configurations.{configuration, run_if, procedure_at}
 use Rattle.sgt_model.specs.StoredValues.{HoldValues, StoresValues, RunsStoreValues, ReplaysHoldValues, CommittedAreValues}
-use Rattle.sgt_model.specs.Replay.{told_calls}
+use Rattle.sgt_model.specs.Replay.{reported_calls}
 use Rattle.sgt_model.proofs.Replays.{is_serializable}
 
 -- ---- what a run stores
@@ -100,10 +100,10 @@ hold_after (raises code) m before stores now left = left
 
 -- so do the accesses of a caller after its end
 
-hold_told : (same : Bool) (answers : List ℤ) (m before : Contents) → HoldValues m → HoldValues before
+hold_reported : (same : Bool) (answers : List ℤ) (m before : Contents) → HoldValues m → HoldValues before
     → HoldValues (contents_after (cond same (Done answers m) (Asked 0)) before)
-hold_told true answers m before now left = now
-hold_told false answers m before now left = left
+hold_reported true answers m before now left = now
+hold_reported false answers m before now left = left
 
 hold_wrote : (fit : Bool) (k : Key) (v : Option ℤ) (answers : List ℤ) (m before : Contents) → (fit ≡ true → IfSome v IsValue)
     → HoldValues m → HoldValues before → HoldValues (contents_after (cond fit (Done answers (set_in m k v)) (Asked 0)) before)
@@ -113,7 +113,7 @@ hold_wrote false k v answers m before fits now left = left
 hold_more : (x : CallerAccess) (o : Outcome) (before : Contents) → HoldValues (contents_after o before) → HoldValues before
     → HoldValues (contents_after (with_access x o) before)
 hold_more x (Asked code) before now left = left
-hold_more (told k v) (Done answers m) before now left = hold_told (same_told v (m k)) answers m before now left
+hold_more (reported k v) (Done answers m) before now left = hold_reported (same_reported v (m k)) answers m before now left
 hold_more (wrote k v) (Done answers m) before now left =
     hold_wrote (is_value_or_none v) k v answers m before (is_value_or_none-fact v) now left
 
@@ -131,5 +131,5 @@ replays_hold_values opening programs limits (c ∷ ran) hold =
 
 pub committed_are_values : CommittedAreValues
 committed_are_values opening programs limits past hold legal =
-    let replay = is_serializable (setting opening programs limits) past legal in
-    λ k. subst (λ o. IfSome o IsValue) (replay.database k) (replays_hold_values opening programs limits (told_calls past) hold k)
+    let replay = is_serializable (configuration opening programs limits) past legal in
+    λ k. subst (λ o. IfSome o IsValue) (replay.database k) (replays_hold_values opening programs limits (reported_calls past) hold k)

@@ -285,9 +285,9 @@ precedes_newest q k (e ∷ newer) older a t h g = at_entry (precedes_newest q k 
     at_entry ih (inr none) = inr (ih (sym (newest_skip q k e newer (none q)) ∙ h) g)
 
 -- t has a write of the key, and the newest one that counts is another's: t's precedes it
-precedes_behind : (q : ℕ → Bool) (k : Key) (l : List Entry) (t : ℕ) (a b : Access) → newest_store q k l ≡ Some a
+precedes_after : (q : ℕ → Bool) (k : Key) (l : List Entry) (t : ℕ) (a b : Access) → newest_store q k l ≡ Some a
     → newest_store (λ u. nat_eq u t) k l ≡ Some b → q t ≡ true → a.by ≢ t → Precedes l t a.by
-precedes_behind q k l t a b h g mine other =
+precedes_after q k l t a b h g mine other =
     let own = newest-counts (λ u. nat_eq u t) k l b g in
     let access_list : has_conflicting l t k Look ≡ true = subst (λ u. has_conflicting l u k Look ≡ true) (eqb-true b.by t own.0) own.1 in
     newest-precedes q k l t a.by (λ z. other (sym z)) mine access_list (subst (λ x. IsBy x a.by) (sym h) refl)
@@ -309,7 +309,7 @@ own_or p q k l t d below mine others first = by_newest (newest_store q k l) refl
     not_own : (a : Access) → newest_store q k l ≡ Some a → a.by ≢ t → (x : Option Access) → newest_store (λ u. nat_eq u t) k l ≡ x
         → x ≡ None
     not_own a h n None e = refl
-    not_own a h n (Some b) e = absurd (first a h n (precedes_behind q k l t a b h e mine n))
+    not_own a h n (Some b) e = absurd (first a h n (precedes_after q k l t a b h e mine n))
 
     by_newest : (x : Option Access) → newest_store q k l ≡ x → value_or (newest_store q k l) d ≡ value_or
         (newest_store (λ u. nat_eq u t) k l) (value_or (newest_store p k l) d)

@@ -4,7 +4,7 @@ use Rattle.std.proofs.Common.{refl, sym, ap, ap₂, ◌∙◌, subst, subst₂, 
 use Rattle.sgt_model.specs.declared.kind.Kind.{Kind}
 use Rattle.sgt_model.specs.declared.kind.Kind.TheVariants.{Look, Store}
 use Rattle.sgt_model.specs.Contents.{Key, key_eq, Contents, set_in}
-use Rattle.sgt_model.specs.Runs.{Run, looks, puts, ends, raises, serial, Outcome, Done, Asked, same_told, with_access, with_accesses}
+use Rattle.sgt_model.specs.Runs.{Run, looks, puts, ends, raises, serial, Outcome, Done, Asked, same_reported, with_access, with_accesses}
 use Rattle.sgt_model.specs.Traces.{Act, look, put, TraceEnding, ended, raising, next_of_ending, Trace, after_access, trace, Next, Looks, Puts, Ends, Raises, next_at, Finds, with_stores, GivesAt, RunIsTrace}
 use Rattle.sgt_model.specs.Accesses.{Access, is_store}
 use Rattle.sgt_model.specs.Progress.{if_look, values_read, requested, is_fit}
@@ -14,7 +14,7 @@ use Rattle.std.specs.Ordering.{int_eq}
 use Rattle.std.proofs.lemmas.Bool.Decides.{Decides-int_eq}
 use Rattle.sgt_model.proofs.Effects.{Fits}
 use Rattle.sgt_model.proofs.Stores.{found}
-use Rattle.sgt_model.proofs.Acts.{asks_of, AsAsked, stored, over, FindsIn, ActsLaw, DoneWith, caller_access_by, caller_access_of, AllFit}
+use Rattle.sgt_model.proofs.Acts.{requests_of, AsRequested, stored, over, FindsIn, ActsLaw, DoneWith, caller_access_by, caller_access_of, AllFit}
 
 -- the law holds of each run
 pub run_is_trace : (r : Run) → RunIsTrace r
@@ -46,8 +46,8 @@ abbrev pub left : Run → List Access → Run
 left r [] = r
 left r (a ∷ done) = left_by (left r done) a
 
-abbrev behind : List Act → Trace → Trace
-behind xs t = record { accesses = xs ++ t.accesses; ending = t.ending }
+abbrev following : List Act → Trace → Trace
+following xs t = record { accesses = xs ++ t.accesses; ending = t.ending }
 
 abbrev pub next_of_run : Run → Next
 next_of_run (looks k go) = Looks k
@@ -61,9 +61,9 @@ first_next (puts k v rest) = refl
 first_next (ends answers) = refl
 first_next (raises code) = refl
 
-next_behind : (xs : List Act) (t : Trace) → next_at (behind xs t) (length xs) ≡ next_at t 0
-next_behind [] t = refl
-next_behind (x ∷ xs) t = next_behind xs t
+next_following : (xs : List Act) (t : Trace) → next_at (following xs t) (length xs) ≡ next_at t 0
+next_following [] t = refl
+next_following (x ∷ xs) t = next_following xs t
 
 length-olds : (done : List Access) → length (olds done) ≡ length done
 length-olds [] = refl
@@ -81,26 +81,26 @@ trace_by (puts k v rest) a ws h =
 trace_by (ends answers) a ws h = absurd h
 trace_by (raises code) a ws h = absurd h
 
-behind_append : (xs : List Act) (x : Act) (t : Trace) → behind xs (after_access x t) ≡ behind (xs ++ x ∷ []) t
-behind_append xs x t = ap (λ (l : List Act). record { accesses = l; ending = t.ending }) (sym (append_assoc xs (x ∷ []) t.accesses))
+following_append : (xs : List Act) (x : Act) (t : Trace) → following xs (after_access x t) ≡ following (xs ++ x ∷ []) t
+following_append xs x t = ap (λ (l : List Act). record { accesses = l; ending = t.ending }) (sym (append_assoc xs (x ∷ []) t.accesses))
 
-next_left : (r : Run) (done : List Access) → trace r (values_read done ++ []) ≡ behind (olds done) (trace (left r done) [])
+next_left : (r : Run) (done : List Access) → trace r (values_read done ++ []) ≡ following (olds done) (trace (left r done) [])
     → next_at (trace r (values_read done)) (length done) ≡ next_of_run (left r done)
 next_left r done e =
-    ap₂ (asks_of r) (sym (append-nil (values_read done))) (sym (length-olds done))
+    ap₂ (requests_of r) (sym (append-nil (values_read done))) (sym (length-olds done))
     ∙ (ap (λ t. next_at t (length (olds done))) e
-    ∙ (next_behind (olds done) (trace (left r done) []) ∙ first_next (left r done)))
+    ∙ (next_following (olds done) (trace (left r done) []) ∙ first_next (left r done)))
 
 -- the trace over what the acts read begins with the acts
-trace_left : (r : Run) (done : List Access) → AsAsked (asks_of r) done → (ws : List (Option ℤ))
-    → trace r (values_read done ++ ws) ≡ behind (olds done) (trace (left r done) ws)
+trace_left : (r : Run) (done : List Access) → AsRequested (requests_of r) done → (ws : List (Option ℤ))
+    → trace r (values_read done ++ ws) ≡ following (olds done) (trace (left r done) ws)
 trace_left r [] h ws = refl
 trace_left r (a ∷ done) h ws =
     ap (λ vs. trace r vs) (append_assoc (values_read done) (if_look a.kind a.value) ws)
     ∙ (trace_left r done h.0 (if_look a.kind a.value ++ ws)
-    ∙ (ap (λ t. behind (olds done) t)
+    ∙ (ap (λ t. following (olds done) t)
     (trace_by (left r done) a ws (subst (λ n. Fits n a) (next_left r done (trace_left r done h.0 [])) h.1))
-    ∙ behind_append (olds done) (as_act a) (trace (left_by (left r done) a) ws)))
+    ∙ following_append (olds done) (as_act a) (trace (left_by (left r done) a) ws)))
 
 -- a read, or a write of a value or of none
 abbrev Shape : Access → Type 0
@@ -116,9 +116,9 @@ fits_shape (Puts k v) a h = inr (v, h.1, h.2)
 fits_shape (Ends answers) a h = absurd h
 fits_shape (Raises code) a h = absurd h
 
-asked_shaped : (asked : List (Option ℤ) → ℕ → Next) (done : List Access) → AsAsked asked done → Shaped done
-asked_shaped asked [] h = tt
-asked_shaped asked (a ∷ done) h = (asked_shaped asked done h.0, fits_shape (asked (values_read done) (length done)) a h.1)
+requested_shaped : (requested : List (Option ℤ) → ℕ → Next) (done : List Access) → AsRequested requested done → Shaped done
+requested_shaped requested [] h = tt
+requested_shaped requested (a ∷ done) h = (requested_shaped requested done h.0, fits_shape (requested (values_read done) (length done)) a h.1)
 
 with_append : (m : Contents) (xs ys : List Act) → with_stores m (xs ++ ys) ≡ with_stores (with_stores m xs) ys
 with_append m [] ys = refl
@@ -165,29 +165,29 @@ ended_trace (puts k v rest) answers h = absurd (cc h)
 ended_trace (ends given) answers h = let e : given ≡ answers = cc h in ap (λ l. over_with [] (ended l)) e
 ended_trace (raises code) answers h = absurd (cc h)
 
-asking_trace : (r : Run) (code : ℕ) → next_of_run r ≡ Raises code → trace r [] ≡ over_with [] (raising code)
-asking_trace (looks k go) code h = absurd (cc h)
-asking_trace (puts k v rest) code h = absurd (cc h)
-asking_trace (ends given) code h = absurd (cc h)
-asking_trace (raises given) code h = let e : given ≡ code = cc h in ap (λ c. over_with [] (raising c)) e
+raising_trace : (r : Run) (code : ℕ) → next_of_run r ≡ Raises code → trace r [] ≡ over_with [] (raising code)
+raising_trace (looks k go) code h = absurd (cc h)
+raising_trace (puts k v rest) code h = absurd (cc h)
+raising_trace (ends given) code h = absurd (cc h)
+raising_trace (raises given) code h = let e : given ≡ code = cc h in ap (λ c. over_with [] (raising c)) e
 
-whole_trace : (r : Run) (done : List Access) (e : TraceEnding) → AsAsked (asks_of r) done → trace (left r done) [] ≡ over_with [] e
+whole_trace : (r : Run) (done : List Access) (e : TraceEnding) → AsRequested (requests_of r) done → trace (left r done) [] ≡ over_with [] e
     → trace r (values_read done) ≡ over_with done e
 whole_trace r done e h g =
     ap (λ vs. trace r vs) (sym (append-nil (values_read done)))
     ∙ (trace_left r done h []
-    ∙ (ap (λ t. behind (olds done) t) g
+    ∙ (ap (λ t. following (olds done) t) g
     ∙ ap (λ (l : List Act). record { accesses = l; ending = e }) (append-nil (olds done))))
 
-gives : (r : Run) → RunIsTrace r → (m : Contents) (done : List Access) (e : TraceEnding) → AsAsked (asks_of r) done → FindsIn m done
+gives : (r : Run) → RunIsTrace r → (m : Contents) (done : List Access) (e : TraceEnding) → AsRequested (requests_of r) done → FindsIn m done
     → trace (left r done) [] ≡ over_with [] e → GivesAt e (with_stores m (olds done)) (serial r m)
 gives r law m done e h f g =
     let found : Finds m (olds done) (values_read done) = subst₂ (λ xs vs. Finds m xs vs) (append-nil (olds done))
-    (append-nil (values_read done)) (finds_left m done (asked_shaped (asks_of r) done h) f [] [] tt) in
+    (append-nil (values_read done)) (finds_left m done (requested_shaped (requests_of r) done h) f [] [] tt) in
     let P : Trace → Type 0 = λ t. Finds m t.accesses (values_read done) → GivesAt t.ending (with_stores m t.accesses) (serial r m) in
     (subst P (whole_trace r done e h g) (law m (values_read done))) found
 
-pub left_next : (r : Run) (done : List Access) → AsAsked (asks_of r) done → next_at (trace r (values_read done)) (length done) ≡ next_of_run
+pub left_next : (r : Run) (done : List Access) → AsRequested (requests_of r) done → next_at (trace r (values_read done)) (length done) ≡ next_of_run
     (left r done)
 left_next r done h = next_left r done (trace_left r done h [])
 
@@ -197,9 +197,9 @@ law_over_acts r law = record {
     with_stores m (olds done),
     gives r law m done (ended answers) h f
         (ended_trace (left r done) answers (sym (left_next r done h) ∙ e)),
-    with_over m done (asked_shaped (asks_of r) done h),
+    with_over m done (requested_shaped (requests_of r) done h),
   );
-  asked = λ m done code h f e. gives r law m done (raising code) h f (asking_trace (left r done) code (sym (left_next r done h) ∙ e));
+  raised = λ m done code h f e. gives r law m done (raising code) h f (raising_trace (left r done) code (sym (left_next r done h) ∙ e));
 }
 
 -- ---- past its end
@@ -210,7 +210,7 @@ values_append (a ∷ more) own =
     ap (λ l. l ++ if_look a.kind a.value) (values_append more own) ∙ append_assoc (values_read own) (values_read more) (if_look a.kind a.value)
 
 -- past its accesses a trace has its ending next
-next_past : (xs : List Act) (e : TraceEnding) (n : ℕ) → length xs ≤ n → next_at (behind xs (over_with [] e)) n ≡ next_of_ending e
+next_past : (xs : List Act) (e : TraceEnding) (n : ℕ) → length xs ≤ n → next_at (following xs (over_with [] e)) n ≡ next_of_ending e
 next_past [] e zero h = refl
 next_past [] e (suc n) h = refl
 next_past (x ∷ xs) e zero h = absurd (omega arith)
@@ -223,13 +223,13 @@ at_end_trace (ends given) answers ws h = let e : given ≡ answers = cc h in ap 
 at_end_trace (raises code) answers ws h = absurd (cc h)
 
 -- a run that is at its end stays there, whatever further accesses are made
-pub past_end : (r : Run) (own : List Access) (answers : List ℤ) → AsAsked (asks_of r) own
-    → asks_of r (values_read own) (length own) ≡ Ends answers → (more : List Access)
-    → asks_of r (values_read (more ++ own)) (length (more ++ own)) ≡ Ends answers
+pub past_end : (r : Run) (own : List Access) (answers : List ℤ) → AsRequested (requests_of r) own
+    → requests_of r (values_read own) (length own) ≡ Ends answers → (more : List Access)
+    → requests_of r (values_read (more ++ own)) (length (more ++ own)) ≡ Ends answers
 past_end r own answers h e more =
     let is_end : next_of_run (left r own) ≡ Ends answers = sym (left_next r own h) ∙ e in
-    let whole : trace r (values_read own ++ values_read more) ≡ behind (olds own) (over_with [] (ended answers)) =
-    trace_left r own h (values_read more) ∙ ap (λ t. behind (olds own) t) (at_end_trace (left r own) answers (values_read more) is_end) in
+    let whole : trace r (values_read own ++ values_read more) ≡ following (olds own) (over_with [] (ended answers)) =
+    trace_left r own h (values_read more) ∙ ap (λ t. following (olds own) t) (at_end_trace (left r own) answers (values_read more) is_end) in
     let long = length-append more own in
     let same = length-olds own in
     let few : length (olds own) ≤ length (more ++ own) = omega arith in
@@ -242,11 +242,11 @@ past_end r own answers h e more =
 int_same : (v : ℤ) → int_eq v v ≡ true
 int_same v = (Decides-int_eq v v).1 refl
 
-told_same : (v w : Option ℤ) → v ≡ w → same_told v w ≡ true
-told_same None None e = refl
-told_same None (Some w) e = absurd (cc e)
-told_same (Some v) None e = absurd (cc e)
-told_same (Some v) (Some w) e = subst (λ x. same_told (Some v) x ≡ true) e (int_same v)
+reported_same : (v w : Option ℤ) → v ≡ w → same_reported v w ≡ true
+reported_same None None e = refl
+reported_same None (Some w) e = absurd (cc e)
+reported_same (Some v) None e = absurd (cc e)
+reported_same (Some v) (Some w) e = subst (λ x. same_reported (Some v) x ≡ true) e (int_same v)
 
 one_done : (m : Contents) (a : Access) (l : List Access) (o : Outcome) (answers : List ℤ) (d : Request) → is_fit d ≡ true
     → Fits (requested d) a → (a.kind ≡ Look → a.value ≡ over m l a.key) → DoneWith o answers (over m l)
@@ -255,7 +255,7 @@ one_done m a l o answers (Read k) fit fits found (last, is, same) =
     let v : a.value ≡ last a.key = found fits.1 ∙ sym (same a.key) in (
       last,
       ap₂ (λ kind r. with_access (caller_access_by kind a.key a.value) r) fits.1 is
-          ∙ ap (λ b. cond b (Done answers last) (Asked 0)) (told_same a.value (last a.key) v),
+          ∙ ap (λ b. cond b (Done answers last) (Asked 0)) (reported_same a.value (last a.key) v),
       λ j. same j ∙ ap (λ kind. cond (is_store kind && key_eq a.key j) a.value (over m l j)) (sym fits.1),
     )
 one_done m a l o answers (Write k w) fit fits found (last, is, same) = (

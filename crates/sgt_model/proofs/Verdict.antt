@@ -9,7 +9,7 @@ use Rattle.sgt_model.specs.declared.entry.Entry.{Entry}
 use Rattle.sgt_model.specs.declared.kind.Kind.{Kind}
 use Rattle.sgt_model.specs.declared.kind.Kind.TheVariants.{Look}
 use Rattle.sgt_model.specs.Contents.{Key}
-use Rattle.sgt_model.specs.Walks.{Member, PathOf, last_of, IsLeastPredecessor, HasNoPredecessor}
+use Rattle.sgt_model.specs.Paths.{Member, PathOf, last_of, IsLeastPredecessor, HasNoPredecessor}
 use Rattle.sgt_model.specs.Accesses.{Access}
 use Rattle.sgt_model.specs.Fates.{aborted, committed, live}
 use Rattle.sgt_model.specs.Values.{newest_store, settled, value_or, visible}
@@ -17,7 +17,7 @@ use Rattle.sgt_model.specs.ReadFrom.{IsBy, ReadFrom}
 use Rattle.sgt_model.specs.Falls.{Feeds, Falls}
 use Rattle.sgt_model.specs.Pairs.{Pair, Precedes, has_conflicting}
 use Rattle.sgt_model.specs.Closes.{Closes}
-use Rattle.sgt_model.specs.Settings.{Setting}
+use Rattle.sgt_model.specs.Configurations.{Configuration}
 use Rattle.sgt_model.specs.Legality.{Legal, LivePredecessor, HasNoLivePredecessor}
 use Rattle.sgt_model.specs.AccessList.{lists_conflicting}
 use Rattle.sgt_model.specs.State.{Has, State, PairIn}
@@ -33,7 +33,7 @@ use Rattle.sgt_model.proofs.Sources.{read-precedes, source_commits_before, sourc
 use Rattle.sgt_model.proofs.Counted.{lists_conflicting-counts, lists_conflicting-access_list}
 use Rattle.sgt_model.proofs.Chains.{chain-last, entry_of, newest-split}
 
-module _ (s : Setting) (past : List Entry) (h : Legal s past) where
+module _ (s : Configuration) (past : List Entry) (h : Legal s past) where
   -- an edge out of a live transaction leads to a live one
   pub pair_live : (t u : ℕ) → live past t ≡ true → Pair past t u → live past u ≡ true
   pair_live t u alive p = elim (status past u (precedes-started s past h t u p.precedes).1) [

@@ -8,7 +8,7 @@ use Rattle.sgt_model.specs.Contents.{Key}
 use Rattle.sgt_model.specs.Accesses.{Access, access_of}
 use Rattle.sgt_model.specs.Fates.{committed}
 use Rattle.sgt_model.specs.Pairs.{conflicts, has_conflicting, Precedes}
-use Rattle.sgt_model.specs.Settings.{Setting}
+use Rattle.sgt_model.specs.Configurations.{Configuration}
 use Rattle.sgt_model.specs.Legality.{Legal}
 use Rattle.sgt_model.specs.CommitOrder.{CommitsBefore, last_store}
 use Rattle.sgt_model.proofs.Facts.{some_is, option_or-cases, committed-stands}
@@ -61,7 +61,7 @@ last-precedes (e ∷ past) k t u p q ht hu less =
     ]
 
 -- of two committed writers of a key, the one whose last write of it came first committed first
-pub last_store_commits_before : (s : Setting) (past : List Entry) → Legal s past → (k : Key) (t u p q : ℕ) → committed past t ≡ true
+pub last_store_commits_before : (s : Configuration) (past : List Entry) → Legal s past → (k : Key) (t u p q : ℕ) → committed past t ≡ true
     → committed past u ≡ true → last_store past k t ≡ Some p → last_store past k u ≡ Some q → p < q → CommitsBefore past t u
 last_store_commits_before s past h k t u p q ct cu ht hu less =
     pair_commits_before s past h t u ct cu

@@ -12,12 +12,12 @@ use Rattle.sgt_model.specs.declared.entry.Entry.{Entry}
 use Rattle.sgt_model.specs.declared.kind.Kind.{Kind}
 use Rattle.sgt_model.specs.declared.kind.Kind.TheVariants.{Look, Store}
 use Rattle.sgt_model.specs.Contents.{Key}
-use Rattle.sgt_model.specs.Walks.{Member, PathOf, last_of, Rising}
+use Rattle.sgt_model.specs.Paths.{Member, PathOf, last_of, Rising}
 use Rattle.sgt_model.specs.Fates.{live}
 use Rattle.sgt_model.specs.Pairs.{Pair, has_conflicting}
 use Rattle.sgt_model.specs.Legality.{CycleAbortReply, Makes, MustWait, MayCommit, LegalReply}
 use Rattle.sgt_model.proofs.Computed.{pair, pair-so, so-pair, free_test, free-so, closes-so, each-so, all-so}
-use Rattle.sgt_model.proofs.ExampleSettings.{small_bank, entry, small_bank_put, small_bank_copy, small_bank_twice, small_bank_look_twice, small_bank_put_over, small_bank_tell}
+use Rattle.sgt_model.proofs.ExampleConfigurations.{small_bank, entry, small_bank_put, small_bank_copy, small_bank_twice, small_bank_look_twice, small_bank_put_over, small_bank_read}
 use Rattle.sgt_model.proofs.ExamplesReads.{dirty_reader, looked_before, stored_over}
 use Rattle.sgt_model.proofs.ExamplesWrites.{early_writer, at_its_end, three_writers, overwritten, two_live_writers}
 use Rattle.sgt_model.proofs.ExamplesCascades.{two_levels, ring}
@@ -43,13 +43,13 @@ aborts_on_conflict : LegalReply (small_bank 8 100) dirty_reader (Step 1) (reply.
 aborts_on_conflict h = not_refused (reply.Looked (2, pos 101) (Some (pos 1100))) (1 ∷ []) refl (λ e. cc e) h
 
 -- `reads-committed`: the read returns the newest value
-abbrev tells : Reply → ℤ → Bool
-tells (reply.Looked k (Some v)) w = int_eq v w
-tells _ w = false
+abbrev reports : Reply → ℤ → Bool
+reports (reply.Looked k (Some v)) w = int_eq v w
+reports _ w = false
 
 reads_committed : LegalReply (small_bank 8 100) dirty_reader (Step 1) (reply.Looked (2, pos 101) (Some (pos 1000))) → ⊥
 reads_committed (inl h) = cc h.aborts.is
-reads_committed (inr h) = true≢false (ap (λ r. tells r (pos 1000)) h.is)
+reads_committed (inr h) = true≢false (ap (λ r. reports r (pos 1000)) h.is)
 
 -- `commits-at-once`: an earlier reader is still live
 commits_at_once : LegalReply (small_bank 8 100) early_writer (Commit 1) (reply.Committed (pos 1050 ∷ [])) → ⊥
@@ -64,14 +64,14 @@ waits_for_another : LegalReply small_bank_put three_writers (Commit 2) (reply.Wa
 waits_for_another (inl h) = let b : h.predecessor ≡ 1 = cc h.is in cc (subst (λ u. live three_writers u ≡ true) b h.least.pair.is_live)
 waits_for_another (inr h) = cc h.is
 
--- `before-image`: after the first of two writers quits, a read returns what the second wrote
+-- `before-image`: after the first of two writers is aborted, a read returns what the second wrote
 abbrev undone_beneath : List Entry
 undone_beneath =
     entry (Start 6 []) (reply.Started 2)
     ∷ entry (Quit 0) (reply.Aborted cause.Quit [])
     ∷ overwritten
 
-before_image : LegalReply small_bank_tell undone_beneath (Step 2) (reply.Looked (3, pos 7) None) → ⊥
+before_image : LegalReply small_bank_read undone_beneath (Step 2) (reply.Looked (3, pos 7) None) → ⊥
 before_image (inl h) = cc h.aborts.is
 before_image (inr h) = cc h.is
 
@@ -228,9 +228,9 @@ refuses_before_its_turn (inr h) =
 refuses_at_the_step : LegalReply refusing spent_by_another (Step 1) (reply.Aborted (cause.Asked 3) []) → ⊥
 refuses_at_the_step h = cc h
 
-commits_though_it_asks : LegalReply refusing spent_by_another (Commit 0) (reply.Refused 3 (1 ∷ [])) → ⊥
-commits_though_it_asks (inl h) = cc h.is
-commits_though_it_asks (inr h) = cc h.is
+commits_though_it_raises : LegalReply refusing spent_by_another (Commit 0) (reply.Refused 3 (1 ∷ [])) → ⊥
+commits_though_it_raises (inl h) = cc h.is
+commits_though_it_raises (inr h) = cc h.is
 
 -- `leaves-refused-writes`: what a refused transaction wrote is read by none
 abbrev refused_writer : List Entry

@@ -15,8 +15,8 @@ use Rattle.sgt_model.specs.declared.limits.Asks.TheVariants.{AtStep, AtCommit}
 use Rattle.sgt_model.specs.Contents.{Key}
 use Rattle.sgt_model.specs.Syntax.{ProcedureText}
 use Rattle.sgt_model.specs.Traces.{Next, Looks, Puts, Ends, Raises}
-use Rattle.sgt_model.specs.Walks.{IsLeastPredecessor, HasNoPredecessor}
-use Rattle.sgt_model.specs.Settings.{Rules}
+use Rattle.sgt_model.specs.Paths.{IsLeastPredecessor, HasNoPredecessor}
+use Rattle.sgt_model.specs.Configurations.{Rules}
 use Rattle.sgt_model.specs.Progress.{requested, is_fit}
 use Rattle.sgt_model.specs.StartReply.{start_reply}
 use Rattle.sgt_model.specs.Left.{next_left}
@@ -143,7 +143,7 @@ CommitEffect asks t before r after = IfOpen (nat_lt t before.start_count) (befor
 
 -- a quit
 
--- a quit of any transaction
+-- a `Quit` of any transaction
 abbrev pub QuitEffect : ℕ → State → Reply → State → Type 0
 QuitEffect t before r after = IfOpen (nat_lt t before.start_count) (before.fates t) before r after (AbortEffect t cause.Quit before r after)
 

@@ -1,5 +1,6 @@
--- Callers that decide each access themselves, as functions of what they were told; and their transactions run alone, one
--- after another. The serial run uses the functions, the starts and the order of the replies, and no recorded access.
+-- Callers that decide each access themselves, as functions of what their reads returned; and their transactions run
+-- alone, one after another. The serial run uses the functions, the starts and the order of the replies, and no recorded
+-- access.
 use Rattle.std.specs.Prelude.{◌≡◌, ℕ, zero, suc, ◌≤◌, List, [], ◌∷◌, ◌++◌, length, true, Option, Some, None}
 use Rattle.sgt_model.specs.declared.event.Event.{Event}
 use Rattle.sgt_model.specs.declared.event.Event.TheVariants.{Commit}
@@ -15,20 +16,20 @@ use Rattle.sgt_model.specs.Runs.{Run, looks, puts, ends, raises, Outcome, Done, 
 use Rattle.sgt_model.specs.Accesses.{Access, acts}
 use Rattle.sgt_model.specs.Fates.{subject, committed}
 use Rattle.sgt_model.specs.Values.{settled}
-use Rattle.sgt_model.specs.Settings.{Setting}
+use Rattle.sgt_model.specs.Configurations.{Configuration}
 use Rattle.sgt_model.specs.Progress.{Call, call_of, run_of}
 use Rattle.sgt_model.specs.Legality.{Legal}
-use Rattle.sgt_model.specs.Replay.{RunResult, GaveAnswers, AskedCode, Folded, with_outcome, told_calls, told}
+use Rattle.sgt_model.specs.Replay.{RunResult, GaveAnswers, RaisedCode, Folded, with_outcome, reported_calls, reported}
 
 -- ---- in a history
 
--- a caller is any function: given its transaction's accesses so far, newest first, each read with the value that it was told,
--- it gives the access that it requests next, or none, and commits
+-- a caller is any function: given its transaction's accesses so far, newest first, each read with the value that it
+-- returned, it gives the access that it requests next, or none, and commits
 abbrev pub Caller : Type 0
 Caller = List Access → Option Request
 
--- if an entry is an access that t's caller requested and was told of, then it is the one that the function gives after t's
--- accesses so far; and if t commits at the entry, the function gives none
+-- if an entry is an access that t's caller requested and that was made, then it is the one that the function gives
+-- after t's accesses so far; and if t commits at the entry, the function gives none
 abbrev pub AsDecided : Caller → ℕ → List Entry → Event → Reply → Type 0
 AsDecided c t past (event.Access u d) (reply.Looked k v) = u ≡ t → c (acts past t) ≡ Some d
 AsDecided c t past (event.Access u d) (reply.Wrote k v) = u ≡ t → c (acts past t) ≡ Some d
@@ -86,20 +87,20 @@ with_turn turn last before = record { turns = turn ∷ before.turns; last = last
 -- its procedure gave this outcome. Then its caller goes on, unless the procedure raised a code, which leaves the map unchanged
 abbrev pub after_procedure : ℕ → Caller → ℕ → Outcome → Alone → Turns → Turns
 after_procedure t c n (Done answers m) a before = with_turn (record { result = GaveAnswers answers; acts = (by_caller t c n a).acts }) (by_caller t c n a).map before
-after_procedure t c n (Asked code) a before = with_turn (record { result = AskedCode code; acts = a.acts }) before.last before
+after_procedure t c n (Asked code) a before = with_turn (record { result = RaisedCode code; acts = a.acts }) before.last before
 
 -- t runs: this procedure, and then this caller
 abbrev pub with_run : ℕ → Caller → ℕ → Run → Turns → Turns
 with_run t c n r before = after_procedure t c n (serial r before.last) (by_procedure t r (record { acts = []; map = before.last })) before
 
 -- the transaction that an entry commits or refuses runs, if it does
-abbrev pub with_entry : Setting → (ℕ → Caller) → ℕ → List Entry → Event → Reply → Turns → Turns
+abbrev pub with_entry : Configuration → (ℕ → Caller) → ℕ → List Entry → Event → Reply → Turns → Turns
 with_entry s callers n past event (reply.Committed answers) before = with_run (subject event) (callers (subject event)) n (run_of s.rules (call_of past (subject event))) before
 with_entry s callers n past event (reply.Refused code fell) before = with_run (subject event) (callers (subject event)) n (run_of s.rules (call_of past (subject event))) before
 with_entry s callers n past event _ before = before
 
 -- the committed and refused transactions, run one after another in reply order on the initial database
-abbrev pub callers_in_turn : Setting → (ℕ → Caller) → ℕ → List Entry → Turns
+abbrev pub callers_in_turn : Configuration → (ℕ → Caller) → ℕ → List Entry → Turns
 callers_in_turn s callers n [] = record { turns = []; last = s.opening }
 callers_in_turn s callers n (e ∷ past) = with_entry s callers n past e.event e.reply (callers_in_turn s callers n past)
 
@@ -108,27 +109,27 @@ callers_in_turn s callers n (e ∷ past) = with_entry s callers n past e.event e
 -- what the history has of a transaction that an entry commits or refuses
 abbrev pub turn_in : List Entry → Event → Reply → List Turn
 turn_in past event (reply.Committed answers) = record { result = GaveAnswers answers; acts = acts past (subject event) } ∷ []
-turn_in past event (reply.Refused code fell) = record { result = AskedCode code; acts = acts past (subject event) } ∷ []
+turn_in past event (reply.Refused code fell) = record { result = RaisedCode code; acts = acts past (subject event) } ∷ []
 turn_in past event _ = []
 
 abbrev pub turns_of : List Entry → List Turn
 turns_of [] = []
 turns_of (e ∷ past) = turn_in past e.event e.reply ++ turns_of past
 
--- run alone, each transaction makes the accesses that it made in the history, each read is told the same value, and it gives what
--- was reported; and the map that they leave is the committed database
-pub record CallersAgree (s : Setting) (past : List Entry) (callers : ℕ → Caller) (n : ℕ) : Type 0 where
+-- run alone, each transaction makes the accesses that it made in the history, each read returns the same value, and it
+-- gives what was reported; and the map that they leave is the committed database
+pub record CallersAgree (s : Configuration) (past : List Entry) (callers : ℕ → Caller) (n : ℕ) : Type 0 where
   pub turns : (callers_in_turn s callers n past).turns ≡ turns_of past
   pub database : (k : Key) → (callers_in_turn s callers n past).last k ≡ settled s.opening past k
 
 -- whatever functions the callers of the committed transactions of a legal history are, they agree. Each may request as many
 -- accesses as the history has entries, or more
 abbrev pub CallersRunAlone : Type 0
-CallersRunAlone = (s : Setting) (past : List Entry) → Legal s past → (callers : ℕ → Caller) → ((t : ℕ) → committed past t ≡ true → Decides (callers t) t past) → (n : ℕ) → length past ≤ n → CallersAgree s past callers n
+CallersRunAlone = (s : Configuration) (past : List Entry) → Legal s past → (callers : ℕ → Caller) → ((t : ℕ) → committed past t ≡ true → Decides (callers t) t past) → (n : ℕ) → length past ≤ n → CallersAgree s past callers n
 
 -- each transaction of a legal history has such a caller
 abbrev pub CallersExist : Type 0
-CallersExist = (s : Setting) (past : List Entry) → Legal s past → (t : ℕ) → (c : Caller) × Decides c t past
+CallersExist = (s : Configuration) (past : List Entry) → Legal s past → (t : ℕ) → (c : Caller) × Decides c t past
 
 -- ---- without such accesses
 
@@ -142,15 +143,15 @@ AreOfProcedures [] = Unit {0}
 AreOfProcedures (e ∷ past) = AreOfProcedures past × IsOfProcedure e.event
 
 -- the procedures of these calls, the last one first, run one after another on the initial database
-abbrev pub procedures_in_turn : Setting → List Call → Folded
+abbrev pub procedures_in_turn : Configuration → List Call → Folded
 procedures_in_turn s [] = record { results = []; last = s.opening }
 procedures_in_turn s (c ∷ before) = with_outcome (serial (run_of s.rules c) (procedures_in_turn s before).last) (procedures_in_turn s before)
 
 -- they give the answers or codes that were reported, and leave the committed values
-pub record ProceduresAgree (s : Setting) (past : List Entry) : Type 0 where
-  pub answers : (procedures_in_turn s (told_calls past)).results ≡ told past
-  pub database : (k : Key) → (procedures_in_turn s (told_calls past)).last k ≡ settled s.opening past k
+pub record ProceduresAgree (s : Configuration) (past : List Entry) : Type 0 where
+  pub answers : (procedures_in_turn s (reported_calls past)).results ≡ reported past
+  pub database : (k : Key) → (procedures_in_turn s (reported_calls past)).last k ≡ settled s.opening past k
 
 -- so they do in each legal history in which no caller decided on an access: the serial run is one of procedures alone
 abbrev pub ProceduresRunAlone : Type 0
-ProceduresRunAlone = (s : Setting) (past : List Entry) → Legal s past → AreOfProcedures past → ProceduresAgree s past
+ProceduresRunAlone = (s : Configuration) (past : List Entry) → Legal s past → AreOfProcedures past → ProceduresAgree s past

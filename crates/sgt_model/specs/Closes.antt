@@ -4,7 +4,7 @@ use Rattle.std.specs.Prelude.{◌≡◌, ℕ, ◌<◌, true, List, ◌∷◌, le
 use Rattle.sgt_model.specs.declared.entry.Entry.{Entry}
 use Rattle.sgt_model.specs.declared.kind.Kind.{Kind}
 use Rattle.sgt_model.specs.Contents.{Key}
-use Rattle.sgt_model.specs.Walks.{PathOf, last_of, Distinct}
+use Rattle.sgt_model.specs.Paths.{PathOf, last_of, Distinct}
 use Rattle.sgt_model.specs.Pairs.{has_conflicting, Pair}
 
 -- the path t, `rest`: an access by t of that kind of the key would close it to a cycle. It has at least two transactions,

@@ -9,10 +9,10 @@ use Rattle.sgt_model.specs.Syntax.{ProcedureText}
 use Rattle.sgt_model.specs.Runs.{Outcome, Asked, with_accesses}
 use Rattle.sgt_model.specs.Executions.{stuck, execution}
 use Rattle.sgt_model.specs.Values.{settled}
-use Rattle.sgt_model.specs.Settings.{setting, procedure_at}
+use Rattle.sgt_model.specs.Configurations.{configuration, procedure_at}
 use Rattle.sgt_model.specs.Progress.{Call}
 use Rattle.sgt_model.specs.Legality.{Legal}
-use Rattle.sgt_model.specs.Replay.{Folded, with_outcome, told_calls, told}
+use Rattle.sgt_model.specs.Replay.{Folded, with_outcome, reported_calls, reported}
 
 -- the execution of a procedure, if there is one
 abbrev pub execution_if : Option ProcedureText → List ℤ → Contents → Outcome
@@ -30,14 +30,14 @@ execute_in_turn opening programs (c ∷ before) = with_outcome (execution_of pro
 
 -- the committed and refused transactions, executed one after another in reply order on the initial database
 abbrev pub executed : Contents → List ProcedureText → List Entry → Folded
-executed opening programs past = execute_in_turn opening programs (told_calls past)
+executed opening programs past = execute_in_turn opening programs (reported_calls past)
 
 -- executed one after another, the procedures of the committed and refused transactions give the answers or codes that were
 -- reported, and leave the committed values
 pub record IsExecuted (opening : Contents) (programs : List ProcedureText) (past : List Entry) : Type 0 where
-  pub answers : (executed opening programs past).results ≡ told past
+  pub answers : (executed opening programs past).results ≡ reported past
   pub database : (k : Key) → (executed opening programs past).last k ≡ settled opening past k
 
 -- every legal history of these procedures is executed
 abbrev pub HistoriesAreExecuted : Type 0
-HistoriesAreExecuted = (opening : Contents) (programs : List ProcedureText) (limits : Limits) (past : List Entry) → Legal (setting opening programs limits) past → IsExecuted opening programs past
+HistoriesAreExecuted = (opening : Contents) (programs : List ProcedureText) (limits : Limits) (past : List Entry) → Legal (configuration opening programs limits) past → IsExecuted opening programs past

@@ -1,7 +1,7 @@
 -- Which transactions are aborted in cascade (Bernstein, Hadzilacos and Goodman (1987), chapter 1).
 use Rattle.std.specs.Prelude.{◌≡◌, ◌≢◌, ℕ, true, List}
 use Rattle.sgt_model.specs.declared.entry.Entry.{Entry}
-use Rattle.sgt_model.specs.Walks.{Member, Rising, Reaches}
+use Rattle.sgt_model.specs.Paths.{Member, Rising, Reaches}
 use Rattle.sgt_model.specs.Fates.{live}
 use Rattle.sgt_model.specs.ReadFrom.{ReadFrom}
 

@@ -7,7 +7,7 @@ use Rattle.sgt_model.specs.declared.reply.Reply.TheVariants as reply
 use Rattle.sgt_model.specs.declared.entry.Entry.{Entry}
 use Rattle.sgt_model.specs.declared.kind.Kind.TheVariants.{Look}
 use Rattle.sgt_model.specs.Contents.{Key, Contents}
-use Rattle.sgt_model.specs.Walks.{Acyclic}
+use Rattle.sgt_model.specs.Paths.{Acyclic}
 use Rattle.sgt_model.specs.Runs.{Run}
 use Rattle.sgt_model.specs.Traces.{RunIsTrace}
 use Rattle.sgt_model.specs.Accesses.{Access, access_of}
@@ -16,17 +16,17 @@ use Rattle.sgt_model.specs.Values.{newest_store, value_or, settled}
 use Rattle.sgt_model.specs.ReadFrom.{ReadFrom}
 use Rattle.sgt_model.specs.Questions.{named_by, started_in, over_in, is_ending}
 use Rattle.sgt_model.specs.Pairs.{Pair}
-use Rattle.sgt_model.specs.Settings.{Setting}
+use Rattle.sgt_model.specs.Configurations.{Configuration}
 use Rattle.sgt_model.specs.Legality.{Legal}
 use Rattle.sgt_model.specs.Admissions.{AreAdmitted}
-use Rattle.sgt_model.specs.Replay.{told_calls, ReplayAgrees}
+use Rattle.sgt_model.specs.Replay.{reported_calls, ReplayAgrees}
 use Rattle.sgt_model.specs.CommitOrder.{CommitsBefore, last_store, CommitsInOrder, CommitOrderIsTotal}
 use Rattle.sgt_model.specs.Aborts.{AbortsHaveCause}
 use Rattle.sgt_model.specs.Headline.{Headline}
 
 -- what holds of every legal history
-abbrev pub InEach : (Setting → List Entry → Type 0) → Type 0
-InEach P = (s : Setting) (past : List Entry) → Legal s past → P s past
+abbrev pub InEach : (Configuration → List Entry → Type 0) → Type 0
+InEach P = (s : Configuration) (past : List Entry) → Legal s past → P s past
 
 -- no edge leads from a live to a committed transaction
 abbrev pub NoPairFromLive : Type 0
@@ -55,13 +55,13 @@ LooksAgree now t [] = Unit {0}
 LooksAgree now t (e ∷ older) = LooksAgree now t older × LookAgrees now t older (access_of e)
 
 -- at a Committed or Refused entry, each read of its transaction agrees with what was committed just before
-abbrev pub CommitAgrees : Setting → List Entry → Event → Reply → Type 0
+abbrev pub CommitAgrees : Configuration → List Entry → Event → Reply → Type 0
 CommitAgrees s past event (reply.Committed answers) = LooksAgree (settled s.opening past) (subject event) past
 CommitAgrees s past event (reply.Refused code fell) = LooksAgree (settled s.opening past) (subject event) past
 CommitAgrees s past event _ = Unit {0}
 
 -- this holds at each entry
-abbrev pub CommitsAgree : Setting → List Entry → Type 0
+abbrev pub CommitsAgree : Configuration → List Entry → Type 0
 CommitsAgree s [] = Unit {0}
 CommitsAgree s (e ∷ past) = CommitsAgree s past × CommitAgrees s past e.event e.reply
 
@@ -71,13 +71,13 @@ abbrev pub LooksAgreeAtCommit : Type 0
 LooksAgreeAtCommit = InEach CommitsAgree
 
 -- a transaction that commits or is refused has read only from transactions that were committed before
-abbrev pub SourcesAreCommitted : Setting → List Entry → Event → Reply → Type 0
+abbrev pub SourcesAreCommitted : Configuration → List Entry → Event → Reply → Type 0
 SourcesAreCommitted s past event (reply.Committed answers) = (u : ℕ) → ReadFrom past (subject event) u → committed past u ≡ true
 SourcesAreCommitted s past event (reply.Refused code fell) = (u : ℕ) → ReadFrom past (subject event) u → committed past u ≡ true
 SourcesAreCommitted s past event _ = Unit {0}
 
 -- this holds at each entry
-abbrev pub AllSourcesAreCommitted : Setting → List Entry → Type 0
+abbrev pub AllSourcesAreCommitted : Configuration → List Entry → Type 0
 AllSourcesAreCommitted s [] = Unit {0}
 AllSourcesAreCommitted s (e ∷ past) = AllSourcesAreCommitted s past × SourcesAreCommitted s past e.event e.reply
 
@@ -113,7 +113,7 @@ CommitsAlwaysInLine = InEach (λ s past. CommitOrderIsTotal past)
 -- a committed or refused transaction was started with a procedure of the configuration, and with as many arguments as it
 -- takes, each a value
 abbrev pub CommittedAreAdmitted : Type 0
-CommittedAreAdmitted = InEach (λ s past. AreAdmitted s (told_calls past))
+CommittedAreAdmitted = InEach (λ s past. AreAdmitted s (reported_calls past))
 
 -- no more transactions are started, or live at once, than the limits allow
 abbrev pub LimitsAreKept : Type 0
@@ -121,15 +121,15 @@ LimitsAreKept = InEach (λ s past. (start_count past ≤ s.rules.limits.begins) 
 
 -- the transaction that an entry starts is live after it
 abbrev pub StartedAreLive : Type 0
-StartedAreLive = (s : Setting) (past : List Entry) (e : Entry) → Legal s (e ∷ past) → (t : ℕ) → started_in e.event e.reply ≡ Some t → live (e ∷ past) t ≡ true
+StartedAreLive = (s : Configuration) (past : List Entry) (e : Entry) → Legal s (e ∷ past) → (t : ℕ) → started_in e.event e.reply ≡ Some t → live (e ∷ past) t ≡ true
 
 -- the transaction that an entry reports to be over is not live after it
 abbrev pub OverAreNotLive : Type 0
-OverAreNotLive = (s : Setting) (past : List Entry) (e : Entry) → Legal s (e ∷ past) → (t : ℕ) → over_in e.event e.reply ≡ Some t → live (e ∷ past) t ≡ false
+OverAreNotLive = (s : Configuration) (past : List Entry) (e : Entry) → Legal s (e ∷ past) → (t : ℕ) → over_in e.event e.reply ≡ Some t → live (e ∷ past) t ≡ false
 
 -- a reply that ends a live transaction ends the one that its event names: it is live before the entry, and not after it
 abbrev pub EndingsEndOne : Type 0
-EndingsEndOne = (s : Setting) (past : List Entry) (e : Entry) → Legal s (e ∷ past) → is_ending e.reply ≡ true → (t : ℕ) × (named_by e.event ≡ Some t) × (live past t ≡ true) × (live (e ∷ past) t ≡ false)
+EndingsEndOne = (s : Configuration) (past : List Entry) (e : Entry) → Legal s (e ∷ past) → is_ending e.reply ≡ true → (t : ℕ) × (named_by e.event ≡ Some t) × (live past t ≡ true) × (live (e ∷ past) t ≡ false)
 
 -- with any other reply, all live transactions stay live
 abbrev pub OthersEndNone : Type 0

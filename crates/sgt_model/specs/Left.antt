@@ -21,7 +21,7 @@ pub record Rest : Type 0 where
 -- the remainder of a procedure: to run on, or to raise a code because its last read found no record
 pub data Left : Type 0 where
   ToRun : Rest → Left
-  ToAsk : ℕ → Left
+  ToRaise : ℕ → Left
 
 -- nothing is done yet
 abbrev pub left_at_start : ProcedureText → List ℤ → Left
@@ -41,9 +41,9 @@ followed_by (ask code rest) more = ask code (followed_by rest more)
 followed_by (choose test ys ns rest) more = choose test ys ns (followed_by rest more)
 followed_by (answer value rest) more = answer value (followed_by rest more)
 
--- where statements arrive without an access: at a Look, with its register and the code that it raises if there is no record;
--- at a Find, with its register and the number that replaces a missing record; at a write; each with the remainder after it;
--- or at their end, with the registers and the answers
+-- where statements arrive without an access: at a `Look`, with its register and the code that it raises if there is no
+-- record; at a `Find`, with its register and the number that replaces a missing record; at a write; each with the
+-- remainder after it; or at their end, with the registers and the answers
 pub data Reached : Type 0 where
   AtLook : Key → (to absent : ℕ) → Rest → Reached
   AtFind : Key → (to : ℕ) → (absent : ℤ) → Rest → Reached
@@ -56,11 +56,11 @@ with_more more r = record { statements = followed_by r.statements more; args = r
 
 -- a branch that was entered arrives at an access, and the statements after the If are still to come; or it arrives at its
 -- end, and these go on
-abbrev pub then_behind : Block → (Registers → List ℤ → OrCode Reached) → Reached → OrCode Reached
-then_behind behind go_on (AtLook key to absent r) = Ok (AtLook key to absent (with_more behind r))
-then_behind behind go_on (AtFind key to absent r) = Ok (AtFind key to absent (with_more behind r))
-then_behind behind go_on (AtStore key v r) = Ok (AtStore key v (with_more behind r))
-then_behind behind go_on (AtEnd registers answers) = go_on registers answers
+abbrev pub then_after : Block → (Registers → List ℤ → OrCode Reached) → Reached → OrCode Reached
+then_after following go_on (AtLook key to absent r) = Ok (AtLook key to absent (with_more following r))
+then_after following go_on (AtFind key to absent r) = Ok (AtFind key to absent (with_more following r))
+then_after following go_on (AtStore key v r) = Ok (AtStore key v (with_more following r))
+then_after following go_on (AtEnd registers answers) = go_on registers answers
 
 -- the value of an expression, or the code that it raises
 abbrev pub number_or_code : Got → OrCode ℤ
@@ -103,7 +103,7 @@ reach (ask code rest) args registers answers = Err code
 reach (choose test ys ns rest) args registers answers =
     and_then (choice_or_code (truth_of test args registers)) (λ chosen.
     and_then (cond chosen (reach ys args registers answers) (reach ns args registers answers))
-    (then_behind rest (λ registers_then answers_then. reach rest args registers_then answers_then)))
+    (then_after rest (λ registers_then answers_then. reach rest args registers_then answers_then)))
 reach (answer value rest) args registers answers =
     and_then (number_or_code (value_of value args registers)) (λ v.
     and_then (provided (nat_lt (length answers) 8) (answers ++ v ∷ []) stuck) (λ more.
@@ -112,7 +112,7 @@ reach (answer value rest) args registers answers =
 -- where the remainder arrives
 abbrev pub reached : Left → OrCode Reached
 reached (ToRun r) = reach r.statements r.args r.registers r.answers
-reached (ToAsk code) = Err code
+reached (ToRaise code) = Err code
 
 -- what comes next
 
@@ -136,27 +136,27 @@ with_register to v r = record { statements = r.statements; args = r.args; regist
 
 -- the value of a read is set in its register; if there was no record, its code is to be raised
 abbrev pub with_found : Option ℤ → (to absent : ℕ) → Rest → Left
-with_found None to absent r = ToAsk absent
+with_found None to absent r = ToRaise absent
 with_found (Some v) to absent r = ToRun (with_register to v r)
 
 -- after a read that returned this; if no read is next, the same remainder
-abbrev pub behind_look : Option ℤ → OrCode Reached → Left → Left
-behind_look found (Ok (AtLook key to absent r)) l = with_found found to absent r
-behind_look found (Ok (AtFind key to absent r)) l = ToRun (with_register to (found_or absent found) r)
-behind_look found _ l = l
+abbrev pub left_with_found : Option ℤ → OrCode Reached → Left → Left
+left_with_found found (Ok (AtLook key to absent r)) l = with_found found to absent r
+left_with_found found (Ok (AtFind key to absent r)) l = ToRun (with_register to (found_or absent found) r)
+left_with_found found _ l = l
 
 -- the remainder after the read that is next, if that returns this
 abbrev pub after_look : Option ℤ → Left → Left
-after_look found l = behind_look found (reached l) l
+after_look found l = left_with_found found (reached l) l
 
 -- after a write; if no write is next, the same remainder
-abbrev pub behind_store : OrCode Reached → Left → Left
-behind_store (Ok (AtStore key v r)) l = ToRun r
-behind_store _ l = l
+abbrev pub left_with_write : OrCode Reached → Left → Left
+left_with_write (Ok (AtStore key v r)) l = ToRun r
+left_with_write _ l = l
 
 -- the remainder after the write that is next
 abbrev pub after_store : Left → Left
-after_store l = behind_store (reached l) l
+after_store l = left_with_write (reached l) l
 
 -- a number of accesses
 
@@ -168,7 +168,7 @@ after_next (Puts key v) l values others = others (after_store l) values
 after_next (Ends answers) l values others = l
 after_next (Raises code) l values others = l
 
--- the remainder after so many accesses, whose reads return these values
+-- the remainder after this many accesses, whose reads return these values
 abbrev pub left_after : Left → List (Option ℤ) → ℕ → Left
 left_after l values zero = l
 left_after l values (suc made) = after_next (next_left l) l values (λ then values_then. left_after then values_then made)
@@ -177,7 +177,7 @@ left_after l values (suc made) = after_next (next_left l) l values (λ then valu
 abbrev pub left : ProcedureText → List ℤ → List (Option ℤ) → ℕ → Left
 left p args values made = left_after (left_at_start p args) values made
 
--- the laws, each for a procedure that has made so many accesses, whose reads returned exactly these values
+-- the laws, each for a procedure that has made this many accesses, whose reads returned exactly these values
 
 -- what holds of each such procedure
 abbrev pub OfEachUsed : (ProcedureText → List ℤ → List (Option ℤ) → ℕ → Type 0) → Type 0

@@ -22,8 +22,8 @@ use Rattle.sgt_model.specs.Values.{visible}
 use Rattle.sgt_model.specs.Falls.{Falls}
 use Rattle.sgt_model.specs.Pairs.{Pair}
 use Rattle.sgt_model.specs.Closes.{Closes}
-use Rattle.sgt_model.specs.Walks.{IsLeastPredecessor, HasNoPredecessor}
-use Rattle.sgt_model.specs.Settings.{Setting}
+use Rattle.sgt_model.specs.Paths.{IsLeastPredecessor, HasNoPredecessor}
+use Rattle.sgt_model.specs.Configurations.{Configuration}
 use Rattle.sgt_model.specs.Progress.{next_of, requested, is_fit}
 use Rattle.sgt_model.specs.StartReply.{start_reply}
 
@@ -52,7 +52,7 @@ RaisedStep AtStep past t code r = AbortReply past t (cause.Asked code) r
 RaisedStep AtCommit past t code r = r ≡ reply.Ended
 
 -- the reply to a step of a live transaction, by what its procedure does next
-abbrev pub StepReply : Setting → List Entry → ℕ → Next → Reply → Type 0
+abbrev pub StepReply : Configuration → List Entry → ℕ → Next → Reply → Type 0
 StepReply s past t (Looks k) r = CycleAbortReply past t k Look r ⊎ Makes past t k Look (reply.Looked k (visible s.opening past k)) r
 StepReply s past t (Puts k v) r = CycleAbortReply past t k Store r ⊎ Makes past t k Store (reply.Wrote k v) r
 StepReply s past t (Ends answers) r = r ≡ reply.Ended
@@ -67,7 +67,7 @@ OfFit false r if_fit = r ≡ reply.BadArgs
 
 -- the reply to an access on which the caller of a live transaction decides: its procedure has to be at its end. It is then as a
 -- step whose next is that access
-abbrev pub RequestReply : Setting → List Entry → ℕ → Request → Next → Reply → Type 0
+abbrev pub RequestReply : Configuration → List Entry → ℕ → Request → Next → Reply → Type 0
 RequestReply s past t d (Ends answers) r = OfFit (is_fit d) r (StepReply s past t (requested d) r)
 RequestReply s past t d (Looks k) r = r ≡ reply.NotEnded
 RequestReply s past t d (Puts k v) r = r ≡ reply.NotEnded
@@ -109,7 +109,7 @@ RaisedCommit AtStep past t code r = r ≡ reply.NotEnded
 RaisedCommit AtCommit past t code r = MustWait past t r ⊎ MayRefuse past t code r
 
 -- the reply to a commit of a live transaction, by what its procedure does next
-abbrev pub CommitReply : Setting → List Entry → ℕ → Next → Reply → Type 0
+abbrev pub CommitReply : Configuration → List Entry → ℕ → Next → Reply → Type 0
 CommitReply s past t (Ends answers) r = MustWait past t r ⊎ MayCommit past t answers r
 CommitReply s past t (Looks k) r = r ≡ reply.NotEnded
 CommitReply s past t (Puts k v) r = r ≡ reply.NotEnded
@@ -133,7 +133,7 @@ abbrev pub OfLive : List Entry → ℕ → Reply → Type 0 → Type 0
 OfLive past t r if_live = OfStarted (nat_lt t (start_count past)) (fate_of past t) r if_live
 
 -- the event may get this reply after the history
-abbrev pub LegalReply : Setting → List Entry → Event → Reply → Type 0
+abbrev pub LegalReply : Configuration → List Entry → Event → Reply → Type 0
 LegalReply s past (Start p args) r = r ≡ start_reply s.rules (start_count past) (length (live_ones past)) p args
 LegalReply s past (Step t) r = OfLive past t r (StepReply s past t (next_of s past t) r)
 LegalReply s past (Access t d) r = OfLive past t r (RequestReply s past t d (next_of s past t) r)
@@ -141,6 +141,6 @@ LegalReply s past (Commit t) r = OfLive past t r (CommitReply s past t (next_of 
 LegalReply s past (Quit t) r = OfLive past t r (AbortReply past t cause.Quit r)
 
 -- each entry's reply is legal after the entries before it
-abbrev pub Legal : Setting → List Entry → Type 0
+abbrev pub Legal : Configuration → List Entry → Type 0
 Legal s [] = Unit {0}
 Legal s (e ∷ past) = Legal s past × LegalReply s past e.event e.reply

@@ -10,7 +10,7 @@ pub mod Syntax
 pub mod Ways
 pub mod Meaning
 -- histories: accesses, fates, values, who read from whom, conflicts
-pub mod Walks
+pub mod Paths
 pub mod Accesses
 pub mod Fates
 pub mod Values
@@ -19,7 +19,7 @@ pub mod Falls
 pub mod Pairs
 pub mod Closes
 -- which replies are legal
-pub mod Settings
+pub mod Configurations
 pub mod Progress
 pub mod StartReply
 pub mod Legality

@@ -3,13 +3,13 @@ use Rattle.std.specs.Prelude.{ℕ, ℤ, List, Option, Some, None}
 use Rattle.sgt_model.specs.declared.entry.Entry.{Entry}
 use Rattle.sgt_model.specs.Syntax.{ProcedureText}
 use Rattle.sgt_model.specs.Executions.{stuck}
-use Rattle.sgt_model.specs.Left.{Left, ToAsk, left_at_start, left_after}
-use Rattle.sgt_model.specs.Settings.{Rules}
+use Rattle.sgt_model.specs.Left.{Left, ToRaise, left_at_start, left_after}
+use Rattle.sgt_model.specs.Configurations.{Rules}
 use Rattle.sgt_model.specs.Progress.{Call, call_of, reads, made}
 
 -- the remainder of a procedure at its start; a procedure that does not exist is never started
 abbrev pub left_if : Option ProcedureText → List ℤ → Left
-left_if None args = ToAsk stuck
+left_if None args = ToRaise stuck
 left_if (Some p) args = left_at_start p args
 
 -- the remainder of a call at its start

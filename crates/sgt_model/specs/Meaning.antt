@@ -113,8 +113,8 @@ found_or absent None = absent
 found_or absent (Some v) = v
 
 -- at most eight answers
-abbrev pub with_room : List ℤ → Run → Run
-with_room answers go = cond (nat_lt (length answers) 8) go wrong
+abbrev pub with_capacity : List ℤ → Run → Run
+with_capacity answers go = cond (nat_lt (length answers) 8) go wrong
 
 -- the run along the statements to come, with these registers and answers
 abbrev pub run : List ℤ → Way → Registers → List ℤ → Run
@@ -133,7 +133,7 @@ run args (way.ask code) regs answers = raises code
 run args (way.fork test ys ns) regs answers =
     with_condition (truth_of test args regs) (run args ys regs answers) (run args ns regs answers)
 run args (way.answer value rest) regs answers =
-    with_value (value_of value args regs) (λ v. with_room answers (run args rest regs (answers ++ v ∷ [])))
+    with_value (value_of value args regs) (λ v. with_capacity answers (run args rest regs (answers ++ v ∷ [])))
 
 -- the run of a procedure with these arguments
 abbrev pub run_with : ProcedureText → List ℤ → Run

@@ -1,6 +1,5 @@
--- Conflicting accesses, and conflict pairs: the edges of the serialization graph (Bernstein, Hadzilacos and Goodman
--- (1987), chapter 2). A scheduler's graph has live transactions too (chapter 4), so an edge is lost if one of the two
--- aborts.
+-- Conflicting accesses, and the edges of the serialization graph (Bernstein, Hadzilacos and Goodman (1987), chapter 2).
+-- A scheduler's graph has live transactions too (chapter 4), so an edge is lost if one of the two aborts.
 use Rattle.std.specs.Prelude.{◌≡◌, ◌≢◌, ℕ, Bool, true, false, ◌&&◌, ◌||◌, ◌⊎◌, nat_eq, List, [], ◌∷◌, Option, Some, None}
 use Rattle.sgt_model.specs.declared.entry.Entry.{Entry}
 use Rattle.sgt_model.specs.declared.kind.Kind.{Kind}

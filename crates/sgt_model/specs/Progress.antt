@@ -13,10 +13,10 @@ use Rattle.sgt_model.specs.declared.event.Request.{Request}
 use Rattle.sgt_model.specs.declared.event.Request.TheVariants.{Read, Write}
 use Rattle.sgt_model.specs.Numbers.{is_value_or_none}
 use Rattle.sgt_model.specs.Contents.{Contents}
-use Rattle.sgt_model.specs.Runs.{Run, CallerAccess, told, wrote, Outcome, serial, with_accesses}
+use Rattle.sgt_model.specs.Runs.{Run, CallerAccess, reported, wrote, Outcome, serial, with_accesses}
 use Rattle.sgt_model.specs.Traces.{trace, Next, Looks, Puts, next_at}
 use Rattle.sgt_model.specs.Accesses.{Access, acts}
-use Rattle.sgt_model.specs.Settings.{Rules, Setting, run_if}
+use Rattle.sgt_model.specs.Configurations.{Rules, Configuration, run_if}
 
 -- a procedure with its arguments; and the accesses on which its caller decided after its end, the last one first
 pub record Call : Type 0 where
@@ -51,7 +51,7 @@ is_fit (Write k v) = is_value_or_none v
 
 -- the access that an entry makes for the caller of t, if it does
 abbrev pub caller_access_in : Event → Reply → ℕ → List CallerAccess
-caller_access_in (event.Access u d) (reply.Looked k v) t = cond (nat_eq u t) (told k v ∷ []) []
+caller_access_in (event.Access u d) (reply.Looked k v) t = cond (nat_eq u t) (reported k v ∷ []) []
 caller_access_in (event.Access u d) (reply.Wrote k v) t = cond (nat_eq u t) (wrote k v ∷ []) []
 caller_access_in _ _ t = []
 
@@ -91,5 +91,5 @@ abbrev pub made : List Entry → ℕ → ℕ
 made past t = length (acts past t)
 
 -- what t's procedure does next: access number `made` of its trace over the values read, or how that trace ends
-abbrev pub next_of : Setting → List Entry → ℕ → Next
+abbrev pub next_of : Configuration → List Entry → ℕ → Next
 next_of s past t = next_at (trace (run_of s.rules (call_of past t)) (reads past t)) (made past t)

@@ -42,12 +42,12 @@ is_commit (reply.Committed answers) = true
 is_commit _ = false
 
 -- it aborts a transaction whose procedure raised a code, at the step or at the commit
-abbrev pub is_ask : Reply → Bool
-is_ask (reply.Aborted (cause.Asked code) fell) = true
-is_ask (reply.Refused code fell) = true
-is_ask _ = false
+abbrev pub is_raised : Reply → Bool
+is_raised (reply.Aborted (cause.Asked code) fell) = true
+is_raised (reply.Refused code fell) = true
+is_raised _ = false
 
--- it aborts a transaction that its caller quit
+-- it aborts a transaction on its caller's request
 abbrev pub is_quit : Reply → Bool
 is_quit (reply.Aborted cause.Quit fell) = true
 is_quit _ = false
@@ -60,12 +60,12 @@ is_ending (reply.Refused code fell) = true
 is_ending _ = false
 
 -- as the reply to a step or a commit, it reports that the transaction has ended, now or before
-abbrev pub tells_end : Reply → Bool
-tells_end (reply.Over fate) = true
-tells_end (reply.Committed answers) = true
-tells_end (reply.Aborted why fell) = true
-tells_end (reply.Refused code fell) = true
-tells_end _ = false
+abbrev pub reports_end : Reply → Bool
+reports_end (reply.Over fate) = true
+reports_end (reply.Committed answers) = true
+reports_end (reply.Aborted why fell) = true
+reports_end (reply.Refused code fell) = true
+reports_end _ = false
 
 -- an event with its reply
 
@@ -77,11 +77,11 @@ started_in (Access t d) r = None
 started_in (Commit t) r = None
 started_in (Quit t) r = None
 
--- the transaction that they report to be over, if any: it is not live after them. The transaction of a quit is over,
+-- the transaction that they report to be over, if any: it is not live after them. The transaction of a `Quit` is over,
 -- whatever the reply
 abbrev pub over_in : Event → Reply → Option ℕ
 over_in (Start p args) r = None
-over_in (Step t) r = cond (tells_end r) (Some t) None
-over_in (Access t d) r = cond (tells_end r) (Some t) None
-over_in (Commit t) r = cond (tells_end r) (Some t) None
+over_in (Step t) r = cond (reports_end r) (Some t) None
+over_in (Access t d) r = cond (reports_end r) (Some t) None
+over_in (Commit t) r = cond (reports_end r) (Some t) None
 over_in (Quit t) r = Some t

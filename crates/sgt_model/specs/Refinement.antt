@@ -7,7 +7,7 @@ use Rattle.sgt_model.specs.declared.kind.Kind.{Kind}
 use Rattle.sgt_model.specs.Contents.{Key}
 use Rattle.sgt_model.specs.Fates.{live}
 use Rattle.sgt_model.specs.Closes.{Closes}
-use Rattle.sgt_model.specs.Settings.{Setting}
+use Rattle.sgt_model.specs.Configurations.{Configuration}
 use Rattle.sgt_model.specs.Progress.{next_of}
 use Rattle.sgt_model.specs.Left.{next_left}
 use Rattle.sgt_model.specs.Legality.{LegalReply}
@@ -20,11 +20,11 @@ use Rattle.sgt_model.specs.Soundness.{Sound}
 use Rattle.sgt_model.specs.NewState.{IsNew}
 
 -- what holds of every legal history with the state after it
-abbrev pub InEachState : (Setting → List Entry → State → Type 0) → Type 0
+abbrev pub InEachState : (Configuration → List Entry → State → Type 0) → Type 0
 InEachState P = InEach (λ s past. (c : State) → IsStateAfter s past c → P s past c)
 
 -- the reply is legal, and this is the state after the longer history
-abbrev pub Continues : Setting → List Entry → Event → Reply → State → Type 0
+abbrev pub Continues : Configuration → List Entry → Event → Reply → State → Type 0
 Continues s past event r after = LegalReply s past event r × IsStateAfter s (record { event = event; reply = r } ∷ past) after
 
 -- a call that does what its contract says gives a legal reply, and leaves the state after the longer history
@@ -33,7 +33,7 @@ CallsSimulate = InEachState (λ s past before. (event : Event) (r : Reply) (afte
 
 -- the state of a new scheduler is the state after the empty history
 abbrev pub NewIsEmpty : Type 0
-NewIsEmpty = (s : Setting) (c : State) → IsNew s.opening c → IsStateAfter s [] c
+NewIsEmpty = (s : Configuration) (c : State) → IsNew s.opening c → IsStateAfter s [] c
 
 -- the paths that block an access of a live transaction are exactly those that it would close to a cycle
 abbrev pub VerdictsAgree : Type 0

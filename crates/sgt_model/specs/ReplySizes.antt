@@ -10,19 +10,19 @@ use Rattle.sgt_model.specs.declared.reply.Fate.TheVariants as fate
 use Rattle.sgt_model.specs.Legality.{LegalReply}
 use Rattle.sgt_model.specs.Laws.{InEach}
 
--- the path of a cycle has at most so many members
+-- the path of a cycle has at most this many members
 abbrev pub CauseNamesAtMost : ℕ → Cause → Type 0
-CauseNamesAtMost most (cause.Cycle walk) = length walk ≤ most
+CauseNamesAtMost most (cause.Cycle cycle) = length cycle ≤ most
 CauseNamesAtMost most (cause.Asked code) = Unit {0}
 CauseNamesAtMost most cause.Quit = Unit {0}
 
--- the path of a fate has at most so many members
+-- the path of a fate has at most this many members
 abbrev pub FateNamesAtMost : ℕ → Fate → Type 0
 FateNamesAtMost most (fate.Aborted why) = CauseNamesAtMost most why
 FateNamesAtMost most fate.Committed = Unit {0}
 FateNamesAtMost most (fate.Fell u) = Unit {0}
 
--- a reply names at most so many: in a path, or as the aborted transaction and those aborted in cascade
+-- a reply names at most this many: in a path, or as the aborted transaction and those aborted in cascade
 abbrev pub ReplyNamesAtMost : ℕ → Reply → Type 0
 ReplyNamesAtMost most (reply.Aborted why fell) = CauseNamesAtMost most why × (length fell < most)
 ReplyNamesAtMost most (reply.Refused code fell) = length fell < most

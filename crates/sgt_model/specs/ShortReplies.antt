@@ -17,40 +17,40 @@ use Rattle.sgt_model.specs.declared.short_reply.ReplyLists.{ReplyLists}
 -- in full, with these lists. A list that the kind does not have is not looked at
 
 abbrev pub full_cause : ShortCause → List ℕ → Cause
-full_cause bare_cause.Cycle walk = cause.Cycle walk
-full_cause (bare_cause.Asked code) walk = cause.Asked code
-full_cause bare_cause.Quit walk = cause.Quit
+full_cause bare_cause.Cycle cycle = cause.Cycle cycle
+full_cause (bare_cause.Asked code) cycle = cause.Asked code
+full_cause bare_cause.Quit cycle = cause.Quit
 
 abbrev pub full_fate : ShortFate → List ℕ → Fate
-full_fate bare_fate.Committed walk = fate.Committed
-full_fate (bare_fate.Aborted c) walk = fate.Aborted (full_cause c walk)
-full_fate (bare_fate.Fell t) walk = fate.Fell t
+full_fate bare_fate.Committed cycle = fate.Committed
+full_fate (bare_fate.Aborted c) cycle = fate.Aborted (full_cause c cycle)
+full_fate (bare_fate.Fell t) cycle = fate.Fell t
 
 -- the answers of a commit, the path of a cycle, those aborted in cascade
 abbrev pub full_reply : ShortReply → List ℤ → List ℕ → List ℕ → Reply
-full_reply (bare.Started t) answers walk fell = reply.Started t
-full_reply bare.NoProcedure answers walk fell = reply.NoProcedure
-full_reply bare.BadArgs answers walk fell = reply.BadArgs
-full_reply bare.Spent answers walk fell = reply.Spent
-full_reply bare.Full answers walk fell = reply.Full
-full_reply bare.Unknown answers walk fell = reply.Unknown
-full_reply (bare.Over f) answers walk fell = reply.Over (full_fate f walk)
-full_reply (bare.Looked k v) answers walk fell = reply.Looked k v
-full_reply (bare.Wrote k v) answers walk fell = reply.Wrote k v
-full_reply bare.Ended answers walk fell = reply.Ended
-full_reply bare.NotEnded answers walk fell = reply.NotEnded
-full_reply (bare.Waits t) answers walk fell = reply.Waits t
-full_reply bare.Committed answers walk fell = reply.Committed answers
-full_reply (bare.Aborted c) answers walk fell = reply.Aborted (full_cause c walk) fell
-full_reply (bare.Refused code) answers walk fell = reply.Refused code fell
+full_reply (bare.Started t) answers cycle fell = reply.Started t
+full_reply bare.NoProcedure answers cycle fell = reply.NoProcedure
+full_reply bare.BadArgs answers cycle fell = reply.BadArgs
+full_reply bare.Spent answers cycle fell = reply.Spent
+full_reply bare.Full answers cycle fell = reply.Full
+full_reply bare.Unknown answers cycle fell = reply.Unknown
+full_reply (bare.Over f) answers cycle fell = reply.Over (full_fate f cycle)
+full_reply (bare.Looked k v) answers cycle fell = reply.Looked k v
+full_reply (bare.Wrote k v) answers cycle fell = reply.Wrote k v
+full_reply bare.Ended answers cycle fell = reply.Ended
+full_reply bare.NotEnded answers cycle fell = reply.NotEnded
+full_reply (bare.Waits t) answers cycle fell = reply.Waits t
+full_reply bare.Committed answers cycle fell = reply.Committed answers
+full_reply (bare.Aborted c) answers cycle fell = reply.Aborted (full_cause c cycle) fell
+full_reply (bare.Refused code) answers cycle fell = reply.Refused code fell
 
 -- the same, with the lists of a reply
 abbrev pub reply_with : ShortReply → ReplyLists → Reply
-reply_with r lists = full_reply r lists.answers lists.walk lists.fell
+reply_with r lists = full_reply r lists.answers lists.cycle lists.fell
 
 -- no lists
 abbrev pub no_lists : ReplyLists
-no_lists = record { answers = []; walk = []; fell = [] }
+no_lists = record { answers = []; cycle = []; fell = [] }
 
 -- the kind has lists, or may have
 abbrev pub holds_lists : ShortReply → Bool
@@ -63,7 +63,7 @@ holds_lists _ = false
 -- without the lists
 
 abbrev pub short_cause : Cause → ShortCause
-short_cause (cause.Cycle walk) = bare_cause.Cycle
+short_cause (cause.Cycle cycle) = bare_cause.Cycle
 short_cause (cause.Asked code) = bare_cause.Asked code
 short_cause cause.Quit = bare_cause.Quit
 
@@ -92,14 +92,14 @@ short_reply (reply.Refused code fell) = bare.Refused code
 -- the lists
 
 -- the path of a cause: the cycle that it names
-abbrev pub cause_walk : Cause → List ℕ
-cause_walk (cause.Cycle walk) = walk
-cause_walk _ = []
+abbrev pub cause_cycle : Cause → List ℕ
+cause_cycle (cause.Cycle cycle) = cycle
+cause_cycle _ = []
 
 -- the path of a fate
-abbrev pub fate_walk : Fate → List ℕ
-fate_walk (fate.Aborted c) = cause_walk c
-fate_walk _ = []
+abbrev pub fate_cycle : Fate → List ℕ
+fate_cycle (fate.Aborted c) = cause_cycle c
+fate_cycle _ = []
 
 -- the answers of a commit
 abbrev pub answers_in : Reply → List ℤ
@@ -107,10 +107,10 @@ answers_in (reply.Committed answers) = answers
 answers_in _ = []
 
 -- the path that a reply reports
-abbrev pub walk_in : Reply → List ℕ
-walk_in (reply.Over f) = fate_walk f
-walk_in (reply.Aborted c fell) = cause_walk c
-walk_in _ = []
+abbrev pub cycle_of_reply : Reply → List ℕ
+cycle_of_reply (reply.Over f) = fate_cycle f
+cycle_of_reply (reply.Aborted c fell) = cause_cycle c
+cycle_of_reply _ = []
 
 -- those aborted in cascade with the transaction that the reply ends
 abbrev pub fell_in : Reply → List ℕ

@@ -6,7 +6,7 @@ use Rattle.sgt_model.specs.Fates.{start_count, fate_of, live, live_ones}
 use Rattle.sgt_model.specs.Values.{settled}
 use Rattle.sgt_model.specs.ReadFrom.{ReadFrom}
 use Rattle.sgt_model.specs.Pairs.{Pair}
-use Rattle.sgt_model.specs.Settings.{Setting}
+use Rattle.sgt_model.specs.Configurations.{Configuration}
 use Rattle.sgt_model.specs.AccessList.{access_list}
 use Rattle.sgt_model.specs.Chains.{chain_of}
 use Rattle.sgt_model.specs.LiveLeft.{left_of}
@@ -25,7 +25,7 @@ pub record LiveRead (past : List Entry) (t u : ℕ) : Type 0 where
   pub read : ReadFrom past t u
 
 -- this is the state after the history
-pub record IsStateAfter (s : Setting) (past : List Entry) (c : State) : Type 0 where
+pub record IsStateAfter (s : Configuration) (past : List Entry) (c : State) : Type 0 where
   pub lives : c.live ≡ live_ones past
   pub nodes : (t : ℕ) → c.nodes t ≡ live past t
   pub pairs : (t u : ℕ) → (c.pairs t u ≡ true) ↔ LivePair past t u

@@ -8,7 +8,7 @@ use Rattle.sgt_model.specs.Syntax.{ProcedureText}
 use Rattle.sgt_model.specs.Runs.{Run, looks, puts, ends, raises}
 use Rattle.sgt_model.specs.Meaning.{run_with}
 use Rattle.sgt_model.specs.Values.{settled}
-use Rattle.sgt_model.specs.Settings.{setting}
+use Rattle.sgt_model.specs.Configurations.{configuration}
 use Rattle.sgt_model.specs.Progress.{Call}
 use Rattle.sgt_model.specs.Legality.{Legal}
 use Rattle.sgt_model.specs.Replay.{run_in_turn}
@@ -30,8 +30,8 @@ RunsStoreValues = (p : ProcedureText) (args : List ℤ) → StoresValues (run_wi
 
 -- if the initial database holds values, so do the contents after transactions that ran one after another
 abbrev pub ReplaysHoldValues : Type 0
-ReplaysHoldValues = (opening : Contents) (programs : List ProcedureText) (limits : Limits) (calls : List Call) → HoldValues opening → HoldValues (run_in_turn (setting opening programs limits) calls).last
+ReplaysHoldValues = (opening : Contents) (programs : List ProcedureText) (limits : Limits) (calls : List Call) → HoldValues opening → HoldValues (run_in_turn (configuration opening programs limits) calls).last
 
 -- and so do the committed contents after a legal history
 abbrev pub CommittedAreValues : Type 0
-CommittedAreValues = (opening : Contents) (programs : List ProcedureText) (limits : Limits) (past : List Entry) → HoldValues opening → Legal (setting opening programs limits) past → HoldValues (settled opening past)
+CommittedAreValues = (opening : Contents) (programs : List ProcedureText) (limits : Limits) (past : List Entry) → HoldValues opening → Legal (configuration opening programs limits) past → HoldValues (settled opening past)

@@ -82,15 +82,15 @@ impl Event {
         }
     }
 
-    /// The transaction that the event and this reply report to be over, if any. It is not live any more.
-    /// The transaction of a quit never is, whatever the reply.
+    /// The transaction that the event and this reply report to be over, if any. It is not live any more. The
+    /// transaction of a `Quit` never is, whatever the reply.
     pub fn over(&self, reply: &Reply) -> Option<Tid>
         ensures { result ≡ over_in self.now reply.now }
     {
         match self {
             Event::Start { .. } => None,
             Event::Step(t) | Event::Access(t, _) | Event::Commit(t) => {
-                reply.tells_end().then_some(*t)
+                reply.reports_end().then_some(*t)
             }
             Event::Quit(t) => Some(*t),
         }

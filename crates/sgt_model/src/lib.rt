@@ -2,12 +2,12 @@
 //! It says what procedures, transactions, events, replies and databases are, which histories are legal, and what is true of
 //! every legal history.
 //!
-//! A transaction runs one procedure, one access at a time, and then makes the accesses on which its caller decides. An [`Event`]
-//! starts it, lets it make its next access or the caller's, commits it or quits it, and is answered by a [`Reply`]. The two are
-//! an [`Entry`]; the entries in order are the history. In a legal history, each reply is one that its event may get after the
-//! entries before it, by the rules of `specs/Legality.antt`. [`callers_run_alone`] and [`headline_holds`] follow from these rules
-//! alone: a legal history is serializable in commit order, whatever programs its callers are, and each of its aborts has its
-//! cause.
+//! A transaction runs one procedure, one access at a time, and then makes the accesses on which its caller decides. An
+//! [`Event`] starts it, lets it make its next access or the caller's, commits it or aborts it, and is answered by a
+//! [`Reply`]. The two are an [`Entry`]; the entries in order are the history. In a legal history, each reply is one
+//! that its event may get after the entries before it, by the rules of `specs/Legality.antt`. [`callers_run_alone`] and
+//! [`headline_holds`] follow from these rules alone: a legal history is serializable in commit order, whatever programs
+//! its callers are, and each of its aborts has its cause.
 //!
 //! It is no engine: nothing here schedules, stores transactions, or checks and runs procedures. Its code makes,
 //! compares and copies plain values. The functions of `laws`, `left` and `refinement` do nothing:
@@ -76,7 +76,7 @@ pub use laws::{
     committed_are_admitted, headline_holds, histories_are_executed, histories_go_on,
     limits_are_kept, looks_agree_at_commit, no_pair_from_live, pairs_have_no_cycle,
     replay_is_serial, replays_hold_values, replies_are_unique, replies_name_few,
-    replies_tell_who_is_live, runs_are_traces, serial_is_execution, some_reply_is_legal,
+    replies_report_who_is_live, runs_are_traces, serial_is_execution, some_reply_is_legal,
     sources_commit_before_replies, sources_commit_first, sources_stand, writers_commit_in_order,
 };
 pub use left::{left_goes_on, next_is_of_left};

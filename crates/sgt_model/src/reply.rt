@@ -1,6 +1,6 @@
 //! Replies, how transactions end, and why they abort.
 ghost use Rattle.std.specs.Prelude.{◌≡◌, ◌↔◌, IsTrue};
-ghost use Rattle.sgt_model.specs.Questions.{started_number, refuses_start, is_wait, is_commit, is_ask, is_quit, is_ending, tells_end};
+ghost use Rattle.sgt_model.specs.Questions.{started_number, refuses_start, is_wait, is_commit, is_raised, is_quit, is_ending, reports_end};
 
 use crate::event::Answers;
 use crate::key::Key;
@@ -15,7 +15,7 @@ pub enum Cause {
     Cycle(Tids),
     /// Its procedure raised this code: 1 to 999 from its text, 1000 from arithmetic that gives no value.
     Asked(u16),
-    /// Its caller quit it: an abort on request.
+    /// Its caller requested the abort.
     Quit,
 }
 
@@ -76,7 +76,7 @@ impl Cause {
         ensures { result ≡ self.now }
     {
         match self {
-            Cause::Cycle(walk) => Cause::Cycle(walk.copied()),
+            Cause::Cycle(cycle) => Cause::Cycle(cycle.copied()),
             Cause::Asked(code) => Cause::Asked(*code),
             Cause::Quit => Cause::Quit,
         }
@@ -177,8 +177,8 @@ impl Reply {
     }
 
     /// Whether it aborts a transaction whose procedure raised a code, at the step or at the commit.
-    pub fn is_ask(&self) -> bool
-        ensures { result ≡ is_ask self.now }
+    pub fn is_raised(&self) -> bool
+        ensures { result ≡ is_raised self.now }
     {
         match self {
             Reply::Aborted { cause, .. } => matches!(cause, Cause::Asked(_)),
@@ -187,7 +187,7 @@ impl Reply {
         }
     }
 
-    /// Whether it aborts a transaction that its caller quit.
+    /// Whether it aborts a transaction on its caller's request.
     pub fn is_quit(&self) -> bool
         ensures { result ≡ is_quit self.now }
     {
@@ -208,8 +208,8 @@ impl Reply {
     }
 
     /// Whether, as the reply to a step or a commit, it reports that the transaction has ended, now or before.
-    pub fn tells_end(&self) -> bool
-        ensures { result ≡ tells_end self.now }
+    pub fn reports_end(&self) -> bool
+        ensures { result ≡ reports_end self.now }
     {
         matches!(
             self,

@@ -1,6 +1,6 @@
 //! A reply without its lists, which is small and copied freely, and the lists beside it.
 ghost use Rattle.std.specs.Prelude.{◌≡◌, ◌≤◌, ◌↔◌, ℕ, ℤ, List, [], length, IsTrue};
-ghost use Rattle.sgt_model.specs.ShortReplies.{full_cause, full_fate, full_reply, short_cause, short_fate, short_reply, answers_in, walk_in, fell_in, holds_lists, no_lists};
+ghost use Rattle.sgt_model.specs.ShortReplies.{full_cause, full_fate, full_reply, short_cause, short_fate, short_reply, answers_in, cycle_of_reply, fell_in, holds_lists, no_lists};
 
 use crate::event::Answers;
 use crate::key::Key;
@@ -50,7 +50,7 @@ pub struct ReplyLists {
     /// The answers of a commit.
     pub answers: Answers,
     /// The path of a cycle.
-    pub walk: Tids,
+    pub cycle: Tids,
     /// Those aborted in cascade, rising.
     pub fell: Tids,
 }
@@ -69,7 +69,7 @@ impl ReplyLists {
     {
         ReplyLists {
             answers: Answers::new(),
-            walk: Tids::new(),
+            cycle: Tids::new(),
             fell: Tids::new(),
         }
     }
@@ -77,12 +77,12 @@ impl ReplyLists {
 
 impl ShortCause {
     /// The cause with this path.
-    pub fn in_full(&self, walk: &[Tid]) -> Cause
-        requires { length walk.now ≤ 32 }
-        ensures { result ≡ full_cause self.now walk.now }
+    pub fn in_full(&self, cycle: &[Tid]) -> Cause
+        requires { length cycle.now ≤ 32 }
+        ensures { result ≡ full_cause self.now cycle.now }
     {
         match self {
-            ShortCause::Cycle => Cause::Cycle(tids_of(walk)),
+            ShortCause::Cycle => Cause::Cycle(tids_of(cycle)),
             ShortCause::Asked(code) => Cause::Asked(*code),
             ShortCause::Quit => Cause::Quit,
         }
@@ -91,13 +91,13 @@ impl ShortCause {
 
 impl ShortFate {
     /// The fate with this path.
-    pub fn in_full(&self, walk: &[Tid]) -> Fate
-        requires { length walk.now ≤ 32 }
-        ensures { result ≡ full_fate self.now walk.now }
+    pub fn in_full(&self, cycle: &[Tid]) -> Fate
+        requires { length cycle.now ≤ 32 }
+        ensures { result ≡ full_fate self.now cycle.now }
     {
         match self {
             ShortFate::Committed => Fate::Committed,
-            ShortFate::Aborted(cause) => Fate::Aborted(cause.in_full(walk)),
+            ShortFate::Aborted(cause) => Fate::Aborted(cause.in_full(cycle)),
             ShortFate::Fell(first) => Fate::Fell(*first),
         }
     }
@@ -106,25 +106,25 @@ impl ShortFate {
 impl ShortReply {
     /// The reply with these lists. It allocates nothing.
     pub fn with_lists(&self, lists: &ReplyLists) -> Reply
-        ensures { result ≡ full_reply self.now lists.now.answers lists.now.walk lists.now.fell }
+        ensures { result ≡ full_reply self.now lists.now.answers lists.now.cycle lists.now.fell }
     {
         // Their lengths, which say to the proof that the lists are short enough.
         let _answers = lists.answers.len();
-        let _walk = lists.walk.len();
+        let _cycle = lists.cycle.len();
         let _fell = lists.fell.len();
         self.in_full(
             lists.answers.as_slice(),
-            lists.walk.as_slice(),
+            lists.cycle.as_slice(),
             lists.fell.as_slice(),
         )
     }
 
     /// The reply with these answers, this path of a cycle, and these transactions aborted in cascade. It allocates nothing.
-    pub fn in_full(&self, answers: &[i64], walk: &[Tid], fell: &[Tid]) -> Reply
+    pub fn in_full(&self, answers: &[i64], cycle: &[Tid], fell: &[Tid]) -> Reply
         requires answers { length answers.now ≤ 8 }
-        requires walk { length walk.now ≤ 32 }
+        requires cycle { length cycle.now ≤ 32 }
         requires fell { length fell.now ≤ 32 }
-        ensures { result ≡ full_reply self.now answers.now walk.now fell.now }
+        ensures { result ≡ full_reply self.now answers.now cycle.now fell.now }
     {
         match self {
             ShortReply::Started(t) => Reply::Started(*t),
@@ -133,7 +133,7 @@ impl ShortReply {
             ShortReply::Spent => Reply::Spent,
             ShortReply::Full => Reply::Full,
             ShortReply::Unknown => Reply::Unknown,
-            ShortReply::Over(fate) => Reply::Over(fate.in_full(walk)),
+            ShortReply::Over(fate) => Reply::Over(fate.in_full(cycle)),
             ShortReply::Looked { key, value } => Reply::Looked {
                 key: *key,
                 value: *value,
@@ -147,7 +147,7 @@ impl ShortReply {
             ShortReply::Waits(first) => Reply::Waits(*first),
             ShortReply::Committed => Reply::Committed(answers_of(answers)),
             ShortReply::Aborted(cause) => Reply::Aborted {
-                cause: cause.in_full(walk),
+                cause: cause.in_full(cycle),
                 fell: tids_of(fell),
             },
             ShortReply::Refused(code) => Reply::Refused {
@@ -239,17 +239,17 @@ impl Reply {
     /// The lists of the reply; those that it does not have are empty. It allocates nothing.
     pub fn lists(&self) -> ReplyLists
         ensures answers { result.answers ≡ answers_in self.now }
-        ensures walk { result.walk ≡ walk_in self.now }
+        ensures cycle { result.cycle ≡ cycle_of_reply self.now }
         ensures fell { result.fell ≡ fell_in self.now }
-        ensures whole { full_reply (short_reply self.now) result.answers result.walk result.fell ≡ self.now }
+        ensures whole { full_reply (short_reply self.now) result.answers result.cycle result.fell ≡ self.now }
     {
         let mut lists = ReplyLists::new();
         match self {
             Reply::Committed(answers) => lists.answers = answers.copied(),
-            Reply::Over(Fate::Aborted(Cause::Cycle(walk))) => lists.walk = walk.copied(),
+            Reply::Over(Fate::Aborted(Cause::Cycle(cycle))) => lists.cycle = cycle.copied(),
             Reply::Aborted { cause, fell } => {
-                if let Cause::Cycle(walk) = cause {
-                    lists.walk = walk.copied();
+                if let Cause::Cycle(cycle) = cause {
+                    lists.cycle = cycle.copied();
                 }
                 lists.fell = fell.copied();
             }

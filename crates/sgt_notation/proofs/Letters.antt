@@ -38,9 +38,9 @@ opens_at rest x t small is (Some k) (before, found) = ap Some (omega (arith, up,
         grind (arith, digit, same, found)
 
 -- the parts of the text after the letter
-pub parts_behind : (rest x : List ℕ) (t : ℕ) → rest ≡ decimal t ++ bracketed x
+pub parts_after : (rest x : List ℕ) (t : ℕ) → rest ≡ decimal t ++ bracketed x
     → (take (length (decimal t)) rest ≡ decimal t) × (drop (suc (length (decimal t))) rest ≡ x ++ codes "]")
-parts_behind rest x t is = (
+parts_after rest x t is = (
   ap (take (length (decimal t))) is ∙ take-append_seam (decimal t) (bracketed x),
   ap (drop (suc (length (decimal t)))) is ∙ past (decimal t),
 )
@@ -57,11 +57,11 @@ pub data IsKind (word : List ℕ) : Type 0 where
   IsAbort : (t : ℕ) → t < 2 ^ 32 → word ≡ 97 ∷ decimal t → IsKind word
 
 -- the parts after the letter, split at the first bracket
-pub behind_letter : (rest x : List ℕ) (t k : ℕ) → t < 2 ^ 32 → rest ≡ decimal t ++ bracketed x → IsFirstByte (is_byte 91) rest (Some k)
+pub after_letter : (rest x : List ℕ) (t k : ℕ) → t < 2 ^ 32 → rest ≡ decimal t ++ bracketed x → IsFirstByte (is_byte 91) rest (Some k)
     → (take k rest ≡ decimal t) × (drop (k + 1) rest ≡ x ++ codes "]")
-behind_letter rest x t k small is first =
+after_letter rest x t k small is first =
     let at : Some k ≡ Some (length (decimal t)) = opens_at rest x t small is (Some k) first in
     let same : length (decimal t) ≡ k = cc in
     let next : suc (length (decimal t)) ≡ k + 1 = omega (arith, same) in
-    let parts = parts_behind rest x t is in
+    let parts = parts_after rest x t is in
     (subst (λ i. take i rest ≡ decimal t) same parts.0, subst (λ i. drop i rest ≡ x ++ codes "]") next parts.1)

@@ -3,7 +3,7 @@ use Rattle.std.proofs.Common.{◌≡◌, ◌<◌, ◌≤◌, ◌+◌, ◌-◌, �
 use Rattle.std.specs.Prelude.{slice_index}
 use Rattle.std.proofs.lemmas.Grind.{common_steps}
 use Rattle.std.proofs.lemmas.List.{get_or-drop}
-use Rattle.sgt_notation.specs.Words.{words, parts_words, is_break, is_blank, is_hash, begin_word, in_front}
+use Rattle.sgt_notation.specs.Words.{words, parts_words, is_break, is_space, is_hash, begin_word, in_front}
 
 -- the choice among four if no test holds
 none_holds : {A : Type 0} (x y z : Bool) (p q r s : A) → (x || (y || z)) ≡ false
@@ -15,7 +15,7 @@ none_holds true y z p q r s h = absurd (cc)
 
 -- the words of bytes that start with one of a word
 in_word : (n b : ℕ) (bs : List ℕ) → parts_words b ≡ false → words false n (b ∷ bs) ≡ begin_word n b bs (words false n bs)
-in_word n b bs plain = none_holds (is_break b) (is_blank b) (is_hash b) _ _ _ _ plain
+in_word n b bs plain = none_holds (is_break b) (is_space b) (is_hash b) _ _ _ _ plain
 
 -- the first word of bytes on line n, which has k of them
 pub first_word : (n k : ℕ) (bs : List ℕ) → 0 < k → k ≤ length bs → ((i : ℕ) → i < k → parts_words (slice_index bs i) ≡ false)

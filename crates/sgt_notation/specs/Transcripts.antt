@@ -36,7 +36,7 @@ abbrev pub transcript : List Entry → List ℕ
 transcript [] = []
 transcript (e ∷ past) = transcript past ++ operations_text e.event e.reply
 
--- so many entries were cut off: what follows is another history
+-- this many entries were cut off: what follows is another history
 abbrev pub cut_comment : ℕ → List ℕ
 cut_comment entries = codes "# cut " ++ decimal entries ++ codes "\n"
 

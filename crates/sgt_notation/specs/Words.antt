@@ -11,8 +11,8 @@ abbrev pub is_break : ℕ → Bool
 is_break b = b == 10
 
 -- a space, a tab or a carriage return
-abbrev pub is_blank : ℕ → Bool
-is_blank b = b == 32 || (b == 9 || b == 13)
+abbrev pub is_space : ℕ → Bool
+is_space b = b == 32 || (b == 9 || b == 13)
 
 -- a `#`, which starts a comment
 abbrev pub is_hash : ℕ → Bool
@@ -20,7 +20,7 @@ is_hash b = b == 35
 
 -- a byte that separates words
 abbrev pub parts_words : ℕ → Bool
-parts_words b = is_break b || (is_blank b || is_hash b)
+parts_words b = is_break b || (is_space b || is_hash b)
 
 -- with this byte before the first word
 abbrev pub in_front : ℕ → List Word → List Word
@@ -38,7 +38,7 @@ words comment n [] = []
 words comment n (b ∷ bs) =
     if is_break b then words false (n + 1) bs
     else if comment || is_hash b then words true n bs
-    else if is_blank b then words false n bs
+    else if is_space b then words false n bs
     else begin_word n b bs (words false n bs)
 
 -- the words of a text

@@ -25,7 +25,7 @@ pub fn append_operations(text: &mut Vec<u8>, event: &Event, reply: &Reply) -> Re
     Ok(())
 }
 
-/// Appends a comment that so many entries were cut off: what follows is another history. It allocates only for the
+/// Appends a comment that this many entries were cut off: what follows is another history. It allocates only for the
 /// growth of the text.
 ///
 /// `NoMemory` if that allocation failed.

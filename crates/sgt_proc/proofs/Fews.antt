@@ -46,8 +46,8 @@ access_seen (declared.Asks code) a = absurd a
 
 pub few_made : (p : ProcedureText) (args : List ℤ) (vs : List (Option ℤ)) (made : ℕ) (n : DeclaredNext) → IsFlawless p
     → seen n ≡ next_at (trace (run_with p args) vs) made → IsAccess n → Used (run_with p args) vs made → made < 64
-few_made p args vs made n flawless told a used =
+few_made p args vs made n flawless reported a used =
     let few = accesses_few p.body in
     let flaw = flawless TooLong in
     fewer (run_with p args) 64 vs made (within_more (run_with p args) (accesses_in p.body) 64 (omega (arith, few, flaw)) (within_most (Some p) args)) used
-    (subst AccessNext told (access_seen n a))
+    (subst AccessNext reported (access_seen n a))

@@ -4,7 +4,7 @@ use Rattle.sgt_model.specs.Numbers.{is_value}
 use Rattle.sgt_model.specs.Syntax.{Block, empty, look, find, put, remove, save, ask, choose, answer}
 use Rattle.sgt_model.specs.Meaning.{Registers, value_of, truth_of}
 use Rattle.sgt_model.specs.Executions.{OrCode, and_then, provided, key_of, stuck}
-use Rattle.sgt_model.specs.Left.{Rest, Reached, AtLook, AtFind, AtStore, AtEnd, followed_by, then_behind, number_or_code, choice_or_code, reach}
+use Rattle.sgt_model.specs.Left.{Rest, Reached, AtLook, AtFind, AtStore, AtEnd, followed_by, then_after, number_or_code, choice_or_code, reach}
 use Rattle.sgt_proc.specs.Flaws.{size}
 
 pub followed_empty : (b : Block) → followed_by b empty ≡ b
@@ -58,9 +58,9 @@ rest_with b args registers answers = record { statements = b; args = args; regis
 -- what is after an If, with more after that
 if_then : (args : List ℤ) (b more : Block) (o : OrCode Reached)
     → ((registers : Registers) (answers : List ℤ) → reach (followed_by b more) args registers answers ≡ and_then
-    (reach b args registers answers) (then_behind more (reach more args)))
-    → and_then o (then_behind (followed_by b more) (reach (followed_by b more) args)) ≡ and_then (and_then o (then_behind b (reach b args)))
-    (then_behind more (reach more args))
+    (reach b args registers answers) (then_after more (reach more args)))
+    → and_then o (then_after (followed_by b more) (reach (followed_by b more) args)) ≡ and_then (and_then o (then_after b (reach b args)))
+    (then_after more (reach more args))
 if_then args b more (Ok (AtLook key to absent r)) same = ap
     (λ s. Ok (AtLook key to absent (record { statements = s; args = r.args; registers = r.registers; answers = r.answers })))
     (sym (followed_twice r.statements b more))
@@ -74,33 +74,33 @@ if_then args b more (Ok (AtEnd registers answers)) same = same registers answers
 if_then args b more (Err code) same = refl
 
 pub reach_followed : (b more : Block) (args : List ℤ) (registers : Registers) (answers : List ℤ)
-    → reach (followed_by b more) args registers answers ≡ and_then (reach b args registers answers) (then_behind more (reach more args))
+    → reach (followed_by b more) args registers answers ≡ and_then (reach b args registers answers) (then_after more (reach more args))
 reach_followed empty more args registers answers = refl
 reach_followed (look to table id absent b) more args registers answers =
     then_then (number_or_code (value_of id args registers)) _ _ _ (λ n.
-    then_then (key_of table n) (λ key. Ok (AtLook key to absent (rest_with b args registers answers))) (then_behind more (reach more args))
+    then_then (key_of table n) (λ key. Ok (AtLook key to absent (rest_with b args registers answers))) (then_after more (reach more args))
     (λ key. Ok (AtLook key to absent (rest_with (followed_by b more) args registers answers))) (λ key. refl))
 reach_followed (find to table id absent b) more args registers answers =
     then_then (number_or_code (value_of id args registers)) _ _ _ (λ n.
     then_then (number_or_code (value_of absent args registers))
-    (λ v. and_then (key_of table n) (λ key. Ok (AtFind key to v (rest_with b args registers answers)))) (then_behind more (reach more args))
+    (λ v. and_then (key_of table n) (λ key. Ok (AtFind key to v (rest_with b args registers answers)))) (then_after more (reach more args))
     (λ v. and_then (key_of table n) (λ key. Ok (AtFind key to v (rest_with (followed_by b more) args registers answers)))) (λ v.
-    then_then (key_of table n) (λ key. Ok (AtFind key to v (rest_with b args registers answers))) (then_behind more (reach more args))
+    then_then (key_of table n) (λ key. Ok (AtFind key to v (rest_with b args registers answers))) (then_after more (reach more args))
     (λ key. Ok (AtFind key to v (rest_with (followed_by b more) args registers answers))) (λ key. refl)))
 reach_followed (put table id value b) more args registers answers =
     then_then (number_or_code (value_of id args registers)) _ _ _ (λ n.
     then_then (number_or_code (value_of value args registers))
     (λ v. and_then (key_of table n) (λ key. provided (is_value v) (AtStore key (Some v) (rest_with b args registers answers)) stuck))
-    (then_behind more (reach more args)) (λ v. and_then (key_of table n)
+    (then_after more (reach more args)) (λ v. and_then (key_of table n)
     (λ key. provided (is_value v) (AtStore key (Some v) (rest_with (followed_by b more) args registers answers)) stuck)) (λ v.
     then_then (key_of table n) (λ key. provided (is_value v) (AtStore key (Some v) (rest_with b args registers answers)) stuck)
-    (then_behind more (reach more args)) (λ key. provided (is_value v)
+    (then_after more (reach more args)) (λ key. provided (is_value v)
     (AtStore key (Some v) (rest_with (followed_by b more) args registers answers)) stuck) (λ key.
     last_then (is_value v) (AtStore key (Some v) (rest_with b args registers answers))
-    (AtStore key (Some v) (rest_with (followed_by b more) args registers answers)) (then_behind more (reach more args)) refl)))
+    (AtStore key (Some v) (rest_with (followed_by b more) args registers answers)) (then_after more (reach more args)) refl)))
 reach_followed (remove table id b) more args registers answers =
     then_then (number_or_code (value_of id args registers)) _ _ _ (λ n.
-    then_then (key_of table n) (λ key. Ok (AtStore key None (rest_with b args registers answers))) (then_behind more (reach more args))
+    then_then (key_of table n) (λ key. Ok (AtStore key None (rest_with b args registers answers))) (then_after more (reach more args))
     (λ key. Ok (AtStore key None (rest_with (followed_by b more) args registers answers))) (λ key. refl))
 reach_followed (save to value b) more args registers answers =
     then_then (number_or_code (value_of value args registers)) _ _ _
@@ -113,5 +113,5 @@ reach_followed (choose test ys ns b) more args registers answers =
 reach_followed (answer value b) more args registers answers =
     then_then (number_or_code (value_of value args registers)) _ _ _ (λ v.
     then_then (provided (nat_lt (length answers) 8) (answers ++ v ∷ []) stuck) (λ longer. reach b args registers longer)
-    (then_behind more (reach more args)) (λ longer. reach (followed_by b more) args registers longer)
+    (then_after more (reach more args)) (λ longer. reach (followed_by b more) args registers longer)
     (λ longer. reach_followed b more args registers longer))

@@ -1,4 +1,4 @@
--- What is said of an If, by what is said of its branches.
+-- Facts about an `If`, from facts about its branches.
 use Rattle.std.proofs.Common.{◌≡◌, refl, ap, ◌∙◌, ℕ, ◌+◌, max, Bool, true, false, cond, ◌||◌}
 use Rattle.std.specs.declared.vec.Vec.{Vec}
 use Rattle.std.specs.declared.alloc.Global.{Global}

@@ -8,11 +8,11 @@ use Rattle.sgt_model.specs.Ways.{Way, onto}
 use Rattle.sgt_model.specs.Ways as way
 use Rattle.sgt_model.specs.Runs.{Run, looks, puts, ends, raises}
 use Rattle.sgt_model.specs.Meaning.{Got, is, over, missing, Truth, holds, too_far, unknown, Registers, value_of, truth_of, with_value, with_condition, is_key, if_found, found_or, run, fresh}
-use Rattle.sgt_model.specs.Settings.{run_if}
+use Rattle.sgt_model.specs.Configurations.{run_if}
 use Rattle.sgt_proc.specs.Flaws.{size}
 use Rattle.sgt_proc.specs.LongestPaths.{accesses_in, most_accesses}
 
--- a run makes at most so many accesses, whatever its reads return
+-- a run makes at most this many accesses, whatever its reads return
 abbrev pub MakesAtMost : Run → ℕ → Type 0
 MakesAtMost (ends answers) n = Unit {0}
 MakesAtMost (raises code) n = Unit {0}
@@ -51,7 +51,7 @@ within_found : (n : ℕ) (absent : ℕ) (found : Option ℤ) (go : ℤ → Run) 
 within_found n absent None go h = tt
 within_found n absent (Some v) go h = h v
 
--- a path whose runs make at most so many accesses
+-- a path whose runs make at most this many accesses
 abbrev WayMakesAtMost : Way → ℕ → Type 0
 WayMakesAtMost w n = (args : List ℤ) (regs : Registers) (answers : List ℤ) → MakesAtMost (run args w regs answers) n
 
@@ -85,18 +85,18 @@ within_onto (text.save to value b) rest n h args regs answers =
     within_value (accesses_in b + n) (value_of value args regs) _ (λ x. within_onto b rest n h args (slice_set regs to (Some x)) answers)
 within_onto (text.ask code b) rest n h args regs answers = tt
 within_onto (text.choose test ys ns b) rest n h args regs answers =
-    let behind = within_onto b rest n h in
+    let following = within_onto b rest n h in
     let all : ℕ = max (accesses_in ys) (accesses_in ns) + accesses_in b + n in
     within_test all (truth_of test args regs) _ _
     (grown (onto ys (onto b rest)) (accesses_in ys + (accesses_in b + n)) all (omega arith)
-    (within_onto ys (onto b rest) (accesses_in b + n) behind) args regs answers)
+    (within_onto ys (onto b rest) (accesses_in b + n) following) args regs answers)
     (grown (onto ns (onto b rest)) (accesses_in ns + (accesses_in b + n)) all (omega arith)
-    (within_onto ns (onto b rest) (accesses_in b + n) behind) args regs answers)
+    (within_onto ns (onto b rest) (accesses_in b + n) following) args regs answers)
 within_onto (text.answer value b) rest n h args regs answers =
     within_value (accesses_in b + n) (value_of value args regs) _
     (λ x. within_cond (accesses_in b + n) (nat_lt (length answers) 8) _ (within_onto b rest n h args regs (answers ++ x ∷ [])))
 
--- a procedure makes at most so many accesses
+-- a procedure makes at most this many accesses
 pub within_most : (p : Option ProcedureText) (args : List ℤ) → MakesAtMost (run_if p args) (most_accesses p)
 within_most None args = tt
 within_most (Some p) args = within_more _ (accesses_in p.body + 0) (accesses_in p.body) (omega arith)

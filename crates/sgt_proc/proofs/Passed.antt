@@ -90,7 +90,7 @@ next_stays (raises code) vs more zero zero used stays within = refl
 next_stays (raises code) vs more zero (suc later) used stays within = refl
 next_stays (raises code) vs more (suc made) later used stays within = absurd used
 
--- a cursor has passed so many accesses, whose reads returned so many of the values
+-- a cursor has passed this many accesses, whose reads returned this many of the values
 pub record HasPassed (p : ProcedureText) (args : List ℤ) (read : List (Option ℤ)) (used made : ℕ) (w : ProcedureText × Left) : Type 0 where
   pub few : used ≤ length read
   pub done : Used (run_with p args) (take used read) made
@@ -99,10 +99,10 @@ pub record HasPassed (p : ProcedureText) (args : List ℤ) (read : List (Option 
 module _ (p : ProcedureText) (args : List ℤ) (read : List (Option ℤ)) (used made : ℕ) (w : ProcedureText × Left)
     (passed : HasPassed p args read used made w) where
   left_next : (n : Next) → n ≡ next_left w.1 → next_left (left p args (take used read) made) ≡ n
-  left_next n told = ap (λ (v : ProcedureText × Left). next_left v.1) (sym passed.same) ∙ sym told
+  left_next n reported = ap (λ (v : ProcedureText × Left). next_left v.1) (sym passed.same) ∙ sym reported
 
   trace_next : (n : Next) → n ≡ next_left w.1 → next_at (trace (run_with p args) (take used read)) made ≡ n
-  trace_next n told = sym (next_is_of_left p args (take used read) made passed.done) ∙ left_next n told
+  trace_next n reported = sym (next_is_of_left p args (take used read) made passed.done) ∙ left_next n reported
 
   one : suc made ≡ made + 1
   one = omega arith
@@ -110,12 +110,12 @@ module _ (p : ProcedureText) (args : List ℤ) (read : List (Option ℤ)) (used 
   -- one more read
   pub look_passed : (k : Key) (other : Option ℤ) → Looks k ≡ next_left w.1 → used < length read
       → HasPassed p args read (used + 1) (made + 1) (w.0, after_look (get_or read used other) w.1)
-  look_passed k other told within = record {
+  look_passed k other reported within = record {
     few = omega (arith, within);
     done = subst (λ vs. Used (run_with p args) vs (made + 1)) (sym more) (subst (Used (run_with p args) (take used read ++ found ∷ [])) one
-        (used_look (run_with p args) (take used read) made k found passed.done (trace_next (Looks k) told)));
+        (used_look (run_with p args) (take used read) made k found passed.done (trace_next (Looks k) reported)));
     same = ap (λ (v : ProcedureText × Left). (v.0, after_look found v.1)) passed.same
-        ∙ ap (λ l. (p, l)) (sym (left_after_look p args (take used read) made passed.done k found (left_next (Looks k) told))
+        ∙ ap (λ l. (p, l)) (sym (left_after_look p args (take used read) made passed.done k found (left_next (Looks k) reported))
         ∙ ap (λ vs. left p args vs (made + 1)) (sym more));
   } where
     found : Option ℤ
@@ -126,30 +126,30 @@ module _ (p : ProcedureText) (args : List ℤ) (read : List (Option ℤ)) (used 
 
   -- one more write
   pub store_passed : (k : Key) (x : Option ℤ) → Puts k x ≡ next_left w.1 → HasPassed p args read used (made + 1) (w.0, after_store w.1)
-  store_passed k x told = record {
+  store_passed k x reported = record {
     few = passed.few;
     done = subst (Used (run_with p args) (take used read)) one
-        (used_store (run_with p args) (take used read) made k x passed.done (trace_next (Puts k x) told));
+        (used_store (run_with p args) (take used read) made k x passed.done (trace_next (Puts k x) reported));
     same = ap (λ (v : ProcedureText × Left). (v.0, after_store v.1)) passed.same
-        ∙ ap (λ l. (p, l)) (sym (left_after_store p args (take used read) made passed.done k x (left_next (Puts k x) told)));
+        ∙ ap (λ l. (p, l)) (sym (left_after_store p args (take used read) made passed.done k x (left_next (Puts k x) reported)));
   }
 
   whole : take used read ++ drop used read ≡ read
   whole = take-append-drop used read
 
   -- all are passed
-  pub next_behind : (n : Next) → n ≡ next_left w.1 → n ≡ next_at (trace (run_with p args) read) made
-  next_behind n told = sym (ap (λ vs. next_at (trace (run_with p args) vs) made) (sym whole)
-      ∙ (next_more (run_with p args) (take used read) (drop used read) made passed.done ∙ trace_next n told))
+  pub next_following : (n : Next) → n ≡ next_left w.1 → n ≡ next_at (trace (run_with p args) read) made
+  next_following n reported = sym (ap (λ vs. next_at (trace (run_with p args) vs) made) (sym whole)
+      ∙ (next_more (run_with p args) (take used read) (drop used read) made passed.done ∙ trace_next n reported))
 
   -- no more can be passed
   pub next_stays_on : (n : Next) (later : ℕ) → n ≡ next_left w.1 → Stays (drop used read) n → made ≤ later
       → n ≡ next_at (trace (run_with p args) read) later
-  next_stays_on n later told stays within = sym (ap (λ vs. next_at (trace (run_with p args) vs) later) (sym whole)
+  next_stays_on n later reported stays within = sym (ap (λ vs. next_at (trace (run_with p args) vs) later) (sym whole)
       ∙ (next_stays (run_with p args) (take used read) (drop used read) made later passed.done
-      (subst (Stays (drop used read)) (sym (trace_next n told)) stays) within ∙ trace_next n told))
+      (subst (Stays (drop used read)) (sym (trace_next n reported)) stays) within ∙ trace_next n reported))
 
   -- the read without a value left
   pub look_stays : (k : Key) (later : ℕ) → Looks k ≡ next_left w.1 → length read ≤ used → made ≤ later
       → Looks k ≡ next_at (trace (run_with p args) read) later
-  look_stays k later told none within = next_stays_on (Looks k) later told (drop_all used read none) within
+  look_stays k later reported none within = next_stays_on (Looks k) later reported (drop_all used read none) within

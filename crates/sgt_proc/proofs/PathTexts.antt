@@ -8,26 +8,26 @@ use Rattle.sgt_model.specs.ProcedureTexts.{in_front, block_of}
 use Rattle.sgt_model.specs.Left.{followed_by}
 use Rattle.sgt_proc.specs.declared.place.Turn.{Turn}
 use Rattle.sgt_proc.specs.Flaws.{size, depth}
-use Rattle.sgt_proc.specs.Paths.{behind, IsIf, branch, IsPath, inner, outer}
+use Rattle.sgt_proc.specs.Paths.{following, IsIf, branch, IsPath, inner, outer}
 use Rattle.sgt_proc.proofs.StatementTexts.{block_drop}
 use Rattle.sgt_proc.proofs.Followed.{followed_empty, followed_twice}
 
 -- a list of statements
 
-behind_before : (n : ℕ) (s : Statement) (b : Block) → behind (suc n) (in_front s b) ≡ behind n b
-behind_before n (Look to table id absent) b = refl
-behind_before n (Find to table id absent) b = refl
-behind_before n (Put table id value) b = refl
-behind_before n (Remove table id) b = refl
-behind_before n (Let to value) b = refl
-behind_before n (Ask code) b = refl
-behind_before n (If' cond p ys q ns) b = refl
-behind_before n (Answer value) b = refl
+following_before : (n : ℕ) (s : Statement) (b : Block) → following (suc n) (in_front s b) ≡ following n b
+following_before n (Look to table id absent) b = refl
+following_before n (Find to table id absent) b = refl
+following_before n (Put table id value) b = refl
+following_before n (Remove table id) b = refl
+following_before n (Let to value) b = refl
+following_before n (Ask code) b = refl
+following_before n (If' cond p ys q ns) b = refl
+following_before n (Answer value) b = refl
 
-pub behind_list : (n : ℕ) (list : List Statement) → behind n (block_of list) ≡ block_of (drop n list)
-behind_list zero list = refl
-behind_list (suc n) [] = refl
-behind_list (suc n) (s ∷ list) = behind_before n s (block_of list) ∙ behind_list n list
+pub following_list : (n : ℕ) (list : List Statement) → following n (block_of list) ≡ block_of (drop n list)
+following_list zero list = refl
+following_list (suc n) [] = refl
+following_list (suc n) (s ∷ list) = following_before n s (block_of list) ∙ following_list n list
 
 before_size : (s : Statement) (b : Block) → size b + 1 ≤ size (in_front s b)
 before_size (Look to table id absent) b = omega arith
@@ -54,27 +54,27 @@ list_size [] = omega arith
 list_size (s ∷ list) = omega (arith, list_size list, before_size s (block_of list))
 
 -- the one at a position
-pub behind_at : (list : List Statement) (n : ℕ) (s : Statement) → n < length list → s ≡ get_or list n s
-    → behind n (block_of list) ≡ in_front s (behind (n + 1) (block_of list))
-behind_at list n s h e = behind_list n list ∙ (block_drop list n s h e ∙ ap (in_front s) (sym (behind_list (n + 1) list)))
+pub following_at : (list : List Statement) (n : ℕ) (s : Statement) → n < length list → s ≡ get_or list n s
+    → following n (block_of list) ≡ in_front s (following (n + 1) (block_of list))
+following_at list n s h e = following_list n list ∙ (block_drop list n s h e ∙ ap (in_front s) (sym (following_list (n + 1) list)))
 
 -- none at the end
-pub behind_end : (list : List Statement) (n : ℕ) → length list ≤ n → behind n (block_of list) ≡ empty
-behind_end list n h = behind_list n list ∙ ap block_of (drop_all n list h)
+pub following_end : (list : List Statement) (n : ℕ) → length list ≤ n → following n (block_of list) ≡ empty
+following_end list n h = following_list n list ∙ ap block_of (drop_all n list h)
 
 -- sizes
 
-behind_size : (n : ℕ) (b : Block) → size (behind n b) ≤ size b
-behind_size zero b = omega arith
-behind_size (suc n) empty = omega arith
-behind_size (suc n) (look to table id absent b) = omega (arith, behind_size n b)
-behind_size (suc n) (find to table id absent b) = omega (arith, behind_size n b)
-behind_size (suc n) (put table id value b) = omega (arith, behind_size n b)
-behind_size (suc n) (remove table id b) = omega (arith, behind_size n b)
-behind_size (suc n) (save to value b) = omega (arith, behind_size n b)
-behind_size (suc n) (ask code b) = omega (arith, behind_size n b)
-behind_size (suc n) (choose test ys ns b) = omega (arith, behind_size n b)
-behind_size (suc n) (answer value b) = omega (arith, behind_size n b)
+following_size : (n : ℕ) (b : Block) → size (following n b) ≤ size b
+following_size zero b = omega arith
+following_size (suc n) empty = omega arith
+following_size (suc n) (look to table id absent b) = omega (arith, following_size n b)
+following_size (suc n) (find to table id absent b) = omega (arith, following_size n b)
+following_size (suc n) (put table id value b) = omega (arith, following_size n b)
+following_size (suc n) (remove table id b) = omega (arith, following_size n b)
+following_size (suc n) (save to value b) = omega (arith, following_size n b)
+following_size (suc n) (ask code b) = omega (arith, following_size n b)
+following_size (suc n) (choose test ys ns b) = omega (arith, following_size n b)
+following_size (suc n) (answer value b) = omega (arith, following_size n b)
 
 branch_size : (held : Bool) (b : Block) → size (branch held b) ≤ size b
 branch_size held empty = omega arith
@@ -91,21 +91,21 @@ branch_size held (answer value b) = omega arith
 pub inner_size : (path : List Turn) (b : Block) → size (inner path b) ≤ size b
 inner_size [] b = omega arith
 inner_size (t ∷ path) b =
-    omega (arith, inner_size path (branch t.held (behind t.at b)), branch_size t.held (behind t.at b), behind_size t.at b)
+    omega (arith, inner_size path (branch t.held (following t.at b)), branch_size t.held (following t.at b), following_size t.at b)
 
 -- depths
 
-pub behind_depth : (n : ℕ) (b : Block) → depth (behind n b) ≤ depth b
-behind_depth zero b = omega arith
-behind_depth (suc n) empty = omega arith
-behind_depth (suc n) (look to table id absent b) = omega (arith, behind_depth n b)
-behind_depth (suc n) (find to table id absent b) = omega (arith, behind_depth n b)
-behind_depth (suc n) (put table id value b) = omega (arith, behind_depth n b)
-behind_depth (suc n) (remove table id b) = omega (arith, behind_depth n b)
-behind_depth (suc n) (save to value b) = omega (arith, behind_depth n b)
-behind_depth (suc n) (ask code b) = omega (arith, behind_depth n b)
-behind_depth (suc n) (choose test ys ns b) = omega (arith, behind_depth n b)
-behind_depth (suc n) (answer value b) = omega (arith, behind_depth n b)
+pub following_depth : (n : ℕ) (b : Block) → depth (following n b) ≤ depth b
+following_depth zero b = omega arith
+following_depth (suc n) empty = omega arith
+following_depth (suc n) (look to table id absent b) = omega (arith, following_depth n b)
+following_depth (suc n) (find to table id absent b) = omega (arith, following_depth n b)
+following_depth (suc n) (put table id value b) = omega (arith, following_depth n b)
+following_depth (suc n) (remove table id b) = omega (arith, following_depth n b)
+following_depth (suc n) (save to value b) = omega (arith, following_depth n b)
+following_depth (suc n) (ask code b) = omega (arith, following_depth n b)
+following_depth (suc n) (choose test ys ns b) = omega (arith, following_depth n b)
+following_depth (suc n) (answer value b) = omega (arith, following_depth n b)
 
 branch_depth : (held : Bool) (b : Block) → IsIf b → depth (branch held b) + 1 ≤ depth b
 branch_depth held empty h = absurd h
@@ -122,27 +122,27 @@ branch_depth held (answer value b) h = absurd h
 pub inner_depth : (path : List Turn) (b : Block) → IsPath path b → length path + depth (inner path b) ≤ depth b
 inner_depth [] b h = omega arith
 inner_depth (t ∷ path) b h =
-    omega (arith, inner_depth path (branch t.held (behind t.at b)) h.1.1, branch_depth t.held (behind t.at b) h.1.0, behind_depth t.at b)
+    omega (arith, inner_depth path (branch t.held (following t.at b)) h.1.1, branch_depth t.held (following t.at b) h.1.0, following_depth t.at b)
 
 -- one turn more
 
-pub inner_last : (path : List Turn) (t : Turn) (b : Block) → inner (path ++ t ∷ []) b ≡ branch t.held (behind t.at (inner path b))
+pub inner_last : (path : List Turn) (t : Turn) (b : Block) → inner (path ++ t ∷ []) b ≡ branch t.held (following t.at (inner path b))
 inner_last [] t b = refl
-inner_last (u ∷ path) t b = inner_last path t (branch u.held (behind u.at b))
+inner_last (u ∷ path) t b = inner_last path t (branch u.held (following u.at b))
 
 pub outer_last : (path : List Turn) (t : Turn) (b : Block)
-    → outer (path ++ t ∷ []) b ≡ followed_by (behind (t.at + 1) (inner path b)) (outer path b)
-outer_last [] t b = sym (followed_empty (behind (t.at + 1) b))
+    → outer (path ++ t ∷ []) b ≡ followed_by (following (t.at + 1) (inner path b)) (outer path b)
+outer_last [] t b = sym (followed_empty (following (t.at + 1) b))
 outer_last (u ∷ path) t b =
-    let c = branch u.held (behind u.at b) in
-    ap (λ x. followed_by x (behind (u.at + 1) b)) (outer_last path t c)
-    ∙ followed_twice (behind (t.at + 1) (inner path c)) (outer path c) (behind (u.at + 1) b)
+    let c = branch u.held (following u.at b) in
+    ap (λ x. followed_by x (following (u.at + 1) b)) (outer_last path t c)
+    ∙ followed_twice (following (t.at + 1) (inner path c)) (outer path c) (following (u.at + 1) b)
 
-pub path_more : (path : List Turn) (t : Turn) (b : Block) → IsPath path b → t.at < 64 → IsIf (behind t.at (inner path b))
+pub path_more : (path : List Turn) (t : Turn) (b : Block) → IsPath path b → t.at < 64 → IsIf (following t.at (inner path b))
     → IsPath (path ++ t ∷ []) b
 path_more [] t b h few is = (few, (is, tt))
-path_more (u ∷ path) t b h few is = (h.0, (h.1.0, path_more path t (branch u.held (behind u.at b)) h.1.1 few is))
+path_more (u ∷ path) t b h few is = (h.0, (h.1.0, path_more path t (branch u.held (following u.at b)) h.1.1 few is))
 
 pub path_less : (path : List Turn) (t : Turn) (b : Block) → IsPath (path ++ t ∷ []) b → (t.at < 64) × IsPath path b
 path_less [] t b h = (h.0, tt)
-path_less (u ∷ path) t b h = let r = path_less path t (branch u.held (behind u.at b)) h.1.1 in (r.0, (h.0, (h.1.0, r.1)))
+path_less (u ∷ path) t b h = let r = path_less path t (branch u.held (following u.at b)) h.1.1 in (r.0, (h.0, (h.1.0, r.1)))

@@ -14,7 +14,7 @@ use Rattle.sgt_model.specs.Syntax.{ExprText, num, arg, reg, sum, diff, product, 
 use Rattle.sgt_model.specs.Ways.{Way, onto}
 use Rattle.sgt_model.specs.Ways as way
 use Rattle.sgt_model.specs.Runs.{Run, looks, puts}
-use Rattle.sgt_model.specs.Meaning.{Got, is, over, missing, got, bounded, divided, both, Registers, fresh, value_of, Truth, holds, too_far, unknown, compared, truth_of, with_value, with_condition, with_key, with_stored, if_found, found_or, with_room, run}
+use Rattle.sgt_model.specs.Meaning.{Got, is, over, missing, got, bounded, divided, both, Registers, fresh, value_of, Truth, holds, too_far, unknown, compared, truth_of, with_value, with_condition, with_key, with_stored, if_found, found_or, with_capacity, run}
 use Rattle.sgt_proc.specs.declared.flaw.Flaw.{Flaw}
 use Rattle.sgt_proc.specs.declared.flaw.Flaw.TheVariants.{HighRegister, UnsetRegister, NoArgument, HighTable, TooLong, TooDeep, ManyAnswers, BadCode, ManyArguments, BadLiteral}
 use Rattle.sgt_proc.specs.declared.numbers.Number.{Number}
@@ -117,8 +117,8 @@ found_or_value : (absent : ℤ) (found : Option ℤ) → IsValue absent → IsVa
 found_or_value absent None h may = h
 found_or_value absent (Some v) h may = may
 
-with_room_sound : (answers : List ℤ) (f : Run) → length answers < 8 → IsSound f → IsSound (with_room answers f)
-with_room_sound answers f h s = let e : nat_lt (length answers) 8 ≡ true = grind (arith, nat_tests) in rw e s
+with_capacity_sound : (answers : List ℤ) (f : Run) → length answers < 8 → IsSound f → IsSound (with_capacity answers f)
+with_capacity_sound answers f h s = let e : nat_lt (length answers) 8 ≡ true = grind (arith, nat_tests) in rw e s
 
 few_left : (n a b : ℕ) → n + max a b ≤ 8 → n + a ≤ 8
 few_left n a b h = omega (arith, h)
@@ -177,7 +177,7 @@ module _ (args : List ℤ) (all_values : All IsValue args) where
   run_sound way.end regs answers c l assigned m all = (omega (arith, m), all)
   run_sound (way.look to table id absent rest) regs answers c l assigned m all =
       let here = (λ (f : Flaw). (or_parts _ _ (c f)).0) in
-      let behind = (λ (f : Flaw). (or_parts _ _ (c f)).1) in
+      let following = (λ (f : Flaw). (or_parts _ _ (c f)).1) in
       let others = (λ (f : Flaw). (or_parts _ _ (here f)).1) in
       let ends = (λ (f : Flaw). (or_parts _ _ (others f)).1) in
       let register = allowed_number (length args) (Register to) (λ f. (or_parts _ _ (here f)).0) in
@@ -189,12 +189,12 @@ module _ (args : List ℤ) (all_values : All IsValue args) where
       (λ v. run args rest (slice_set regs to (Some v)) answers))) is_table g (
         (is_table, g),
         λ found may. found_sound absent found (λ v. run args rest (slice_set regs to (Some v)) answers) code may
-            (λ v h. run_sound rest (slice_set regs to (Some v)) answers behind (length_next regs to v l)
+            (λ v h. run_sound rest (slice_set regs to (Some v)) answers following (length_next regs to v l)
             (assigned_next (λ r. uses_unset r rest) regs to v l register h (λ r k e. assigned r k (or_right _ _ e))) m all),
       ))
   run_sound (way.find to table id absent rest) regs answers c l assigned m all =
       let here = (λ (f : Flaw). (or_parts _ _ (c f)).0) in
-      let behind = (λ (f : Flaw). (or_parts _ _ (c f)).1) in
+      let following = (λ (f : Flaw). (or_parts _ _ (c f)).1) in
       let others = (λ (f : Flaw). (or_parts _ _ (here f)).1) in
       let ends = (λ (f : Flaw). (or_parts _ _ (others f)).1) in
       let register = allowed_number (length args) (Register to) (λ f. (or_parts _ _ (here f)).0) in
@@ -209,12 +209,12 @@ module _ (args : List ℤ) (all_values : All IsValue args) where
         λ found may.
             let w = found_or v found in
             let fits = found_or_value v found g' may in
-            run_sound rest (slice_set regs to (Some w)) answers behind (length_next regs to w l)
+            run_sound rest (slice_set regs to (Some w)) answers following (length_next regs to w l)
             (assigned_next (λ r. uses_unset r rest) regs to w l register fits (λ r k e. assigned r k (or_right _ _ e))) m all,
       )))
   run_sound (way.put table id value rest) regs answers c l assigned m all =
       let here = (λ (f : Flaw). (or_parts _ _ (c f)).0) in
-      let behind = (λ (f : Flaw). (or_parts _ _ (c f)).1) in
+      let following = (λ (f : Flaw). (or_parts _ _ (c f)).1) in
       let terms = (λ (f : Flaw). (or_parts _ _ (here f)).1) in
       let is_table = allowed_number (length args) (Table table) (λ f. (or_parts _ _ (here f)).0) in
       with_value_sound (value_of id args regs) _ (value_fine regs id (λ f. (or_parts _ _ (terms f)).0)
@@ -223,26 +223,26 @@ module _ (args : List ℤ) (all_values : All IsValue args) where
       (value_fine regs value (λ f. (or_parts _ _ (terms f)).1) (λ r h e. assigned r h (or_left _ _ (or_right _ _ e))))
       (λ v h. with_key_sound table n (λ k. with_stored v (puts k (Some v) (run args rest regs answers))) is_table g
       (with_stored_sound v (puts (table, n) (Some v) (run args rest regs answers)) h
-      ((is_table, g), (h, run_sound rest regs answers behind l (λ r k e. assigned r k (or_right _ _ e)) m all)))))
+      ((is_table, g), (h, run_sound rest regs answers following l (λ r k e. assigned r k (or_right _ _ e)) m all)))))
   run_sound (way.remove table id rest) regs answers c l assigned m all =
       let here = (λ (f : Flaw). (or_parts _ _ (c f)).0) in
-      let behind = (λ (f : Flaw). (or_parts _ _ (c f)).1) in
+      let following = (λ (f : Flaw). (or_parts _ _ (c f)).1) in
       let is_table = allowed_number (length args) (Table table) (λ f. (or_parts _ _ (here f)).0) in
       with_value_sound (value_of id args regs) _ (value_fine regs id (λ f. (or_parts _ _ (here f)).1)
       (λ r h e. assigned r h (or_left _ _ e)))
       (λ n g. with_key_sound table n (λ k. puts k None (run args rest regs answers)) is_table g
-      ((is_table, g), (tt, run_sound rest regs answers behind l (λ r k e. assigned r k (or_right _ _ e)) m all)))
+      ((is_table, g), (tt, run_sound rest regs answers following l (λ r k e. assigned r k (or_right _ _ e)) m all)))
   run_sound (way.save to value rest) regs answers c l assigned m all =
       let here = (λ (f : Flaw). (or_parts _ _ (c f)).0) in
-      let behind = (λ (f : Flaw). (or_parts _ _ (c f)).1) in
+      let following = (λ (f : Flaw). (or_parts _ _ (c f)).1) in
       let register = allowed_number (length args) (Register to) (λ f. (or_parts _ _ (here f)).0) in
       with_value_sound (value_of value args regs) _ (value_fine regs value (λ f. (or_parts _ _ (here f)).1)
       (λ r h e. assigned r h (or_left _ _ e)))
-      (λ v h. run_sound rest (slice_set regs to (Some v)) answers behind (length_next regs to v l)
+      (λ v h. run_sound rest (slice_set regs to (Some v)) answers following (length_next regs to v l)
       (assigned_next (λ r. uses_unset r rest) regs to v l register h (λ r k e. assigned r k (or_right _ _ e))) m all)
   run_sound (way.ask code) regs answers c l assigned m all =
-      let asked = allowed_number (length args) (Code code) c in
-      (asked.0, omega (arith, asked.1))
+      let requested = allowed_number (length args) (Code code) c in
+      (requested.0, omega (arith, requested.1))
   run_sound (way.fork test ys ns) regs answers c l assigned m all =
       let branches = (λ (f : Flaw). (or_parts _ _ (c f)).1) in
       with_test_sound (truth_of test args regs) _ _ (test_known regs test (λ f. (or_parts _ _ (c f)).0)
@@ -254,7 +254,7 @@ module _ (args : List ℤ) (all_values : All IsValue args) where
   run_sound (way.answer value rest) regs answers c l assigned m all =
       with_value_sound (value_of value args regs) _ (value_fine regs value (λ f. (or_parts _ _ (c f)).0)
       (λ r h e. assigned r h (or_left _ _ e)))
-      (λ v h. with_room_sound answers (run args rest regs (answers ++ v ∷ [])) (omega (arith, m))
+      (λ v h. with_capacity_sound answers (run args rest regs (answers ++ v ∷ [])) (omega (arith, m))
       (run_sound rest regs (answers ++ v ∷ []) (λ f. (or_parts _ _ (c f)).1) l (λ r k e. assigned r k (or_right _ _ e))
       (omega (arith, m, length-append answers (v ∷ [])))
       (All-append IsValue answers (v ∷ []) all (All-cons IsValue v [] h (All-nil IsValue)))))

@@ -45,31 +45,31 @@ onto_ahead list a i s rest next h e =
     ap (λ l. onto (block_of l) rest) d ∙ onto_last (take i list) s rest
 
 -- if nothing is left ahead, the paths are those after
-pub onto_none : (list : List Statement) (a : ℕ) (rest behind : Way) → a ≤ 0
-    → onto (block_of list) rest ≡ onto (block_of (take a list)) behind → onto (block_of list) rest ≡ behind
-onto_none list zero rest behind h e = e
-onto_none list (suc a) rest behind h e = absurd (omega arith)
+pub onto_none : (list : List Statement) (a : ℕ) (rest following : Way) → a ≤ 0
+    → onto (block_of list) rest ≡ onto (block_of (take a list)) following → onto (block_of list) rest ≡ following
+onto_none list zero rest following h e = e
+onto_none list (suc a) rest following h e = absurd (omega arith)
 
--- a loop from the last statement back has found the value of the paths along the statements from `ahead` on; `behind`
+-- a loop from the last statement back has found the value of the paths along the statements from `ahead` on; `following`
 -- is the value of what comes after all of them
 abbrev pub IsFound : {A : Type 0} → (Way → A) → List Statement → ℕ → A → A → Type 0
-IsFound value list ahead behind found = (rest : Way) → behind ≡ value rest
+IsFound value list ahead following found = (rest : Way) → following ≡ value rest
     → (after : Way) × ((onto (block_of list) rest ≡ onto (block_of (take ahead list)) after) × (found ≡ value after))
 
-pub found_none : {A : Type 0} (value : Way → A) (list : List Statement) (a : ℕ) (behind : A) → length list ≤ a
-    → IsFound value list a behind behind
-found_none value list a behind all rest e = (rest, (ap (λ l. onto (block_of l) rest) (sym (take_all a list all)), e))
+pub found_none : {A : Type 0} (value : Way → A) (list : List Statement) (a : ℕ) (following : A) → length list ≤ a
+    → IsFound value list a following following
+found_none value list a following all rest e = (rest, (ap (λ l. onto (block_of l) rest) (sym (take_all a list all)), e))
 
-pub found_one : {A : Type 0} (value : Way → A) (list : List Statement) (a i : ℕ) (s : Statement) (behind old new : A) → a ≡ i + 1
-    → i < length list → s ≡ get_or list i s → IsFound value list a behind old
-    → ((rest : Way) → old ≡ value rest → new ≡ value (onto (in_front s empty) rest)) → IsFound value list i behind new
-found_one value list a i s behind old new next within is found step rest e =
+pub found_one : {A : Type 0} (value : Way → A) (list : List Statement) (a i : ℕ) (s : Statement) (following old new : A) → a ≡ i + 1
+    → i < length list → s ≡ get_or list i s → IsFound value list a following old
+    → ((rest : Way) → old ≡ value rest → new ≡ value (onto (in_front s empty) rest)) → IsFound value list i following new
+found_one value list a i s following old new next within is found step rest e =
     let h = found rest e in
     (onto (in_front s empty) h.0, (h.1.0 ∙ onto_ahead list a i s h.0 next within is, step h.0 h.1.1))
 
-pub found_all : {A : Type 0} (value : Way → A) (list : List Statement) (a : ℕ) (behind found : A) → a ≤ 0
-    → IsFound value list a behind found → (rest : Way) → behind ≡ value rest → found ≡ value (onto (block_of list) rest)
-found_all value list a behind found end is rest e =
+pub found_all : {A : Type 0} (value : Way → A) (list : List Statement) (a : ℕ) (following found : A) → a ≤ 0
+    → IsFound value list a following found → (rest : Way) → following ≡ value rest → found ≡ value (onto (block_of list) rest)
+found_all value list a following found end is rest e =
     let h = is rest e in h.1.1 ∙ ap value (sym (onto_none list a rest h.0 end h.1.0))
 
 -- an If is a fork, whose branches continue after it

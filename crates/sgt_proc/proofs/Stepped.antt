@@ -14,10 +14,10 @@ use Rattle.sgt_proc.specs.declared.place.Turn.{Turn}
 use Rattle.sgt_proc.specs.declared.place.Place.{Place}
 use Rattle.sgt_proc.specs.declared.place.Stop.TheVariants as stop
 use Rattle.sgt_proc.specs.Flaws.{size, depth}
-use Rattle.sgt_proc.specs.Paths.{behind, IsIf, branch, IsPath, inner, outer, to_come}
+use Rattle.sgt_proc.specs.Paths.{following, IsIf, branch, IsPath, inner, outer, to_come}
 use Rattle.sgt_proc.specs.Places.{IsIn, reach_from, reached_at, Passes}
 use Rattle.sgt_proc.proofs.Followed.{followed_size, reach_followed}
-use Rattle.sgt_proc.proofs.PathTexts.{before_depth, behind_depth, inner_depth, inner_size, list_size, inner_last, outer_last, path_more, path_less, behind_at, behind_end}
+use Rattle.sgt_proc.proofs.PathTexts.{before_depth, following_depth, inner_depth, inner_size, list_size, inner_last, outer_last, path_more, path_less, following_at, following_end}
 
 both_followed : (a a' b b' : Block) → a ≡ a' → b ≡ b' → followed_by a b ≡ followed_by a' b'
 both_followed a a' b b' e f = ap (λ x. followed_by x b) e ∙ ap (followed_by a') f
@@ -31,7 +31,7 @@ test_is too_far b e = cc
 test_is unknown b e = cc
 
 to_come_branch : (path : List Turn) (t : Turn) (b : Block) (test : CondText) (ys ns rest : Block)
-    → behind t.at (inner path b) ≡ choose test ys ns rest
+    → following t.at (inner path b) ≡ choose test ys ns rest
     → to_come (path ++ t ∷ []) 0 b ≡ followed_by (cond t.held ys ns) (to_come path (t.at + 1) b)
 to_come_branch path t b test ys ns rest e = both_followed _ _ _ _ (inner_last path t b ∙ ap (branch t.held) e) (outer_last path t b)
 
@@ -46,7 +46,7 @@ branch_smaller true ys ns = omega arith
 branch_smaller false ys ns = omega arith
 
 pub if_step : (b : Block) (m m' : Place) (s : Statement) (c : Cond) (ys ns : Vec Statement Global) (held : Bool) → IsIn b m → s ≡ If c ys ns
-    → behind m.at (inner m.path.items b) ≡ in_front s (behind (m.at + 1) (inner m.path.items b)) → m.at < 64
+    → following m.at (inner m.path.items b) ≡ in_front s (following (m.at + 1) (inner m.path.items b)) → m.at < 64
     → truth_of (cond_text c) m.args m.registers ≡ holds held → m'.args ≡ m.args → m'.registers ≡ m.registers → m'.answers ≡ m.answers
     → m'.path.items ≡ m.path.items ++ record { at = m.at; held = held } ∷ [] → m'.at ≡ 0 → Passes b m m'
 if_step b m m' s c ys ns held inside is here few choice args registers answers path at = record {
@@ -73,9 +73,9 @@ if_step b m m' s c ys ns held inside is here few choice args registers answers p
   R : Block
   R = to_come m.path.items (m.at + 1) b
 
-  here_is : behind m.at (inner m.path.items b) ≡ choose (cond_text c) (block_of ys.items) (block_of ns.items)
-      (behind (m.at + 1) (inner m.path.items b))
-  here_is = here ∙ (ap (λ x. in_front x (behind (m.at + 1) (inner m.path.items b))) is ∙ before_if c ys ns _)
+  here_is : following m.at (inner m.path.items b) ≡ choose (cond_text c) (block_of ys.items) (block_of ns.items)
+      (following (m.at + 1) (inner m.path.items b))
+  here_is = here ∙ (ap (λ x. in_front x (following (m.at + 1) (inner m.path.items b))) is ∙ before_if c ys ns _)
 
   come : to_come (m.path.items ++ t ∷ []) 0 b ≡ followed_by (cond held (block_of ys.items) (block_of ns.items)) R
   come = to_come_branch m.path.items t b (cond_text c) (block_of ys.items) (block_of ns.items) _ here_is
@@ -86,7 +86,7 @@ if_step b m m' s c ys ns held inside is here few choice args registers answers p
 -- past an If whose branch is empty
 
 pub if_passed : (b : Block) (m m' : Place) (s : Statement) (c : Cond) (ys ns : Vec Statement Global) (held : Bool) → IsIn b m → s ≡ If c ys ns
-    → behind m.at (inner m.path.items b) ≡ in_front s (behind (m.at + 1) (inner m.path.items b)) → m.at < 64
+    → following m.at (inner m.path.items b) ≡ in_front s (following (m.at + 1) (inner m.path.items b)) → m.at < 64
     → truth_of (cond_text c) m.args m.registers ≡ holds held → cond held (block_of ys.items) (block_of ns.items) ≡ empty → m'.args ≡ m.args
     → m'.registers ≡ m.registers → m'.answers ≡ m.answers → m'.path.items ≡ m.path.items → m'.at ≡ m.at + 1 → Passes b m m'
 if_passed b m m' s c ys ns held inside is here few choice none args registers answers path at = record {
@@ -100,9 +100,9 @@ if_passed b m m' s c ys ns held inside is here few choice none args registers an
   R : Block
   R = to_come m.path.items (m.at + 1) b
 
-  here_is : behind m.at (inner m.path.items b) ≡ choose (cond_text c) (block_of ys.items) (block_of ns.items)
-      (behind (m.at + 1) (inner m.path.items b))
-  here_is = here ∙ (ap (λ x. in_front x (behind (m.at + 1) (inner m.path.items b))) is ∙ before_if c ys ns _)
+  here_is : following m.at (inner m.path.items b) ≡ choose (cond_text c) (block_of ys.items) (block_of ns.items)
+      (following (m.at + 1) (inner m.path.items b))
+  here_is = here ∙ (ap (λ x. in_front x (following (m.at + 1) (inner m.path.items b))) is ∙ before_if c ys ns _)
 
   whole_size : size (to_come m.path.items m.at b) ≡ 1 + (size (block_of ys.items) + size (block_of ns.items)) + size R
   whole_size = ap (λ x. size (followed_by x (outer m.path.items b))) here_is
@@ -110,8 +110,8 @@ if_passed b m m' s c ys ns held inside is here few choice none args registers an
 -- out of a branch
 
 module _ (list : List Statement) (b : Block) (m : Place) (is_list : block_of list ≡ inner m.path.items b) (ended : length list ≤ m.at) where
-  none_here : behind m.at (inner m.path.items b) ≡ empty
-  none_here = ap (behind m.at) (sym is_list) ∙ behind_end list m.at ended
+  none_here : following m.at (inner m.path.items b) ≡ empty
+  none_here = ap (following m.at) (sym is_list) ∙ following_end list m.at ended
 
   pub out_step : (m' : Place) (t : Turn) → IsIn b m → m'.args ≡ m.args → m'.registers ≡ m.registers → m'.answers ≡ m.answers
       → m.path.items ≡ m'.path.items ++ t ∷ [] → m'.at ≡ t.at + 1 → Passes b m m'
@@ -134,21 +134,21 @@ module _ (list : List Statement) (b : Block) (m : Place) (is_list : block_of lis
 
 module _ (list : List Statement) (b : Block) (m : Place) (is_list : block_of list ≡ inner m.path.items b) (s : Statement)
     (within : m.at < length list) (is : s ≡ get_or list m.at s) where
-  pub at_statement : behind m.at (inner m.path.items b) ≡ in_front s (behind (m.at + 1) (inner m.path.items b))
-  at_statement = subst (λ x. behind m.at x ≡ in_front s (behind (m.at + 1) x)) is_list (behind_at list m.at s within is)
+  pub at_statement : following m.at (inner m.path.items b) ≡ in_front s (following (m.at + 1) (inner m.path.items b))
+  at_statement = subst (λ x. following m.at x ≡ in_front s (following (m.at + 1) x)) is_list (following_at list m.at s within is)
 
   pub at_few : size b ≤ 64 → m.at < 64
   at_few small = omega (arith, inner_size m.path.items b, list_size list, ap size is_list)
 
-  pub at_room : IsPath m.path.items b → depth b ≤ 16 → length m.path.items < 16
-  at_room inside shallow =
+  pub at_capacity : IsPath m.path.items b → depth b ≤ 16 → length m.path.items < 16
+  at_capacity inside shallow =
       omega (
         arith,
         inner_depth m.path.items b inside,
-        behind_depth m.at (inner m.path.items b),
+        following_depth m.at (inner m.path.items b),
         ap depth at_statement,
         before_depth s
-            (behind (m.at + 1) (inner m.path.items b)),
+            (following (m.at + 1) (inner m.path.items b)),
       )
 
 pub none_left : (path : List Turn) → (0 < length path → ⊥) → path ≡ []

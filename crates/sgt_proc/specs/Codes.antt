@@ -4,7 +4,7 @@ use Rattle.std.proofs.Common.{refl, inl, inr}
 use Rattle.std.specs.Coded.{Coded, code_by, coded×, coded⊎, coded_ℕ, coded_ℤ, coded_list, coded_option}
 use Rattle.sgt_model.specs.Codes.{coded_procedure, coded_block}
 use Rattle.sgt_model.specs.Syntax.{Block, ProcedureText}
-use Rattle.sgt_model.specs.Left.{Rest, Left, ToRun, ToAsk}
+use Rattle.sgt_model.specs.Left.{Rest, Left, ToRun, ToRaise}
 
 -- the parts of a rest, in order
 abbrev pub coded_rest : Coded Rest
@@ -13,16 +13,16 @@ coded_rest = code_by (Block × (List ℤ × (List (Option ℤ) × List ℤ))) (c
 -- what is left, as one of two
 abbrev pub either_left : Left → Rest ⊎ ℕ
 either_left (ToRun r) = inl r
-either_left (ToAsk code) = inr code
+either_left (ToRaise code) = inr code
 
 -- and back
 abbrev pub left_either : Rest ⊎ ℕ → Left
 left_either (inl r) = ToRun r
-left_either (inr code) = ToAsk code
+left_either (inr code) = ToRaise code
 
 pub left_back : (l : Left) → left_either (either_left l) ≡ l
 left_back (ToRun r) = refl
-left_back (ToAsk code) = refl
+left_back (ToRaise code) = refl
 
 -- what is left
 abbrev pub coded_left : Coded Left

@@ -6,8 +6,8 @@ use Rattle.sgt_proc.specs.Flaws.{uses_unset, most_answers}
 
 -- whether the register is used before it is set, from the same after the statements
 abbrev pub LiveBefore : ℕ → Block → Bool → Bool → Type 0
-LiveBefore r b behind here = (rest : Way) → behind ≡ uses_unset r rest → here ≡ uses_unset r (onto b rest)
+LiveBefore r b following here = (rest : Way) → following ≡ uses_unset r rest → here ≡ uses_unset r (onto b rest)
 
 -- the most answers up to 9, from those after the statements
 abbrev pub AnswersFrom : Block → ℕ → ℕ → Type 0
-AnswersFrom b behind here = (rest : Way) → behind ≡ min 9 (most_answers rest) → here ≡ min 9 (most_answers (onto b rest))
+AnswersFrom b following here = (rest : Way) → following ≡ min 9 (most_answers rest) → here ≡ min 9 (most_answers (onto b rest))

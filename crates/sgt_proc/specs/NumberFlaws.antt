@@ -5,7 +5,7 @@ use Rattle.sgt_proc.specs.declared.flaw.Flaw.TheVariants.{HighRegister, NoArgume
 use Rattle.sgt_proc.specs.declared.numbers.Number.{Number}
 use Rattle.sgt_proc.specs.Flaws.{high_register, no_argument, high_table, bad_code, bad_literal}
 
--- the number has the flaw, in a procedure that takes so many arguments
+-- the number has the flaw, in a procedure that takes this many arguments
 abbrev pub is_bad : Flaw → ℕ → Number → Bool
 is_bad HighRegister args = high_register
 is_bad NoArgument args = no_argument args

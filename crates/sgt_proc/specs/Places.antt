@@ -12,7 +12,7 @@ use Rattle.sgt_proc.specs.declared.place.Stop.TheVariants as stop
 use Rattle.sgt_proc.specs.declared.place.Went.{Went}
 use Rattle.sgt_proc.specs.declared.place.Went.TheVariants.{Stopped, On, Inside}
 use Rattle.sgt_proc.specs.Flaws.{size}
-use Rattle.sgt_proc.specs.Paths.{behind, IsPath, inner, to_come}
+use Rattle.sgt_proc.specs.Paths.{following, IsPath, inner, to_come}
 
 -- a position is in a text
 pub record IsIn (b : Block) (m : Place) : Type 0 where
@@ -23,7 +23,7 @@ pub record IsIn (b : Block) (m : Place) : Type 0 where
 abbrev pub with_found_in : Place → ℕ → ℤ → Place
 with_found_in m r v = record m { registers = slice_set m.registers r (Some v) }
 
--- the rest when so many statements of the innermost list are done
+-- the rest when this many statements of the innermost list are done
 abbrev pub rest_from : Block → Place → ℕ → Rest
 rest_from b m at = record { statements = to_come m.path.items at b; args = m.args; registers = m.registers; answers = m.answers }
 
@@ -82,4 +82,4 @@ GoesOn b old Inside s new = Passes b old new
 
 -- a statement was executed that is the next one of a text
 abbrev pub Steps : Block → Statement → Place → Went → Stop → Place → Type 0
-Steps b s old went stop new = IsIn b old → behind old.at (inner old.path.items b) ≡ in_front s (behind (old.at + 1) (inner old.path.items b)) → GoesOn b old went stop new
+Steps b s old went stop new = IsIn b old → following old.at (inner old.path.items b) ≡ in_front s (following (old.at + 1) (inner old.path.items b)) → GoesOn b old went stop new

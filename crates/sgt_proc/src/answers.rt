@@ -8,12 +8,12 @@ use sgt_model::Statement;
 /// The maximum number of answers of a procedure.
 pub const MOST_ANSWERS: u8 = 8;
 
-/// The most answers on one path, if each path after the statements has `behind` answers. 9 stands for more than 8.
+/// The most answers on one path, if each path after the statements has `following` answers. 9 stands for more than 8.
 #[cycle(answers)]
-pub fn most_answers(statements: &[Statement], behind: u8) -> u8
-    ensures { AnswersFrom (block_of statements.now) behind result }
+pub fn most_answers(statements: &[Statement], following: u8) -> u8
+    ensures { AnswersFrom (block_of statements.now) following result }
 {
-    let mut most = behind;
+    let mut most = following;
     let mut ahead = statements.len();
     while ahead > 0 {
         ahead -= 1;
@@ -23,17 +23,19 @@ pub fn most_answers(statements: &[Statement], behind: u8) -> u8
 }
 
 #[cycle(answers)]
-fn most_answers_from(statement: &Statement, behind: u8) -> u8
-    ensures { AnswersFrom (in_front statement.now empty) behind result }
+fn most_answers_from(statement: &Statement, following: u8) -> u8
+    ensures { AnswersFrom (in_front statement.now empty) following result }
 {
     match statement {
-        Statement::Answer { .. } => behind.min(MOST_ANSWERS) + 1,
+        Statement::Answer { .. } => following.min(MOST_ANSWERS) + 1,
         Statement::Ask { .. } => 0,
-        Statement::If { yes, no, .. } => most_answers(yes, behind).max(most_answers(no, behind)),
+        Statement::If { yes, no, .. } => most_answers(yes, following).max(most_answers(
+            no, following,
+        )),
         Statement::Look { .. }
         | Statement::Find { .. }
         | Statement::Put { .. }
         | Statement::Remove { .. }
-        | Statement::Let { .. } => behind,
+        | Statement::Let { .. } => following,
     }
 }

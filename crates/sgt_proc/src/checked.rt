@@ -2,7 +2,7 @@
 ghost use Rattle.std.specs.Prelude.{◌≡◌, ◌≤◌, ◌<◌, IfOk, OnOk, IfErr};
 ghost use Rattle.sgt_model.specs.ProcedureTexts.{procedure_text};
 ghost use Rattle.sgt_model.specs.Meaning.{run_with};
-ghost use Rattle.sgt_model.specs.Settings.{empty_procedure};
+ghost use Rattle.sgt_model.specs.Configurations.{empty_procedure};
 ghost use Rattle.sgt_model.specs.Traces.{next_at, trace, Used};
 ghost use Rattle.sgt_proc.specs.Nexts.{seen, IsAccess, StoresValue};
 ghost use Rattle.sgt_proc.specs.Flaws.{IsFlawless, IsLeastFlaw};

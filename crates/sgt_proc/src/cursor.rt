@@ -24,22 +24,22 @@ pub struct Cursor {
     stop: Stop,
     // Used in contracts only: the procedure, and the position right after the last access.
     procedure: Snapshot<Checked>,
-    behind: Snapshot<Place>,
+    following: Snapshot<Place>,
 }
 
 impl Model for Cursor {
     ghost use Rattle.sgt_model.specs.Left.{Left};
     ghost use Rattle.sgt_model.specs.Syntax.{ProcedureText};
     ghost use Rattle.sgt_proc.specs.Codes.{coded_cursor};
-    ghost use Rattle.sgt_proc.specs.Cursors.{left_behind, Stands};
+    ghost use Rattle.sgt_proc.specs.Cursors.{left_after, Stands};
 
     ghost Value = { ProcedureText × Left };
 
     ghost coded = { coded_cursor };
 
-    ghost view = { λ c. (c.procedure.value, left_behind c.procedure.value.body c.behind.value c.stop) };
+    ghost view = { λ c. (c.procedure.value, left_after c.procedure.value.body c.following.value c.stop) };
 
-    ghost invariant = { λ c. Stands c.procedure.value.body c.behind.value c.place c.stop };
+    ghost invariant = { λ c. Stands c.procedure.value.body c.following.value c.place c.stop };
 }
 
 impl Cursor {
@@ -91,7 +91,7 @@ impl Cursor {
                     Some(found) => {
                         self.place.at += 1;
                         self.place.set(reg, found);
-                        self.behind = Snapshot::of(&self.place);
+                        self.following = Snapshot::of(&self.place);
                         procedure.advance(&mut self.place, &mut self.stop);
                     }
                     None => self.stop = Stop::Absent(absent),
@@ -100,7 +100,7 @@ impl Cursor {
             Stop::Find { reg, absent, .. } => {
                 self.place.at += 1;
                 self.place.set(reg, found_or(absent, value));
-                self.behind = Snapshot::of(&self.place);
+                self.following = Snapshot::of(&self.place);
                 procedure.advance(&mut self.place, &mut self.stop);
             }
             Stop::Put(..) | Stop::End | Stop::Asks(_) | Stop::Absent(_) => {}
@@ -114,7 +114,7 @@ impl Cursor {
     {
         if let Stop::Put(..) = self.stop {
             self.place.at += 1;
-            self.behind = Snapshot::of(&self.place);
+            self.following = Snapshot::of(&self.place);
             procedure.advance(&mut self.place, &mut self.stop);
         }
     }
@@ -132,14 +132,14 @@ impl Checked {
             path: ArrayVec::new(),
             at: 0,
         };
-        let behind = Snapshot::of(&place);
+        let following = Snapshot::of(&place);
         let mut stop = Stop::End;
         self.advance(&mut place, &mut stop);
         Cursor {
             place,
             stop,
             procedure: Snapshot::of(self),
-            behind,
+            following,
         }
     }
 
@@ -148,7 +148,7 @@ impl Checked {
         ensures { cursor.new ≡ (self.now, left_at_start self.now args.now) }
     {
         cursor.place.restart(args);
-        cursor.behind = Snapshot::of(&cursor.place);
+        cursor.following = Snapshot::of(&cursor.place);
         cursor.procedure = Snapshot::of(self);
         self.advance(&mut cursor.place, &mut cursor.stop);
     }

@@ -24,7 +24,7 @@ pub enum Number {
     Literal(i64),
 }
 
-/// The rule that no number in a text may break: none has this flaw, in a procedure that takes so many arguments.
+/// The rule that no number in a text may break: none has this flaw, in a procedure that takes this many arguments.
 #[derive(Clone, Copy)]
 pub struct Rule {
     pub flaw: Flaw,

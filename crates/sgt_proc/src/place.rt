@@ -8,7 +8,7 @@ ghost use Rattle.sgt_model.specs.Executions.{and_then, in_turn, key_of};
 ghost use Rattle.sgt_model.specs.Left.{number_or_code};
 ghost use Rattle.sgt_proc.specs.declared.place.Went.TheVariants.{Stopped, On};
 ghost use Rattle.sgt_proc.specs.Flaws.{depth, size};
-ghost use Rattle.sgt_proc.specs.Paths.{behind, branch, inner};
+ghost use Rattle.sgt_proc.specs.Paths.{following, branch, inner};
 ghost use Rattle.sgt_proc.specs.Places.{with_found_in, IsIn, Steps, Stops, StopsAtValue};
 
 use crate::answers::MOST_ANSWERS;
@@ -129,7 +129,7 @@ impl Place {
     // Executes the statement there, unless it is an access: then it stops.
     #[inline(always)]
     fn step(&mut self, statement: &Statement, stop: &mut Stop) -> Went
-        requires room { array_vec_len self.old.path < 16 }
+        requires capacity { array_vec_len self.old.path < 16 }
         requires few { self.old.at < 64 }
         ensures steps { (b : Block) → Steps b statement.now self.old result stop.new self.new }
         ensures in_range { result ≡ Stopped → StopsAtValue stop.new }
@@ -275,7 +275,7 @@ fn list_at<'a>(body: &'a [Statement], path: &[Turn]) -> &'a [Statement]
 
 /// The branch of the If at this index of a list; empty if there is no If.
 fn branch_at<'a>(list: &'a [Statement], turn: Turn) -> &'a [Statement]
-    ensures { block_of result.now ≡ branch turn.held (behind turn.at (block_of list.now)) }
+    ensures { block_of result.now ≡ branch turn.held (following turn.at (block_of list.now)) }
 {
     let at = usize::from(turn.at);
     if at < list.len() {

@@ -20,13 +20,13 @@ pub fn uses_unset(body: &[Statement]) -> bool
     false
 }
 
-/// Whether the register is live before the statements: on some path it is used before it is set. `behind` says
+/// Whether the register is live before the statements: on some path it is used before it is set. `following` says
 /// whether it is live after them.
 #[cycle(live)]
-fn is_live(statements: &[Statement], register: u8, behind: bool) -> bool
-    ensures { LiveBefore register (block_of statements.now) behind result }
+fn is_live(statements: &[Statement], register: u8, following: bool) -> bool
+    ensures { LiveBefore register (block_of statements.now) following result }
 {
-    let mut live = behind;
+    let mut live = following;
     let mut ahead = statements.len();
     while ahead > 0 {
         ahead -= 1;
@@ -36,27 +36,29 @@ fn is_live(statements: &[Statement], register: u8, behind: bool) -> bool
 }
 
 #[cycle(live)]
-fn is_live_before(statement: &Statement, register: u8, behind: bool) -> bool
-    ensures { LiveBefore register (in_front statement.now empty) behind result }
+fn is_live_before(statement: &Statement, register: u8, following: bool) -> bool
+    ensures { LiveBefore register (in_front statement.now empty) following result }
 {
     match statement {
-        Statement::Look { reg, id, .. } => uses(id, register) || *reg != register && behind,
+        Statement::Look { reg, id, .. } => uses(id, register) || *reg != register && following,
         Statement::Find {
             reg,
             id,
             absent,
             ..
-        } => uses(id, register) || uses(absent, register) || *reg != register && behind,
-        Statement::Put { id, value, .. } => uses(id, register) || uses(value, register) || behind,
-        Statement::Remove { id, .. } => uses(id, register) || behind,
-        Statement::Let { reg, value } => uses(value, register) || *reg != register && behind,
+        } => uses(id, register) || uses(absent, register) || *reg != register && following,
+        Statement::Put { id, value, .. } => uses(id, register)
+            || uses(value, register)
+            || following,
+        Statement::Remove { id, .. } => uses(id, register) || following,
+        Statement::Let { reg, value } => uses(value, register) || *reg != register && following,
         Statement::Ask { .. } => false,
         Statement::If { cond, yes, no } => {
             cond_uses(cond, register)
-                || is_live(yes, register, behind)
-                || is_live(no, register, behind)
+                || is_live(yes, register, following)
+                || is_live(no, register, following)
         }
-        Statement::Answer { value } => uses(value, register) || behind,
+        Statement::Answer { value } => uses(value, register) || following,
     }
 }
 

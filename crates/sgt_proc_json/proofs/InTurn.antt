@@ -2,24 +2,24 @@
 use Rattle.std.proofs.Common.{◌≡◌, ap, ◌∙◌, Ok, Err, Result}
 use Rattle.std.specs.Prelude.{IfErr}
 use Rattle.sgt_proc_json.specs.Readings.{Reading, two}
-use Rattle.sgt_proc_json.specs.Refusals.{Tells}
+use Rattle.sgt_proc_json.specs.Refusals.{Says}
 use Rattle.sgt_proc_json.specs.declared.errors.ReadError.{ReadError}
 
 -- an error that is passed on reports the same
 pub handed_on : {A B : Type 0} (reading : Reading A) (error : ReadError) (result : Result B ReadError) → result ≡ Err error
-    → Tells reading error → IfErr result (Tells reading)
-handed_on reading error result is told = rw is told
+    → Says reading error → IfErr result (Says reading)
+handed_on reading error result is reported = rw is reported
 
 -- the first part's shape error is that of both
-pub first_tells : {A B C : Type 0} (make : A → B → C) (reading : Reading C) (a : Reading A) (b : Reading B) (error : ReadError)
-    → reading ≡ two make a b → Tells a error → Tells reading error
-first_tells make reading a b error is told place same = is ∙ ap (λ r. two make r b) (told place same)
+pub first_reports : {A B C : Type 0} (make : A → B → C) (reading : Reading C) (a : Reading A) (b : Reading B) (error : ReadError)
+    → reading ≡ two make a b → Says a error → Says reading error
+first_reports make reading a b error is reported place same = is ∙ ap (λ r. two make r b) (reported place same)
 
 -- the second's, if the first is read
-pub second_tells : {A B C : Type 0} (make : A → B → C) (reading : Reading C) (a : Reading A) (b : Reading B) (first : A)
-    (error : ReadError) → reading ≡ two make a b → a ≡ Ok first → Tells b error → Tells reading error
-second_tells make reading a b first error is read told place same = is
-    ∙ (ap (λ r. two make r b) read ∙ ap (λ r. two make (Ok first) r) (told place same))
+pub second_reports : {A B C : Type 0} (make : A → B → C) (reading : Reading C) (a : Reading A) (b : Reading B) (first : A)
+    (error : ReadError) → reading ≡ two make a b → a ≡ Ok first → Says b error → Says reading error
+second_reports make reading a b first error is read reported place same = is
+    ∙ (ap (λ r. two make r b) read ∙ ap (λ r. two make (Ok first) r) (reported place same))
 
 -- both
 pub both_read : {A B C : Type 0} (make : A → B → C) (reading : Reading C) (a : Reading A) (b : Reading B) (first : A) (second : B)

@@ -6,14 +6,14 @@ use Rattle.serde_json.specs.View.{view, items_view}
 use Rattle.serde_json.specs.declared.value.Value.{Value}
 use Rattle.sgt_model.specs.Syntax.{Block, ProcedureText}
 use Rattle.sgt_proc_json.specs.Readings.{Reading, here, at, two, byte, arg_or_reg, arithmetic, expression, block, comparison, condition, one_item, two_items, three_items, four_items, reading}
-use Rattle.sgt_proc_json.specs.Refusals.{Tells}
+use Rattle.sgt_proc_json.specs.Refusals.{Says}
 use Rattle.sgt_proc_json.specs.Rows.{other_row}
 use Rattle.sgt_proc_json.specs.declared.errors.ReadError.{ReadError}
 use Rattle.sgt_proc_json.specs.declared.errors.ReadError.TheVariants.{Shape}
 
 -- a shape error of the tree itself has the empty position
-pub told_here : {A : Type 0} (r : Reading A) (e : ReadError) → e ≡ Shape [] → r ≡ here → Tells r e
-told_here r e is none place e' = none ∙ (cc)
+pub reported_here : {A : Type 0} (r : Reading A) (e : ReadError) → e ≡ Shape [] → r ≡ here → Says r e
+reported_here r e is none place e' = none ∙ (cc)
 
 -- no expression is a list of another length
 pub no_expression : (items : List Value) → length items ≢ 2 → length items ≢ 3 → expression (array (items_view items)) ≡ here
@@ -91,41 +91,41 @@ three_are (x ∷ y ∷ z ∷ []) w a b most least is-w is-a is-b = rw (is-w, is-
 three_are (x ∷ y ∷ z ∷ v ∷ items) w a b most least is-w is-a is-b = absurd (omega arith)
 
 -- a statement of a word and one item
-pub one_behind : (items : List Value) (w a : Value) → 2 ≤ length items → length items < 3 → w ≡ get_or items 0 w → a ≡ get_or items 1 a
+pub one_after : (items : List Value) (w a : Value) → 2 ≤ length items → length items < 3 → w ≡ get_or items 0 w → a ≡ get_or items 1 a
     → other_row (items_view items) ≡ one_item (as_str (view w)) (view a)
-one_behind [] w a most least is-w is-a = absurd (omega arith)
-one_behind (x ∷ []) w a most least is-w is-a = absurd (omega arith)
-one_behind (x ∷ y ∷ []) w a most least is-w is-a = rw (is-w, is-a) refl
-one_behind (x ∷ y ∷ z ∷ items) w a most least is-w is-a = absurd (omega arith)
+one_after [] w a most least is-w is-a = absurd (omega arith)
+one_after (x ∷ []) w a most least is-w is-a = absurd (omega arith)
+one_after (x ∷ y ∷ []) w a most least is-w is-a = rw (is-w, is-a) refl
+one_after (x ∷ y ∷ z ∷ items) w a most least is-w is-a = absurd (omega arith)
 
 -- of two
-pub two_behind : (items : List Value) (w a b : Value) → 3 ≤ length items → length items < 4 → w ≡ get_or items 0 w → a ≡ get_or items 1 a
+pub two_after : (items : List Value) (w a b : Value) → 3 ≤ length items → length items < 4 → w ≡ get_or items 0 w → a ≡ get_or items 1 a
     → b ≡ get_or items 2 b → other_row (items_view items) ≡ two_items (as_str (view w)) (view a) (view b)
-two_behind [] w a b most least is-w is-a is-b = absurd (omega arith)
-two_behind (x ∷ []) w a b most least is-w is-a is-b = absurd (omega arith)
-two_behind (x ∷ y ∷ []) w a b most least is-w is-a is-b = absurd (omega arith)
-two_behind (x ∷ y ∷ z ∷ []) w a b most least is-w is-a is-b = rw (is-w, is-a, is-b) refl
-two_behind (x ∷ y ∷ z ∷ v ∷ items) w a b most least is-w is-a is-b = absurd (omega arith)
+two_after [] w a b most least is-w is-a is-b = absurd (omega arith)
+two_after (x ∷ []) w a b most least is-w is-a is-b = absurd (omega arith)
+two_after (x ∷ y ∷ []) w a b most least is-w is-a is-b = absurd (omega arith)
+two_after (x ∷ y ∷ z ∷ []) w a b most least is-w is-a is-b = rw (is-w, is-a, is-b) refl
+two_after (x ∷ y ∷ z ∷ v ∷ items) w a b most least is-w is-a is-b = absurd (omega arith)
 
 -- of three
-pub three_behind : (items : List Value) (w a b c : Value) → 4 ≤ length items → length items < 5 → w ≡ get_or items 0 w
+pub three_after : (items : List Value) (w a b c : Value) → 4 ≤ length items → length items < 5 → w ≡ get_or items 0 w
     → a ≡ get_or items 1 a → b ≡ get_or items 2 b → c ≡ get_or items 3 c
     → other_row (items_view items) ≡ three_items (as_str (view w)) (view a) (view b) (view c)
-three_behind [] w a b c most least is-w is-a is-b is-c = absurd (omega arith)
-three_behind (x ∷ []) w a b c most least is-w is-a is-b is-c = absurd (omega arith)
-three_behind (x ∷ y ∷ []) w a b c most least is-w is-a is-b is-c = absurd (omega arith)
-three_behind (x ∷ y ∷ z ∷ []) w a b c most least is-w is-a is-b is-c = absurd (omega arith)
-three_behind (x ∷ y ∷ z ∷ v ∷ []) w a b c most least is-w is-a is-b is-c = rw (is-w, is-a, is-b, is-c) refl
-three_behind (x ∷ y ∷ z ∷ v ∷ u ∷ items) w a b c most least is-w is-a is-b is-c = absurd (omega arith)
+three_after [] w a b c most least is-w is-a is-b is-c = absurd (omega arith)
+three_after (x ∷ []) w a b c most least is-w is-a is-b is-c = absurd (omega arith)
+three_after (x ∷ y ∷ []) w a b c most least is-w is-a is-b is-c = absurd (omega arith)
+three_after (x ∷ y ∷ z ∷ []) w a b c most least is-w is-a is-b is-c = absurd (omega arith)
+three_after (x ∷ y ∷ z ∷ v ∷ []) w a b c most least is-w is-a is-b is-c = rw (is-w, is-a, is-b, is-c) refl
+three_after (x ∷ y ∷ z ∷ v ∷ u ∷ items) w a b c most least is-w is-a is-b is-c = absurd (omega arith)
 
 -- of four
-pub four_behind : (items : List Value) (w a b c d : Value) → 5 ≤ length items → length items < 6 → w ≡ get_or items 0 w
+pub four_after : (items : List Value) (w a b c d : Value) → 5 ≤ length items → length items < 6 → w ≡ get_or items 0 w
     → a ≡ get_or items 1 a → b ≡ get_or items 2 b → c ≡ get_or items 3 c → d ≡ get_or items 4 d
     → other_row (items_view items) ≡ four_items (as_str (view w)) (view a) (view b) (view c) (view d)
-four_behind [] w a b c d most least is-w is-a is-b is-c is-d = absurd (omega arith)
-four_behind (x ∷ []) w a b c d most least is-w is-a is-b is-c is-d = absurd (omega arith)
-four_behind (x ∷ y ∷ []) w a b c d most least is-w is-a is-b is-c is-d = absurd (omega arith)
-four_behind (x ∷ y ∷ z ∷ []) w a b c d most least is-w is-a is-b is-c is-d = absurd (omega arith)
-four_behind (x ∷ y ∷ z ∷ v ∷ []) w a b c d most least is-w is-a is-b is-c is-d = absurd (omega arith)
-four_behind (x ∷ y ∷ z ∷ v ∷ u ∷ []) w a b c d most least is-w is-a is-b is-c is-d = rw (is-w, is-a, is-b, is-c, is-d) refl
-four_behind (x ∷ y ∷ z ∷ v ∷ u ∷ t ∷ items) w a b c d most least is-w is-a is-b is-c is-d = absurd (omega arith)
+four_after [] w a b c d most least is-w is-a is-b is-c is-d = absurd (omega arith)
+four_after (x ∷ []) w a b c d most least is-w is-a is-b is-c is-d = absurd (omega arith)
+four_after (x ∷ y ∷ []) w a b c d most least is-w is-a is-b is-c is-d = absurd (omega arith)
+four_after (x ∷ y ∷ z ∷ []) w a b c d most least is-w is-a is-b is-c is-d = absurd (omega arith)
+four_after (x ∷ y ∷ z ∷ v ∷ []) w a b c d most least is-w is-a is-b is-c is-d = absurd (omega arith)
+four_after (x ∷ y ∷ z ∷ v ∷ u ∷ []) w a b c d most least is-w is-a is-b is-c is-d = rw (is-w, is-a, is-b, is-c, is-d) refl
+four_after (x ∷ y ∷ z ∷ v ∷ u ∷ t ∷ items) w a b c d most least is-w is-a is-b is-c is-d = absurd (omega arith)

@@ -6,7 +6,7 @@ use Rattle.sgt_model.specs.declared.procedure.Procedure.{Procedure}
 use Rattle.sgt_model.specs.ProcedureTexts.{procedure_text}
 use Rattle.sgt_proc_json.specs.Spelling.{Spells, SpellsNone}
 use Rattle.sgt_proc_json.specs.Readings.{reading}
-use Rattle.sgt_proc_json.specs.Refusals.{Tells}
+use Rattle.sgt_proc_json.specs.Refusals.{Says}
 use Rattle.sgt_proc_json.specs.declared.errors.ReadError.{ReadError}
 use Rattle.sgt_proc_json.specs.declared.errors.ReadError.TheVariants.{Shape, NoMemory}
 use Rattle.sgt_proc_json.proofs.SpelledIsRead.{read_spelled}
@@ -19,11 +19,11 @@ read_is_spelled d (Ok p) is = spelled_read (procedure_text p) d is
 read_is_spelled d (Err error) is = tt
 
 -- a tree with a shape error spells none
-none_spelled : (d : Data) (error : ReadError) → Tells (reading d) error → error ≢ NoMemory → SpellsNone d
-none_spelled d (Shape place) told other p is = let both : Ok p ≡ Err place = sym (read_spelled p d is) ∙ told place refl in absurd (cc)
-none_spelled d NoMemory told other p is = absurd (other refl)
+none_spelled : (d : Data) (error : ReadError) → Says (reading d) error → error ≢ NoMemory → SpellsNone d
+none_spelled d (Shape place) reported other p is = let both : Ok p ≡ Err place = sym (read_spelled p d is) ∙ reported place refl in absurd (cc)
+none_spelled d NoMemory reported other p is = absurd (other refl)
 
-pub refused_spells_none : (d : Data) (r : Result Procedure ReadError) → IfErr r (Tells (reading d))
+pub refused_spells_none : (d : Data) (r : Result Procedure ReadError) → IfErr r (Says (reading d))
     → IfErr r (λ error. error ≢ NoMemory → SpellsNone d)
-refused_spells_none d (Ok p) told = tt
-refused_spells_none d (Err error) told = none_spelled d error told
+refused_spells_none d (Ok p) reported = tt
+refused_spells_none d (Err error) reported = none_spelled d error reported

@@ -5,7 +5,7 @@ use Rattle.serde_json.specs.declared.value.Value.{Value}
 use Rattle.sgt_model.specs.declared.procedure.Statement.{Statement}
 use Rattle.sgt_model.specs.Syntax.{Block, empty}
 use Rattle.sgt_model.specs.ProcedureTexts.{in_front, block_of}
-use Rattle.sgt_proc_json.specs.Refusals.{Tells}
+use Rattle.sgt_proc_json.specs.Refusals.{Says}
 use Rattle.sgt_proc_json.specs.declared.errors.ReadError.{ReadError}
 use Rattle.sgt_proc_json.specs.Readings.{Reading, at, one, two, statement, statements}
 
@@ -45,10 +45,10 @@ one_more items i v list s r so h e read =
 -- the next is none
 pub one_refused : (items : List Value) (i : ℕ) (v : Value) (list : List Statement) (error : ReadError) (r : Reading Block)
     → r ≡ one (onto_block list) (statements i (items_view (drop i items))) → i < length items → v ≡ get_or items i v
-    → Tells (at i (statement (view v))) error → Tells r error
-one_refused items i v list error r so h e told place same =
+    → Says (at i (statement (view v))) error → Says r error
+one_refused items i v list error r so h e reported place same =
     so ∙ ap (one (onto_block list)) (items_next items i v h e
-    ∙ ap (λ f. two (λ first rest. first rest) f (statements (i + 1) (items_view (drop (i + 1) items)))) (told place same))
+    ∙ ap (λ f. two (λ first rest. first rest) f (statements (i + 1) (items_view (drop (i + 1) items)))) (reported place same))
 
 -- in front of none
 pub onto_all : (list : List Statement) → onto_block list empty ≡ block_of list

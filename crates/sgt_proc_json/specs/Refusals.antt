@@ -7,8 +7,8 @@ use Rattle.sgt_proc_json.specs.declared.errors.ReadError.{ReadError}
 use Rattle.sgt_proc_json.specs.declared.errors.ReadError.TheVariants.{Shape, NoMemory}
 
 -- the error reports the position of the first shape error, or that an allocation failed
-abbrev pub Tells : {A : Type 0} → Reading A → ReadError → Type 0
-Tells reading error = (place : List ℕ) → error ≡ Shape place → reading ≡ Err place
+abbrev pub Says : {A : Type 0} → Reading A → ReadError → Type 0
+Says reading error = (place : List ℕ) → error ≡ Shape place → reading ≡ Err place
 
 -- the same error, seen from the list that has the item at this index
 abbrev pub error_under : ℕ → ReadError → ReadError

@@ -7,7 +7,7 @@ use Rattle.serde_json.specs.Find.{as_i64, as_number}
 abbrev pub whole : Data → Option ℤ
 whole tree = option_and_then as_i64 (as_number tree)
 
--- a whole number of so many bits, without a sign
+-- a whole number of this many bits, without a sign
 abbrev pub natural : ℕ → ℤ → Option ℕ
 natural bits (pos n) = cond (nat_lt n (2 ^ bits)) (Some n) None
 natural bits (negsuc n) = None

@@ -58,10 +58,10 @@ impl fmt::Display for Place {
         if self.as_slice().is_empty() {
             return f.write_str("top");
         }
-        let mut blank = "";
+        let mut separator = "";
         for position in self.as_slice() {
-            write!(f, "{blank}{position}")?;
-            blank = " ";
+            write!(f, "{separator}{position}")?;
+            separator = " ";
         }
         Ok(())
     }

@@ -7,7 +7,7 @@ ghost use Rattle.sgt_model.specs.ProcedureTexts.{expr_text, cond_text};
 ghost use Rattle.sgt_model.specs.Syntax.{ExprText};
 ghost use Rattle.sgt_proc_json.specs.Operations.{tested};
 ghost use Rattle.sgt_proc_json.specs.Readings.{Reading, at, here, two, expression, comparison, condition};
-ghost use Rattle.sgt_proc_json.specs.Refusals.{Tells};
+ghost use Rattle.sgt_proc_json.specs.Refusals.{Says};
 ghost use Rattle.sgt_proc_json.specs.declared.errors.ReadError.TheVariants.{NoMemory};
 
 use crate::errors::ReadError;
@@ -40,7 +40,7 @@ impl Relation {
 /// The condition that the item at this position of a list spells.
 pub(crate) fn cond_at(alloc: Global, position: u64, tree: &Value) -> Result<Cond, ReadError>
     ensures ok { IfOk result (λ c. at position (condition (view tree.now)) ≡ Ok (cond_text c)) }
-    ensures err { IfErr result (Tells (at position (condition (view tree.now)))) }
+    ensures err { IfErr result (Says (at position (condition (view tree.now)))) }
 {
     let cond = match tree {
         Value::Array(items) => read_row(alloc, items.as_slice()),
@@ -55,7 +55,7 @@ pub(crate) fn cond_at(alloc: Global, position: u64, tree: &Value) -> Result<Cond
 /// The condition that a list of these items spells.
 fn read_row(alloc: Global, items: &[Value]) -> Result<Cond, ReadError>
     ensures ok { IfOk result (λ c. condition (array (items_view items.now)) ≡ Ok (cond_text c)) }
-    ensures err { IfErr result (Tells (condition (array (items_view items.now)))) }
+    ensures err { IfErr result (Says (condition (array (items_view items.now)))) }
     ensures memory { IfErr result (λ error. error ≡ NoMemory → length items.now ≡ 3) }
 {
     match items {
@@ -69,7 +69,7 @@ fn comparison(alloc: Global, word: &Value, a: &Value, b: &Value) -> Result<Cond,
     ensures ok { IfOk result (λ c.
         comparison (as_str (view word.now)) (at 1 (expression (view a.now))) (at 2 (expression (view b.now)))
         ≡ Ok (cond_text c)) }
-    ensures err { IfErr result (Tells
+    ensures err { IfErr result (Says
         (comparison (as_str (view word.now)) (at 1 (expression (view a.now))) (at 2 (expression (view b.now))))) }
 {
     match relation_named(word) {

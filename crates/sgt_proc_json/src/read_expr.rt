@@ -7,7 +7,7 @@ ghost use Rattle.sgt_model.specs.ProcedureTexts.{expr_text};
 ghost use Rattle.sgt_model.specs.Syntax.{ExprText};
 ghost use Rattle.sgt_proc_json.specs.Operations.{operated};
 ghost use Rattle.sgt_proc_json.specs.Readings.{Reading, at, byte, here, two, arg_or_reg, arithmetic, expression};
-ghost use Rattle.sgt_proc_json.specs.Refusals.{Tells};
+ghost use Rattle.sgt_proc_json.specs.Refusals.{Says};
 ghost use Rattle.sgt_proc_json.specs.declared.errors.ReadError.TheVariants.{NoMemory};
 
 use crate::errors::ReadError;
@@ -58,7 +58,7 @@ fn operation_named(word: &Value) -> Option<Operation>
 #[cycle(expression)]
 fn read_expr(alloc: Global, tree: &Value) -> Result<Expr, ReadError>
     ensures ok { IfOk result (λ e. expression (view tree.now) ≡ Ok (expr_text e)) }
-    ensures err { IfErr result (Tells (expression (view tree.now))) }
+    ensures err { IfErr result (Says (expression (view tree.now))) }
 {
     match tree {
         Value::Array(items) => read_row(alloc, items.as_slice()),
@@ -73,7 +73,7 @@ fn read_expr(alloc: Global, tree: &Value) -> Result<Expr, ReadError>
 #[cycle(expression)]
 fn read_row(alloc: Global, items: &[Value]) -> Result<Expr, ReadError>
     ensures ok { IfOk result (λ e. expression (array (items_view items.now)) ≡ Ok (expr_text e)) }
-    ensures err { IfErr result (Tells (expression (array (items_view items.now)))) }
+    ensures err { IfErr result (Says (expression (array (items_view items.now)))) }
     ensures memory { IfErr result (λ error. error ≡ NoMemory → length items.now ≡ 3) }
 {
     match items {
@@ -95,7 +95,7 @@ fn arg_or_reg(word: &Value, n: &Value) -> Result<Expr, ReadError>
     ensures ok { IfOk result (λ e.
         arg_or_reg (as_str (view word.now)) (at 1 (byte (view n.now))) ≡ Ok (expr_text e)) }
     ensures err { IfErr result
-        (Tells (arg_or_reg (as_str (view word.now)) (at 1 (byte (view n.now))))) }
+        (Says (arg_or_reg (as_str (view word.now)) (at 1 (byte (view n.now))))) }
     ensures exact { IfErr result (λ error. error ≢ NoMemory) }
 {
     match word.as_str() {
@@ -109,7 +109,7 @@ fn arg_or_reg(word: &Value, n: &Value) -> Result<Expr, ReadError>
 #[cycle(expression)]
 pub(crate) fn expr_at(alloc: Global, position: u64, tree: &Value) -> Result<Expr, ReadError>
     ensures ok { IfOk result (λ e. at position (expression (view tree.now)) ≡ Ok (expr_text e)) }
-    ensures err { IfErr result (Tells (at position (expression (view tree.now)))) }
+    ensures err { IfErr result (Says (at position (expression (view tree.now)))) }
 {
     match read_expr(alloc, tree) {
         Ok(expr) => Ok(expr),
@@ -121,7 +121,7 @@ pub(crate) fn expr_at(alloc: Global, position: u64, tree: &Value) -> Result<Expr
 #[cycle(expression)]
 fn boxed_at(alloc: Global, position: u64, tree: &Value) -> Result<Box<Expr>, ReadError>
     ensures ok { IfOk result (λ e. at position (expression (view tree.now)) ≡ Ok (expr_text e.value)) }
-    ensures err { IfErr result (Tells (at position (expression (view tree.now)))) }
+    ensures err { IfErr result (Says (at position (expression (view tree.now)))) }
 {
     Ok(Box::new(alloc, expr_at(alloc, position, tree)?)?)
 }

@@ -5,7 +5,7 @@ ghost use Rattle.serde_json.specs.Find.{as_str};
 ghost use Rattle.serde_json.specs.View.{view, items_view};
 ghost use Rattle.sgt_model.specs.ProcedureTexts.{in_front, block_of};
 ghost use Rattle.sgt_proc_json.specs.Readings.{at, is_word, statement, block, one_item, two_items, three_items, four_items};
-ghost use Rattle.sgt_proc_json.specs.Refusals.{Tells, IsList};
+ghost use Rattle.sgt_proc_json.specs.Refusals.{Says, IsList};
 ghost use Rattle.sgt_proc_json.specs.declared.errors.ReadError.TheVariants.{NoMemory};
 ghost use Rattle.sgt_proc_json.specs.Rows.{is_if, if_row, branches, other_row, ask_of, answer_of, let_of, remove_of, put_of, look_of, find_of};
 
@@ -21,7 +21,7 @@ use std::alloc::Global;
 #[cycle(statement)]
 fn statement_at(alloc: Global, position: u64, tree: &Value) -> Result<Statement, ReadError>
     ensures ok { IfOk result (λ s. at position (statement (view tree.now)) ≡ Ok (in_front s)) }
-    ensures err { IfErr result (Tells (at position (statement (view tree.now)))) }
+    ensures err { IfErr result (Says (at position (statement (view tree.now)))) }
 {
     let statement = match tree {
         Value::Array(items) => read_row(alloc, items.as_slice()),
@@ -37,7 +37,7 @@ fn statement_at(alloc: Global, position: u64, tree: &Value) -> Result<Statement,
 #[cycle(statement)]
 fn read_row(alloc: Global, items: &[Value]) -> Result<Statement, ReadError>
     ensures ok { IfOk result (λ s. statement (array (items_view items.now)) ≡ Ok (in_front s)) }
-    ensures err { IfErr result (Tells (statement (array (items_view items.now)))) }
+    ensures err { IfErr result (Says (statement (array (items_view items.now)))) }
 {
     if is_if(items) {
         return if_row(alloc, items);
@@ -66,7 +66,7 @@ fn is_word_if(word: &Value) -> bool
 #[cycle(statement)]
 fn if_row(alloc: Global, items: &[Value]) -> Result<Statement, ReadError>
     ensures ok { IfOk result (λ s. if_row (items_view items.now) ≡ Ok (in_front s)) }
-    ensures err { IfErr result (Tells (if_row (items_view items.now))) }
+    ensures err { IfErr result (Says (if_row (items_view items.now))) }
 {
     match items {
         [_, cond, _, _] => {
@@ -82,7 +82,7 @@ fn if_row(alloc: Global, items: &[Value]) -> Result<Statement, ReadError>
 #[cycle(statement)]
 fn branches(alloc: Global, items: &[Value]) -> Result<(Vec<Statement>, Vec<Statement>), ReadError>
     ensures ok { IfOk result (λ found. branches (items_view items.now) ≡ Ok (block_of found.0.items, block_of found.1.items)) }
-    ensures err { IfErr result (Tells (branches (items_view items.now))) }
+    ensures err { IfErr result (Says (branches (items_view items.now))) }
 {
     match items {
         [_, _, yes, no] => {
@@ -97,7 +97,7 @@ fn branches(alloc: Global, items: &[Value]) -> Result<(Vec<Statement>, Vec<State
 /// The statement that a list of these items spells, if it has no blocks.
 fn other_row(alloc: Global, items: &[Value]) -> Result<Statement, ReadError>
     ensures ok { IfOk result (λ s. other_row (items_view items.now) ≡ Ok (in_front s)) }
-    ensures err { IfErr result (Tells (other_row (items_view items.now))) }
+    ensures err { IfErr result (Says (other_row (items_view items.now))) }
     ensures memory { IfErr result (λ error. error ≡ NoMemory → (2 ≤ length items.now) × (length items.now ≤ 5)) }
 {
     match items {
@@ -113,7 +113,7 @@ fn other_row(alloc: Global, items: &[Value]) -> Result<Statement, ReadError>
 fn one_item(alloc: Global, word: &Value, a: &Value) -> Result<Statement, ReadError>
     ensures ok { IfOk result (λ s.
         one_item (as_str (view word.now)) (view a.now) ≡ Ok (in_front s)) }
-    ensures err { IfErr result (Tells (one_item (as_str (view word.now)) (view a.now))) }
+    ensures err { IfErr result (Says (one_item (as_str (view word.now)) (view a.now))) }
 {
     match word.as_str() {
         Some("ask") => ask_of(a),
@@ -127,7 +127,7 @@ fn two_items(alloc: Global, word: &Value, a: &Value, b: &Value) -> Result<Statem
     ensures ok { IfOk result (λ s.
         two_items (as_str (view word.now)) (view a.now) (view b.now) ≡ Ok (in_front s)) }
     ensures err { IfErr result
-        (Tells (two_items (as_str (view word.now)) (view a.now) (view b.now))) }
+        (Says (two_items (as_str (view word.now)) (view a.now) (view b.now))) }
 {
     match word.as_str() {
         Some("let") => let_of(alloc, a, b),
@@ -147,7 +147,7 @@ fn three_items(
     ensures ok { IfOk result (λ s.
         three_items (as_str (view word.now)) (view a.now) (view b.now) (view c.now)
         ≡ Ok (in_front s)) }
-    ensures err { IfErr result (Tells
+    ensures err { IfErr result (Says
         (three_items (as_str (view word.now)) (view a.now) (view b.now) (view c.now))) }
 {
     match word.as_str() {
@@ -168,7 +168,7 @@ fn four_items(
     ensures ok { IfOk result (λ s.
         four_items (as_str (view word.now)) (view a.now) (view b.now) (view c.now) (view d.now)
         ≡ Ok (in_front s)) }
-    ensures err { IfErr result (Tells
+    ensures err { IfErr result (Says
         (four_items (as_str (view word.now)) (view a.now) (view b.now) (view c.now) (view d.now))) }
 {
     match word.as_str() {
@@ -181,7 +181,7 @@ fn four_items(
 /// The Ask that this item spells.
 fn ask_of(a: &Value) -> Result<Statement, ReadError>
     ensures ok { IfOk result (λ s. ask_of (view a.now) ≡ Ok (in_front s)) }
-    ensures err { IfErr result (Tells (ask_of (view a.now))) }
+    ensures err { IfErr result (Says (ask_of (view a.now))) }
     ensures exact { IfErr result (λ error. error ≢ NoMemory) }
 {
     Ok(Statement::Ask {
@@ -192,7 +192,7 @@ fn ask_of(a: &Value) -> Result<Statement, ReadError>
 /// The Answer that this item spells.
 fn answer_of(alloc: Global, a: &Value) -> Result<Statement, ReadError>
     ensures ok { IfOk result (λ s. answer_of (view a.now) ≡ Ok (in_front s)) }
-    ensures err { IfErr result (Tells (answer_of (view a.now))) }
+    ensures err { IfErr result (Says (answer_of (view a.now))) }
 {
     Ok(Statement::Answer {
         value: expr_at(alloc, 1, a)?,
@@ -202,7 +202,7 @@ fn answer_of(alloc: Global, a: &Value) -> Result<Statement, ReadError>
 /// The Let that these items spell.
 fn let_of(alloc: Global, a: &Value, b: &Value) -> Result<Statement, ReadError>
     ensures ok { IfOk result (λ s. let_of (view a.now) (view b.now) ≡ Ok (in_front s)) }
-    ensures err { IfErr result (Tells (let_of (view a.now) (view b.now))) }
+    ensures err { IfErr result (Says (let_of (view a.now) (view b.now))) }
 {
     Ok(Statement::Let {
         reg: byte_at(1, a)?,
@@ -213,7 +213,7 @@ fn let_of(alloc: Global, a: &Value, b: &Value) -> Result<Statement, ReadError>
 /// The Remove that these items spell.
 fn remove_of(alloc: Global, a: &Value, b: &Value) -> Result<Statement, ReadError>
     ensures ok { IfOk result (λ s. remove_of (view a.now) (view b.now) ≡ Ok (in_front s)) }
-    ensures err { IfErr result (Tells (remove_of (view a.now) (view b.now))) }
+    ensures err { IfErr result (Says (remove_of (view a.now) (view b.now))) }
 {
     Ok(Statement::Remove {
         table: byte_at(1, a)?,
@@ -224,7 +224,7 @@ fn remove_of(alloc: Global, a: &Value, b: &Value) -> Result<Statement, ReadError
 /// The Put that these items spell.
 fn put_of(alloc: Global, a: &Value, b: &Value, c: &Value) -> Result<Statement, ReadError>
     ensures ok { IfOk result (λ s. put_of (view a.now) (view b.now) (view c.now) ≡ Ok (in_front s)) }
-    ensures err { IfErr result (Tells (put_of (view a.now) (view b.now) (view c.now))) }
+    ensures err { IfErr result (Says (put_of (view a.now) (view b.now) (view c.now))) }
 {
     Ok(Statement::Put {
         table: byte_at(1, a)?,
@@ -242,7 +242,7 @@ fn look_of(
     d: &Value,
 ) -> Result<Statement, ReadError>
     ensures ok { IfOk result (λ s. look_of (view a.now) (view b.now) (view c.now) (view d.now) ≡ Ok (in_front s)) }
-    ensures err { IfErr result (Tells (look_of (view a.now) (view b.now) (view c.now) (view d.now))) }
+    ensures err { IfErr result (Says (look_of (view a.now) (view b.now) (view c.now) (view d.now))) }
 {
     Ok(Statement::Look {
         reg: byte_at(1, a)?,
@@ -261,7 +261,7 @@ fn find_of(
     d: &Value,
 ) -> Result<Statement, ReadError>
     ensures ok { IfOk result (λ s. find_of (view a.now) (view b.now) (view c.now) (view d.now) ≡ Ok (in_front s)) }
-    ensures err { IfErr result (Tells (find_of (view a.now) (view b.now) (view c.now) (view d.now))) }
+    ensures err { IfErr result (Says (find_of (view a.now) (view b.now) (view c.now) (view d.now))) }
 {
     Ok(Statement::Find {
         reg: byte_at(1, a)?,
@@ -279,7 +279,7 @@ pub(crate) fn block_at(
     tree: &Value,
 ) -> Result<Vec<Statement>, ReadError>
     ensures ok { IfOk result (λ list. at position (block (view tree.now)) ≡ Ok (block_of list.items)) }
-    ensures err { IfErr result (Tells (at position (block (view tree.now)))) }
+    ensures err { IfErr result (Says (at position (block (view tree.now)))) }
     ensures memory { IfErr result (λ error. error ≡ NoMemory → IsList (view tree.now)) }
 {
     let list = match tree {
@@ -296,7 +296,7 @@ pub(crate) fn block_at(
 #[cycle(statement)]
 fn read_statements(alloc: Global, items: &[Value]) -> Result<Vec<Statement>, ReadError>
     ensures ok { IfOk result (λ list. block (array (items_view items.now)) ≡ Ok (block_of list.items)) }
-    ensures err { IfErr result (Tells (block (array (items_view items.now)))) }
+    ensures err { IfErr result (Says (block (array (items_view items.now)))) }
 {
     let mut list = Vec::with_capacity(alloc, items.len())?;
     for (position, item) in items.iter().enumerate() {

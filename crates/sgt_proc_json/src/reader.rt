@@ -5,7 +5,7 @@ ghost use Rattle.serde_json.specs.View.{view, items_view};
 ghost use Rattle.sgt_model.specs.ProcedureTexts.{procedure_text};
 ghost use Rattle.sgt_proc_json.specs.Spelling.{Spells, SpellsNone};
 ghost use Rattle.sgt_proc_json.specs.Readings.{reading};
-ghost use Rattle.sgt_proc_json.specs.Refusals.{Tells, HasBody};
+ghost use Rattle.sgt_proc_json.specs.Refusals.{Says, HasBody};
 ghost use Rattle.sgt_proc_json.specs.declared.errors.ReadError.TheVariants.{NoMemory};
 
 use crate::errors::ReadError;
@@ -27,7 +27,7 @@ use std::alloc::Global;
 pub fn read(alloc: Global, tree: &Value) -> Result<Procedure, ReadError>
     ensures spells { IfOk result (λ p. Spells (procedure_text p) (view tree.now)) }
     ensures procedure { IfOk result (λ p. reading (view tree.now) ≡ Ok (procedure_text p)) }
-    ensures shape { IfErr result (Tells (reading (view tree.now))) }
+    ensures shape { IfErr result (Says (reading (view tree.now))) }
     ensures none { IfErr result (λ error. error ≢ NoMemory → SpellsNone (view tree.now)) }
     ensures memory { IfErr result (λ error. error ≡ NoMemory → HasBody (view tree.now)) }
 {
@@ -37,7 +37,7 @@ pub fn read(alloc: Global, tree: &Value) -> Result<Procedure, ReadError>
 /// The procedure that a tree spells.
 fn read_tree(alloc: Global, tree: &Value) -> Result<Procedure, ReadError>
     ensures procedure { IfOk result (λ p. reading (view tree.now) ≡ Ok (procedure_text p)) }
-    ensures shape { IfErr result (Tells (reading (view tree.now))) }
+    ensures shape { IfErr result (Says (reading (view tree.now))) }
     ensures memory { IfErr result (λ error. error ≡ NoMemory → HasBody (view tree.now)) }
 {
     match tree {
@@ -50,7 +50,7 @@ fn read_tree(alloc: Global, tree: &Value) -> Result<Procedure, ReadError>
 fn read_items(alloc: Global, items: &[Value]) -> Result<Procedure, ReadError>
     ensures procedure { IfOk result
         (λ p. reading (array (items_view items.now)) ≡ Ok (procedure_text p)) }
-    ensures shape { IfErr result (Tells (reading (array (items_view items.now)))) }
+    ensures shape { IfErr result (Says (reading (array (items_view items.now)))) }
     ensures memory { IfErr result (λ error. error ≡ NoMemory → HasBody (array (items_view items.now))) }
 {
     match items {

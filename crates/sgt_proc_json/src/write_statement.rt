@@ -46,7 +46,7 @@ fn write_statement(alloc: Global, statement: &Statement) -> Result<Value, NoMemo
     }
 }
 
-/// The tree of a look.
+/// The tree of a read (`Look`).
 fn write_look(alloc: Global, reg: u8, table: u8, id: &Expr, absent: u16) -> Result<Value, NoMemory>
     ensures { IfOk result (λ v. WordAnd (codes "look")
         (Byte reg ∷ Byte table ∷ SpellsTerm (expr_text id.now) ∷ Short absent ∷ []) (view v)) }

@@ -1,4 +1,4 @@
--- The only live transaction is hindered by nobody.
+-- No other transaction hinders the only live one.
 use Rattle.std.specs.Prelude.{◌≡◌, ℕ, ◌<◌, ◌≤◌, ◌+◌, ℤ, Bool, true, false, cond, ◌⊎◌, nat_eq, List, [], ◌∷◌, ◌++◌, length, Some, None}
 use Rattle.std.proofs.Common.{refl, sym, ap, ap₂, ◌∙◌, subst, inl, inr, arith}
 use Rattle.std.proofs.lemmas.Bool.{both_ways, cases_lt, eq-eqb}
@@ -21,11 +21,11 @@ use Rattle.sgt_model.specs.declared.kind.Kind.TheVariants.{Look, Store}
 use Rattle.sgt_model.specs.Traces.{Next, Looks, Puts, Ends, Raises}
 use Rattle.sgt_model.specs.Progress.{requested, is_fit, next_of}
 use Rattle.sgt_progress.proofs.Moves.{of_live}
-use Rattle.sgt_model.specs.Walks.{PathOf}
+use Rattle.sgt_model.specs.Paths.{PathOf}
 use Rattle.sgt_model.specs.Fates.{is_start, concerns, subject, start_count, fate_of, live, ending_in}
 use Rattle.sgt_model.specs.Pairs.{Pair}
 use Rattle.sgt_model.specs.Closes.{Closes}
-use Rattle.sgt_model.specs.Settings.{Setting}
+use Rattle.sgt_model.specs.Configurations.{Configuration}
 use Rattle.sgt_model.specs.Aborts.{CauseHolds}
 use Rattle.sgt_model.specs.Legality.{CycleAbortReply, Makes, StepReply, OfFit, RequestReply, CommitReply, RaisedStep, RaisedCommit, LegalReply, Legal, HasNoLivePredecessor}
 use Rattle.sgt_model.proofs.Effects.{Effect, idle, begins, accesses, commits, undoes, refuses, effect, ends_none-no_end}
@@ -35,12 +35,12 @@ use Rattle.sgt_model.proofs.Questions.{started_are_live}
 use Rattle.sgt_progress.specs.Alone.{IsAlone, IsNoQuitOf, AreNoQuitsOf, is_hindered, AloneIsNotAborted, IsByItself, AloneEndsByItself, StartedAlone}
 
 -- no edge leads from it
-pub no_pair_out : (s : Setting) (past : List Entry) → Legal s past → (t : ℕ) → IsAlone past t → (u : ℕ) → Pair past t u → ⊥
+pub no_pair_out : (s : Configuration) (past : List Entry) → Legal s past → (t : ℕ) → IsAlone past t → (u : ℕ) → Pair past t u → ⊥
 no_pair_out s past legal t alone u p = no_pair_from_live s past legal t u alone.is_live
     (committed_else past u (precedes-started s past legal t u p.precedes).1 (λ alive. p.apart (sym (alone.only u alive))) p.second_stands) p
 
 -- so no access of it closes a cycle
-pub closes_none : (s : Setting) (past : List Entry) → Legal s past → (t : ℕ) → IsAlone past t → (k : Key) (kind : Kind) (rest : List ℕ)
+pub closes_none : (s : Configuration) (past : List Entry) → Legal s past → (t : ℕ) → IsAlone past t → (k : Key) (kind : Kind) (rest : List ℕ)
     → Closes past t k kind rest → ⊥
 closes_none s past legal t alone k kind rest c = go rest c.at_least_two c.pairs
   where
@@ -54,13 +54,13 @@ waits_for_none past t alone v p = p.pair.apart (alone.only v p.is_live)
 
 -- an event of it
 
-pub undoes_own : (s : Setting) (past : List Entry) → Legal s past → (t : ℕ) → IsAlone past t → (event : Event) → IsNoQuitOf event t
+pub undoes_own : (s : Configuration) (past : List Entry) → Legal s past → (t : ℕ) → IsAlone past t → (event : Event) → IsNoQuitOf event t
     → (why : Cause) → CauseHolds s past event why → (code : ℕ) × (why ≡ cause.Asked code)
-undoes_own s past legal t alone event (inl (inl e)) (cause.Cycle walk) h =
-    let c = subst (λ v. CauseHolds s past v (cause.Cycle walk)) e h in absurd (closes_none s past legal t alone c.key c.kind c.rest c.closes)
-undoes_own s past legal t alone event (inl (inr e)) (cause.Cycle walk) h = absurd (subst (λ v. CauseHolds s past v (cause.Cycle walk)) e h)
-undoes_own s past legal t alone event (inr (d, e)) (cause.Cycle walk) h =
-    let c = subst (λ v. CauseHolds s past v (cause.Cycle walk)) e h in absurd (closes_none s past legal t alone c.key c.kind c.rest c.closes)
+undoes_own s past legal t alone event (inl (inl e)) (cause.Cycle cycle) h =
+    let c = subst (λ v. CauseHolds s past v (cause.Cycle cycle)) e h in absurd (closes_none s past legal t alone c.key c.kind c.rest c.closes)
+undoes_own s past legal t alone event (inl (inr e)) (cause.Cycle cycle) h = absurd (subst (λ v. CauseHolds s past v (cause.Cycle cycle)) e h)
+undoes_own s past legal t alone event (inr (d, e)) (cause.Cycle cycle) h =
+    let c = subst (λ v. CauseHolds s past v (cause.Cycle cycle)) e h in absurd (closes_none s past legal t alone c.key c.kind c.rest c.closes)
 undoes_own s past legal t alone event a (cause.Asked code) h = (code, refl)
 undoes_own s past legal t alone event (inl (inl e)) cause.Quit h = absurd (subst (λ v. CauseHolds s past v cause.Quit) e h)
 undoes_own s past legal t alone event (inl (inr e)) cause.Quit h = absurd (subst (λ v. CauseHolds s past v cause.Quit) e h)
@@ -114,7 +114,7 @@ concerns_t event t (inr (d, e)) = ap (λ v. concerns v t) e ∙ eq-eqb t t refl
 ends_own : (past : List Entry) (e : Entry) (t : ℕ) (f : Fate) → ending_in e.event e.reply t ≡ Some f → fate_of (e ∷ past) t ≡ Some f
 ends_own past e t f is = ap (λ o. option_or o (fate_of past t)) is
 
-pub goes_on : (s : Setting) (past : List Entry) (e : Entry) (t : ℕ) → Legal s (e ∷ past) → IsNoQuitOf e.event t
+pub goes_on : (s : Configuration) (past : List Entry) (e : Entry) (t : ℕ) → Legal s (e ∷ past) → IsNoQuitOf e.event t
     → IsAlone past t → Goes (e ∷ past) t
 goes_on s past e t legal asks alone = by_effect (effect s past e.event e.reply legal.1)
   where
@@ -145,7 +145,7 @@ goes_on s past e t legal asks alone = by_effect (effect s past e.event e.reply l
       tt,
     )
 
-pub goes : (s : Setting) (past : List Entry) (t : ℕ) → IsAlone past t → (later : List Entry) → AreNoQuitsOf t later
+pub goes : (s : Configuration) (past : List Entry) (t : ℕ) → IsAlone past t → (later : List Entry) → AreNoQuitsOf t later
     → Legal s (later ++ past) → Goes (later ++ past) t
 goes s past t alone [] asked legal = inl alone
 goes s past t alone (e ∷ later) asked legal = elim (goes s past t alone later asked.1 legal.0) [
@@ -159,7 +159,7 @@ alone_ends_by_itself s past legal t alone later asked all = elim (goes s past t 
   | inr (f, is, own) ↦ subst IsByItself (sym is) own
 ]
 
-module _ (s : Setting) (past : List Entry) (legal : Legal s past) (t : ℕ) (alone : IsAlone past t) (r : Reply) where
+module _ (s : Configuration) (past : List Entry) (legal : Legal s past) (t : ℕ) (alone : IsAlone past t) (r : Reply) where
   access_free : (k : Key) (kind : Kind) (given : Reply) → is_hindered given ≡ false
       → CycleAbortReply past t k kind r ⊎ Makes past t k kind given r → is_hindered r ≡ false
   access_free k kind given free (inl c) = absurd (closes_none s past legal t alone k kind c.rest c.closes)

@@ -14,10 +14,10 @@ use Rattle.sgt_model.specs.declared.entry.Entry.{Entry}
 use Rattle.sgt_model.specs.Runs.{Run, looks, puts}
 use Rattle.sgt_model.specs.Runs as runs
 use Rattle.sgt_model.specs.Syntax.{ProcedureText}
-use Rattle.sgt_model.specs.Walks.{Member}
+use Rattle.sgt_model.specs.Paths.{Member}
 use Rattle.sgt_model.specs.Accesses.{Access, access_in, access_of, acts, act_in}
 use Rattle.sgt_model.specs.Fates.{is_start, start_count, started_ones, fate_of, live, live_ones}
-use Rattle.sgt_model.specs.Settings.{Setting}
+use Rattle.sgt_model.specs.Configurations.{Configuration}
 use Rattle.sgt_model.specs.Progress.{call_of, caller_accesses, run_of, values_read, made}
 use Rattle.sgt_model.specs.Questions.{is_ending}
 use Rattle.sgt_model.specs.Legality.{LegalReply, Legal}
@@ -26,9 +26,9 @@ use Rattle.sgt_model.specs.declared.limits.Asks.{Asks}
 use Rattle.sgt_model.specs.declared.limits.Asks.TheVariants.{AtStep, AtCommit}
 use Rattle.sgt_model.specs.Traces.{Next, Looks, Puts, Ends, Raises}
 use Rattle.sgt_model.specs.Progress.{next_of}
-use Rattle.sgt_model.proofs.Acts.{asks_of, AsAsked}
+use Rattle.sgt_model.proofs.Acts.{requests_of, AsRequested}
 use Rattle.sgt_model.proofs.Effects.{Fits, Made, effect}
-use Rattle.sgt_model.proofs.Room.{begun_below, starts_or_not, limits_are_kept}
+use Rattle.sgt_model.proofs.Capacity.{begun_below, starts_or_not, limits_are_kept}
 use Rattle.sgt_model.proofs.Plays.{act_own, not_fit, only_own, plays}
 use Rattle.sgt_model.proofs.Listed.{kept_member, member_kept}
 use Rattle.sgt_model.proofs.SomeReply.{some_reply_is_legal, begun_has}
@@ -94,7 +94,7 @@ step_fits n (Commit u) r a is own fits = absurd fits
 step_fits n (Quit u) r a is own fits = absurd fits
 
 -- the accesses on the longest path of t's procedure
-abbrev pub most : Setting → List Entry → ℕ → ℕ
+abbrev pub most : Configuration → List Entry → ℕ → ℕ
 most s past t = most_accesses (s.rules.procedures (call_of past t).procedure)
 
 -- each access that a run wanted leaves one less on its longest path
@@ -106,7 +106,7 @@ one_less (puts k v rest) a fits (suc n) few = (n, few, omega arith)
 one_less (runs.ends answers) a fits n few = absurd fits
 one_less (runs.raises code) a fits n few = absurd fits
 
-all_less : (r : Run) (n : ℕ) → MakesAtMost r n → (done : List Access) → AsAsked (asks_of r) done
+all_less : (r : Run) (n : ℕ) → MakesAtMost r n → (done : List Access) → AsRequested (requests_of r) done
     → (m : ℕ) × MakesAtMost (left r done) m × (m + length done ≤ n)
 all_less r n few [] h = (n, few, omega arith)
 all_less r n few (a ∷ done) h =
@@ -115,7 +115,7 @@ all_less r n few (a ∷ done) h =
     let longer = before.2 in let less = one.2 in (one.0, one.1, omega arith)
 
 -- with an access that its procedure wanted, t has made no more than its longest path has
-pub made_few : (s : Setting) (past : List Entry) → Legal s past → (t : ℕ) (a : Access) → Fits (next_of s past t) a
+pub made_few : (s : Configuration) (past : List Entry) → Legal s past → (t : ℕ) (a : Access) → Fits (next_of s past t) a
     → length (a ∷ acts past t) ≤ most s past t
 made_few s past legal t a fits =
     let p : Option ProcedureText = s.rules.procedures (call_of past t).procedure in
@@ -123,19 +123,19 @@ made_few s past legal t a fits =
     let so_far = plays s past t legal in
     let only = only_own run (caller_accesses past t) (acts past t) so_far (λ answers e. not_fit _ a answers e fits) in
     let less = all_less run (most_accesses p) (within_most p (call_of past t).args) (a ∷ so_far.own)
-    (so_far.as_asked, subst (λ l. Fits (asks_of run (values_read l) (length l)) a) only.1 fits) in
+    (so_far.as_requested, subst (λ l. Fits (requests_of run (values_read l) (length l)) a) only.1 fits) in
     let few : length (a ∷ so_far.own) ≤ most s past t = omega (arith, less.2) in
     subst (λ l. length (a ∷ l) ≤ most s past t) (sym only.1) few
 
 -- of a live transaction the accesses that it can still make, and its end
-abbrev pub weight : Setting → List Entry → ℕ → ℕ
+abbrev pub weight : Configuration → List Entry → ℕ → ℕ
 weight s past = counted (live past) (λ t. accesses_left s past t + 1)
 
 -- it ends, or makes an access on its procedure's path
-abbrev pub Moved : Setting → List Entry → Entry → ℕ → Type 0
+abbrev pub Moved : Configuration → List Entry → Entry → ℕ → Type 0
 Moved s past e t = (live (e ∷ past) t ≡ false) ⊎ ((made (e ∷ past) t ≡ made past t + 1) × (made (e ∷ past) t ≤ most s past t))
 
-module _ (s : Setting) (past : List Entry) (e : Entry) (legal : Legal s (e ∷ past)) where
+module _ (s : Configuration) (past : List Entry) (e : Entry) (legal : Legal s (e ∷ past)) where
   most_kept : (u : ℕ) → u < start_count past → most s (e ∷ past) u ≡ most s past u
   most_kept u started = ap (λ c. most_accesses (s.rules.procedures c.procedure)) (call-kept s past e u legal.1 started)
 
@@ -218,8 +218,8 @@ moves_are_few s past legal (e ∷ later) all none =
 
 -- the next event
 
-pub next_asks : (s : Setting) (past : List Entry) (t : ℕ) → IsStepOrCommitOf (next_event s past t) t
-next_asks s past t = by_next (next_of s past t) s.rules.limits.asks
+pub next_is_own : (s : Configuration) (past : List Entry) (t : ℕ) → IsStepOrCommitOf (next_event s past t) t
+next_is_own s past t = by_next (next_of s past t) s.rules.limits.asks
   where
     by_asks : (asks : Asks) → IsStepOrCommitOf (event_of_code asks t) t
     by_asks AtStep = inl refl
@@ -235,7 +235,7 @@ pub no_request : (event : Event) (t : ℕ) → IsStepOrCommitOf event t → (r :
 no_request event t (inl e) r = ap (λ v. makes_request v r) e
 no_request event t (inr e) r = ap (λ v. makes_request v r) e
 
-pub asked-no_start : (s : Setting) (past : List Entry) (event : Event) (t : ℕ) → IsNoQuitOf event t → (r : Reply)
+pub asked-no_start : (s : Configuration) (past : List Entry) (event : Event) (t : ℕ) → IsNoQuitOf event t → (r : Reply)
     → LegalReply s past event r → is_start r ≡ false
 asked-no_start s past event t asks r h = elim (starts_or_not (effect s past event r h)) [
   | inl b ↦ absurd (asks-no_start event t asks b.procedure b.args b.event_is)
@@ -245,7 +245,7 @@ asked-no_start s past event t asks r h = elim (starts_or_not (effect s past even
 pub live-listed : (past : List Entry) (t : ℕ) → live past t ≡ true → Member t (live_ones past)
 live-listed past t alive = kept_member (live past) t (started_ones past) alive (begun_has past t (live-started past t alive))
 
-pub some_left : (s : Setting) (past : List Entry) (t : ℕ) → live past t ≡ true → accesses_left s past t + 1 ≤ events_left s past
+pub some_left : (s : Configuration) (past : List Entry) (t : ℕ) → live past t ≡ true → accesses_left s past t + 1 ≤ events_left s past
 some_left s past t alive = total_some (λ u. accesses_left s past u + 1) (live_ones past) t (live-listed past t alive)
 
 -- some transaction is live, or none is
@@ -256,7 +256,7 @@ someone past = by_live (live_ones past) refl
     by_live [] e = inl (λ u. false_from_ne_true (live past u) (λ alive. subst (λ l. Member u l) e (live-listed past u alive)))
     by_live (t ∷ l) e = inr (t, (member_kept (live past) t (started_ones past) (subst (λ m. Member t m) (sym e) (inl refl))).0)
 
-drain : (n : ℕ) (s : Setting) (past : List Entry) → Legal s past → events_left s past ≤ n → DrainsWithin n s past
+drain : (n : ℕ) (s : Configuration) (past : List Entry) → Legal s past → events_left s past ≤ n → DrainsWithin n s past
 drain zero s past legal few = λ u. false_from_ne_true (live past u) (λ alive. let some = some_left s past u alive in omega arith)
 drain (suc n) s past legal few = elim (someone past) [
   | inl none ↦ inl none
@@ -265,8 +265,8 @@ drain (suc n) s past legal few = elim (someone past) [
         w.0,
         w.1,
         λ r h. let less = left_less s past (record { event = next_event s past w.0; reply = r }) (legal, h)
-            (asked-no_start s past (next_event s past w.0) w.0 (inl (next_asks s past w.0)) r h)
-            (no_request (next_event s past w.0) w.0 (next_asks s past w.0) r) (w.3 r h) in
+            (asked-no_start s past (next_event s past w.0) w.0 (inl (next_is_own s past w.0)) r h)
+            (no_request (next_event s past w.0) w.0 (next_is_own s past w.0) r) (w.3 r h) in
             drain n s (record { event = next_event s past w.0; reply = r } ∷ past) (legal, h) (omega arith),
       )
 ]
@@ -281,10 +281,10 @@ steps_older : (later : List Entry) (e : Entry) → AreStepsAndCommits later → 
 steps_older [] e h one = (one, tt)
 steps_older (x ∷ later) e h one = (h.0, steps_older later e h.1 one)
 
-abbrev Drained : ℕ → Setting → List Entry → Type 0
+abbrev Drained : ℕ → Configuration → List Entry → Type 0
 Drained n s past = (later : List Entry) × Legal s (later ++ past) × AreStepsAndCommits later × (length later ≤ n) × NoneLive (later ++ past)
 
-drained : (n : ℕ) (s : Setting) (past : List Entry) → Legal s past → DrainsWithin n s past → Drained n s past
+drained : (n : ℕ) (s : Configuration) (past : List Entry) → Legal s past → DrainsWithin n s past → Drained n s past
 drained zero s past legal none = ([], legal, tt, omega arith, none)
 drained (suc n) s past legal (inl none) = ([], legal, tt, omega arith, none)
 drained (suc n) s past legal (inr (t, alive, more)) =
@@ -295,7 +295,7 @@ drained (suc n) s past legal (inr (t, alive, more)) =
     let short = rest.3 in (
       rest.0 ++ e ∷ [],
       subst (Legal s) (sym (append_assoc rest.0 (e ∷ []) past)) rest.1,
-      steps_older rest.0 e rest.2 (t, next_asks s past t),
+      steps_older rest.0 e rest.2 (t, next_is_own s past t),
       omega arith,
       subst NoneLive (sym (append_assoc rest.0 (e ∷ []) past)) rest.4,
     )
@@ -305,24 +305,24 @@ some_steps_drain s past legal = drained (events_left s past) s past legal (histo
 
 -- alone
 
-pub alone_moves : (s : Setting) (past : List Entry) → Legal s past → (t : ℕ) → IsAlone past t → CanMove s past t
+pub alone_moves : (s : Configuration) (past : List Entry) → Legal s past → (t : ℕ) → IsAlone past t → CanMove s past t
 alone_moves s past legal t alone = let w = no_deadlock s past legal t alone.is_live in subst (CanMove s past) (alone.only w.0 w.1) w.3
 
-has_ended : (n : ℕ) (s : Setting) (past : List Entry) (t : ℕ) → live past t ≡ false → EndsWithin n s past t
+has_ended : (n : ℕ) (s : Configuration) (past : List Entry) (t : ℕ) → live past t ≡ false → EndsWithin n s past t
 has_ended zero s past t over = over
 has_ended (suc n) s past t over = inl over
 
 ended-not_live : (past : List Entry) (t : ℕ) (f : Fate) → fate_of past t ≡ Some f → live past t ≡ false
 ended-not_live past t f is = false_from_ne_true (live past t) (λ alive. cc (sym is ∙ live-no_fate past t alive))
 
-ends : (n : ℕ) (s : Setting) (past : List Entry) (t : ℕ) → Legal s past → IsAlone past t → accesses_left s past t + 1 ≤ n
+ends : (n : ℕ) (s : Configuration) (past : List Entry) (t : ℕ) → Legal s past → IsAlone past t → accesses_left s past t + 1 ≤ n
     → EndsWithin n s past t
 ends zero s past t legal alone few = absurd (omega arith)
 ends (suc n) s past t legal alone few = inr (λ r h.
     let e : Entry = record { event = next_event s past t; reply = r } in
-    elim (goes_on s past e t (legal, h) (inl (next_asks s past t)) alone) [
+    elim (goes_on s past e t (legal, h) (inl (next_is_own s past t)) alone) [
       | inl again ↦
-          let w = moved s past e (legal, h) (no_request (next_event s past t) t (next_asks s past t) r)
+          let w = moved s past e (legal, h) (no_request (next_event s past t) t (next_is_own s past t) r)
           (alone_moves s past legal t alone r h) in
           let less = weight_less s past e (legal, h) t alone.is_live (subst (Moved s past e) (alone.only w.0 w.1) w.2) in
           let now : weight s (e ∷ past) t ≡ accesses_left s (e ∷ past) t + 1

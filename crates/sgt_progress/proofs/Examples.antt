@@ -8,17 +8,17 @@ use Rattle.sgt_model.specs.declared.reply.Cause.TheVariants as cause
 use Rattle.sgt_model.specs.declared.entry.Entry.{Entry}
 use Rattle.sgt_model.specs.declared.kind.Kind.TheVariants.{Store}
 use Rattle.sgt_model.specs.Fates.{live_ones}
-use Rattle.sgt_model.specs.Replay.{told_calls}
+use Rattle.sgt_model.specs.Replay.{reported_calls}
 use Rattle.sgt_model.specs.Legality.{Legal, LegalReply}
 use Rattle.sgt_model.proofs.Computed.{◌▸◌, made_by, aborts_by, refused_by, commits_by}
 use Rattle.sgt_model.proofs.ExamplesCallers.{small_bank_begin, both_read, write_skew}
-use Rattle.sgt_model.proofs.ExampleSettings.{small_bank, entry, small_bank_look_twice}
+use Rattle.sgt_model.proofs.ExampleConfigurations.{small_bank, entry, small_bank_look_twice}
 use Rattle.sgt_model.proofs.ExamplesReads.{dirty_reader, dirty_read, dirty_read_waits, looked_before}
 use Rattle.sgt_progress.specs.Moves.{next_event}
 use Rattle.sgt_progress.specs.Drains.{accesses_left, events_left, moves, requests_made}
 use Rattle.sgt_progress.specs.GivenCalls.{given_of, given_calls}
 use Rattle.sgt_progress.specs.Needed.{AccessAt}
-use Rattle.sgt_progress.specs.RealTime.{told_ones, EndsBeforeStart}
+use Rattle.sgt_progress.specs.RealTime.{reported_ones, EndsBeforeStart}
 
 -- 1 has an access left and its end, 0 its end
 one_left : accesses_left (small_bank 8 100) dirty_reader 1 ≡ 1
@@ -43,9 +43,9 @@ commit_next = refl
 eight_moves : moves dirty_read_waits ≡ 8
 eight_moves = refl
 
--- 0 was told its end before 1, though both had been started; before 2 both ended
-told_in_turn : told_ones dirty_read_waits ≡ 1 ∷ 0 ∷ []
-told_in_turn = refl
+-- the end of 0 was reported before that of 1, though both had been started; before 2 both ended
+reported_in_turn : reported_ones dirty_read_waits ≡ 1 ∷ 0 ∷ []
+reported_in_turn = refl
 
 then_another : EndsBeforeStart (entry (Start 0 (pos 1 ∷ [])) (reply.Started 2) ∷ dirty_read_waits) 0 2
 then_another = inl (refl, inr (inl refl))
@@ -115,7 +115,7 @@ rejected_write = record {
   makes = (refl, refl, refl);
 }
 
--- the one committed call is requested again of a new engine: its reads ask for no value, and are told the same. An access that is
+-- the one committed call is requested again of a new engine: its reads return the same values. An access that is
 -- requested too early is turned away, and is none
 abbrev pub skew_again : List Entry
 skew_again =
@@ -133,11 +133,11 @@ skew_again-legal =
     tt ▸ refl ▸ refl ▸ inr (made_by (0 ∷ []) refl) ▸ inr (made_by (0 ∷ []) refl) ▸ inr (made_by (0 ∷ []) refl)
     ▸ inr (made_by (0 ∷ []) refl) ▸ inr (commits_by refl)
 
-skew_given : given_calls skew_again ≡ map given_of (told_calls write_skew)
+skew_given : given_calls skew_again ≡ map given_of (reported_calls write_skew)
 skew_given = refl
 
-skew_told : told_calls skew_again ≡ told_calls write_skew
-skew_told = refl
+skew_reported : reported_calls skew_again ≡ reported_calls write_skew
+skew_reported = refl
 
 skew_none_live : live_ones skew_again ≡ []
 skew_none_live = refl

@@ -12,21 +12,21 @@ use Rattle.sgt_model.specs.declared.reply.Fate.{Fate}
 use Rattle.sgt_model.specs.declared.entry.Entry.{Entry}
 use Rattle.sgt_model.specs.declared.limits.Asks.{Asks}
 use Rattle.sgt_model.specs.declared.limits.Asks.TheVariants.{AtStep, AtCommit}
-use Rattle.sgt_model.specs.Walks.{PathOf, last_of, Member, Reaches}
+use Rattle.sgt_model.specs.Paths.{PathOf, last_of, Member, Reaches}
 use Rattle.sgt_model.specs.Traces.{Next, Looks, Puts, Ends, Raises}
 use Rattle.sgt_model.specs.Fates.{live, live_ones, started_ones}
 use Rattle.sgt_model.specs.Pairs.{Pair}
-use Rattle.sgt_model.specs.Settings.{Setting}
+use Rattle.sgt_model.specs.Configurations.{Configuration}
 use Rattle.sgt_model.specs.Progress.{requested, is_fit, next_of}
 use Rattle.sgt_model.specs.Legality.{OfStarted, OfLive, OfFit, RequestReply, StepReply, CommitReply, RaisedStep, RaisedCommit, LegalReply, Legal, LivePredecessor, MustWait}
-use Rattle.sgt_model.specs.OneReply.{SameButWalk}
+use Rattle.sgt_model.specs.OneReply.{SameButCycle}
 use Rattle.sgt_model.proofs.Facts.{live-no_fate, live-started}
 use Rattle.sgt_model.proofs.Paths.{reaches_self, reaches_trans, no_way_back}
 use Rattle.sgt_model.proofs.NoCycle.{no_cycle}
 use Rattle.sgt_model.proofs.SomeReply.{some_reply_is_legal, begun_has}
 use Rattle.sgt_model.proofs.OneReply.{replies_are_unique}
 use Rattle.sgt_model.proofs.Listed.{kept_member}
-use Rattle.sgt_progress.specs.Moves.{event_of_code, event_for, next_event, has_moved, CanMove, AskedMovesOrWaits, RequestedMoves, NoDeadlock, WaitsFor, NoWaitCycle}
+use Rattle.sgt_progress.specs.Moves.{event_of_code, event_for, next_event, has_moved, CanMove, NextMovesOrWaits, RequestedMoves, NoDeadlock, WaitsFor, NoWaitCycle}
 
 -- of a live transaction the reply is by what it does next
 pub of_live : (past : List Entry) (t : ℕ) (r : Reply) (P : Type 0) → live past t ≡ true → OfLive past t r P → P
@@ -36,14 +36,14 @@ pub to_live : (past : List Entry) (t : ℕ) (r : Reply) (P : Type 0) → live pa
 to_live past t r P alive h = subst₂ (λ (b : Bool) (o : Option Fate). OfStarted b o r P) (sym (and_parts _ _ alive).0) (sym (live-no_fate past t alive)) h
 
 -- the reply to a step or a commit of a live transaction that does this next
-abbrev pub ReplyTo : Setting → List Entry → Event → ℕ → Next → Reply → Type 0
+abbrev pub ReplyTo : Configuration → List Entry → Event → ℕ → Next → Reply → Type 0
 ReplyTo s past (Start p args) t n r = ⊥
 ReplyTo s past (Step u) t n r = StepReply s past t n r
 ReplyTo s past (Access u d) t n r = ⊥
 ReplyTo s past (Commit u) t n r = CommitReply s past t n r
 ReplyTo s past (Quit u) t n r = ⊥
 
-pub reply_to : (s : Setting) (past : List Entry) (t : ℕ) → live past t ≡ true → (r : Reply) → LegalReply s past (next_event s past t) r
+pub reply_to : (s : Configuration) (past : List Entry) (t : ℕ) → live past t ≡ true → (r : Reply) → LegalReply s past (next_event s past t) r
     → ReplyTo s past (next_event s past t) t (next_of s past t) r
 reply_to s past t alive r h = by_next s.rules.limits.asks (next_of s past t) h
   where
@@ -57,7 +57,7 @@ reply_to s past t alive r h = by_next s.rules.limits.asks (next_of s past t) h
     by_next asks (Ends answers) h = of_live past t r _ alive h
     by_next asks (Raises code) h = by_asks asks h
 
-moves_or_waits : (s : Setting) (past : List Entry) (t : ℕ) (n : Next) (r : Reply) → ReplyTo s past (event_for s.rules.limits.asks t n) t n r
+moves_or_waits : (s : Configuration) (past : List Entry) (t : ℕ) (n : Next) (r : Reply) → ReplyTo s past (event_for s.rules.limits.asks t n) t n r
     → (has_moved (event_for s.rules.limits.asks t n) r ≡ true) ⊎ MustWait past t r
 moves_or_waits s past t (Looks k) r (inl h) = inl (ap (has_moved (Step t)) h.aborts.is)
 moves_or_waits s past t (Looks k) r (inr h) = inl (ap (has_moved (Step t)) h.is)
@@ -72,16 +72,16 @@ moves_or_waits s past t (Raises code) r h = go s.rules.limits.asks refl h
     go AtStep e h = let a = subst (λ x. RaisedStep x past t code r) e h in inl (ap (has_moved (Step t)) a.is)
     go AtCommit e h = elim (subst (λ x. RaisedCommit x past t code r) e h) [ inl w ↦ inr w | inr m ↦ inl (ap (has_moved (Commit t)) m.is) ]
 
-pub asked_moves_or_waits : AskedMovesOrWaits
-asked_moves_or_waits s past legal t alive r h = moves_or_waits s past t (next_of s past t) r (reply_to s past t alive r h)
+pub next_moves_or_waits : NextMovesOrWaits
+next_moves_or_waits s past legal t alive r h = moves_or_waits s past t (next_of s past t) r (reply_to s past t alive r h)
 
 -- the reply to an access on which the caller of a live transaction decided, at its procedure's end
-pub request_reply : (s : Setting) (past : List Entry) (t : ℕ) (d : Request) (answers : List ℤ) (r : Reply) → live past t ≡ true
+pub request_reply : (s : Configuration) (past : List Entry) (t : ℕ) (d : Request) (answers : List ℤ) (r : Reply) → live past t ≡ true
     → next_of s past t ≡ Ends answers → is_fit d ≡ true → LegalReply s past (Access t d) r → StepReply s past t (requested d) r
 request_reply s past t d answers r alive end fit h = subst (λ b. OfFit b r (StepReply s past t (requested d) r)) fit
     (subst (λ n. RequestReply s past t d n r) end (of_live past t r _ alive h))
 
-requested_moves : (s : Setting) (past : List Entry) (t : ℕ) (d : Request) (r : Reply) → StepReply s past t (requested d) r
+requested_moves : (s : Configuration) (past : List Entry) (t : ℕ) (d : Request) (r : Reply) → StepReply s past t (requested d) r
     → has_moved (Access t d) r ≡ true
 requested_moves s past t (Read k) r (inl h) = ap (has_moved (Access t (Read k))) h.aborts.is
 requested_moves s past t (Read k) r (inr h) = ap (has_moved (Access t (Read k))) h.is
@@ -92,16 +92,16 @@ pub requests_move : RequestedMoves
 requests_move s past legal t alive answers end d fit r h =
     requested_moves s past t d r (request_reply s past t d answers r alive end fit h)
 
-same_moves : (event : Event) (r q : Reply) → SameButWalk r q → has_moved event r ≡ true → has_moved event q ≡ true
+same_moves : (event : Event) (r q : Reply) → SameButCycle r q → has_moved event r ≡ true → has_moved event q ≡ true
 same_moves event r q (inl e) m = sym (ap (has_moved event) e) ∙ m
 same_moves event r q (inr d) m = ap (has_moved event) d.other
 
 -- a live transaction can move, or a live one has an edge to it
-pub moves_or_follows : (s : Setting) (past : List Entry) → Legal s past → (t : ℕ) → live past t ≡ true
+pub moves_or_follows : (s : Configuration) (past : List Entry) → Legal s past → (t : ℕ) → live past t ≡ true
     → CanMove s past t ⊎ ((u : ℕ) × LivePredecessor past u t)
 moves_or_follows s past legal t alive =
     let some = some_reply_is_legal s past (next_event s past t) in
-    elim (asked_moves_or_waits s past legal t alive some.0 some.1) [
+    elim (next_moves_or_waits s past legal t alive some.0 some.1) [
       | inl m ↦ inl (λ r h. same_moves (next_event s past t) some.0 r (replies_are_unique s past (next_event s past t) some.0 r some.1 h) m)
       | inr w ↦ inr (w.predecessor, w.least.pair)
     ]
@@ -131,7 +131,7 @@ without_has t (v ∷ l) u n m = go (without_has t l u n) (nat_eq v t) refl m
     go rest false e (inl same) = inl same
     go rest false e (inr m) = inr (rest m)
 
-module _ (s : Setting) (past : List Entry) (legal : Legal s past) where
+module _ (s : Configuration) (past : List Entry) (legal : Legal s past) where
   -- a live transaction that can move, and leads to t
   abbrev Source : ℕ → Type 0
   Source t = (u : ℕ) × (live past u ≡ true) × Reaches (Pair past) u t × CanMove s past u
@@ -145,8 +145,8 @@ module _ (s : Setting) (past : List Entry) (legal : Legal s past) where
       (λ e. no_way_back (no_cycle s past legal) w v q (subst (λ x. Reaches (Pair past) v x) (sym e) r))
       (covers w alive v q (reaches_trans (Pair past) v u t r (t ∷ [], (p, tt), refl)))
 
-  behind : (u t : ℕ) → Pair past u t → Source u → Source t
-  behind u t p (w, alive, r, moves) = (w, alive, reaches_trans (Pair past) w u t r (t ∷ [], (p, tt), refl), moves)
+  following : (u t : ℕ) → Pair past u t → Source u → Source t
+  following u t p (w, alive, r, moves) = (w, alive, reaches_trans (Pair past) w u t r (t ∷ [], (p, tt), refl), moves)
 
   -- edges are followed backwards, and each transaction is met once
   source : (n : ℕ) (l : List ℕ) → length l ≤ n → (t : ℕ) → live past t ≡ true → Covers l t → Source t
@@ -157,7 +157,7 @@ module _ (s : Setting) (past : List Entry) (legal : Legal s past) where
   source (suc n) l few t alive covers = elim (moves_or_follows s past legal t alive) [
     | inl moves ↦ (t, alive, reaches_self (Pair past) t, moves)
     | inr (u, p) ↦ let less = without_fewer u l (covers u p.is_live t p.pair (reaches_self (Pair past) t)) in
-        behind u t p.pair (source n (without u l) (omega arith) u p.is_live (covers_less l t u p.pair covers))
+        following u t p.pair (source n (without u l) (omega arith) u p.is_live (covers_less l t u p.pair covers))
   ]
 
 pub no_deadlock : NoDeadlock
@@ -166,8 +166,8 @@ no_deadlock s past legal t alive = source s past legal (length (live_ones past))
 
 -- the graph of waits
 
-waits_for : (s : Setting) (past : List Entry) → Legal s past → (t u : ℕ) → WaitsFor s past t u → LivePredecessor past u t
-waits_for s past legal t u w = elim (asked_moves_or_waits s past legal t w.is_live (reply.Waits u) w.told) [
+waits_for : (s : Configuration) (past : List Entry) → Legal s past → (t u : ℕ) → WaitsFor s past t u → LivePredecessor past u t
+waits_for s past legal t u w = elim (next_moves_or_waits s past legal t w.is_live (reply.Waits u) w.reported) [
   | inl m ↦ absurd (moved_not (next_event s past t) u m)
   | inr m ↦ let same : m.predecessor ≡ u = waits_same m.predecessor u (sym m.is) in subst (λ v. LivePredecessor past v t) same m.least.pair
 ]
@@ -179,13 +179,13 @@ waits_for s past legal t u w = elim (asked_moves_or_waits s past legal t w.is_li
     waits_same v w e = cc
 
 -- a path of waits is a path of edges backwards
-waits_back : (s : Setting) (past : List Entry) → Legal s past → (t : ℕ) (path : List ℕ) → PathOf (WaitsFor s past) t path
+waits_back : (s : Configuration) (past : List Entry) → Legal s past → (t : ℕ) (path : List ℕ) → PathOf (WaitsFor s past) t path
     → Reaches (Pair past) (last_of t path) t
 waits_back s past legal t [] p = reaches_self (Pair past) t
 waits_back s past legal t (u ∷ path) p = reaches_trans (Pair past) (last_of u path) u t (waits_back s past legal u path p.1)
     (t ∷ [], ((waits_for s past legal t u p.0).pair, tt), refl)
 
-no_waits_back : (s : Setting) (past : List Entry) → Legal s past → (t : ℕ) (path : List ℕ) → 0 < length path → PathOf (WaitsFor s past) t path
+no_waits_back : (s : Configuration) (past : List Entry) → Legal s past → (t : ℕ) (path : List ℕ) → 0 < length path → PathOf (WaitsFor s past) t path
     → last_of t path ≡ t → ⊥
 no_waits_back s past legal t [] some p e = omega arith
 no_waits_back s past legal t (u ∷ path) some p e = no_way_back (no_cycle s past legal) u t (waits_for s past legal t u p.0).pair

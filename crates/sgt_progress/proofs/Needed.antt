@@ -11,12 +11,12 @@ use Rattle.sgt_model.specs.declared.reply.Reply.TheVariants as reply
 use Rattle.std.specs.Option.{option_or}
 use Rattle.sgt_model.specs.declared.kind.Kind.{Kind}
 use Rattle.sgt_model.specs.Contents.{Key}
-use Rattle.sgt_model.specs.Walks.{PathOf, last_of, Member, Acyclic}
+use Rattle.sgt_model.specs.Paths.{PathOf, last_of, Member, Acyclic}
 use Rattle.sgt_model.specs.Accesses.{Access, access_in, access_of}
 use Rattle.sgt_model.specs.Fates.{ending_in, fate_of, has_aborted, aborted, live}
 use Rattle.sgt_model.specs.Pairs.{has_conflicting, FollowsIn, Precedes, Pair}
 use Rattle.sgt_model.specs.Closes.{Closes}
-use Rattle.sgt_model.specs.Settings.{Setting}
+use Rattle.sgt_model.specs.Configurations.{Configuration}
 use Rattle.sgt_model.specs.Traces.{Next, Looks, Puts, Ends, Raises}
 use Rattle.sgt_model.specs.Progress.{requested, next_of}
 use Rattle.sgt_model.specs.Aborts.{Wants, IsAccessBy}
@@ -24,7 +24,7 @@ use Rattle.sgt_model.specs.Legality.{Legal, LegalReply, StepReply}
 use Rattle.sgt_model.proofs.Facts.{live-stands}
 use Rattle.sgt_model.proofs.Paths.{path-append, last_of-append, last_is_member}
 use Rattle.sgt_model.proofs.NoCycle.{Granted, no_cycle_grows, no_cycle}
-use Rattle.sgt_progress.specs.Needed.{is_rejection, AsksFor, ClosedCyclesStay, CyclesAloneAreRejected}
+use Rattle.sgt_progress.specs.Needed.{is_rejection, Requests, ClosedCyclesStay, CyclesAloneAreRejected}
 use Rattle.sgt_progress.proofs.Moves.{of_live, request_reply}
 
 -- what comes before comes before in a longer history
@@ -97,7 +97,7 @@ pub access_aborts : (e : Entry) (past : List Entry) (t : ℕ) (k : Key) (kind : 
 access_aborts e past t k kind is u = ap (λ ending. has_aborted (option_or ending (fate_of past u))) (access_ends e.event e.reply t k kind is u)
 
 -- an access that closes no cycle leaves none
-pub free_acyclic : (s : Setting) (past : List Entry) → Legal s past → (t : ℕ) (k : Key) (kind : Kind) (e : Entry)
+pub free_acyclic : (s : Configuration) (past : List Entry) → Legal s past → (t : ℕ) (k : Key) (kind : Kind) (e : Entry)
     → IsAccessBy (access_of e) t k kind
     → ((rest : List ℕ) → Closes past t k kind rest → ⊥) → Acyclic (Pair (e ∷ past))
 free_acyclic s past legal t k kind e is free =
@@ -113,8 +113,8 @@ free_acyclic s past legal t k kind e is free =
     granted (Some a) (by, key, same_kind) = λ rest c. free rest (rw (by, key, same_kind) at c)
 
 -- an access that is asked for is rejected, and a cycle would be closed; or it is not, and none would be
-pub rejected_or_free : (s : Setting) (past : List Entry) (event : Event) (t : ℕ) (k : Key) (kind : Kind) (r : Reply) → live past t ≡ true
-    → AsksFor s past event t k kind → LegalReply s past event r
+pub rejected_or_free : (s : Configuration) (past : List Entry) (event : Event) (t : ℕ) (k : Key) (kind : Kind) (r : Reply) → live past t ≡ true
+    → Requests s past event t k kind → LegalReply s past event r
     → ((is_rejection r ≡ true) × ((rest : List ℕ) × Closes past t k kind rest))
     ⊎ ((is_rejection r ≡ false) × ((rest : List ℕ) → Closes past t k kind rest → ⊥))
 rejected_or_free s past asked t k kind r alive asks legal = by_event asked asks legal
@@ -129,7 +129,7 @@ rejected_or_free s past asked t k kind r alive asks legal = by_event asked asks 
     by_next (Ends answers) w h = absurd w
     by_next (Raises code) w h = absurd w
 
-    by_event : (v : Event) → AsksFor s past v t k kind → LegalReply s past v r
+    by_event : (v : Event) → Requests s past v t k kind → LegalReply s past v r
         → ((is_rejection r ≡ true) × ((rest : List ℕ) × Closes past t k kind rest))
         ⊎ ((is_rejection r ≡ false) × ((rest : List ℕ) → Closes past t k kind rest → ⊥))
     by_event (Step u) (same, wants) h = by_next (next_of s past t) wants

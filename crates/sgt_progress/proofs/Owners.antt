@@ -7,7 +7,7 @@ use Rattle.sgt_model.specs.declared.reply.Reply.TheVariants as reply
 use Rattle.sgt_model.specs.declared.entry.Entry.{Entry}
 use Rattle.sgt_model.specs.Legality.{Legal, LegalReply}
 use Rattle.sgt_model.proofs.Computed.{◌▸◌, made_by, waits_by}
-use Rattle.sgt_model.proofs.ExampleSettings.{small_bank, entry}
+use Rattle.sgt_model.proofs.ExampleConfigurations.{small_bank, entry}
 use Rattle.sgt_progress.specs.Moves.{WaitsFor, has_moved, next_event}
 use Rattle.sgt_progress.specs.Owners.{HeldUp, OwnersGoOn, TwoEachMayNot}
 use Rattle.sgt_progress.proofs.Moves.{no_deadlock}
@@ -18,7 +18,7 @@ owners_go_on s past legal owner one t alive =
       w.0,
       w.1,
       λ held. not_moved (next_event s past w.0) held.on (w.3 (reply.Waits held.on)
-          (subst (λ u. LegalReply s past (next_event s past u) (reply.Waits held.on)) (one held.t w.0 held.waits.is_live w.1 held.own) held.waits.told)),
+          (subst (λ u. LegalReply s past (next_event s past u) (reply.Waits held.on)) (one held.t w.0 held.waits.is_live w.1 held.own) held.waits.reported)),
     )
   where
     not_moved : (event : Event) (v : ℕ) → has_moved event (reply.Waits v) ≡ true → ⊥
@@ -59,10 +59,10 @@ session (suc (suc (suc t))) = 1
 
 -- one session sleeps in 2's commit until 1 ends, the other in 3's until 0 does; neither can ask for the one that it has to end
 waits_2 : WaitsFor (small_bank 8 100) crossed 2 1
-waits_2 = record { is_live = refl; told = inl (waits_by refl) }
+waits_2 = record { is_live = refl; reported = inl (waits_by refl) }
 
 waits_3 : WaitsFor (small_bank 8 100) crossed 3 0
-waits_3 = record { is_live = refl; told = inl (waits_by refl) }
+waits_3 = record { is_live = refl; reported = inl (waits_by refl) }
 
 first_held : HeldUp (small_bank 8 100) crossed session 0
 first_held = record { t = 2; own = refl; on = 1; waits = waits_2 }

@@ -11,7 +11,7 @@ use Rattle.sgt_model.specs.Traces.{Next, Looks, Puts, Ends, Raises, trace, next_
 use Rattle.sgt_model.specs.Accesses.{Access, access_of, acts}
 use Rattle.sgt_model.specs.Fates.{start_count, live}
 use Rattle.sgt_model.specs.Pairs.{FollowsIn, Precedes}
-use Rattle.sgt_model.specs.Settings.{Setting}
+use Rattle.sgt_model.specs.Configurations.{Configuration}
 use Rattle.sgt_model.specs.Progress.{Call, caller_access_in, run_of, values_read, next_of}
 use Rattle.sgt_model.specs.Legality.{Legal, LivePredecessor}
 use Rattle.sgt_model.proofs.Effects.{Fits, Made}
@@ -35,7 +35,7 @@ made_at_end n (Start p args) a t end own fits = absurd fits
 made_at_end n (Commit u) a t end own fits = absurd fits
 made_at_end n (Quit u) a t end own fits = absurd fits
 
-module _ (s : Setting) (past : List Entry) (e : Entry) (legal : Legal s (e ∷ past)) (t : ℕ) (end : IsEnd (next_of s past t))
+module _ (s : Configuration) (past : List Entry) (e : Entry) (legal : Legal s (e ∷ past)) (t : ℕ) (end : IsEnd (next_of s past t))
     (none : caller_access_in e.event e.reply t ≡ []) where
   -- no access is its
   not_own : (a : Access) → access_of e ≡ Some a → a.by ≢ t
@@ -73,13 +73,13 @@ module _ (s : Setting) (past : List Entry) (e : Entry) (legal : Legal s (e ∷ p
         };
       }
 
--- what is so of t over some entries
-record Over (s : Setting) (past after : List Entry) (t : ℕ) : Type 0 where
+-- what holds of t over some entries
+record Over (s : Configuration) (past after : List Entry) (t : ℕ) : Type 0 where
   started : t < start_count after
   end : IsEnd (next_of s after t)
   older : (u : ℕ) → LivePredecessor after u t → LivePredecessor past u t
 
-over : (s : Setting) (past : List Entry) (t : ℕ) → live past t ≡ true → IsEnd (next_of s past t) → (later : List Entry)
+over : (s : Configuration) (past : List Entry) (t : ℕ) → live past t ≡ true → IsEnd (next_of s past t) → (later : List Entry)
     → Legal s (later ++ past)
     → MakeNoneFor t later → Over s past (later ++ past) t
 over s past t alive end [] legal none = record { started = live-started past t alive; end = end; older = λ u p. p }

@@ -19,21 +19,21 @@ use Rattle.sgt_model.specs.declared.limits.Asks.{Asks}
 use Rattle.sgt_model.specs.declared.limits.Asks.TheVariants.{AtStep, AtCommit}
 use Rattle.sgt_model.specs.Numbers.{IsValue, is_value}
 use Rattle.sgt_model.specs.Contents.{Contents}
-use Rattle.sgt_model.specs.Walks.{Member}
-use Rattle.sgt_model.specs.Runs.{Run, Asked, serial, CallerAccess, told, wrote, with_access, with_accesses}
+use Rattle.sgt_model.specs.Paths.{Member}
+use Rattle.sgt_model.specs.Runs.{Run, Asked, serial, CallerAccess, reported, wrote, with_access, with_accesses}
 use Rattle.sgt_model.specs.Traces.{Next, Looks, Puts, Ends, Raises}
 use Rattle.sgt_model.specs.Accesses.{Access, access_in, access_of, acts}
 use Rattle.sgt_model.specs.Fates.{is_start, start_count, ending_in, started_ones, live, live_ones}
 use Rattle.sgt_model.specs.Values.{visible}
-use Rattle.sgt_model.specs.Settings.{Setting}
+use Rattle.sgt_model.specs.Configurations.{Configuration}
 use Rattle.sgt_model.specs.Progress.{Call, call_of, caller_access_in, caller_accesses, with_caller_accesses, values_read, requested, is_fit, run_of, outcome_in, next_of}
 use Rattle.sgt_model.specs.Admissions.{IsAdmitted, AreAdmitted}
 use Rattle.sgt_model.specs.Aborts.{CauseHolds}
-use Rattle.sgt_model.specs.StartReply.{args_fit, room_reply, taken_reply, start_reply}
-use Rattle.sgt_model.specs.Replay.{run_in_turn, told_call_in, told_calls}
+use Rattle.sgt_model.specs.StartReply.{args_fit, capacity_reply, taken_reply, start_reply}
+use Rattle.sgt_model.specs.Replay.{run_in_turn, reported_call_in, reported_calls}
 use Rattle.sgt_model.specs.Legality.{LegalReply, Legal, OfFit, RequestReply, StepReply, CommitReply, RaisedStep, RaisedCommit}
 use Rattle.sgt_model.specs.Questions.{over_in, is_ending}
-use Rattle.sgt_model.proofs.Acts.{asks_of, caller_access_of}
+use Rattle.sgt_model.proofs.Acts.{requests_of, caller_access_of}
 use Rattle.sgt_model.proofs.Admissions.{committed_admitted}
 use Rattle.sgt_model.proofs.Conditions.{distinct_fits}
 use Rattle.sgt_model.proofs.Effects.{EndsNone, Fits, ends_none-no_call, ends_none-no_end, Effect, idle, begins, accesses, commits, undoes, refuses, effect}
@@ -43,27 +43,27 @@ use Rattle.sgt_model.proofs.OneReply.{replies_are_unique}
 use Rattle.sgt_model.proofs.Plays.{act_own, acts_unstarted, own_end, plays}
 use Rattle.sgt_model.proofs.Questions.{over_are_not_live, endings_end_one}
 use Rattle.sgt_model.proofs.Replays.{is_serializable}
-use Rattle.sgt_model.proofs.Room.{limits_are_kept}
+use Rattle.sgt_model.proofs.Capacity.{limits_are_kept}
 use Rattle.sgt_model.proofs.SomeReply.{some_reply_is_legal, begun_has}
 use Rattle.sgt_model.proofs.Traces.{past_end}
 use Rattle.sgt_progress.specs.Alone.{NoneLive, IsAlone, IsStepOrCommitOf, IsNoQuitOf, is_hindered}
 use Rattle.sgt_progress.specs.Drains.{accesses_left}
 use Rattle.sgt_progress.specs.GivenCalls.{request_of}
 use Rattle.sgt_progress.specs.Predecessors.{IsEnd}
-use Rattle.sgt_progress.specs.RealTime.{told_ones, whole_call}
+use Rattle.sgt_progress.specs.RealTime.{reported_ones, whole_call}
 use Rattle.sgt_progress.specs.Reruns.{CallsDecide, IsOneByOne, RerunsAgree, OneByOneIsForced}
 use Rattle.sgt_progress.proofs.Alone.{closes_none, undoes_own, asks-no_start, waits_for_none, started_alone, stays_alone, alone_is_not_aborted}
 use Rattle.sgt_progress.proofs.Drains.{most, weight, weight_less, made_few, asked-no_start}
 use Rattle.sgt_progress.proofs.InTurn.{IsDone, done_before, fits_then, raises_not_done, same_access, GoesThrough, AllGoThrough, raises_in_turn, done_in_turn, all_go_through}
 use Rattle.sgt_progress.proofs.Moves.{of_live, to_live}
-use Rattle.sgt_progress.proofs.RealTime.{told-started, once, calls}
+use Rattle.sgt_progress.proofs.RealTime.{reported-started, once, calls}
 use Rattle.sgt_progress.proofs.RunAlone.{none_after_end}
 
 pub calls_decide : CallsDecide
 calls_decide s one other legal also same =
     let a = is_serializable s one legal in
     let b = is_serializable s other also in record {
-      told_same = sym a.answers ∙ ap (λ l. (run_in_turn s l).results) same ∙ b.answers;
+      reported_same = sym a.answers ∙ ap (λ l. (run_in_turn s l).results) same ∙ b.answers;
       same_database = λ k. sym (a.database k) ∙ ap (λ l. (run_in_turn s l).last k) same ∙ b.database k;
     }
 
@@ -83,41 +83,42 @@ length_map : (f : ℕ → Call) (l : List ℕ) → length (map f l) ≡ length l
 length_map f [] = refl
 length_map f (t ∷ l) = ap suc (length_map f l)
 
-pub told_few : (s : Setting) (past : List Entry) → Legal s past → length (told_calls past) ≤ s.rules.limits.begins
-told_few s past legal =
-    let a : length (told_calls past) ≡ length (told_ones past) = ap length (calls s past legal)
-    ∙ length_map (whole_call past) (told_ones past) in
-    let b = distinct_fits (told_ones past) (started_ones past) (once s past legal)
-    (λ t m. begun_has past t (told-started s past legal t m)) in
+pub reported_few : (s : Configuration) (past : List Entry) → Legal s past → length (reported_calls past) ≤ s.rules.limits.begins
+reported_few s past legal =
+    let a : length (reported_calls past) ≡ length (reported_ones past) = ap length (calls s past legal)
+    ∙ length_map (whole_call past) (reported_ones past) in
+    let b = distinct_fits (reported_ones past) (started_ones past) (once s past legal)
+    (λ t m. begun_has past t (reported-started s past legal t m)) in
     let c = started_length past in
     let d = (limits_are_kept s past legal).0 in
     omega arith
 
 -- ---- to run one call
 
--- what is so of a history in which all calls before were told, one after another
-pub record Ran (s : Setting) (past : List Entry) (before : List Call) (count : ℕ) : Type 0 where
+-- what holds of a history in which all earlier calls were reported, one after another
+pub record Ran (s : Configuration) (past : List Entry) (before : List Call) (count : ℕ) : Type 0 where
   pub legal : Legal s past
   pub one_by_one : IsOneByOne past
-  pub same_calls : told_calls past ≡ before
+  pub same_calls : reported_calls past ≡ before
   pub count_is : start_count past ≡ count
 
 -- and t is the only live transaction: its call is c, with the accesses that its caller has made
-pub record Going (s : Setting) (past : List Entry) (t : ℕ) (c : Call) (before : List Call) (count : ℕ) : Type 0 where
+pub record Going (s : Configuration) (past : List Entry) (t : ℕ) (c : Call) (before : List Call) (count : ℕ) : Type 0 where
   pub ran : Ran s past before count
   pub alone : IsAlone past t
   pub called : whole_call past t ≡ c
 
--- after one of its steps and commits it is the only live one still, and nothing more was told; or it was told its end
-abbrev pub AfterOne : Setting → List Entry → ℕ → Call → List Call → ℕ → Type 0
+-- after one of its steps and commits it is the only live one still, and nothing more was reported; or its end was
+-- reported
+abbrev pub AfterOne : Configuration → List Entry → ℕ → Call → List Call → ℕ → Type 0
 AfterOne s past t c before count = Going s past t c before count ⊎ (Ran s past (c ∷ before) count × NoneLive past)
 
 -- a code is not raised in its turn, if codes are reported at the step
-abbrev pub Quiet : Setting → Call → List Call → Type 0
+abbrev pub Quiet : Configuration → Call → List Call → Type 0
 Quiet s c before = s.rules.limits.asks ≡ AtStep → (code : ℕ) → serial (run_of s.rules c) (run_in_turn s before).last ≡ Asked code → ⊥
 
 -- an abort for a code: codes are reported at the step, and the procedure raises this one
-raised_now : (s : Setting) (past : List Entry) (t code : ℕ) (fell : List ℕ) (event : Event) (r : Reply) → live past t ≡ true
+raised_now : (s : Configuration) (past : List Entry) (t code : ℕ) (fell : List ℕ) (event : Event) (r : Reply) → live past t ≡ true
     → IsStepOrCommitOf event t
     → LegalReply s past event r → r ≡ reply.Aborted (cause.Asked code) fell → CauseHolds s past event (cause.Asked code)
     → (s.rules.limits.asks ≡ AtStep) × (next_of s past t ≡ Raises code)
@@ -138,7 +139,7 @@ no_caller_access : (event : Event) (t : ℕ) (r : Reply) → IsStepOrCommitOf ev
 no_caller_access event t r (inl q) = ap (λ v. caller_access_in v r t) q
 no_caller_access event t r (inr q) = ap (λ v. caller_access_in v r t) q
 
-module _ (s : Setting) (past : List Entry) (t : ℕ) (c : Call) (before : List Call) (count : ℕ) (going : Going s past t c before count)
+module _ (s : Configuration) (past : List Entry) (t : ℕ) (c : Call) (before : List Call) (count : ℕ) (going : Going s past t c before count)
     (quiet : Quiet s c before) (event : Event) (asks : IsStepOrCommitOf event t) (r : Reply) (h : LegalReply s past event r) where
   abbrev e : Entry
   e = record { event = event; reply = r }
@@ -152,7 +153,7 @@ module _ (s : Setting) (past : List Entry) (t : ℕ) (c : Call) (before : List C
   no_start : is_start r ≡ false
   no_start = asked-no_start s past event t (inl asks) r h
 
-  longer : (calls_then : List Call) → told_calls (e ∷ past) ≡ calls_then → Ran s (e ∷ past) calls_then count
+  longer : (calls_then : List Call) → reported_calls (e ∷ past) ≡ calls_then → Ran s (e ∷ past) calls_then count
   longer calls_then is = record {
     legal = (ran.legal, h);
     one_by_one = (ran.one_by_one, inr (t, alone, inl asks));
@@ -160,20 +161,20 @@ module _ (s : Setting) (past : List Entry) (t : ℕ) (c : Call) (before : List C
     count_is = ap (λ b. cond b (start_count past + 1) (start_count past)) no_start ∙ ran.count_is;
   }
 
-  still : ending_in event r t ≡ None → told_call_in past event r ≡ [] → AfterOne s (e ∷ past) t c before count
+  still : ending_in event r t ≡ None → reported_call_in past event r ≡ [] → AfterOne s (e ∷ past) t c before count
   still no_end no_call = inl (record {
-    ran = longer before (ap (λ l. l ++ told_calls past) no_call ∙ ran.same_calls);
+    ran = longer before (ap (λ l. l ++ reported_calls past) no_call ∙ ran.same_calls);
     alone = stays_alone past e t alone no_start no_end;
     called = ap₂ (λ (l : List CallerAccess) (x : Call). with_caller_accesses (l ++ caller_accesses past t) x)
         (no_caller_access event t r asks)
         (call-kept s past e t h (live-started past t alone.is_live)) ∙ going.called;
   })
 
-  over : (u : ℕ) → live past u ≡ true → over_in event r ≡ Some u → told_call_in past event r ≡ whole_call past u ∷ []
+  over : (u : ℕ) → live past u ≡ true → over_in event r ≡ Some u → reported_call_in past event r ≡ whole_call past u ∷ []
       → AfterOne s (e ∷ past) t c before count
-  over u is_live ended told_call =
+  over u is_live ended reported_call =
       let same : u ≡ t = alone.only u is_live in inr (
-        longer (c ∷ before) (ap (λ l. l ++ told_calls past) told_call
+        longer (c ∷ before) (ap (λ l. l ++ reported_calls past) reported_call
             ∙ ap₂ (λ x l. x ∷ l) (ap (whole_call past) same ∙ going.called) ran.same_calls),
         λ v. false_from_ne_true (live (e ∷ past) v) (λ alive.
             let was : live past v ≡ true = live-before e past v alive
@@ -198,28 +199,28 @@ module _ (s : Setting) (past : List Entry) (t : ℕ) (c : Call) (before : List C
       by_effect (begins b) = absurd (asks-no_start event t (inl asks) b.procedure b.args b.event_is)
       by_effect (accesses x) = still (ends_none-no_end event r x.ends_none t) (ends_none-no_call past event r x.ends_none)
       by_effect (commits y) = over y.t y.is_live (ap₂ over_in y.event_is y.reply_is)
-          (ap₂ (λ v q. told_call_in past v q) y.event_is y.reply_is)
+          (ap₂ (λ v q. reported_call_in past v q) y.event_is y.reply_is)
       by_effect (undoes x) = let w = undoes_own s past ran.legal t alone event (inl asks) x.undoing.why x.has_cause in
           absurd (raised_at_step w.0 x.undoing.fell (x.reply_is ∙ ap (λ why. reply.Aborted why x.undoing.fell) w.1)
           (subst (CauseHolds s past event) w.1 x.has_cause))
       by_effect (refuses x) = over x.undoing.t x.undoing.is_live (ap₂ over_in x.event_is x.reply_is)
-          (ap₂ (λ v q. told_call_in past v q) x.event_is x.reply_is)
+          (ap₂ (λ v q. reported_call_in past v q) x.event_is x.reply_is)
 
 -- ---- an access on which its caller decided
 
-module _ (s : Setting) (past : List Entry) (t : ℕ) (c : Call) (before : List Call) (count : ℕ) (going : Going s past t c before count)
+module _ (s : Configuration) (past : List Entry) (t : ℕ) (c : Call) (before : List Call) (count : ℕ) (going : Going s past t c before count)
     (d : Request) (r : Reply) (h : LegalReply s past (events.Access t d) r) where
   abbrev asked : Entry
   asked = record { event = events.Access t d; reply = r }
 
-  -- the reply starts and ends none, and so many of the caller's accesses are made
-  pub asked_on : is_start r ≡ false → EndsNone r → (l : List CallerAccess) → caller_access_in (events.Access t d) r t ≡ l
+  -- the reply starts and ends none, and this many of the caller's accesses are made
+  pub requested_on : is_start r ≡ false → EndsNone r → (l : List CallerAccess) → caller_access_in (events.Access t d) r t ≡ l
       → Going s (asked ∷ past) t (with_caller_accesses (l ++ c.caller_accesses) c) before count
-  asked_on no_start ends_none l made_are = record {
+  requested_on no_start ends_none l made_are = record {
     ran = record {
       legal = (going.ran.legal, h);
       one_by_one = (going.ran.one_by_one, inr (t, going.alone, inr (d, refl)));
-      same_calls = ap (λ x. x ++ told_calls past) (ends_none-no_call past (events.Access t d) r ends_none) ∙ going.ran.same_calls;
+      same_calls = ap (λ x. x ++ reported_calls past) (ends_none-no_call past (events.Access t d) r ends_none) ∙ going.ran.same_calls;
       count_is = ap (λ b. cond b (start_count past + 1) (start_count past)) no_start ∙ going.ran.count_is;
     };
     alone = stays_alone past asked t going.alone no_start (ends_none-no_end (events.Access t d) r ends_none t);
@@ -235,13 +236,13 @@ module _ (s : Setting) (past : List Entry) (t : ℕ) (c : Call) (before : List C
       let run : Run = run_of s.rules (call_of past t) in
       let p = plays s past t going.ran.legal in
       let at_end = own_end run (caller_accesses past t) (acts past t) answers p end in
-      ap₂ (λ (q : Call) (l : List Access). asks_of (run_of s.rules q) (values_read l) (length l))
+      ap₂ (λ (q : Call) (l : List Access). requests_of (run_of s.rules q) (values_read l) (length l))
       (call-kept s past asked t h (live-started past t going.alone.is_live))
       (act_own (access_of asked) a t (acts past t) is own ∙ ap (λ l. a ∷ l) p.all_are)
-      ∙ past_end run p.own answers p.as_asked at_end (a ∷ p.more)
+      ∙ past_end run p.own answers p.as_requested at_end (a ∷ p.more)
 
 -- the access that was made is the one that goes through in its turn
-pub made_same : (s : Setting) (past : List Entry) (t : ℕ) (c : Call) (before : List Call) (count : ℕ) (answers : List ℤ)
+pub made_same : (s : Configuration) (past : List Entry) (t : ℕ) (c : Call) (before : List Call) (count : ℕ) (answers : List ℤ)
     (x y : CallerAccess)
     → Going s past t (with_caller_accesses (x ∷ c.caller_accesses) c) before count → next_of s past t ≡ Ends answers
     → request_of x ≡ request_of y → IsDone (with_access y (outcome_in s.rules c (run_in_turn s before).last)) → x ≡ y
@@ -260,12 +261,12 @@ IsAccessNext (Ends answers) = ⊥
 IsAccessNext (Raises code) = ⊥
 
 -- a transaction goes on by an access of its procedure
-record Stepped (s : Setting) (past : List Entry) (t : ℕ) (c : Call) (before : List Call) (count : ℕ) : Type 0 where
+record Stepped (s : Configuration) (past : List Entry) (t : ℕ) (c : Call) (before : List Call) (count : ℕ) : Type 0 where
   entry : Entry
   going : Going s (entry ∷ past) t c before count
   less : accesses_left s (entry ∷ past) t + 1 ≤ accesses_left s past t
 
-module _ (s : Setting) (past : List Entry) (t : ℕ) (c : Call) (before : List Call) (count : ℕ) (going : Going s past t c before count) where
+module _ (s : Configuration) (past : List Entry) (t : ℕ) (c : Call) (before : List Call) (count : ℕ) (going : Going s past t c before count) where
   alive : live past t ≡ true
   alive = going.alone.is_live
 
@@ -286,7 +287,7 @@ module _ (s : Setting) (past : List Entry) (t : ℕ) (c : Call) (before : List C
           ran = record {
             legal = (going.ran.legal, h);
             one_by_one = (going.ran.one_by_one, inr (t, going.alone, inl (inl refl)));
-            same_calls = ap (λ l. l ++ told_calls past) (ends_none-no_call past (Step t) r ends_none) ∙ going.ran.same_calls;
+            same_calls = ap (λ l. l ++ reported_calls past) (ends_none-no_call past (Step t) r ends_none) ∙ going.ran.same_calls;
             count_is = ap (λ b. cond b (start_count past + 1) (start_count past)) no_start ∙ going.ran.count_is;
           };
           alone = again;
@@ -315,7 +316,7 @@ module _ (s : Setting) (past : List Entry) (t : ℕ) (c : Call) (before : List C
   step_on (Raises code) next is = absurd is
 
 -- it is at its procedure's end, or goes on
-end_or_step : (s : Setting) (past : List Entry) (t : ℕ) (c : Call) (before : List Call) (count : ℕ) → Going s past t c before count
+end_or_step : (s : Configuration) (past : List Entry) (t : ℕ) (c : Call) (before : List Call) (count : ℕ) → Going s past t c before count
     → IsEnd (next_of s past t) ⊎ Stepped s past t c before count
 end_or_step s past t c before count going = by_next (next_of s past t) refl
   where
@@ -325,7 +326,7 @@ end_or_step s past t c before count going = by_next (next_of s past t) refl
     by_next (Ends answers) next = inl (subst IsEnd (sym next) tt)
     by_next (Raises code) next = inl (subst IsEnd (sym next) tt)
 
-to_end : (n : ℕ) (s : Setting) (past : List Entry) (t : ℕ) (c : Call) (before : List Call) (count : ℕ) → Going s past t c before count
+to_end : (n : ℕ) (s : Configuration) (past : List Entry) (t : ℕ) (c : Call) (before : List Call) (count : ℕ) → Going s past t c before count
     → accesses_left s past t ≤ n → (after : List Entry) × Going s after t c before count × IsEnd (next_of s after t)
 to_end zero s past t c before count going few = elim (end_or_step s past t c before count going) [
   | inl end ↦ (past, going, end)
@@ -337,12 +338,12 @@ to_end (suc n) s past t c before count going few = elim (end_or_step s past t c 
 ]
 
 -- its caller makes one more access, that goes through in its turn
-request_on : (s : Setting) (past : List Entry) (t : ℕ) (c : Call) (before : List Call) (count : ℕ) (answers : List ℤ) (x : CallerAccess)
+request_on : (s : Configuration) (past : List Entry) (t : ℕ) (c : Call) (before : List Call) (count : ℕ) (answers : List ℤ) (x : CallerAccess)
     → Going s past t c before count → next_of s past t ≡ Ends answers
     → IsDone (with_access x (outcome_in s.rules c (run_in_turn s before).last))
     → (e : Entry) × Going s (e ∷ past) t (with_caller_accesses (x ∷ c.caller_accesses) c) before count ×
     (next_of s (e ∷ past) t ≡ Ends answers)
-request_on s past t c before count answers (told k v) going end done =
+request_on s past t c before count answers (reported k v) going end done =
     let w : Option ℤ = visible s.opening past k in
     let r : Reply = reply.Looked k w in
     let h : LegalReply s past (events.Access t (Read k)) r = to_live past t r _ going.alone.is_live
@@ -350,12 +351,12 @@ request_on s past t c before count answers (told k v) going end done =
       free = λ rest closes. closes_none s past going.ran.legal t going.alone k Look rest closes;
       is = refl;
     }))) in
-    let again = asked_on s past t c before count going (Read k) r h refl tt (told k w ∷ [])
-    (cond-true (nat_eq t t) (told k w ∷ []) [] (eq-eqb t t refl)) in
+    let again = requested_on s past t c before count going (Read k) r h refl tt (reported k w ∷ [])
+    (cond-true (nat_eq t t) (reported k w ∷ []) [] (eq-eqb t t refl)) in
     let end_then = end_stays s past t c before count going (Read k) r h answers end
     (record { by = t; key = k; kind = Look; value = w }) refl refl in
     let e : Entry = record { event = events.Access t (Read k); reply = r } in
-    let same = made_same s (e ∷ past) t c before count answers (told k w) (told k v) again end_then refl done in (
+    let same = made_same s (e ∷ past) t c before count answers (reported k w) (reported k v) again end_then refl done in (
       e,
       subst (λ x. Going s (e ∷ past) t (with_caller_accesses (x ∷ c.caller_accesses) c) before count) same again,
       end_then,
@@ -370,13 +371,13 @@ request_on s past t c before count answers (wrote k v) going end done =
       is = refl;
     })))) in (
       record { event = events.Access t (Write k v); reply = r },
-      asked_on s past t c before count going (Write k v) r h refl tt (wrote k v ∷ [])
+      requested_on s past t c before count going (Write k v) r h refl tt (wrote k v ∷ [])
           (cond-true (nat_eq t t) (wrote k v ∷ []) [] (eq-eqb t t refl)),
       end_stays s past t c before count going (Write k v) r h answers end (record { by = t; key = k; kind = Store; value = v }) refl refl,
     )
 
 -- and all that its caller made
-requests_on : (s : Setting) (past : List Entry) (t : ℕ) (c : Call) (before : List Call) (count : ℕ) (answers : List ℤ)
+requests_on : (s : Configuration) (past : List Entry) (t : ℕ) (c : Call) (before : List Call) (count : ℕ) (answers : List ℤ)
     (xs : List CallerAccess)
     → Going s past t (with_caller_accesses [] c) before count → next_of s past t ≡ Ends answers
     → IsDone (with_accesses xs (serial (run_of s.rules c) (run_in_turn s before).last))
@@ -389,7 +390,7 @@ requests_on s past t c before count answers (x ∷ xs) going end done =
     (one.0 ∷ rest.0, one.1, one.2)
 
 -- at the end it commits, or is refused
-commit_on : (s : Setting) (past : List Entry) (t : ℕ) (c : Call) (before : List Call) (count : ℕ) (answers : List ℤ)
+commit_on : (s : Configuration) (past : List Entry) (t : ℕ) (c : Call) (before : List Call) (count : ℕ) (answers : List ℤ)
     → Going s past t c before count
     → next_of s past t ≡ Ends answers → (after : List Entry) × Ran s after (c ∷ before) count × NoneLive after
 commit_on s past t c before count answers going end =
@@ -407,7 +408,7 @@ commit_on s past t c before count answers going end =
       none_after_end s past e t (going.ran.legal, h) going.alone refl,
     )
 
-refuse_on : (s : Setting) (past : List Entry) (t : ℕ) (c : Call) (before : List Call) (count : ℕ) (code : ℕ) → Going s past t c before count
+refuse_on : (s : Configuration) (past : List Entry) (t : ℕ) (c : Call) (before : List Call) (count : ℕ) (code : ℕ) → Going s past t c before count
     → next_of s past t ≡ Raises code → s.rules.limits.asks ≡ AtCommit
     → (after : List Entry) × Ran s after (c ∷ before) count × NoneLive after
 refuse_on s past t c before count code going next at =
@@ -421,7 +422,7 @@ refuse_on s past t c before count code going next at =
             record {
               legal = (going.ran.legal, some.1);
               one_by_one = (going.ran.one_by_one, inr (t, going.alone, inl (inr refl)));
-              same_calls = ap (λ r. told_call_in past (Commit t) r ++ told_calls past) m.is
+              same_calls = ap (λ r. reported_call_in past (Commit t) r ++ reported_calls past) m.is
                   ∙ ap₂ (λ x l. x ∷ l) going.called going.ran.same_calls;
               count_is = ap (λ r. cond (is_start r) (start_count past + 1) (start_count past)) m.is ∙ going.ran.count_is;
             },
@@ -430,7 +431,7 @@ refuse_on s past t c before count code going next at =
     ]
 
 -- a call that goes through is run to its end
-finish : (s : Setting) (past : List Entry) (t : ℕ) (c : Call) (before : List Call) (count : ℕ)
+finish : (s : Configuration) (past : List Entry) (t : ℕ) (c : Call) (before : List Call) (count : ℕ)
     → Going s past t (with_caller_accesses [] c) before count
     → IsEnd (next_of s past t) → GoesThrough s c (run_in_turn s before).last
     → (after : List Entry) × Ran s after (c ∷ before) count × NoneLive after
@@ -472,7 +473,7 @@ finish s past t c before count going end through = by_next (next_of s past t) re
 -- ---- a call is started
 
 -- one that was not started has made no accesses
-pub none_made : (s : Setting) (past : List Entry) → Legal s past → (t : ℕ) → start_count past ≤ t → caller_accesses past t ≡ []
+pub none_made : (s : Configuration) (past : List Entry) → Legal s past → (t : ℕ) → start_count past ≤ t → caller_accesses past t ≡ []
 none_made s past legal t unstarted =
     let p = plays s past t legal in
     p.caller_accesses_are ∙ ap (map caller_access_of) (none_first p.more p.own (sym p.all_are ∙ acts_unstarted s past t legal unstarted))
@@ -490,7 +491,7 @@ all_values [] h = refl
 all_values (v ∷ args) h = let a = All-head IsValue v args h in
     and_from _ _ (and_from _ _ (t_true _ a.0.le) (t_true _ a.1.le)) (all_values args (All-tail IsValue v args h))
 
-pub starts : (s : Setting) (c : Call) (started living : ℕ) → IsAdmitted s c → started < s.rules.limits.begins → living < s.rules.limits.live
+pub starts : (s : Configuration) (c : Call) (started living : ℕ) → IsAdmitted s c → started < s.rules.limits.begins → living < s.rules.limits.live
     → start_reply s.rules started living c.procedure c.args ≡ reply.Started started
 starts s c started living admitted some_begin some_live =
     let fits : args_fit (length c.args) c.args ≡ true = and_from _ _ (eq-eqb (length c.args) (length c.args) refl)
@@ -498,7 +499,7 @@ starts s c started living admitted some_begin some_live =
     let not_spent : nat_eq started s.rules.limits.begins ≡ false = ne_eqb started s.rules.limits.begins (λ q. omega arith) in
     let not_full : nat_eq living s.rules.limits.live ≡ false = ne_eqb living s.rules.limits.live (λ q. omega arith) in
     ap (λ o. taken_reply s.rules.limits started living o c.args) admitted.known
-    ∙ (ap (λ b. cond b (room_reply s.rules.limits started living) reply.BadArgs) fits
+    ∙ (ap (λ b. cond b (capacity_reply s.rules.limits started living) reply.BadArgs) fits
     ∙ (ap (λ b. cond b reply.Spent (cond (nat_eq living s.rules.limits.live) reply.Full (reply.Started started))) not_spent
     ∙ ap (λ b. cond b reply.Full (reply.Started started)) not_full))
 
@@ -509,11 +510,11 @@ none_listed past none = go (live_ones past) (λ t m. (member_kept (live past) t 
     go [] h = refl
     go (t ∷ l) h = absurd (both_ways _ (none t) (h t (inl refl)))
 
-run_one : (s : Setting) (past : List Entry) (c : Call) (before : List Call) (count : ℕ) → Ran s past before count
+run_one : (s : Configuration) (past : List Entry) (c : Call) (before : List Call) (count : ℕ) → Ran s past before count
     → NoneLive past → IsAdmitted s c
     → count < s.rules.limits.begins → 1 ≤ s.rules.limits.live → GoesThrough s c (run_in_turn s before).last
     → (after : List Entry) × Ran s after (c ∷ before) (count + 1) × NoneLive after
-run_one s past c before count ran none admitted room one through =
+run_one s past c before count ran none admitted capacity one through =
     let n : ℕ = start_count past in
     let e : Entry = record { event = Start c.procedure c.args; reply = reply.Started n } in
     let living : length (live_ones past) ≡ 0 = ap length (none_listed past none) in
@@ -534,7 +535,7 @@ run_one s past c before count ran none admitted room one through =
     let at_end = to_end (accesses_left s (e ∷ past) n) s (e ∷ past) n (with_caller_accesses [] c) before (count + 1) going (omega arith) in
     finish s at_end.0 n c before (count + 1) at_end.1 at_end.2 through
 
-run_all : (s : Setting) → 1 ≤ s.rules.limits.live → (all : List Call) → AreAdmitted s all → length all ≤ s.rules.limits.begins
+run_all : (s : Configuration) → 1 ≤ s.rules.limits.live → (all : List Call) → AreAdmitted s all → length all ≤ s.rules.limits.begins
     → AllGoThrough s all → (after : List Entry) × Ran s after all (length all) × NoneLive after
 run_all s one [] admitted few through = (
   [],
@@ -548,29 +549,29 @@ run_all s one (c ∷ before) admitted few through =
 
 pub reruns_agree : RerunsAgree
 reruns_agree s past legal one =
-    let all = run_all s one (told_calls past) (committed_admitted s past legal) (told_few s past legal) (all_go_through s past legal) in (
+    let all = run_all s one (reported_calls past) (committed_admitted s past legal) (reported_few s past legal) (all_go_through s past legal) in (
       record { again = all.0; legal = all.1.legal; one_by_one = all.1.one_by_one; none_live = all.2; same_calls = all.1.same_calls },
       calls_decide s all.0 past all.1.legal legal all.1.same_calls,
     )
 
 -- the replies are forced
 
-no_cycle_abort : (s : Setting) (past : List Entry) (e : Entry) → Legal s (e ∷ past)
+no_cycle_abort : (s : Configuration) (past : List Entry) (e : Entry) → Legal s (e ∷ past)
     → NoneLive past ⊎ ((t : ℕ) × IsAlone past t × IsNoQuitOf e.event t)
-    → (walk fell : List ℕ) → e.reply ≡ reply.Aborted (cause.Cycle walk) fell → ⊥
-no_cycle_abort s past e legal (inl none) walk fell is =
+    → (cycle fell : List ℕ) → e.reply ≡ reply.Aborted (cause.Cycle cycle) fell → ⊥
+no_cycle_abort s past e legal (inl none) cycle fell is =
     let w = endings_end_one s past e legal (ap is_ending is) in both_ways _ (none w.0) w.2
-no_cycle_abort s past e legal (inr (t, alone, asks)) walk fell is =
+no_cycle_abort s past e legal (inr (t, alone, asks)) cycle fell is =
     both_ways (is_hindered e.reply) (alone_is_not_aborted s past legal.0 t alone e.event asks e.reply legal.1) (ap is_hindered is)
 
-one_reply : (s : Setting) (past : List Entry) (e f : Entry) → Legal s (e ∷ past)
+one_reply : (s : Configuration) (past : List Entry) (e f : Entry) → Legal s (e ∷ past)
     → NoneLive past ⊎ ((t : ℕ) × IsAlone past t × IsNoQuitOf e.event t)
     → LegalReply s past f.event f.reply → f.event ≡ e.event → f ≡ e
 one_reply s past e f legal one h same =
     let k : LegalReply s past e.event f.reply = subst (λ v. LegalReply s past v f.reply) same h in
     elim (replies_are_unique s past e.event e.reply f.reply legal.1 k) [
       | inl q ↦ ap₂ (λ (v : Event) (r : Reply). record { event = v; reply = r }) same (sym q)
-      | inr d ↦ absurd (no_cycle_abort s past e legal one d.walk d.fell d.one)
+      | inr d ↦ absurd (no_cycle_abort s past e legal one d.cycle d.fell d.one)
     ]
 
 events_first : (x y : Event) (xs ys : List Event) → x ∷ xs ≡ y ∷ ys → (x ≡ y) × (xs ≡ ys)

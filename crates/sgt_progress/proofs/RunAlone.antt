@@ -13,7 +13,7 @@ use Rattle.sgt_model.specs.Contents.{Key}
 use Rattle.sgt_model.specs.Traces.{Next, Looks, Puts, Ends, Raises}
 use Rattle.sgt_model.specs.Fates.{is_start, start_count, live}
 use Rattle.sgt_model.specs.Questions.{is_ending}
-use Rattle.sgt_model.specs.Settings.{Setting}
+use Rattle.sgt_model.specs.Configurations.{Configuration}
 use Rattle.sgt_model.specs.Progress.{next_of}
 use Rattle.sgt_model.specs.Legality.{CycleAbortReply, Makes, StepReply, CommitReply, RaisedStep, RaisedCommit, LegalReply, Legal}
 use Rattle.sgt_model.proofs.Facts.{live-started, live-before}
@@ -38,7 +38,7 @@ ending_starts_none (reply.Refused code fell) h = refl
 ending_starts_none _ h = absurd cc
 
 -- nothing is live after the end of the only live one
-pub none_after_end : (s : Setting) (past : List Entry) (e : Entry) (t : ℕ) → Legal s (e ∷ past) → IsAlone past t → is_ending e.reply ≡ true
+pub none_after_end : (s : Configuration) (past : List Entry) (e : Entry) (t : ℕ) → Legal s (e ∷ past) → IsAlone past t → is_ending e.reply ≡ true
     → NoneLive (e ∷ past)
 none_after_end s past e t legal alone ending u = false_from_ne_true (live (e ∷ past) u) (λ alive.
     let ended = endings_end_one s past e legal ending in
@@ -54,7 +54,7 @@ StepsSo (reply.Wrote k v) = Unit {0}
 StepsSo reply.Ended = Unit {0}
 StepsSo r = is_ending r ≡ true
 
-module _ (s : Setting) (past : List Entry) (legal : Legal s past) (t : ℕ) (alone : IsAlone past t) (r : Reply) where
+module _ (s : Configuration) (past : List Entry) (legal : Legal s past) (t : ℕ) (alone : IsAlone past t) (r : Reply) where
   access_so : (k : Key) (kind : Kind) (given : Reply) → StepsSo given → CycleAbortReply past t k kind r ⊎ Makes past t k kind given r → StepsSo r
   access_so k kind given so (inl c) = absurd (closes_none s past legal t alone k kind c.rest c.closes)
   access_so k kind given so (inr m) = subst StepsSo (sym m.is) so
@@ -73,7 +73,7 @@ module _ (s : Setting) (past : List Entry) (legal : Legal s past) (t : ℕ) (alo
   step_so h = steps_so (next_of s past t) (of_live past t r _ alone.is_live h)
 
 -- a step of a live one that found its procedure's end leaves what comes next; then its commit ends it, if it is the only live one
-module _ (s : Setting) (past before : List Entry) (t : ℕ) (alone : IsAlone past t) (r : Reply) where
+module _ (s : Configuration) (past before : List Entry) (t : ℕ) (alone : IsAlone past t) (r : Reply) where
   commits_so : (n : Next) → StepReply s before t n reply.Ended → CommitReply s past t n r → is_ending r ≡ true
   commits_so (Looks k) (inl c) h = absurd (cc (c.aborts.is))
   commits_so (Looks k) (inr m) h = absurd (cc (m.is))
@@ -88,7 +88,7 @@ module _ (s : Setting) (past before : List Entry) (t : ℕ) (alone : IsAlone pas
       go AtCommit step (inl w) = absurd (waits_for_none past t alone w.predecessor w.least.pair)
       go AtCommit step (inr m) = ap is_ending m.is
 
-pub commit_ends : (s : Setting) (past : List Entry) (t : ℕ) (r : Reply) → live past t ≡ true → LegalReply s past (Step t) reply.Ended
+pub commit_ends : (s : Configuration) (past : List Entry) (t : ℕ) (r : Reply) → live past t ≡ true → LegalReply s past (Step t) reply.Ended
     → IsAlone (record { event = Step t; reply = reply.Ended } ∷ past) t
     → LegalReply s (record { event = Step t; reply = reply.Ended } ∷ past) (Commit t) r → is_ending r ≡ true
 commit_ends s past t r alive step alone h =

@@ -1,13 +1,13 @@
 -- The bound for procedures that passed the check.
 use Rattle.std.specs.Prelude.{◌≡◌, ◌≤◌, ◌*◌, ℕ, Some}
 use Rattle.sgt_model.specs.Syntax.{ProcedureText}
-use Rattle.sgt_model.specs.Settings.{Setting}
+use Rattle.sgt_model.specs.Configurations.{Configuration}
 use Rattle.sgt_model.specs.Laws.{InEach}
 use Rattle.sgt_proc.specs.Flaws.{IsFlawless}
 use Rattle.sgt_progress.specs.Drains.{events_left}
 
 -- each procedure passed the check
-abbrev pub AreChecked : Setting → Type 0
+abbrev pub AreChecked : Configuration → Type 0
 AreChecked s = (n : ℕ) (p : ProcedureText) → s.rules.procedures n ≡ Some p → IsFlawless p
 
 -- then 64 accesses at most and an end are left of each transaction that may be live

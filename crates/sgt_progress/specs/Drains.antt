@@ -7,7 +7,7 @@ use Rattle.sgt_model.specs.declared.reply.Reply.{Reply}
 use Rattle.sgt_model.specs.declared.entry.Entry.{Entry}
 use Rattle.sgt_model.specs.Accesses.{access_in}
 use Rattle.sgt_model.specs.Fates.{is_start, live, live_ones}
-use Rattle.sgt_model.specs.Settings.{Setting}
+use Rattle.sgt_model.specs.Configurations.{Configuration}
 use Rattle.sgt_model.specs.Progress.{call_of, made}
 use Rattle.sgt_model.specs.Legality.{Legal, LegalReply}
 use Rattle.sgt_model.specs.Laws.{InEach}
@@ -16,7 +16,7 @@ use Rattle.sgt_progress.specs.Moves.{next_event, has_moved}
 use Rattle.sgt_progress.specs.Alone.{NoneLive, IsAlone, IsStepOrCommitOf}
 
 -- how many accesses t's procedure can still make at most: those on its longest path, less those that t has made
-abbrev pub accesses_left : Setting → List Entry → ℕ → ℕ
+abbrev pub accesses_left : Configuration → List Entry → ℕ → ℕ
 accesses_left s past t = most_accesses (s.rules.procedures (call_of past t).procedure) - made past t
 
 -- the sum of f over a list
@@ -25,7 +25,7 @@ total f [] = 0
 total f (t ∷ l) = f t + total f l
 
 -- over all live transactions: the accesses that the procedure of each can still make, and its end
-abbrev pub events_left : Setting → List Entry → ℕ
+abbrev pub events_left : Configuration → List Entry → ℕ
 events_left s past = total (λ t. accesses_left s past t + 1) (live_ones past)
 
 -- how many entries made an access or ended a transaction
@@ -53,10 +53,11 @@ StartNone (e ∷ past) = (is_start e.reply ≡ false) × StartNone past
 abbrev pub MovesAreFew : Type 0
 MovesAreFew = InEach (λ s past. (later : List Entry) → Legal s (later ++ past) → StartNone later → moves later + events_left s (later ++ past) ≤ events_left s past + requests_made later)
 
--- Nothing is live after at most so many events, whatever the replies: nothing is live now, or there is a live transaction whose
--- next event, with any legal reply, leaves one event less. These events are steps and commits: what a caller may still want is
--- none of them, and a transaction whose caller has decided on accesses is at its procedure's end, so only its commit is left
-abbrev pub DrainsWithin : ℕ → Setting → List Entry → Type 0
+-- Nothing is live after at most this many events, whatever the replies: nothing is live now, or there is a live
+-- transaction whose next event, with any legal reply, leaves one event less. These events are steps and commits: what a
+-- caller may still want is none of them, and a transaction whose caller has decided on accesses is at its procedure's
+-- end, so only its commit is left
+abbrev pub DrainsWithin : ℕ → Configuration → List Entry → Type 0
 DrainsWithin zero s past = NoneLive past
 DrainsWithin (suc n) s past = NoneLive past ⊎ ((t : ℕ) × (live past t ≡ true) × ((r : Reply) → LegalReply s past (next_event s past t) r
     → DrainsWithin n s (record { event = next_event s past t; reply = r } ∷ past)))
@@ -70,12 +71,12 @@ abbrev pub AreStepsAndCommits : List Entry → Type 0
 AreStepsAndCommits [] = Unit {0}
 AreStepsAndCommits (e ∷ past) = ((t : ℕ) × IsStepOrCommitOf e.event t) × AreStepsAndCommits past
 
--- a legal history goes on by at most so many steps and commits, after which nothing is live
+-- a legal history continues by at most this many steps and commits, after which nothing is live
 abbrev pub SomeStepsDrain : Type 0
 SomeStepsDrain = InEach (λ s past. (later : List Entry) × Legal s (later ++ past) × AreStepsAndCommits later × (length later ≤ events_left s past) × NoneLive (later ++ past))
 
--- t has ended after at most so many of its next events, whatever the replies
-abbrev pub EndsWithin : ℕ → Setting → List Entry → ℕ → Type 0
+-- t has ended after at most this many of its next events, whatever the replies
+abbrev pub EndsWithin : ℕ → Configuration → List Entry → ℕ → Type 0
 EndsWithin zero s past t = live past t ≡ false
 EndsWithin (suc n) s past t = (live past t ≡ false) ⊎ ((r : Reply) → LegalReply s past (next_event s past t) r
     → EndsWithin n s (record { event = next_event s past t; reply = r } ∷ past) t)
@@ -84,6 +85,7 @@ EndsWithin (suc n) s past t = (live past t ≡ false) ⊎ ((r : Reply) → Legal
 abbrev pub AloneEnds : Type 0
 AloneEnds = InEach (λ s past. (t : ℕ) → IsAlone past t → EndsWithin (accesses_left s past t + 1) s past t)
 
--- if no procedure makes more than `most` accesses, there are at most so many events for each transaction that may be live
+-- if no procedure makes more than `most` accesses, there are at most this many events for each transaction that may be
+-- live
 abbrev pub EventsLeftAreFew : Type 0
 EventsLeftAreFew = InEach (λ s past. (most : ℕ) → ((n : ℕ) → most_accesses (s.rules.procedures n) ≤ most) → events_left s past ≤ s.rules.limits.live * (most + 1))

@@ -7,13 +7,13 @@ use Rattle.sgt_model.specs.declared.event.Request.TheVariants.{Read, Write}
 use Rattle.sgt_model.specs.declared.reply.Reply.{Reply}
 use Rattle.sgt_model.specs.declared.reply.Reply.TheVariants as reply
 use Rattle.sgt_model.specs.declared.entry.Entry.{Entry}
-use Rattle.sgt_model.specs.Runs.{CallerAccess, told, wrote}
+use Rattle.sgt_model.specs.Runs.{CallerAccess, reported, wrote}
 use Rattle.sgt_model.specs.Progress.{Call}
-use Rattle.sgt_model.specs.Replay.{told_calls}
+use Rattle.sgt_model.specs.Replay.{reported_calls}
 use Rattle.sgt_model.specs.Legality.{Legal}
 use Rattle.sgt_model.specs.Laws.{InEach}
 use Rattle.sgt_progress.specs.Alone.{NoneLive}
-use Rattle.sgt_progress.specs.Reruns.{IsOneByOne, TellTheSame}
+use Rattle.sgt_progress.specs.Reruns.{IsOneByOne, ReportTheSame}
 
 -- what is requested of an engine for a call: a procedure with its arguments, and then accesses, the last one first
 pub record GivenCall : Type 0 where
@@ -23,7 +23,7 @@ pub record GivenCall : Type 0 where
 
 -- what was requested for a caller's access: a read asks for no value
 abbrev pub request_of : CallerAccess → Request
-request_of (told k v) = Read k
+request_of (reported k v) = Read k
 request_of (wrote k v) = Write k v
 
 -- what was requested for a call
@@ -54,10 +54,10 @@ abbrev pub given_calls : List Entry → List GivenCall
 given_calls [] = []
 given_calls (e ∷ past) = given_with e.event e.reply (given_calls past)
 
--- Command logging: if the committed and refused calls of a legal history with their callers' accesses, and no others, are requested
--- one after another of a new engine, and nothing is live at the end, then each of them gets the same answers or code there, each
--- such read is told the same, and the same is committed. So no start is refused, and none of them is aborted at a step or at an
--- access, or has to wait
-abbrev pub GivenCallsAreTold : Type 0
-GivenCallsAreTold = InEach (λ s past. (again : List Entry) → Legal s again → IsOneByOne again → NoneLive again
-    → given_calls again ≡ map given_of (told_calls past) → (told_calls again ≡ told_calls past) × TellTheSame s again past)
+-- Command logging: if the committed and refused calls of a legal history with their callers' accesses, and no others,
+-- are requested one after another of a new engine, and nothing is live at the end, then each of them gets the same
+-- answers or code there, each such read returns the same value, and the same is committed. So no start is refused, and
+-- none of them is aborted at a step or at an access, or has to wait
+abbrev pub GivenCallsAreReported : Type 0
+GivenCallsAreReported = InEach (λ s past. (again : List Entry) → Legal s again → IsOneByOne again → NoneLive again
+    → given_calls again ≡ map given_of (reported_calls past) → (reported_calls again ≡ reported_calls past) × ReportTheSame s again past)

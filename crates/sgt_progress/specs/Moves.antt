@@ -9,13 +9,13 @@ use Rattle.sgt_model.specs.declared.reply.Reply.TheVariants as reply
 use Rattle.sgt_model.specs.declared.entry.Entry.{Entry}
 use Rattle.sgt_model.specs.declared.limits.Asks.{Asks}
 use Rattle.sgt_model.specs.declared.limits.Asks.TheVariants.{AtStep, AtCommit}
-use Rattle.sgt_model.specs.Walks.{Reaches, Acyclic}
+use Rattle.sgt_model.specs.Paths.{Reaches, Acyclic}
 use Rattle.sgt_model.specs.Traces.{Next, Looks, Puts, Ends, Raises}
 use Rattle.sgt_model.specs.Accesses.{access_in}
 use Rattle.sgt_model.specs.Fates.{live}
 use Rattle.sgt_model.specs.Questions.{is_ending}
 use Rattle.sgt_model.specs.Pairs.{Pair}
-use Rattle.sgt_model.specs.Settings.{Setting}
+use Rattle.sgt_model.specs.Configurations.{Configuration}
 use Rattle.sgt_model.specs.Progress.{is_fit, next_of}
 use Rattle.sgt_model.specs.Legality.{LegalReply, MustWait}
 use Rattle.sgt_model.specs.Laws.{InEach}
@@ -33,7 +33,7 @@ event_for asks t (Ends answers) = Commit t
 event_for asks t (Raises code) = event_of_code asks t
 
 -- t's next event
-abbrev pub next_event : Setting → List Entry → ℕ → Event
+abbrev pub next_event : Configuration → List Entry → ℕ → Event
 next_event s past t = event_for s.rules.limits.asks t (next_of s past t)
 
 -- an event with this reply moves its transaction on: it is an access, or ends it
@@ -41,12 +41,12 @@ abbrev pub has_moved : Event → Reply → Bool
 has_moved event r = not (is_none (access_in event r)) || is_ending r
 
 -- whatever legal reply its next event gets, t makes an access or ends
-abbrev pub CanMove : Setting → List Entry → ℕ → Type 0
+abbrev pub CanMove : Configuration → List Entry → ℕ → Type 0
 CanMove s past t = (r : Reply) → LegalReply s past (next_event s past t) r → has_moved (next_event s past t) r ≡ true
 
 -- the next event of a live transaction moves it on, or waits for its least live predecessor
-abbrev pub AskedMovesOrWaits : Type 0
-AskedMovesOrWaits = InEach (λ s past. (t : ℕ) → live past t ≡ true → (r : Reply) → LegalReply s past (next_event s past t) r → (has_moved (next_event s past t) r ≡ true) ⊎ MustWait past t r)
+abbrev pub NextMovesOrWaits : Type 0
+NextMovesOrWaits = InEach (λ s past. (t : ℕ) → live past t ≡ true → (r : Reply) → LegalReply s past (next_event s past t) r → (has_moved (next_event s past t) r ≡ true) ⊎ MustWait past t r)
 
 -- an access on which the caller of a live transaction decided, at its procedure's end, moves it on: it never waits. What it writes
 -- has to be a value, or none
@@ -59,12 +59,12 @@ abbrev pub NoDeadlock : Type 0
 NoDeadlock = InEach (λ s past. (t : ℕ) → live past t ≡ true → (u : ℕ) × (live past u ≡ true) × Reaches (Pair past) u t × CanMove s past u)
 
 -- the live t waits for u: its next event may be answered so
-pub record WaitsFor (s : Setting) (past : List Entry) (t u : ℕ) : Type 0 where
+pub record WaitsFor (s : Configuration) (past : List Entry) (t u : ℕ) : Type 0 where
   pub is_live : live past t ≡ true
-  pub told : LegalReply s past (next_event s past t) (reply.Waits u)
+  pub reported : LegalReply s past (next_event s past t) (reply.Waits u)
 
 -- who is waited for is live, and has an edge to the one that waits; and the graph of who waits for whom has no cycle
-pub record WaitsAreSound (s : Setting) (past : List Entry) : Type 0 where
+pub record WaitsAreSound (s : Configuration) (past : List Entry) : Type 0 where
   pub for_live : (t u : ℕ) → WaitsFor s past t u → (live past u ≡ true) × Pair past u t
   pub no_cycle : Acyclic (WaitsFor s past)
 

@@ -2,13 +2,13 @@
 use Rattle.std.specs.Prelude.{◌≡◌, ℕ, true, List}
 use Rattle.sgt_model.specs.declared.entry.Entry.{Entry}
 use Rattle.sgt_model.specs.Fates.{live}
-use Rattle.sgt_model.specs.Settings.{Setting}
+use Rattle.sgt_model.specs.Configurations.{Configuration}
 use Rattle.sgt_model.specs.Legality.{Legal}
 use Rattle.sgt_model.specs.Laws.{InEach}
 use Rattle.sgt_progress.specs.Moves.{WaitsFor}
 
 -- an owner is held up: the next event of one of its live transactions may be answered by a wait
-pub record HeldUp (s : Setting) (past : List Entry) (owner : ℕ → ℕ) (o : ℕ) : Type 0 where
+pub record HeldUp (s : Configuration) (past : List Entry) (owner : ℕ → ℕ) (o : ℕ) : Type 0 where
   pub t : ℕ
   pub own : owner t ≡ o
   pub on : ℕ
@@ -25,4 +25,4 @@ OwnersGoOn = InEach (λ s past. (owner : ℕ → ℕ) → OneEach past owner →
 
 -- with two each, all may be held up
 abbrev pub TwoEachMayNot : Type 0
-TwoEachMayNot = (s : Setting) × (past : List Entry) × (owner : ℕ → ℕ) × Legal s past × ((u : ℕ) → live past u ≡ true → HeldUp s past owner (owner u))
+TwoEachMayNot = (s : Configuration) × (past : List Entry) × (owner : ℕ → ℕ) × Legal s past × ((u : ℕ) → live past u ≡ true → HeldUp s past owner (owner u))

@@ -2,8 +2,8 @@
 ghost use Rattle.sgt_progress.specs.Alone.{AloneEndsByItself, AloneIsNotAborted, StartedAlone};
 ghost use Rattle.sgt_progress.specs.Checked.{CheckedDrainSoon};
 ghost use Rattle.sgt_progress.specs.Drains.{AloneEnds, EventsLeftAreFew, HistoriesDrain, MovesAreFew, SomeStepsDrain};
-ghost use Rattle.sgt_progress.specs.GivenCalls.{GivenCallsAreTold};
-ghost use Rattle.sgt_progress.specs.Moves.{AskedMovesOrWaits, NoDeadlock, NoWaitCycle, RequestedMoves};
+ghost use Rattle.sgt_progress.specs.GivenCalls.{GivenCallsAreReported};
+ghost use Rattle.sgt_progress.specs.Moves.{NextMovesOrWaits, NoDeadlock, NoWaitCycle, RequestedMoves};
 ghost use Rattle.sgt_progress.specs.Needed.{ClosedCyclesStay, CyclesAloneAreRejected};
 ghost use Rattle.sgt_progress.specs.Owners.{OwnersGoOn, TwoEachMayNot};
 ghost use Rattle.sgt_progress.specs.Predecessors.{NoNewPredecessors};
@@ -14,8 +14,8 @@ ghost use Rattle.sgt_progress.specs.Reruns.{CallsDecide, OneByOneIsForced, Rerun
 
 /// The next event of a live transaction moves it on, or waits for a live predecessor. An access on which its caller decided
 /// never waits.
-pub fn asked_moves_or_waits()
-    ensures next { AskedMovesOrWaits }
+pub fn next_moves_or_waits()
+    ensures next { NextMovesOrWaits }
     ensures requested { RequestedMoves }
 {}
 
@@ -30,8 +30,8 @@ pub fn alone_is_not_aborted()
     ensures { AloneIsNotAborted }
 {}
 
-/// As long as all events are its own, and none of them is a quit, the only live transaction commits, raises a code of its
-/// own, or is still live.
+/// As long as all events are its own, and none of them is a `Quit`, the only live transaction commits, raises a code of
+/// its own, or is still live.
 pub fn alone_ends_by_itself()
     ensures { AloneEndsByItself }
 {}
@@ -77,7 +77,7 @@ pub fn reruns_agree()
     ensures decide { CallsDecide }
     ensures again { RerunsAgree }
     ensures forced { OneByOneIsForced }
-    ensures given { GivenCallsAreTold }
+    ensures given { GivenCallsAreReported }
 {}
 
 /// Round robin over the live transactions, in any order: each round makes an access or ends one, so after enough rounds

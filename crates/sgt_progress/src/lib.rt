@@ -1,5 +1,5 @@
-//! Laws of every legal history beyond the headline: nobody is stuck, commit order keeps real time, the committed calls
-//! decide the rest, and no access is rejected in vain.
+//! Laws of every legal history beyond the headline: no transaction is stuck, commit order keeps real time, the
+//! committed calls decide the rest, and each rejection is needed.
 //!
 //! - **Progress** (`specs/Moves.antt`, `Alone.antt`, `Drains.antt`, `Rounds.antt`, `Owners.antt`): there is no deadlock; a
 //!   history in which nothing is started drains within a known number of events; the only live transaction neither
@@ -31,8 +31,7 @@
 mod laws;
 
 pub use laws::{
-    alone_ends, alone_ends_by_itself, alone_is_not_aborted, asked_moves_or_waits,
-    closed_cycles_stay, histories_drain, histories_make_progress, moves_are_few, no_deadlock,
-    no_new_predecessors, owners_go_on, replay_keeps_real_time, reruns_agree, rounds_drain,
-    started_alone,
+    alone_ends, alone_ends_by_itself, alone_is_not_aborted, closed_cycles_stay, histories_drain,
+    histories_make_progress, moves_are_few, next_moves_or_waits, no_deadlock, no_new_predecessors,
+    owners_go_on, replay_keeps_real_time, reruns_agree, rounds_drain, started_alone,
 };

@@ -108,13 +108,13 @@ taken_out t (w ∷ c) (suc n) h once = go (nat_eq w.0 t) h.0 once (taken_out t c
     go false h once rest = ap (λ l. w ∷ l) (rest once)
 
 -- once t's value is out, there is capacity for another
-pub room_left : (t : ℕ) (c : List (ℕ × Option ℤ)) → length c ≤ 32 → (writes_in t c ≡ false → length c < 32)
+pub capacity_left : (t : ℕ) (c : List (ℕ × Option ℤ)) → length c ≤ 32 → (writes_in t c ≡ false → length c < 32)
     → length (chain_without t c) < 32
-room_left t c few room = go (writes_in t c) refl
+capacity_left t c few capacity = go (writes_in t c) refl
   where
     go : (b : Bool) → writes_in t c ≡ b → length (chain_without t c) < 32
     go true e = let less = fewer_left t c e in omega (arith, less)
-    go false e = let less = room e in let le = few_filtered (λ w. not (nat_eq w.0 t)) c in omega (arith, less)
+    go false e = let less = capacity e in let le = few_filtered (λ w. not (nat_eq w.0 t)) c in omega (arith, less)
 
 -- the last of a chain by its index
 pub last_get : (c : List (ℕ × Option ℤ)) → last_or None c ≡ slice_get c (length c - 1)

@@ -1,4 +1,4 @@
--- What a write and what is taken out leave is a chain, and what stands in a chain are values, or none.
+-- A write and a removal leave a chain, and the members of a chain are values, or none.
 use Rattle.std.proofs.Common.{◌≡◌, ℕ, ◌<◌, ℤ, Bool, true, false, cond, not, nat_eq, List, [], ◌∷◌, length, Option, Some, None, IfSome, arith}
 use Rattle.std.proofs.lemmas.List.Elements.{All-nil, All-head, All-tail, All-filter, All-push}
 use Rattle.std.specs.List.{All, last_or}
@@ -18,9 +18,9 @@ chain_empty = record { once = λ t. omega arith; few = omega arith; values = All
 
 pub chain_written : (t : ℕ) (v : Option ℤ) (c : List (ℕ × Option ℤ)) → IsChain c → IfSome v IsValue
     → (writes_in t c ≡ false → length c < 32) → IsChain (write_last t v c)
-chain_written t v c chain value room = record {
+chain_written t v c chain value capacity = record {
   once = λ u. once_written t v u c (chain.once u);
-  few = few_written t v c chain.few room;
+  few = few_written t v c chain.few capacity;
   values = All-push HasValue _ _ (All-filter (λ w. not (nat_eq w.0 t)) HasValue c chain.values) value;
 }
 

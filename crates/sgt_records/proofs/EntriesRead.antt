@@ -56,9 +56,9 @@ module _ {R : Type 0} (value : R → Option ℤ) where
         ∙ ap (λ o. cond (key_eq key k) o (given_so_far entries k)) is
 
     -- one with none writes none
-    pub blank_more : (entries : List (Key × R)) (key : Key) (r : R) → get key_cmp m key ≡ Some r → value r ≡ None → (k : Key)
+    pub empty_more : (entries : List (Key × R)) (key : Key) (r : R) → get key_cmp m key ≡ Some r → value r ≡ None → (k : Key)
         → given_so_far (entries ++ (key, r) ∷ []) k ≡ given_so_far entries k
-    blank_more entries key r found none k = entry_more entries (key, r) found k
+    empty_more entries key r found none k = entry_more entries (key, r) found k
         ∙ (ap (λ o. cond (key_eq key k) o (given_so_far entries k)) none
         ∙ go (key_eq key k) (is_among k entries) (λ same. ap (option_and_then value)
         (subst (λ j. get key_cmp m j ≡ Some r) (key_eq-true key k same) found) ∙ none))

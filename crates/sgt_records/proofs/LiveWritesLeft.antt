@@ -9,7 +9,7 @@ use Rattle.sgt_model.specs.Contents.{Key, key_eq}
 use Rattle.sgt_model.specs.Chains.{chain_without, write_last, value_in, writes_in}
 use Rattle.sgt_model.proofs.Stores.{key_eq-true}
 use Rattle.sgt_records.specs.declared.live_write.LiveWrite.{LiveWrite}
-use Rattle.sgt_records.specs.LiveWrites.{is_live, TellIndices}
+use Rattle.sgt_records.specs.LiveWrites.{is_live, IndicesAgree}
 use Rattle.sgt_records.proofs.ChainIndices.{left_whole, no_value}
 
 -- on booleans
@@ -219,23 +219,23 @@ live_again t u key k v writes chains after again are put = are
 -- on the indices that they have
 
 -- each has that of its key
-pub tell_at : (indices : Key → Option ℕ) (writes : List LiveWrite) (i : ℕ) (w : LiveWrite) → i < length writes → w ≡ get_or writes i w
-    → TellIndices indices writes → indices w.key ≡ Some w.index
-tell_at indices writes i w short is all = subst (λ x. indices x.key ≡ Some x.index) (sym is) (all i w short)
+pub agree_at : (indices : Key → Option ℕ) (writes : List LiveWrite) (i : ℕ) (w : LiveWrite) → i < length writes → w ≡ get_or writes i w
+    → IndicesAgree indices writes → indices w.key ≡ Some w.index
+agree_at indices writes i w short is all = subst (λ x. indices x.key ≡ Some x.index) (sym is) (all i w short)
 
 -- also where there are more
-pub tell_on : (indices more : Key → Option ℕ) (writes same : List LiveWrite)
-    → ((k : Key) (p : ℕ) → indices k ≡ Some p → more k ≡ Some p) → same ≡ writes → TellIndices indices writes → TellIndices more same
-tell_on indices more writes same stay is all = subst (TellIndices more) (sym is) (λ i d short. stay _ _ (all i d short))
+pub agree_on : (indices more : Key → Option ℕ) (writes same : List LiveWrite)
+    → ((k : Key) (p : ℕ) → indices k ≡ Some p → more k ≡ Some p) → same ≡ writes → IndicesAgree indices writes → IndicesAgree more same
+agree_on indices more writes same stay is all = subst (IndicesAgree more) (sym is) (λ i d short. stay _ _ (all i d short))
 
 -- with one more
-pub tell_more : (indices : Key → Option ℕ) (writes more : List LiveWrite) (w : LiveWrite) → more ≡ writes ++ w ∷ []
-    → indices w.key ≡ Some w.index → TellIndices indices writes → TellIndices indices more
-tell_more indices writes more w is here all = subst (TellIndices indices) (sym is)
+pub agree_more : (indices : Key → Option ℕ) (writes more : List LiveWrite) (w : LiveWrite) → more ≡ writes ++ w ∷ []
+    → indices w.key ≡ Some w.index → IndicesAgree indices writes → IndicesAgree indices more
+agree_more indices writes more w is here all = subst (IndicesAgree indices) (sym is)
     (All-push (λ (x : LiveWrite). indices x.key ≡ Some x.index) writes w all here)
 
 -- and without t's
-pub tell_left : (indices : Key → Option ℕ) (t : ℕ) (writes left : List LiveWrite) → left ≡ filter (not_by t) writes
-    → TellIndices indices writes → TellIndices indices left
-tell_left indices t writes left is all = subst (TellIndices indices) (sym is)
+pub agree_left : (indices : Key → Option ℕ) (t : ℕ) (writes left : List LiveWrite) → left ≡ filter (not_by t) writes
+    → IndicesAgree indices writes → IndicesAgree indices left
+agree_left indices t writes left is all = subst (IndicesAgree indices) (sym is)
     (All-filter (not_by t) (λ (x : LiveWrite). indices x.key ≡ Some x.index) writes all)

@@ -76,14 +76,14 @@ fewer_left t (w ∷ c) h = go (nat_eq w.0 t) (few_filtered (λ w. not (nat_eq w.
 -- so a write leaves at most 32
 pub few_written : (t : ℕ) (v : Option ℤ) (c : List (ℕ × Option ℤ)) → length c ≤ 32 → (writes_in t c ≡ false → length c < 32)
     → length (write_last t v c) ≤ 32
-few_written t v c few room = go (writes_in t c) refl
+few_written t v c few capacity = go (writes_in t c) refl
   where
     longer : length (write_last t v c) ≡ length (chain_without t c) + 1
     longer = length-append (chain_without t c) ((t, v) ∷ [])
 
     go : (b : Bool) → writes_in t c ≡ b → length (write_last t v c) ≤ 32
     go true e = let less = fewer_left t c e in omega (arith, longer)
-    go false e = let less = room e in let le = few_filtered (λ w. not (nat_eq w.0 t)) c in omega (arith, longer)
+    go false e = let less = capacity e in let le = few_filtered (λ w. not (nat_eq w.0 t)) c in omega (arith, longer)
 
 -- on the writes
 
@@ -198,7 +198,7 @@ module _ (records : BTreeMap Key (Option ℤ)) (writes : List Write) (are : AreP
   -- and so is what a write leaves
   pub pending_written : (t : ℕ) (key : Key) (v : Option ℤ) → has_record records key ≡ true → IfSome v IsValue
       → (writes_in t (chain_in writes key) ≡ false → length (chain_in writes key) < 32) → ArePending records (written t key v writes)
-  pending_written t key v there in_range room = record {
+  pending_written t key v there in_range capacity = record {
     once = λ u k. subst (λ c. IsOnceIn u c) (sym (chain_written t key v writes k)) (single (key_eq key k) u k);
     few = λ k. subst (λ c. length c ≤ 32) (sym (chain_written t key v writes k)) (short k (key_eq key k) refl);
     recorded = All-push IsRecorded _ _ (All-filter (not_this t key) IsRecorded writes are.recorded) there;
@@ -211,7 +211,7 @@ module _ (records : BTreeMap Key (Option ℤ)) (writes : List Write) (are : AreP
 
       short : (k : Key) (b : Bool) → key_eq key k ≡ b → length (cond b (write_last t v (chain_in writes k)) (chain_in writes k)) ≤ 32
       short k true e = few_written t v (chain_in writes k) (are.few k)
-          (subst (λ (j : Key). writes_in t (chain_in writes j) ≡ false → length (chain_in writes j) < 32) (key_eq-true key k e) room)
+          (subst (λ (j : Key). writes_in t (chain_in writes j) ≡ false → length (chain_in writes j) < 32) (key_eq-true key k e) capacity)
       short k false e = are.few k
 
   -- records that are kept still wait for them
@@ -220,7 +220,7 @@ module _ (records : BTreeMap Key (Option ℤ)) (writes : List Write) (are : AreP
   pending_kept new kept =
       record { once = are.once; few = are.few; recorded = λ i d short. kept _ (are.recorded i d short); in_range = are.in_range }
 
--- on what a commit settles
+-- on what a commit makes committed values
 
 -- t's value in a chain with one more at the end
 value_added : (t u : ℕ) (v : Option ℤ) (c : List (ℕ × Option ℤ))
@@ -268,7 +268,7 @@ module _ (t : ℕ) (writes : List Write) (i : ℕ) (w : Write) (short : i < leng
       ∙ (chain_joined (take (i + 1) writes) (drop (i + 1) writes) k
       ∙ (ap (λ c. c ++ chain_in (drop (i + 1) writes) k) (chain_more k) ∙ append_assoc (chain_in (take i writes) k) _ _))
 
-  -- a write by t settles its key
+  -- a write by t becomes the committed value of its key
   pub settle_more : ((k : Key) → IsOnceIn t (chain_in writes k)) → w.by ≡ t → (k : Key) (before after opening : Option ℤ)
       → after ≡ cond (key_eq w.key k) w.value before → before ≡ unwrap_or (value_in t (chain_in (take i writes) k)) opening
       → after ≡ unwrap_or (value_in t (chain_in (take (i + 1) writes) k)) opening
@@ -286,7 +286,7 @@ module _ (t : ℕ) (writes : List Write) (i : ℕ) (w : Write) (short : i < leng
           ∙ ap₂ (λ (o : Option (Option ℤ)) (b : Bool). option_or o (cond b (Some w.value) None)) nothing (eq-eqb w.by t own)))
       go false e = so_far ∙ ap (λ c. unwrap_or (value_in t c) opening) (sym (append-nil (chain_in (take i writes) k)))
 
-  -- another's settles none
+  -- another's changes no committed value
   pub settle_other : w.by ≢ t → (k : Key) → value_in t (chain_in (take i writes) k) ≡ value_in t (chain_in (take (i + 1) writes) k)
   settle_other other k = sym (ap (value_in t) (chain_more k) ∙ go (key_eq w.key k))
     where

@@ -1,4 +1,4 @@
--- What a record that has changed, with its chain, changes for the keys.
+-- The effect of a changed record and its chain on the keys.
 use Rattle.std.proofs.Common.{◌≡◌, ◌≢◌, ℕ, ◌<◌, nat_eq, length, unwrap_or, ℤ, Bool, true, false, cond, List, [], ◌⊎◌, inl, inr, Option, Some, None, Result, Ok, Err, OnOk, OnErr, IfSome, refl, sym, ap, ◌∙◌, subst}
 use Rattle.std.proofs.lemmas.Bool.{true≢false, eq-eqb, eqb-true}
 use Rattle.std.specs.Option.{is_some, option_and_then, unwrap_or}
@@ -97,24 +97,24 @@ module _ (m : Key → Option Record) (a : Slab Chain) (key : Key) (r : Record) (
   pub value_there : IfSome r.committed IsValue
   value_there = subst (λ (o : Option ℤ). IfSome o IsValue) committed_is (index.in_range key)
 
-module _ (m n : Key → Option Record) (key : Key) (r : Record) (told : (k : Key) → n k ≡ cond (key_eq key k) (Some r) (m k)) where
-  written_told : (k : Key) → written_by (n k) ≡ cond (key_eq key k) r.written (written_by (m k))
-  written_told k = ap written_by (told k) ∙ go (key_eq key k)
+module _ (m n : Key → Option Record) (key : Key) (r : Record) (returned : (k : Key) → n k ≡ cond (key_eq key k) (Some r) (m k)) where
+  written_returned : (k : Key) → written_by (n k) ≡ cond (key_eq key k) r.written (written_by (m k))
+  written_returned k = ap written_by (returned k) ∙ go (key_eq key k)
     where
       go : (b : Bool) → written_by (cond b (Some r) (m k)) ≡ cond b r.written (written_by (m k))
       go true = refl
       go false = refl
 
-  slot_told : (k : Key) → slot_of n k ≡ cond (key_eq key k) (slot_in r.written) (slot_of m k)
-  slot_told k = ap slot_in (written_told k) ∙ go (key_eq key k)
+  slot_returned : (k : Key) → slot_of n k ≡ cond (key_eq key k) (slot_in r.written) (slot_of m k)
+  slot_returned k = ap slot_in (written_returned k) ∙ go (key_eq key k)
     where
       go : (b : Bool) → slot_in (cond b r.written (written_by (m k))) ≡ cond b (slot_in r.written) (slot_of m k)
       go true = refl
       go false = refl
 
   -- the record's committed value is the key's, and every other is as before
-  pub committed_told : (k : Key) → committed_of n k ≡ cond (key_eq key k) r.committed (committed_of m k)
-  committed_told k = ap (option_and_then (λ (r : Record). r.committed)) (told k) ∙ go (key_eq key k)
+  pub committed_returned : (k : Key) → committed_of n k ≡ cond (key_eq key k) r.committed (committed_of m k)
+  committed_returned k = ap (option_and_then (λ (r : Record). r.committed)) (returned k) ∙ go (key_eq key k)
     where
       go : (b : Bool) → option_and_then (λ (r : Record). r.committed) (cond b (Some r) (m k)) ≡ cond b r.committed (committed_of m k)
       go true = refl
@@ -122,7 +122,7 @@ module _ (m n : Key → Option Record) (key : Key) (r : Record) (told : (k : Key
 
   -- where it has not changed, all are
   pub committed_same : r.committed ≡ committed_of m key → (k : Key) → committed_of n k ≡ committed_of m k
-  committed_same same k = committed_told k ∙ go (key_eq key k) refl
+  committed_same same k = committed_returned k ∙ go (key_eq key k) refl
     where
       go : (b : Bool) → key_eq key k ≡ b → cond b r.committed (committed_of m k) ≡ committed_of m k
       go true e = same ∙ ap (committed_of m) (key_eq-true key k e)
@@ -130,7 +130,7 @@ module _ (m n : Key → Option Record) (key : Key) (r : Record) (told : (k : Key
 
   -- no key has been written, if the record has not
   pub still_none : r.written ≡ Nothing → ((k : Key) → written_by (m k) ≡ Nothing) → (k : Key) → written_by (n k) ≡ Nothing
-  still_none here none k = written_told k ∙ go (key_eq key k)
+  still_none here none k = written_returned k ∙ go (key_eq key k)
     where
       go : (b : Bool) → cond b r.written (written_by (m k)) ≡ Nothing
       go true = here
@@ -159,8 +159,8 @@ module _ (m n : Key → Option Record) (key : Key) (r : Record) (told : (k : Key
         (moves.others p (not_from k p other (ap slot_in at)) (not_to k p other (ap slot_in at)))
 
     -- the record's chain is the key's, and every other is as before
-    pub chain_told : (k : Key) → key_chain n b k ≡ cond (key_eq key k) (chain_at b r.written) (key_chain m a k)
-    chain_told k = go (key_eq key k) refl (written_told k)
+    pub chain_returned : (k : Key) → key_chain n b k ≡ cond (key_eq key k) (chain_at b r.written) (key_chain m a k)
+    chain_returned k = go (key_eq key k) refl (written_returned k)
       where
         go : (e : Bool) → key_eq key k ≡ e → written_by (n k) ≡ cond e r.written (written_by (m k))
             → chain_at b (written_by (n k)) ≡ cond e (chain_at b r.written) (key_chain m a k)
@@ -170,7 +170,7 @@ module _ (m n : Key → Option Record) (key : Key) (r : Record) (told : (k : Key
     -- a change of the chain is a change of the key's
     pub chain_by : (f : List (ℕ × Option ℤ) → List (ℕ × Option ℤ)) → chain_at b r.written ≡ f (chain_at a from) → (k : Key)
         → key_chain n b k ≡ cond (key_eq key k) (f (key_chain m a k)) (key_chain m a k)
-    chain_by f changed k = chain_told k ∙ go (key_eq key k) refl
+    chain_by f changed k = chain_returned k ∙ go (key_eq key k) refl
       where
         go : (e : Bool) → key_eq key k ≡ e → cond e (chain_at b r.written) (key_chain m a k)
             ≡ cond e (f (key_chain m a k)) (key_chain m a k)
@@ -181,7 +181,7 @@ module _ (m n : Key → Option Record) (key : Key) (r : Record) (told : (k : Key
     pub committed_by : (t : ℕ) (before : Option ℤ) → committed_of m key ≡ before
         → r.committed ≡ unwrap_or (value_in t (chain_at a from)) before → (k : Key)
         → committed_of n k ≡ cond (key_eq key k) (unwrap_or (value_in t (key_chain m a k)) (committed_of m k)) (committed_of m k)
-    committed_by t before old changed k = committed_told k ∙ go (key_eq key k) refl
+    committed_by t before old changed k = committed_returned k ∙ go (key_eq key k) refl
       where
         here : r.committed ≡ unwrap_or (value_in t (key_chain m a key)) (committed_of m key)
         here =
@@ -194,14 +194,14 @@ module _ (m n : Key → Option Record) (key : Key) (r : Record) (told : (k : Key
         go false e = refl
 
     -- the index stands
-    pub index_told : IsChain (chain_at b r.written) → IfSome r.committed IsValue → IsIndex n b
-    index_told chain value = record {
-      held = λ k p at. here k p (key_eq key k) refl (sym (slot_told k) ∙ at);
-      filled = λ k p at. full k p (key_eq key k) refl (sym (slot_told k) ∙ at);
+    pub index_returned : IsChain (chain_at b r.written) → IfSome r.committed IsValue → IsIndex n b
+    index_returned chain value = record {
+      held = λ k p at. here k p (key_eq key k) refl (sym (slot_returned k) ∙ at);
+      filled = λ k p at. full k p (key_eq key k) refl (sym (slot_returned k) ∙ at);
       owned = λ p none. left p none (slot_in from) refl;
-      apart = λ j k p at at'. one j k p (key_eq key j) (key_eq key k) refl refl (sym (slot_told j) ∙ at) (sym (slot_told k) ∙ at');
-      are_chains = λ k. subst IsChain (sym (chain_told k)) (kept k (key_eq key k));
-      in_range = λ k. subst (λ (o : Option ℤ). IfSome o IsValue) (sym (committed_told k)) (valued k (key_eq key k));
+      apart = λ j k p at at'. one j k p (key_eq key j) (key_eq key k) refl refl (sym (slot_returned j) ∙ at) (sym (slot_returned k) ∙ at');
+      are_chains = λ k. subst IsChain (sym (chain_returned k)) (kept k (key_eq key k));
+      in_range = λ k. subst (λ (o : Option ℤ). IfSome o IsValue) (sym (committed_returned k)) (valued k (key_eq key k));
     }
       where
         here : (k : Key) (p : ℕ) (e : Bool) → key_eq key k ≡ e → cond e (slot_in r.written) (slot_of m k) ≡ Some p
@@ -217,14 +217,14 @@ module _ (m n : Key → Option Record) (key : Key) (r : Record) (told : (k : Key
 
         -- a slot that is no key's was none's before, or was freed
         not_here : (p : ℕ) → ((k : Key) → slot_of n k ≢ Some p) → slot_in r.written ≢ Some p
-        not_here p none at = none key (slot_told key ∙ (ap (λ e. cond e (slot_in r.written) (slot_of m key)) (key_eq-refl key) ∙ at))
+        not_here p none at = none key (slot_returned key ∙ (ap (λ e. cond e (slot_in r.written) (slot_of m key)) (key_eq-refl key) ∙ at))
 
         not_before : (p : ℕ) → ((k : Key) → slot_of n k ≢ Some p) → slot_in from ≢ Some p → (k : Key) → slot_of m k ≢ Some p
         not_before p none away k at = go (key_eq key k) refl
           where
             go : (e : Bool) → key_eq key k ≡ e → ⊥
             go true e = away (sym (ap slot_in was) ∙ (ap (slot_of m) (key_eq-true key k e) ∙ at))
-            go false e = none k (slot_told k ∙ (ap (λ d. cond d (slot_in r.written) (slot_of m k)) e ∙ at))
+            go false e = none k (slot_returned k ∙ (ap (λ d. cond d (slot_in r.written) (slot_of m k)) e ∙ at))
 
         stayed : (p : ℕ) → ((k : Key) → slot_of n k ≢ Some p) → slot_in from ≢ Some p → is_some (slab.get b p) ≡ false
         stayed p none away = ap is_some (moves.others p away (not_here p none)) ∙ index.owned p (not_before p none away)
@@ -258,7 +258,7 @@ module _ (m n : Key → Option Record) (key : Key) (r : Record) (told : (k : Key
 -- an empty record for a key that has none
 module _ (m n : Key → Option Record) (a b : Slab Chain) (key : Key) (r : Record) (absent : m key ≡ None) (here : r.written ≡ Nothing)
     (none : r.committed ≡ None) (same : (p : ℕ) → slab.get b p ≡ slab.get a p) (index : IsIndex m a)
-    (told : (k : Key) → n k ≡ cond (key_eq key k) (Some r) (m k)) where
+    (returned : (k : Key) → n k ≡ cond (key_eq key k) (Some r) (m k)) where
   -- nothing was written
   unwritten : written_by (m key) ≡ Nothing
   unwritten = ap written_by absent
@@ -267,8 +267,8 @@ module _ (m n : Key → Option Record) (a b : Slab Chain) (key : Key) (r : Recor
   unmoved = stays a b None (slot_in r.written) same refl (ap slot_in here)
 
   -- and the index stands
-  pub index_blank : IsIndex n b
-  index_blank = index_told m n key r told a b index Nothing unwritten unmoved (subst IsChain (sym (ap (chain_at b) here)) chain_empty)
+  pub index_empty : IsIndex n b
+  index_empty = index_returned m n key r returned a b index Nothing unwritten unmoved (subst IsChain (sym (ap (chain_at b) here)) chain_empty)
       (subst (λ (o : Option ℤ). IfSome o IsValue) (sym none) tt)
 
 -- whatever came of adding it
@@ -276,17 +276,17 @@ module _ (m n : Key → Option Record) (a b : Slab Chain) (key : Key) (r : Recor
     (none : r.committed ≡ None) (same : (p : ℕ) → slab.get b p ≡ slab.get a p) (index : IsIndex m a) {T F : Type 0} where
   pub index_added : (result : Result T F) → OnOk result ((k : Key) → n k ≡ cond (key_eq key k) (Some r) (m k))
       → OnErr result ((k : Key) → n k ≡ m k) → IsIndex n b
-  index_added (Ok x) told alike = index_blank m n a b key r absent here none same index told
-  index_added (Err e) told alike = index_alike m n a b alike same index
+  index_added (Ok x) returned alike = index_empty m n a b key r absent here none same index returned
+  index_added (Err e) returned alike = index_alike m n a b alike same index
 
 -- a record that had no value, committed or pending, is dropped
 module _ (m n : Key → Option Record) (a : Slab Chain) (key : Key) (r : Record) (is : m key ≡ Some r) (here : r.written ≡ Nothing)
-    (none : r.committed ≡ None) (told : (k : Key) → n k ≡ cond (key_eq key k) None (m k)) where
+    (none : r.committed ≡ None) (returned : (k : Key) → n k ≡ cond (key_eq key k) None (m k)) where
   it_was : (k : Key) → key_eq key k ≡ true → m k ≡ Some r
   it_was k e = ap m (sym (key_eq-true key k e)) ∙ is
 
   written_dropped : (k : Key) → written_by (n k) ≡ written_by (m k)
-  written_dropped k = ap written_by (told k) ∙ go (key_eq key k) refl
+  written_dropped k = ap written_by (returned k) ∙ go (key_eq key k) refl
     where
       go : (b : Bool) → key_eq key k ≡ b → written_by (cond b None (m k)) ≡ written_by (m k)
       go true e = sym (ap written_by (it_was k e) ∙ here)
@@ -301,7 +301,7 @@ module _ (m n : Key → Option Record) (a : Slab Chain) (key : Key) (r : Record)
 
   -- and so are the committed values
   pub committed_dropped : (k : Key) → committed_of n k ≡ committed_of m k
-  committed_dropped k = ap (option_and_then (λ (r : Record). r.committed)) (told k) ∙ go (key_eq key k) refl
+  committed_dropped k = ap (option_and_then (λ (r : Record). r.committed)) (returned k) ∙ go (key_eq key k) refl
     where
       go : (b : Bool) → key_eq key k ≡ b
           → option_and_then (λ (r : Record). r.committed) (cond b None (m k)) ≡ option_and_then (λ (r : Record). r.committed) (m k)

@@ -53,9 +53,9 @@ module _ (m : BTreeMap Key (Option ℤ)) where
   value_more entries key v found k = entry_more entries (key, Some v) found k
 
   -- an empty one writes none
-  pub blank_more : (entries : List (Key × Option ℤ)) (key : Key) → get key_cmp m key ≡ Some None → (k : Key)
+  pub empty_more : (entries : List (Key × Option ℤ)) (key : Key) → get key_cmp m key ≡ Some None → (k : Key)
       → read_so_far (entries ++ (key, None) ∷ []) k ≡ read_so_far entries k
-  blank_more entries key found k = entry_more entries (key, None) found k
+  empty_more entries key found k = entry_more entries (key, None) found k
       ∙ go (key_eq key k) (is_among k entries) (λ same. ap option_flatten
       (subst (λ j. get key_cmp m j ≡ Some None) (key_eq-true key k same) found))
     where

@@ -114,10 +114,10 @@ updated_places n (r ∷ rows) f ordered k =
     go false (Some q) none = ap (λ i. Some i) (omega arith)
 
 module _ (rows : List Row) (ordered : IsByKey rows) (m : BTreeMap Key ℕ)
-    (told : (k : Key) → get key_cmp m k ≡ update_all (eq_by_cmp key_cmp) (λ (_ : Key). None) (places 0 rows) k) where
+    (returned : (k : Key) → get key_cmp m k ≡ update_all (eq_by_cmp key_cmp) (λ (_ : Key). None) (places 0 rows) k) where
   -- the map has the positions
   pub is_position : (k : Key) → get key_cmp m k ≡ position rows k
-  is_position k = told k ∙ updated_places 0 rows (λ (_ : Key). None) ordered k ∙ go (position rows k)
+  is_position k = returned k ∙ updated_places 0 rows (λ (_ : Key). None) ordered k ∙ go (position rows k)
     where
       go : (o : Option ℕ) → option_or (option_map (λ i. 0 + i) o) None ≡ o
       go None = refl

@@ -63,9 +63,9 @@ same_index p q e = ap (λ (o : Option ℕ). unwrap_or o p) e
 module _ (indices : BTreeMap Key ℕ) (records : List Record) (are : AreIndices indices records) (key : Key) (p : ℕ)
     (at : get key_cmp indices key ≡ Some p) (r : Record) where
   -- it is the key's, and every other is as before
-  pub put_told : (k : Key) → option_and_then (slice_get (slice_set records p r)) (get key_cmp indices k)
+  pub put_returned : (k : Key) → option_and_then (slice_get (slice_set records p r)) (get key_cmp indices k)
       ≡ cond (key_eq key k) (Some r) (option_and_then (slice_get records) (get key_cmp indices k))
-  put_told k = go (get key_cmp indices k) refl (key_eq key k) refl
+  put_returned k = go (get key_cmp indices k) refl (key_eq key k) refl
     where
       go : (o : Option ℕ) → get key_cmp indices k ≡ o → (e : Bool) → key_eq key k ≡ e
           → option_and_then (slice_get (slice_set records p r)) o ≡ cond e (Some r) (option_and_then (slice_get records) o)
@@ -79,17 +79,17 @@ module _ (indices : BTreeMap Key ℕ) (records : List Record) (are : AreIndices 
 
 -- a record that is added
 module _ (old new : BTreeMap Key ℕ) (records : List Record) (are : AreIndices old records) (key : Key) (r : Record)
-    (told : Updates key_cmp old new key (Some (length records))) where
-  pub index_told : (k : Key) → get key_cmp new k ≡ cond (key_eq key k) (Some (length records)) (get key_cmp old k)
-  index_told k = told.0 k ∙ ap (λ b. cond b (Some (length records)) (get key_cmp old k)) (same_key key k)
+    (returned : Updates key_cmp old new key (Some (length records))) where
+  pub index_returned : (k : Key) → get key_cmp new k ≡ cond (key_eq key k) (Some (length records)) (get key_cmp old k)
+  index_returned k = returned.0 k ∙ ap (λ b. cond b (Some (length records)) (get key_cmp old k)) (same_key key k)
 
   -- another key's index is as before
-  pub others_told : (k : Key) → key_eq key k ≡ false → get key_cmp new k ≡ get key_cmp old k
-  others_told k other = index_told k ∙ ap (λ b. cond b (Some (length records)) (get key_cmp old k)) other
+  pub others_returned : (k : Key) → key_eq key k ≡ false → get key_cmp new k ≡ get key_cmp old k
+  others_returned k other = index_returned k ∙ ap (λ b. cond b (Some (length records)) (get key_cmp old k)) other
 
   -- and where it had none, the others keep theirs
   pub indices_stay : get key_cmp old key ≡ None → (k : Key) (p : ℕ) → get key_cmp old k ≡ Some p → get key_cmp new k ≡ Some p
-  indices_stay absent k p is = index_told k ∙ go (key_eq key k) refl
+  indices_stay absent k p is = index_returned k ∙ go (key_eq key k) refl
     where
       go : (e : Bool) → key_eq key k ≡ e → cond e (Some (length records)) (get key_cmp old k) ≡ Some p
       go true e = absurd (true≢false (ap is_some (sym is ∙ (ap (get key_cmp old) (sym (key_eq-true key k e)) ∙ absent))))
@@ -109,14 +109,14 @@ module _ (old new : BTreeMap Key ℕ) (records : List Record) (are : AreIndices 
 
       one : (k : Key) (p : ℕ) → (slice_get keys p ≡ Some k) ⊎ ((p ≡ length keys) × (key ≡ k)) → get key_cmp new k ≡ Some p
       one k p (inl before) = indices_stay absent k p (have.are_indexed k p before)
-      one k p (inr last) = index_told k
+      one k p (inr last) = index_returned k
           ∙ ap (λ b. cond b (Some (length records)) (get key_cmp old k)) (subst (λ j. key_eq key j ≡ true) last.1 (key_eq-refl key))
           ∙ ap (λ n. Some n) (sym (last.0 ∙ (have.as_many ∙ same)))
 
   pub added_indices : AreIndices new (records ++ r ∷ [])
   added_indices = record {
-    within = λ k p is. subst (λ n. p < n) (sym (added_length records r)) (low k p (key_eq key k) (sym (index_told k) ∙ is));
-    apart = λ j k p at at'. one j k p (key_eq key j) (key_eq key k) refl refl (sym (index_told j) ∙ at) (sym (index_told k) ∙ at');
+    within = λ k p is. subst (λ n. p < n) (sym (added_length records r)) (low k p (key_eq key k) (sym (index_returned k) ∙ is));
+    apart = λ j k p at at'. one j k p (key_eq key j) (key_eq key k) refl refl (sym (index_returned j) ∙ at) (sym (index_returned k) ∙ at');
   }
     where
       low : (k : Key) (p : ℕ) (e : Bool) → cond e (Some (length records)) (get key_cmp old k) ≡ Some p → p < length records + 1
@@ -133,9 +133,9 @@ module _ (old new : BTreeMap Key ℕ) (records : List Record) (are : AreIndices 
           let lt = are.within j p at in let same = same_index (length records) p at' in absurd (omega (arith, lt, same))
       one j k p false false d e at at' = are.apart j k p at at'
 
-  pub added_told : (k : Key) → option_and_then (slice_get (records ++ r ∷ [])) (get key_cmp new k)
+  pub added_returned : (k : Key) → option_and_then (slice_get (records ++ r ∷ [])) (get key_cmp new k)
       ≡ cond (key_eq key k) (Some r) (option_and_then (slice_get records) (get key_cmp old k))
-  added_told k = ap (option_and_then (slice_get (records ++ r ∷ []))) (index_told k) ∙ go (key_eq key k) (get key_cmp old k) refl
+  added_returned k = ap (option_and_then (slice_get (records ++ r ∷ []))) (index_returned k) ∙ go (key_eq key k) (get key_cmp old k) refl
     where
       go : (e : Bool) (o : Option ℕ) → get key_cmp old k ≡ o
           → option_and_then (slice_get (records ++ r ∷ [])) (cond e (Some (length records)) o)
@@ -217,9 +217,9 @@ module _ (old mid new : BTreeMap Key ℕ) (records left : List Record) (keys key
   is_other : (k : Key) → key_eq key k ≡ false → key_eq moved k ≡ true → key_eq key moved ≡ false
   is_other k other same = subst (λ j. key_eq key j ≡ false) (sym (key_eq-true moved k same)) other
 
-  pub removed_told : (k : Key) → option_and_then (slice_get left) (get key_cmp new k)
+  pub removed_returned : (k : Key) → option_and_then (slice_get left) (get key_cmp new k)
       ≡ cond (key_eq key k) None (option_and_then (slice_get records) (get key_cmp old k))
-  removed_told k = ap (option_and_then (slice_get left)) (index_left k)
+  removed_returned k = ap (option_and_then (slice_get left)) (index_left k)
       ∙ go (key_eq key k) refl (key_eq moved k) refl (get key_cmp old k) refl
     where
       go : (d : Bool) → key_eq key k ≡ d → (e : Bool) → key_eq moved k ≡ e → (o : Option ℕ) → get key_cmp old k ≡ o

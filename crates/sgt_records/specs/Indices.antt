@@ -10,7 +10,7 @@ pub record AreIndices (indices : BTreeMap Key ℕ) (records : List Record) : Typ
   pub within : (k : Key) (p : ℕ) → get key_cmp indices k ≡ Some p → p < length records
   pub apart : (j k : Key) (p : ℕ) → get key_cmp indices j ≡ Some p → get key_cmp indices k ≡ Some p → j ≡ k
 
--- each of so many records has a key, whose index is that of the record
+-- each of this many records has a key, whose index is that of the record
 pub record AreKeys (indices : BTreeMap Key ℕ) (keys : List Key) (count : ℕ) : Type 0 where
   pub as_many : length keys ≡ count
   pub are_indexed : (k : Key) (p : ℕ) → slice_get keys p ≡ Some k → get key_cmp indices k ≡ Some p

@@ -19,5 +19,5 @@ abbrev pub AreLive : (Key → Option Record) → Slab Chain → List LiveWrite �
 AreLive records chains writes = (t : ℕ) (k : Key) → is_live t k writes ≡ writes_in t (key_chain records chains k)
 
 -- each has the index of its key's record
-abbrev pub TellIndices : (Key → Option ℕ) → List LiveWrite → Type 0
-TellIndices indices writes = All (λ (w : LiveWrite). indices w.key ≡ Some w.index) writes
+abbrev pub IndicesAgree : (Key → Option ℕ) → List LiveWrite → Type 0
+IndicesAgree indices writes = All (λ (w : LiveWrite). indices w.key ≡ Some w.index) writes

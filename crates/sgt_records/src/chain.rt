@@ -41,7 +41,7 @@ impl Chain {
     /// Adds t's value as the last, and returns whether it replaces an earlier one of t.
     pub fn write(&mut self, t: Tid, value: PackedValue) -> bool
         requires chain { IsChain self.old.writes.items }
-        requires room { writes_in t self.old.writes.items ≡ false → length self.old.writes.items < 32 }
+        requires capacity { writes_in t self.old.writes.items ≡ false → length self.old.writes.items < 32 }
         ensures again { result ≡ writes_in t self.old.writes.items }
         ensures last { self.new.writes.items ≡ write_last t value self.old.writes.items }
     {

@@ -77,7 +77,7 @@ impl Hints {
         self.store(keys, count)
     }
 
-    // Makes so many pairs, and stores the guesses of the records anew.
+    // Makes this many pairs, and stores the guesses of the records anew.
     fn store(&mut self, keys: &[Key], count: usize) -> Result<(), NoMemory> {
         self.pairs.resize(count, (0, 0))?;
         for (index, key) in keys.iter().enumerate() {

@@ -8,7 +8,7 @@ ghost use Rattle.sgt_model.specs.Contents.{Key, key_eq};
 ghost use Rattle.sgt_model.specs.Databases.{contents_of, IsByKey};
 ghost use Rattle.sgt_model.specs.Chains.{chain_without, write_last, value_in, writes_in};
 ghost use Rattle.sgt_records.specs.Tops.{top_of, value_of_top};
-ghost use Rattle.sgt_records.specs.LiveWrites.{is_live, TellIndices};
+ghost use Rattle.sgt_records.specs.LiveWrites.{is_live, IndicesAgree};
 ghost use Rattle.sgt_records.specs.Slots.{key_chain, committed_of, IsIndex};
 ghost use Rattle.sgt_records.specs.Tables.{index_in, record_in};
 
@@ -74,7 +74,7 @@ impl Index {
         ensures settled { (k : Key) → committed_of (record_in self.new.table) k ≡ committed_of (record_in self.old.table) k }
         ensures index { IfOk result (λ index. index_in self.new.table key ≡ Some index) }
         ensures stay { (k : Key) (p : ℕ) → index_in self.old.table k ≡ Some p → index_in self.new.table k ≡ Some p }
-        ensures room { OnOk result (HasRoomFor self.new.chains 1) }
+        ensures capacity { OnOk result (HasRoomFor self.new.chains 1) }
     {
         self.chains.reserve(1)?;
         match self.table.index(key) {
@@ -90,7 +90,7 @@ impl Index {
         requires index { index_in self.old.table key ≡ Some index }
         requires ready { HasRoomFor self.old.chains 1 }
         requires in_range { IfSome value IsValue }
-        requires room { writes_in t (key_chain (record_in self.old.table) self.old.chains key) ≡ false
+        requires capacity { writes_in t (key_chain (record_in self.old.table) self.old.chains key) ≡ false
             → length (key_chain (record_in self.old.table) self.old.chains key) < 32 }
         ensures again { result ≡ writes_in t (key_chain (record_in self.old.table) self.old.chains key) }
         ensures chain { (k : Key) → key_chain (record_in self.new.table) self.new.chains k
@@ -141,7 +141,7 @@ impl Index {
 
     /// Removes t's values from the chains of the keys that it has written.
     pub fn undo_all(&mut self, writes: &[LiveWrite], t: Tid)
-        requires indices { TellIndices (index_in self.old.table) writes.now }
+        requires indices { IndicesAgree (index_in self.old.table) writes.now }
         ensures chain { (k : Key) → key_chain (record_in self.new.table) self.new.chains k
             ≡ cond (is_live t k writes.now) (chain_without t (key_chain (record_in self.old.table) self.old.chains k))
             (key_chain (record_in self.old.table) self.old.chains k) }
@@ -157,7 +157,7 @@ impl Index {
 
     /// Removes t's values from the chains of the keys that it has written, and makes them the committed ones.
     pub fn settle_all(&mut self, writes: &[LiveWrite], t: Tid)
-        requires indices { TellIndices (index_in self.old.table) writes.now }
+        requires indices { IndicesAgree (index_in self.old.table) writes.now }
         ensures chain { (k : Key) → key_chain (record_in self.new.table) self.new.chains k
             ≡ cond (is_live t k writes.now) (chain_without t (key_chain (record_in self.old.table) self.old.chains k))
             (key_chain (record_in self.old.table) self.old.chains k) }

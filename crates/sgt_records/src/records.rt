@@ -49,7 +49,7 @@ pub trait Records: Drop + Send {
         requires ready { is_ready self.old key }
         requires in_range { IfSome value IsValue }
         requires last { IsLastIn t (chain self.old key) }
-        requires room { writes_in t (chain self.old key) ≡ false
+        requires capacity { writes_in t (chain self.old key) ≡ false
             → length (chain self.old key) < 32 }
         ensures chain { (k : Key) → chain self.new k
             ≡ cond (key_eq key k) (write_last t value (chain self.old k)) (chain self.old k) }

@@ -1,5 +1,5 @@
 //! Records in a list, with chains in a slab: the store that the program uses.
-ghost use Rattle.sgt_records.specs.LiveWrites.{AreLive, TellIndices};
+ghost use Rattle.sgt_records.specs.LiveWrites.{AreLive, IndicesAgree};
 ghost use Rattle.sgt_records.specs.Tables.{index_in, record_in};
 
 use crate::index::Index;
@@ -35,7 +35,7 @@ pub struct SlabRecords {
     // The index of the record for which capacity was provided last.
     reserved: usize,
     ghost are_live: { AreLive (record_in index.table) index.chains live.items },
-    ghost tell_indices: { TellIndices (index_in index.table) live.items },
+    ghost indices_agree: { IndicesAgree (index_in index.table) live.items },
 }
 
 impl Records for SlabRecords {

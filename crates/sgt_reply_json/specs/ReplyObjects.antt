@@ -36,8 +36,8 @@ wrote_object key None = key_object (codes "removed") key (codes "}\n")
 
 -- why a transaction was aborted that has ended; a cycle begins with that transaction
 abbrev pub over_aborted_object : Cause → List ℕ
-over_aborted_object (cause.Cycle walk) = joined (codes "{\"reply\":\"over\",\"fate\":\"aborted\",\"cause\":\"cycle\",\"cycle\":"
-    ∷ list_text decimal walk ∷ codes "}\n" ∷ [])
+over_aborted_object (cause.Cycle cycle) = joined (codes "{\"reply\":\"over\",\"fate\":\"aborted\",\"cause\":\"cycle\",\"cycle\":"
+    ∷ list_text decimal cycle ∷ codes "}\n" ∷ [])
 over_aborted_object (cause.Asked code) = numbered_object (codes "{\"reply\":\"over\",\"fate\":\"aborted\",\"cause\":\"code\",\"code\":") code
 over_aborted_object cause.Quit = codes "{\"reply\":\"over\",\"fate\":\"aborted\",\"cause\":\"quit\"}\n"
 
@@ -53,7 +53,7 @@ committed_object answers = joined (codes "{\"reply\":\"committed\",\"answers\":"
 
 -- why a transaction is aborted, and which are aborted in cascade
 abbrev pub aborted_object : Cause → List ℕ → List ℕ
-aborted_object (cause.Cycle walk) fell = joined (codes "{\"reply\":\"aborted\",\"cause\":\"cycle\",\"cycle\":" ∷ list_text decimal walk
+aborted_object (cause.Cycle cycle) fell = joined (codes "{\"reply\":\"aborted\",\"cause\":\"cycle\",\"cycle\":" ∷ list_text decimal cycle
     ∷ codes ",\"cascade\":" ∷ list_text decimal fell ∷ codes "}\n" ∷ [])
 aborted_object (cause.Asked code) fell = joined (codes "{\"reply\":\"aborted\",\"cause\":\"code\",\"code\":" ∷ decimal code
     ∷ codes ",\"cascade\":" ∷ list_text decimal fell ∷ codes "}\n" ∷ [])

@@ -97,13 +97,13 @@ fn append_over_aborted(text: &mut Vec<u8>, cause: &Cause) -> Result<(), AllocErr
     ensures { OnOk result (text.new.items ≡ text.old.items ++ over_aborted_object cause.now) }
 {
     match cause {
-        Cause::Cycle(walk) => append_pieces(
+        Cause::Cycle(cycle) => append_pieces(
             text,
             &[
                 Piece::Words(
                     b"{\"reply\":\"over\",\"fate\":\"aborted\",\"cause\":\"cycle\",\"cycle\":",
                 ),
-                Piece::Transactions(walk.as_slice()),
+                Piece::Transactions(cycle.as_slice()),
                 Piece::Words(b"}\n"),
             ],
         ),
@@ -211,11 +211,11 @@ fn append_aborted<'a>(
     ensures { OnOk result (text.new.items ≡ text.old.items ++ aborted_object cause.now fell.now) }
 {
     match cause {
-        Cause::Cycle(walk) => append_pieces(
+        Cause::Cycle(cycle) => append_pieces(
             text,
             &[
                 Piece::Words(b"{\"reply\":\"aborted\",\"cause\":\"cycle\",\"cycle\":"),
-                Piece::Transactions(walk.as_slice()),
+                Piece::Transactions(cycle.as_slice()),
                 Piece::Words(b",\"cascade\":"),
                 Piece::Transactions(fell.as_slice()),
                 Piece::Words(b"}\n"),

@@ -75,10 +75,10 @@ found_first m rows k is =
     sym (contents-append m.entries rows k ∙ ap (λ o. option_or o (contents_of rows k)) (sym (lookup_contents m.entries k) ∙ sym is))
 
 -- a value put among the entries is put above all
-module _ (m n : BTreeMap Key ℤ) (rows : List Row) (key : Key) (u v : ℤ) (told : Updates key_cmp m n key (Some u)) (same : u ≡ v) where
+module _ (m n : BTreeMap Key ℤ) (rows : List Row) (key : Key) (u v : ℤ) (reported : Updates key_cmp m n key (Some u)) (same : u ≡ v) where
   entry_put : (k : Key) → contents_of n.entries k ≡ put_in (contents_of m.entries) key v k
   entry_put k =
-      sym (lookup_contents n.entries k) ∙ (told.0 k ∙ (ap (λ b. cond b (Some u) (get key_cmp m k)) (same_key key k)
+      sym (lookup_contents n.entries k) ∙ (reported.0 k ∙ (ap (λ b. cond b (Some u) (get key_cmp m k)) (same_key key k)
       ∙ (ap (λ w. cond (key_eq key k) (Some w) (get key_cmp m k)) same
       ∙ ap (λ o. cond (key_eq key k) (Some v) o) (lookup_contents m.entries k))))
 

@@ -11,7 +11,7 @@ use Rattle.sgt_model.specs.declared.reply.Fate.TheVariants as fate
 use Rattle.sgt_model.specs.declared.reply.Reply.{Reply}
 use Rattle.sgt_model.specs.Contents.{Key}
 use Rattle.sgt_model.specs.State.{State, Has}
-use Rattle.sgt_model.specs.Walks.{Member, Distinct, Rising, Reaches}
+use Rattle.sgt_model.specs.Paths.{Member, Distinct, Rising, Reaches}
 use Rattle.sgt_model.specs.Changes.{Removes, Drops}
 use Rattle.sgt_model.specs.FallsIn.{FallsIn}
 use Rattle.sgt_model.specs.declared.kind.Kind.{Kind}
@@ -131,9 +131,9 @@ undone t why fell items i before after same all falls drops = record {
 }
 
 -- an access that is blocked is rejected, by an abort with that path
-pub refuses : (t : ℕ) (k : Key) (kind : Kind) (rest walk : List ℕ) (before : State) (r : Reply) (after : State) → walk ≡ t ∷ rest
-    → Blocks before t k kind rest → AbortEffect t (cause.Cycle walk) before r after → CycleAbortEffect t k kind before r after
-refuses t k kind rest walk before r after is blocks aborts = record {
+pub refuses : (t : ℕ) (k : Key) (kind : Kind) (rest cycle : List ℕ) (before : State) (r : Reply) (after : State) → cycle ≡ t ∷ rest
+    → Blocks before t k kind rest → AbortEffect t (cause.Cycle cycle) before r after → CycleAbortEffect t k kind before r after
+refuses t k kind rest cycle before r after is blocks aborts = record {
   rest = rest;
   blocks = blocks;
   aborts = subst (λ w. AbortEffect t (cause.Cycle w) before r after) is aborts;

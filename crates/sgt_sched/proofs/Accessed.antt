@@ -5,7 +5,7 @@ use Rattle.std.proofs.lemmas.Bool.{and_from, or_cases, or_left, or_right, eqb-tr
 use Rattle.sgt_model.specs.declared.kind.Kind.{Kind}
 use Rattle.sgt_model.specs.declared.kind.Kind.TheVariants.{Look, Store}
 use Rattle.sgt_model.specs.Contents.{Key, key_eq}
-use Rattle.sgt_model.specs.Walks.{Member, AtMost, Rising, last_of}
+use Rattle.sgt_model.specs.Paths.{Member, AtMost, Rising, last_of}
 use Rattle.sgt_model.specs.Pairs.{one_stores}
 use Rattle.sgt_model.specs.AccessList.{ListedAccess, is_conflicting, lists_conflicting, is_listed}
 use Rattle.sgt_sched.specs.LiveProgress.{Progress, left_kept}
@@ -15,7 +15,7 @@ use Rattle.sgt_model.specs.Blocks.{Blocks}
 use Rattle.sgt_model.specs.Soundness.{Sound}
 use Rattle.sgt_model.specs.Changes.{Notes}
 use Rattle.sgt_model.proofs.Stores.{key_eq-refl}
-use Rattle.sgt_cycle.specs.Walk.{Walk, NoWalk}
+use Rattle.sgt_cycle.specs.Path.{Path, NoPath}
 use Rattle.sgt_records.specs.Tops.{top_from, value_of_top}
 use Rattle.sgt_sched.specs.LiveList.{numbers, progress_at, changed}
 use Rattle.sgt_sched.specs.SchedulerView.{SchedulerView, state_of, IsAlong, IsKept}
@@ -94,8 +94,8 @@ no_rivals list t k kind rivals none alone u = (
   (λ r. absurd (alone (u, r.0, r.1))),
 )
 
-pub no_walk : (test : ℕ → ℕ → Bool) (t : ℕ) (rivals : List ℕ) → rivals ≡ [] → NoWalk test t rivals
-no_walk test t rivals none rest w = absurd (subst (Member (last_of t rest)) none w.ends)
+pub no_path : (test : ℕ → ℕ → Bool) (t : ℕ) (rivals : List ℕ) → rivals ≡ [] → NoPath test t rivals
+no_path test t rivals none rest w = absurd (subst (Member (last_of t rest)) none w.ends)
 
 module _ {R A G : Type 0} {chain : R → Key → List (ℕ × Option ℤ)} {settled : R → Key → Option ℤ} {list : A → List ListedAccess}
     {nodes : G → ℕ → Bool} {pairs : G → ℕ → ℕ → Bool} {before : SchedulerView R A G}
@@ -115,13 +115,13 @@ module _ {R A G : Type 0} {chain : R → Key → List (ℕ × Option ℤ)} {sett
     rivals_are_nodes u m = let r = (exact u).0 m in (kept.sound.access_nodes u k kind r.1, r.0)
 
     -- a path to a rival blocks the access, and nothing else does
-    pub blocks_from_walk : (rest : List ℕ) → Walk (pairs before.graph) t rivals rest
+    pub blocks_from_cycle : (rest : List ℕ) → Path (pairs before.graph) t rivals rest
         → Blocks (state_of chain settled list nodes pairs before) t k kind rest
-    blocks_from_walk rest w = let r = (exact (last_of t rest)).0 w.ends in record
+    blocks_from_cycle rest w = let r = (exact (last_of t rest)).0 w.ends in record
         { distinct = w.distinct; pairs = w.goes; rival = record { apart = r.0; has_conflicting = r.1 } }
 
     -- without a path to a rival nothing blocks
-    pub not_blocked : NoWalk (pairs before.graph) t rivals → (rest : List ℕ)
+    pub not_blocked : NoPath (pairs before.graph) t rivals → (rest : List ℕ)
         → Blocks (state_of chain settled list nodes pairs before) t k kind rest → ⊥
     not_blocked free rest b = free rest (record {
       distinct = b.distinct;
@@ -131,7 +131,7 @@ module _ {R A G : Type 0} {chain : R → Key → List (ℕ × Option ℤ)} {sett
     })
 
     -- the same of parts that were seen as others
-    pub free_seen : (now : SchedulerView R A G) → before ≡ now → NoWalk (pairs before.graph) t rivals
+    pub free_seen : (now : SchedulerView R A G) → before ≡ now → NoPath (pairs before.graph) t rivals
         → IsBlocked (state_of chain settled list nodes pairs now) t k kind → ⊥
     free_seen now seen free b = let q = subst (λ (p : SchedulerView R A G). IsBlocked
         (state_of chain settled list nodes pairs p) t k kind) (sym seen) b in not_blocked free q.0 q.1

@@ -3,7 +3,7 @@ use Rattle.std.proofs.Common.{◌≡◌, ℕ, zero, suc, ℤ, arith, Bool, true,
 use Rattle.std.specs.Prelude.{slice_get, OnOk, OnErr}
 use Rattle.std.proofs.lemmas.Grind.{common_steps}
 use Rattle.sgt_model.specs.Contents.{Key}
-use Rattle.sgt_model.specs.Settings.{empty_procedure, procedure_at}
+use Rattle.sgt_model.specs.Configurations.{empty_procedure, procedure_at}
 use Rattle.sgt_model.specs.Syntax.{ProcedureText}
 use Rattle.sgt_model.specs.AccessList.{ListedAccess}
 use Rattle.sgt_sched.specs.SchedulerView.{SchedulerView, IsKept}

@@ -7,7 +7,7 @@ use Rattle.sgt_model.specs.Contents.{Key}
 use Rattle.sgt_model.specs.Chains as chains
 use Rattle.sgt_model.specs.AccessList.{ListedAccess, forgotten}
 use Rattle.sgt_sched.specs.LiveProgress.{Progress, left_kept}
-use Rattle.sgt_model.specs.Walks.{Rising}
+use Rattle.sgt_model.specs.Paths.{Rising}
 use Rattle.sgt_model.specs.State.{Has}
 use Rattle.sgt_model.specs.Changes.{Removes}
 use Rattle.sgt_model.proofs.Counted.{filter-same}

@@ -16,13 +16,13 @@ use Rattle.sgt_model.specs.declared.limits.Limits.{Limits}
 use Rattle.sgt_model.specs.declared.reply.Fate.{Fate}
 use Rattle.sgt_model.specs.declared.reply.Reply.{Reply}
 use Rattle.sgt_model.specs.declared.reply.Reply.TheVariants as reply
-use Rattle.sgt_model.specs.StartReply.{args_fit, room_reply, taken_reply}
+use Rattle.sgt_model.specs.StartReply.{args_fit, capacity_reply, taken_reply}
 use Rattle.sgt_model.specs.Traces.{Next, Looks, Puts, Ends, Raises}
-use Rattle.sgt_model.specs.Settings.{Rules, takes}
+use Rattle.sgt_model.specs.Configurations.{Rules, takes}
 use Rattle.sgt_model.specs.Syntax.{ProcedureText}
 use Rattle.sgt_model.specs.Left.{next_left}
 use Rattle.sgt_model.specs.State.{State}
-use Rattle.sgt_model.specs.Walks.{Member}
+use Rattle.sgt_model.specs.Paths.{Member}
 use Rattle.sgt_model.specs.Changes.{Removes}
 use Rattle.sgt_model.specs.CallEffects.{Stays, IfOpen, AbortEffect, StepOn, IfFit, RequestOn, CommitOn, CallEffect, StartOn, Undo, RaisedStepOn, RaisedCommitOn}
 use Rattle.sgt_sched.specs.Steps.{IsUnended}
@@ -35,16 +35,16 @@ quiet r answer X is isnt none = ((λ x. absurd (none x)), (λ _. ap is_ending is
 loud : (r answer : Reply) (X : Type 0) → r ≡ answer → is_ending answer ≡ true → X → EndsWhere r X
 loud r answer X is so x = ((λ _. ap is_ending is ∙ so), (λ none. absurd (none x)))
 
-asked_step_agrees : (asks : Asks) (t code : ℕ) (c : State) (r : Reply) (after : State) → RaisedStepOn asks t code c r after
+raised_step_agrees : (asks : Asks) (t code : ℕ) (c : State) (r : Reply) (after : State) → RaisedStepOn asks t code c r after
     → EndsWhere r (AtItsStep asks)
-asked_step_agrees AtStep t code c r after x = loud r _ _ x.reply refl tt
-asked_step_agrees AtCommit t code c r after x = quiet r _ _ x.reply refl (λ e. e)
+raised_step_agrees AtStep t code c r after x = loud r _ _ x.reply refl tt
+raised_step_agrees AtCommit t code c r after x = quiet r _ _ x.reply refl (λ e. e)
 
-asked_commit_agrees : (asks : Asks) (t code : ℕ) (c : State) (r : Reply) (after : State) → RaisedCommitOn asks t code c r after
+raised_commit_agrees : (asks : Asks) (t code : ℕ) (c : State) (r : Reply) (after : State) → RaisedCommitOn asks t code c r after
     → EndsWhere r (AtItsCommit asks × IsFirst t c)
-asked_commit_agrees AtStep t code c r after x = quiet r _ _ x.reply refl (λ e. e.0)
-asked_commit_agrees AtCommit t code c r after (inl x) = quiet r _ _ x.stays.reply refl (λ free. free.1 x.on x.least.pair)
-asked_commit_agrees AtCommit t code c r after (inr x) = loud r _ _ x.reply refl (tt, x.first)
+raised_commit_agrees AtStep t code c r after x = quiet r _ _ x.reply refl (λ e. e.0)
+raised_commit_agrees AtCommit t code c r after (inl x) = quiet r _ _ x.stays.reply refl (λ free. free.1 x.on x.least.pair)
+raised_commit_agrees AtCommit t code c r after (inr x) = loud r _ _ x.reply refl (tt, x.first)
 
 step_agrees : (asks : Asks) (t : ℕ) (n : Next) (c : State) (r : Reply) (after : State) → StepOn asks t n c r after
     → EndsWhere r (StepEnds asks t n c)
@@ -53,7 +53,7 @@ step_agrees asks t (Looks k) c r after (inr x) = quiet r _ _ x.reply refl (λ b.
 step_agrees asks t (Puts k v) c r after (inl x) = loud r _ _ x.aborts.reply refl (x.rest, x.blocks)
 step_agrees asks t (Puts k v) c r after (inr x) = quiet r _ _ x.reply refl (λ b. x.free b.0 b.1)
 step_agrees asks t (Ends answers) c r after x = quiet r _ _ x.reply refl (λ e. e)
-step_agrees asks t (Raises code) c r after x = asked_step_agrees asks t code c r after x
+step_agrees asks t (Raises code) c r after x = raised_step_agrees asks t code c r after x
 
 fit_agrees : (asks : Asks) (t : ℕ) (d : Request) (fit : Bool) (c : State) (r : Reply) (after : State) → is_fit d ≡ fit
     → IfFit fit c r after (StepOn asks t (requested d) c r after) → EndsWhere r ((is_fit d ≡ true) × StepEnds asks t (requested d) c)
@@ -74,7 +74,7 @@ commit_agrees asks t (Ends answers) c r after (inl x) = quiet r _ _ x.stays.repl
 commit_agrees asks t (Ends answers) c r after (inr x) = loud r _ _ x.reply refl x.first
 commit_agrees asks t (Looks k) c r after x = quiet r _ _ x.reply refl (λ e. e)
 commit_agrees asks t (Puts k v) c r after x = quiet r _ _ x.reply refl (λ e. e)
-commit_agrees asks t (Raises code) c r after x = asked_commit_agrees asks t code c r after x
+commit_agrees asks t (Raises code) c r after x = raised_commit_agrees asks t code c r after x
 
 -- of one that was started and has not ended, by what is done to it; else nothing ends
 open_agrees : (t : ℕ) (c : State) (r : Reply) (after : State) (X E : Type 0) → (X → EndsWhere r E) → (b : Bool) (o : Option Fate)
@@ -99,7 +99,7 @@ start_quiet limits begun living (Some count) args = fits (args_fit count args) w
   spent true = refl
   spent false = full (nat_eq living limits.live)
 
-  fits : (b : Bool) → is_ending (cond b (room_reply limits begun living) reply.BadArgs) ≡ false
+  fits : (b : Bool) → is_ending (cond b (capacity_reply limits begun living) reply.BadArgs) ≡ false
   fits true = spent (nat_eq begun limits.begins)
   fits false = refl
 
@@ -118,15 +118,15 @@ replies_agree rules (Quit t) c r after x =
     let a = open_agrees t c r after _ (Unit {0}) (λ y. loud r _ _ (y.reply) refl tt) (nat_lt t c.start_count) (c.fates t) refl refl x in
     ((λ u. a.0 (u, tt)), (λ none. a.1 (λ u. none u.0)))
 
--- a test of whether an event ends a live transaction, of an event that is this one: it tells the reply
+-- a test of whether an event ends a live transaction, of an event that is this one: it gives the reply
 pub ends_by : (rules : Rules) (event is : Event) → event ≡ is → (c : State) (b : Bool) → IsTrue b ↔ EndsOne rules.limits.asks is c
     → (IsTrue b ↔ EndsOne rules.limits.asks event c)
     × ((r : Reply) (after : State) → CallEffect rules event c r after → is_ending r ≡ b)
 ends_by rules event is same c b exact = let here = subst (λ e. IsTrue b ↔ EndsOne rules.limits.asks e c) (sym same) exact in
-    (here, λ r after x. told r b here (replies_agree rules event c r after x)) where
-      told : {X : Type 0} (r : Reply) (d : Bool) → IsTrue d ↔ X → EndsWhere r X → is_ending r ≡ d
-      told r true tests agree = agree.0 (tests.0 refl)
-      told r false tests agree = agree.1 (λ x. true≢false (sym (tests.1 x)))
+    (here, λ r after x. reported r b here (replies_agree rules event c r after x)) where
+      reported : {X : Type 0} (r : Reply) (d : Bool) → IsTrue d ↔ X → EndsWhere r X → is_ending r ≡ d
+      reported r true tests agree = agree.0 (tests.0 refl)
+      reported r false tests agree = agree.1 (λ x. true≢false (sym (tests.1 x)))
 
 -- a test that is false, where nothing ends one
 pub never : {X : Type 0} → (X → ⊥) → IsTrue false ↔ X
@@ -203,10 +203,10 @@ abort_count : (t : ℕ) (why : _) (r : Reply) (before after : State) → Member 
     → Counts r before after
 abort_count t why r before after m x = undo_count t why x.fell r before after m x.undo
 
-asked_step_count : (asks : Asks) (t code : ℕ) (before : State) (r : Reply) (after : State) → Member t before.live
+raised_step_count : (asks : Asks) (t code : ℕ) (before : State) (r : Reply) (after : State) → Member t before.live
     → RaisedStepOn asks t code before r after → Counts r before after
-asked_step_count AtStep t code before r after m x = abort_count t _ r before after m x
-asked_step_count AtCommit t code before r after m x = stays_count _ r before after refl x
+raised_step_count AtStep t code before r after m x = abort_count t _ r before after m x
+raised_step_count AtCommit t code before r after m x = stays_count _ r before after refl x
 
 step_count : (asks : Asks) (t : ℕ) (n : Next) (before : State) (r : Reply) (after : State) → Member t before.live
     → StepOn asks t n before r after → Counts r before after
@@ -215,13 +215,13 @@ step_count asks t (Looks k) before r after m (inr x) = same_count r _ before aft
 step_count asks t (Puts k v) before r after m (inl x) = abort_count t _ r before after m x.aborts
 step_count asks t (Puts k v) before r after m (inr x) = same_count r _ before after x.reply refl x.stores.notes.live
 step_count asks t (Ends answers) before r after m x = stays_count _ r before after refl x
-step_count asks t (Raises code) before r after m x = asked_step_count asks t code before r after m x
+step_count asks t (Raises code) before r after m x = raised_step_count asks t code before r after m x
 
-asked_commit_count : (asks : Asks) (t code : ℕ) (before : State) (r : Reply) (after : State) → Member t before.live
+raised_commit_count : (asks : Asks) (t code : ℕ) (before : State) (r : Reply) (after : State) → Member t before.live
     → RaisedCommitOn asks t code before r after → Counts r before after
-asked_commit_count AtStep t code before r after m x = stays_count _ r before after refl x
-asked_commit_count AtCommit t code before r after m (inl x) = stays_count _ r before after refl x.stays
-asked_commit_count AtCommit t code before r after m (inr x) = undo_count t _ x.fell r before after m x.undo
+raised_commit_count AtStep t code before r after m x = stays_count _ r before after refl x
+raised_commit_count AtCommit t code before r after m (inl x) = stays_count _ r before after refl x.stays
+raised_commit_count AtCommit t code before r after m (inr x) = undo_count t _ x.fell r before after m x.undo
 
 fit_count : (asks : Asks) (t : ℕ) (n : Next) (fit : Bool) (before : State) (r : Reply) (after : State) → Member t before.live
     → IfFit fit before r after (StepOn asks t n before r after) → Counts r before after
@@ -241,7 +241,7 @@ commit_count asks t (Ends answers) before r after m (inl x) = stays_count _ r be
 commit_count asks t (Ends answers) before r after m (inr x) = removed_count _ t r before after m (eq-eqb t t refl) x.settles.removes
 commit_count asks t (Looks k) before r after m x = stays_count _ r before after refl x
 commit_count asks t (Puts k v) before r after m x = stays_count _ r before after refl x
-commit_count asks t (Raises code) before r after m x = asked_commit_count asks t code before r after m x
+commit_count asks t (Raises code) before r after m x = raised_commit_count asks t code before r after m x
 
 open_count : (t : ℕ) (before : State) (r : Reply) (after : State) (X : Type 0) → (IsUnended before t → X → Counts r before after)
     → (b : Bool) (o : Option Fate) → nat_lt t before.start_count ≡ b → before.fates t ≡ o → IfOpen b o before r after X

@@ -7,7 +7,7 @@ use Rattle.std.specs.Result.{result_ok}
 use Rattle.std.proofs.lemmas.Cmp.{ranked}
 use Rattle.std.proofs.lemmas.Bool.{false_from_ne_true, eq-eqb, eqb-true, lt-ltb, le-ltb, cases_lt}
 use Rattle.std.proofs.lemmas.Bool.Decides.{nat_tests}
-use Rattle.sgt_model.specs.Walks.{Member, Rising}
+use Rattle.sgt_model.specs.Paths.{Member, Rising}
 use Rattle.sgt_model.proofs.OneReply.{rising_below, rising_rest}
 use Rattle.sgt_sched.specs.LiveProgress.{Progress}
 use Rattle.sgt_sched.specs.LiveList.{numbers, has_number}

@@ -2,14 +2,14 @@
 use Rattle.std.proofs.Common.{◌≡◌, ◌≢◌, ℕ, zero, suc, ◌<◌, ◌≤◌, lt_trans, arith, Bool, true, false, not, cond, ◌⊎◌, inl, inr, nat_eq, List, [], ◌∷◌, ◌++◌, length, filter, Option, Some, None, refl, sym, ap, ◌∙◌, slice_set}
 use Rattle.std.proofs.lemmas.Bool.{false_from_ne_true, eqb-true, eqb-false, eq-eqb}
 use Rattle.sgt_model.specs.declared.reply.Fate.{Fate}
-use Rattle.sgt_model.specs.Walks.{Member, Rising, Distinct}
+use Rattle.sgt_model.specs.Paths.{Member, Rising, Distinct}
 use Rattle.sgt_sched.specs.LiveProgress.{Progress}
 use Rattle.sgt_sched.specs.LiveList.{numbers, progress_at, changed, others_live}
 use Rattle.sgt_sched.specs.SchedulerView.{fate_at}
 
 -- numbers
 
--- numbers that differ are told apart
+-- the test separates numbers that differ
 pub other : (t u : ℕ) → (t ≡ u → ⊥) → nat_eq t u ≡ false
 other t u h = false_from_ne_true (nat_eq t u) (λ e. h (eqb-true t u e))
 

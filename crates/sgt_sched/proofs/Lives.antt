@@ -5,7 +5,7 @@ use Rattle.std.proofs.lemmas.Bool.{false_from_ne_true, ltb-true, ltb-false, eqb-
 use Rattle.std.proofs.lemmas.List.{take-append-le}
 use Rattle.std.proofs.lemmas.Option.{same_Some, slice_get_read}
 use Rattle.sgt_sched.specs.LiveProgress.{Progress}
-use Rattle.sgt_model.specs.Walks.{Member, Rising}
+use Rattle.sgt_model.specs.Paths.{Member, Rising}
 use Rattle.sgt_model.proofs.OneReply.{rising_below, rising_rest}
 use Rattle.sgt_sched.specs.LiveList.{numbers, has_number, progress_at, changed, others_live}
 
@@ -135,7 +135,7 @@ place_read (suc n) i [] d h = refl
 place_read (suc n) zero (q ∷ rest) d h = refl
 place_read (suc n) (suc i) (q ∷ rest) d h = place_read n i rest d (omega (arith, h))
 
--- the place of one that ended is moved behind the others
+-- the place of one that ended is moved after the others
 pub place_moved : (n i : ℕ) (rows : List (ℕ × Progress)) (r : ℕ × Progress) → i ≤ n → n < length rows
     → take n ((take i rows ++ drop (suc i) rows) ++ r ∷ []) ≡ take i (take (suc n) rows) ++ drop (suc i) (take (suc n) rows)
 place_moved n i [] r h w = absurd (omega (arith, w))
@@ -143,7 +143,7 @@ place_moved n zero (q ∷ rest) r h w = take-append-le n rest (r ∷ []) (omega 
 place_moved zero (suc i) (q ∷ rest) r h w = absurd (omega (arith, h))
 place_moved (suc n) (suc i) (q ∷ rest) r h w = ap (λ l. q ∷ l) (place_moved n i rest r (omega (arith, h)) (omega (arith, w)))
 
--- the place of the last one is the first behind the others
+-- the place of the last one is the first after the others
 pub place_left : (n : ℕ) (rows : List (ℕ × Progress))
     → take n rows ≡ take n (take (suc n) rows) ++ drop (suc n) (take (suc n) rows)
 place_left zero [] = refl
@@ -151,11 +151,11 @@ place_left (suc n) [] = refl
 place_left zero (q ∷ rest) = refl
 place_left (suc n) (q ∷ rest) = ap (λ l. q ∷ l) (place_left n rest)
 
--- without the one at this index, whose place was moved behind the others or was the last
-pub moved_behind : (n i : ℕ) (rows : List (ℕ × Progress)) (r : ℕ × Progress) → i < n → n ≤ length rows
+-- without the one at this index, whose place was moved after the others or was the last
+pub moved_after : (n i : ℕ) (rows : List (ℕ × Progress)) (r : ℕ × Progress) → i < n → n ≤ length rows
     → take (n - 1) ((take i rows ++ drop (suc i) rows) ++ r ∷ []) ≡ take i (take n rows) ++ drop (suc i) (take n rows)
-moved_behind zero i rows r h w = absurd (omega (arith, h))
-moved_behind (suc n) i rows r h w =
+moved_after zero i rows r h w = absurd (omega (arith, h))
+moved_after (suc n) i rows r h w =
     let e : suc n - 1 ≡ n = omega arith in
     ap (λ m. take m ((take i rows ++ drop (suc i) rows) ++ r ∷ [])) e ∙ place_moved n i rows r (omega (arith, h)) (omega (arith, w))
 

@@ -5,7 +5,7 @@ use Rattle.std.specs.List.{last_or}
 use Rattle.sgt_model.specs.declared.kind.Kind.TheVariants.{Look, Store}
 use Rattle.sgt_model.specs.declared.reply.Reply.TheVariants as reply
 use Rattle.sgt_model.specs.Contents.{Key, key_eq}
-use Rattle.sgt_model.specs.Walks.{Member}
+use Rattle.sgt_model.specs.Paths.{Member}
 use Rattle.sgt_model.specs.Chains.{write_last, writes_in}
 use Rattle.sgt_model.specs.ChainOrder.{IsLastIn}
 use Rattle.sgt_model.specs.AccessList.{ListedAccess, lists_conflicting}
@@ -14,9 +14,9 @@ use Rattle.sgt_model.specs.Left as left
 use Rattle.sgt_model.specs.Found.{found}
 use Rattle.sgt_model.specs.Changes.{LooksAt, StoresInto}
 use Rattle.sgt_model.specs.CallEffects.{MakesLook, MakesStore}
-use Rattle.sgt_model.proofs.Conditions.{may_write, chain_room}
+use Rattle.sgt_model.proofs.Conditions.{may_write, chain_capacity}
 use Rattle.sgt_model.proofs.SoundCalls.{sound_look, sound_store}
-use Rattle.sgt_cycle.specs.Walk.{NoWalk}
+use Rattle.sgt_cycle.specs.Path.{NoPath}
 use Rattle.sgt_records.specs.Tops.{top_from, value_of_top}
 use Rattle.sgt_sched.specs.LiveList.{progress_at, changed, with_look, with_store}
 use Rattle.sgt_sched.specs.SchedulerView.{SchedulerView, state_of, IsKept}
@@ -26,7 +26,7 @@ use Rattle.sgt_sched.proofs.Accessed.{not_blocked, notes, own_progress_is, kept_
 module _ {R A G : Type 0} {chain : R → Key → List (ℕ × Option ℤ)} {settled : R → Key → Option ℤ} {list : A → List ListedAccess}
     {nodes : G → ℕ → Bool} {pairs : G → ℕ → ℕ → Bool} {before now : SchedulerView R A G} (seen : before ≡ now)
     (kept : IsKept chain settled list nodes pairs before) (t : ℕ) (live_t : nodes before.graph t ≡ true) (k : Key) (rivals : List ℕ)
-    (free : NoWalk (pairs before.graph) t rivals) where
+    (free : NoPath (pairs before.graph) t rivals) where
   module _ (exact : (u : ℕ) → Member u rivals ↔ ((u ≢ t) × (lists_conflicting (list before.accesses) u k Look ≡ true))) (accesses : A)
       (graph : G) (live : List (ℕ × Progress)) (read_from : List (ℕ × ℕ)) (value : Option ℤ)
       (list_is : list accesses ≡ list before.accesses ++ record { by = t; key = k; kind = Look } ∷ [])
@@ -104,8 +104,8 @@ module _ {R A G : Type 0} {chain : R → Key → List (ℕ × Option ℤ)} {sett
     store_last = may_write before.limits.live _ kept.sound t k live_t (not_blocked kept t live_t k Store rivals exact free)
 
     -- t's chain has capacity
-    pub store_room : writes_in t (chain before.records k) ≡ false → length (chain before.records k) < 32
-    store_room h = let few = chain_room before.limits.live _ kept.sound t k live_t h in omega (arith, kept.in_range.few_live)
+    pub store_capacity : writes_in t (chain before.records k) ≡ false → length (chain before.records k) < 32
+    store_capacity h = let few = chain_capacity before.limits.live _ kept.sound t k live_t h in omega (arith, kept.in_range.few_live)
 
     module _ (v : Option ℤ) (records : R) (accesses : A) (graph : G) (live : List (ℕ × Progress))
         (chain_is : (j : Key) → chain records j ≡ cond (key_eq k j) (write_last t v (chain before.records j)) (chain before.records j))

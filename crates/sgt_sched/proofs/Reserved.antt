@@ -1,4 +1,4 @@
--- Where room was made in the layers, what holds at every moment still holds.
+-- The invariant still holds after capacity was provided in the layers.
 use Rattle.std.proofs.Common.{◌≡◌, ℕ, ℤ, Bool, List, Option, sym, ap, ◌∙◌, subst}
 use Rattle.sgt_model.specs.declared.kind.Kind.TheVariants.{Store}
 use Rattle.sgt_model.specs.Contents.{Key}
@@ -12,11 +12,11 @@ module _ {R A G : Type 0} {chain : R → Key → List (ℕ × Option ℤ)} {sett
     {nodes : G → ℕ → Bool} {pairs : G → ℕ → ℕ → Bool} {before : SchedulerView R A G} (kept : IsKept chain settled list nodes pairs before)
     (records : R) (accesses : A) (same_chain : (k : Key) → chain records k ≡ chain before.records k)
     (same_list : list accesses ≡ list before.accesses) where
-  -- the parts with the layers that made room
-  abbrev pub with_room : SchedulerView R A G
-  with_room = record before { records = records; accesses = accesses }
+  -- the parts with the layers after they provided capacity
+  abbrev pub with_capacity : SchedulerView R A G
+  with_capacity = record before { records = records; accesses = accesses }
 
-  pub kept_reserved : IsKept chain settled list nodes pairs with_room
+  pub kept_reserved : IsKept chain settled list nodes pairs with_capacity
   kept_reserved = record {
     in_range = kept.in_range;
     begun = kept.begun;

@@ -6,12 +6,12 @@ use Rattle.std.proofs.lemmas.List.{length-append, length-map}
 use Rattle.std.proofs.lemmas.Bool.{false_from_ne_true, or_cases, or_left, or_right, eqb-true, eqb-false}
 use Rattle.sgt_model.specs.declared.reply.Fate.{Fate}
 use Rattle.sgt_model.specs.Contents.{Key}
-use Rattle.sgt_model.specs.Walks.{Member, AtMost, Rising}
+use Rattle.sgt_model.specs.Paths.{Member, AtMost, Rising}
 use Rattle.sgt_model.specs.AccessList.{ListedAccess}
 use Rattle.sgt_sched.specs.LiveProgress.{Progress, left_kept}
 use Rattle.sgt_model.specs.declared.limits.Limits.{Limits}
 use Rattle.sgt_model.specs.Syntax.{ProcedureText}
-use Rattle.sgt_model.specs.Settings.{procedure_at}
+use Rattle.sgt_model.specs.Configurations.{procedure_at}
 use Rattle.sgt_model.specs.LiveLeft.{left_if}
 use Rattle.sgt_model.specs.declared.reply.Reply.TheVariants as reply
 use Rattle.sgt_model.specs.StartReply.{taken_reply}
@@ -74,11 +74,11 @@ module _ {R A G : Type 0} {chain : R → Key → List (ℕ × Option ℤ)} {sett
   -- what holds at every moment holds afterwards
   pub kept_start : length before.live < before.limits.live → length before.fates < before.limits.begins
       → IsKept chain settled list nodes pairs after_start
-  kept_start room more = record {
+  kept_start capacity more = record {
     in_range = kept.in_range;
     begun = omega (arith, length-append before.fates (None ∷ []));
     sound = sound_starts before.limits.live _ _ kept.sound (left_if (procedure_at before.procedures procedure) args)
-        (few before.live room) start_count;
+        (few before.live capacity) start_count;
     rising = subst Rising (sym start_count.live) (rising-added (length before.fates) (numbers before.live) kept.rising
         (λ u m. kept.sound.begun u ((kept.sound.listed u).1 m)));
     unended = λ u. (
@@ -144,10 +144,10 @@ module _ {R A G : Type 0} {chain : R → Key → List (ℕ × Option ℤ)} {sett
       (subst (λ n. nodes before.graph n ≡ true) next h))
 
   -- there is capacity for one more node
-  pub start_room : length (numbers before.live) < before.limits.live → AtMost 31 (nodes before.graph)
-  start_room room = record {
+  pub start_capacity : length (numbers before.live) < before.limits.live → AtMost 31 (nodes before.graph)
+  start_capacity capacity = record {
     among = numbers before.live;
-    few = omega (arith, room, kept.in_range.few_live);
+    few = omega (arith, capacity, kept.in_range.few_live);
     all = λ u h. (kept.sound.listed u).0 h;
   }
 
@@ -160,12 +160,12 @@ module _ {R A G : Type 0} {chain : R → Key → List (ℕ × Option ℤ)} {sett
       (record before { graph = graph; live = live; fates = fates }) × Starts
       (left_if (procedure_at before.procedures procedure) args) (state_of chain settled list nodes pairs before)
       (state_of chain settled list nodes pairs (record before { graph = graph; live = live; fates = fates }))
-  start_done graph live fates nodes_are pairs_are live_is fates_is named room more =
+  start_done graph live fates nodes_are pairs_are live_is fates_is named capacity more =
       subst (λ (p : SchedulerView R A G). IsKept chain settled list nodes pairs p × Starts
       (left_if (procedure_at before.procedures procedure) args) (state_of chain settled list nodes pairs before)
       (state_of chain settled list nodes pairs p)) same (
         kept_start kept procedure program args named graph nodes_now pairs_are
-            (subst (λ n. n < before.limits.live) (length-map before.live _) room) more,
+            (subst (λ n. n < before.limits.live) (length-map before.live _) capacity) more,
         start_count kept procedure program args named graph
             nodes_now pairs_are,
       ) where

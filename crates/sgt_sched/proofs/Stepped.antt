@@ -14,7 +14,7 @@ use Rattle.sgt_model.specs.declared.reply.Fate.{Fate}
 use Rattle.sgt_model.specs.declared.reply.Reply.{Reply}
 use Rattle.sgt_model.specs.Contents.{Key}
 use Rattle.sgt_model.specs.Traces.{Next}
-use Rattle.sgt_model.specs.Settings.{Rules}
+use Rattle.sgt_model.specs.Configurations.{Rules}
 use Rattle.sgt_model.specs.Left.{next_left}
 use Rattle.sgt_model.specs.State.{State}
 use Rattle.sgt_model.specs.CallEffects.{IfOpen, CycleAbortEffect, StepOn, StepEffect, IfFit, RequestOn, RequestEffect, CommitOn, CommitEffect, CallEffect}
@@ -37,9 +37,9 @@ if_unended b ended before r after X begun none x =
 -- what an event of one that is not live does, whatever it would do to a live one
 pub not_live : (b : Bool) (ended : Option Fate) (before : State) (r : Reply) (X : Type 0) → IsNotLiveBy b ended r
     → IfOpen b ended before r before X
-not_live false ended before r X told = record { reply = told; same = refl }
-not_live true (Some f) before r X told = record { reply = told; same = refl }
-not_live true None before r X told = absurd told
+not_live false ended before r X reported = record { reply = reported; same = refl }
+not_live true (Some f) before r X reported = record { reply = reported; same = refl }
+not_live true None before r X reported = absurd reported
 
 -- a step, by what comes next
 pub steps_on : (asks : Asks) (t : ℕ) (before : State) (r : Reply) (after : State) (n : Next) → nat_lt t before.start_count ≡ true
@@ -71,7 +71,7 @@ commits_on asks t before r after n begun none next done = if_unended _ _ before 
 module _ {R A G : Type 0} {r : RecordsGhosts R} {a : AccessesGhosts A} {g : GraphGhosts G} {old : Sched R A G r a g} where
   -- what an access does, as what a step does
   pub made : (effect more : State → Reply → State → Type 0) {new : Sched R A G r a g} (result : Result ShortReply NoMemory)
-      → ((before : State) (told : Reply) (after : State) → effect before told after → more before told after)
+      → ((before : State) (reported : Reply) (after : State) → effect before reported after → more before reported after)
       → Tries (WithAnyLists effect) old result new → Tries (WithAnyLists more) old result new
   made effect more result also tries = record {
     done = IfOk-weaker result _ _ (λ r done lists. also _ _ _ (done lists)) tries.done;

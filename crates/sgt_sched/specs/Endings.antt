@@ -19,9 +19,9 @@ use Rattle.sgt_model.specs.State.{State}
 use Rattle.sgt_model.specs.Blocks.{Blocks}
 use Rattle.sgt_model.specs.Changes.{Removes}
 use Rattle.sgt_model.specs.CallEffects.{AbortEffect, CallEffect}
-use Rattle.sgt_model.specs.Settings.{Rules}
-use Rattle.sgt_model.specs.Walks.{Member}
-use Rattle.sgt_cycle.specs.Walk.{IsWalk}
+use Rattle.sgt_model.specs.Configurations.{Rules}
+use Rattle.sgt_model.specs.Paths.{Member}
+use Rattle.sgt_cycle.specs.Path.{IsPath}
 use Rattle.sgt_sched.specs.Steps.{IsUnended}
 
 -- only t is removed from the state, with this fate; its values are dropped
@@ -31,8 +31,8 @@ pub record EndsAborted (t : ℕ) (fate : Fate) (before after : State) : Type 0 w
   pub fates : (u : ℕ) → after.fates u ≡ cond (nat_eq t u) (Some fate) (before.fates u)
 
 -- t is aborted, because a path leads from it to one of these
-abbrev pub AbortsByWalk : ℕ → List ℕ → State → Reply → State → Type 0
-AbortsByWalk t targets before r after = (walk : List ℕ) × IsWalk before.pairs t targets walk × AbortEffect t (cause.Cycle walk) before r after
+abbrev pub AbortsByCycle : ℕ → List ℕ → State → Reply → State → Type 0
+AbortsByCycle t targets before r after = (cycle : List ℕ) × IsPath before.pairs t targets cycle × AbortEffect t (cause.Cycle cycle) before r after
 
 -- some path blocks the access
 abbrev pub IsBlocked : State → ℕ → Key → Kind → Type 0

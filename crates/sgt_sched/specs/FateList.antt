@@ -10,35 +10,35 @@ use Rattle.sgt_sched.specs.declared.fates.End.TheVariants as end
 -- not counting one path for each live transaction
 pub record FateList : Type 0 where
   pub fates : List (Option Fate)
-  pub end_room : ℕ
-  pub walk_room : ℕ
+  pub end_capacity : ℕ
+  pub cycle_capacity : ℕ
 
 -- there is capacity for one more start
-abbrev pub HasStartRoom : FateList → Type 0
-HasStartRoom f = (0 < f.end_room) × (0 < f.walk_room)
+abbrev pub HasStartCapacity : FateList → Type 0
+HasStartCapacity f = (0 < f.end_capacity) × (0 < f.cycle_capacity)
 
 -- the fate of an end
 abbrev pub fate_of_end : List (List ℕ) → End → Option Fate
-fate_of_end walks end.Live = None
-fate_of_end walks end.Committed = Some fate.Committed
-fate_of_end walks end.Quit = Some (fate.Aborted cause.Quit)
-fate_of_end walks (end.Asked code) = Some (fate.Aborted (cause.Asked code))
-fate_of_end walks (end.Fell first) = Some (fate.Fell first)
-fate_of_end walks (end.Cycle index) = Some (fate.Aborted (cause.Cycle (slice_index_or walks index [])))
+fate_of_end cycles end.Live = None
+fate_of_end cycles end.Committed = Some fate.Committed
+fate_of_end cycles end.Quit = Some (fate.Aborted cause.Quit)
+fate_of_end cycles (end.Asked code) = Some (fate.Aborted (cause.Asked code))
+fate_of_end cycles (end.Fell first) = Some (fate.Fell first)
+fate_of_end cycles (end.Cycle index) = Some (fate.Aborted (cause.Cycle (slice_index_or cycles index [])))
 
 -- the fates of ends
 abbrev pub fates_of_ends : List (List ℕ) → List End → List (Option Fate)
-fates_of_ends walks ends = map (fate_of_end walks) ends
+fates_of_ends cycles ends = map (fate_of_end cycles) ends
 
 -- the index of an end is that of a path
-abbrev pub HasWalk : ℕ → End → Type 0
-HasWalk count (end.Cycle index) = index < count
-HasWalk count _ = Unit {0}
+abbrev pub HasPath : ℕ → End → Type 0
+HasPath count (end.Cycle index) = index < count
+HasPath count _ = Unit {0}
 
 -- the indices of the ends are those of paths
-abbrev pub HaveWalks : ℕ → List End → Type 0
-HaveWalks count [] = Unit {0}
-HaveWalks count (e ∷ ends) = HasWalk count e × HaveWalks count ends
+abbrev pub HavePaths : ℕ → List End → Type 0
+HavePaths count [] = Unit {0}
+HavePaths count (e ∷ ends) = HasPath count e × HavePaths count ends
 
 -- the paths keep their positions, perhaps with others after them
 pub record AreKept (before after : List (List ℕ)) : Type 0 where
@@ -57,9 +57,9 @@ live_among (e ∷ ends) = live_in e + live_among ends
 
 -- each index is that of a path; as many are live as are counted; the paths have capacity for one of each live transaction;
 -- there are at most as many paths as ended transactions, and their number fits the index
-pub record IsFateList (ends : List End) (walks : List (List ℕ)) (live capacity : ℕ) : Type 0 where
-  pub placed : HaveWalks (length walks) ends
+pub record IsFateList (ends : List End) (cycles : List (List ℕ)) (live capacity : ℕ) : Type 0 where
+  pub placed : HavePaths (length cycles) ends
   pub counted : live_among ends ≡ live
-  pub room : length walks + live ≤ capacity
-  pub ended : length walks + live ≤ length ends
+  pub enough : length cycles + live ≤ capacity
+  pub ended : length cycles + live ≤ length ends
   pub few : length ends ≤ 2 ^ 32

@@ -11,7 +11,7 @@ use Rattle.sgt_model.specs.Bounds.{AreInRange}
 use Rattle.sgt_model.specs.Codes.{coded_procedure}
 use Rattle.sgt_model.specs.Contents.{Key}
 use Rattle.sgt_model.specs.Syntax.{ProcedureText}
-use Rattle.sgt_model.specs.Walks.{Rising, Member}
+use Rattle.sgt_model.specs.Paths.{Rising, Member}
 use Rattle.sgt_model.specs.AccessList.{ListedAccess}
 use Rattle.sgt_model.specs.ChainOrder.{EachAfter, InOrder}
 use Rattle.sgt_model.specs.State.{State, PairIn}

@@ -1,6 +1,6 @@
 -- What a scheduler holds, and what its calls do, by names that contracts can use.
 use Rattle.std.specs.Prelude.{◌≡◌, ◌≢◌, ℕ, List, [], Option, IfSome, IsNone, Result, IfOk, OnErr}
-use Rattle.sgt_cycle.specs.Walk.{NoWalk}
+use Rattle.sgt_cycle.specs.Path.{NoPath}
 use Rattle.sgt_records.specs.declared.records.Records.{Ghosts as RecordsGhosts}
 use Rattle.sgt_access.specs.declared.accesses.Accesses.{Ghosts as AccessesGhosts}
 use Rattle.sgt_graph.specs.declared.graph.Graph.{Ghosts as GraphGhosts}
@@ -11,10 +11,10 @@ use Rattle.sgt_model.specs.declared.short_reply.ReplyLists.{ReplyLists}
 use Rattle.sgt_model.specs.declared.short_reply.ShortCause.TheVariants as cause
 use Rattle.sgt_model.specs.declared.short_reply.ShortReply.TheVariants as short
 use Rattle.sgt_model.specs.Sameness.{Same}
-use Rattle.sgt_model.specs.Settings.{Rules, rules_from}
+use Rattle.sgt_model.specs.Configurations.{Rules, rules_from}
 use Rattle.sgt_model.specs.ShortReplies.{reply_with}
 use Rattle.sgt_model.specs.State.{State}
-use Rattle.sgt_sched.specs.Endings.{AbortsByWalk}
+use Rattle.sgt_sched.specs.Endings.{AbortsByCycle}
 use Rattle.sgt_sched.specs.SchedulerView.{SchedulerView, state_of, view}
 use Rattle.sgt_sched.specs.declared.sched.Sched.{Sched}
 
@@ -56,7 +56,7 @@ module _ {R A G : Type 0} {r : RecordsGhosts R} {a : AccessesGhosts A} {g : Grap
   -- has changed, and edges from these, if any, can be linked so
   pub record LinksOrAborts (t : ℕ) (rivals : List ℕ) (old : Sched R A G r a g) (before : ReplyLists) (link : Option Link)
       (lists : ReplyLists) (new : Sched R A G r a g) : Type 0 where
-    pub closes : IsNone link → AbortsByWalk t rivals (state old) (reply_with (short.Aborted cause.Cycle) lists) (state new)
-    pub free : IfSome link (λ l. (new ≡ old) × (lists ≡ before) × NoWalk (state old).pairs t rivals
+    pub closes : IsNone link → AbortsByCycle t rivals (state old) (reply_with (short.Aborted cause.Cycle) lists) (state new)
+    pub free : IfSome link (λ l. (new ≡ old) × (lists ≡ before) × NoPath (state old).pairs t rivals
         × (rivals ≢ [] → g.is_planned old.graph t rivals l))
     pub kept : Keeps old new

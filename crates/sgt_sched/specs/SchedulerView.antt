@@ -5,8 +5,8 @@ use Rattle.sgt_model.specs.declared.reply.Fate.{Fate}
 use Rattle.sgt_model.specs.Bounds.{AreInRange}
 use Rattle.sgt_model.specs.Contents.{Key}
 use Rattle.sgt_model.specs.Syntax.{ProcedureText}
-use Rattle.sgt_model.specs.Settings.{Rules, rules_from, procedure_at}
-use Rattle.sgt_model.specs.Walks.{Rising}
+use Rattle.sgt_model.specs.Configurations.{Rules, rules_from, procedure_at}
+use Rattle.sgt_model.specs.Paths.{Rising}
 use Rattle.sgt_model.specs.AccessList.{ListedAccess}
 use Rattle.sgt_sched.specs.LiveProgress.{Progress, left_kept}
 use Rattle.sgt_model.specs.State.{State}

@@ -7,7 +7,7 @@ use Rattle.sgt_model.specs.declared.reply.Reply.TheVariants as reply
 use Rattle.sgt_model.specs.AccessList.{lists_conflicting}
 use Rattle.sgt_model.specs.Contents.{Key}
 use Rattle.sgt_model.specs.State.{State}
-use Rattle.sgt_model.specs.Walks.{Member}
+use Rattle.sgt_model.specs.Paths.{Member}
 use Rattle.sgt_records.specs.declared.top.Top.{Top}
 use Rattle.sgt_records.specs.declared.top.Top.TheVariants as top
 

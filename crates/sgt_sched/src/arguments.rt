@@ -4,7 +4,7 @@ ghost use Rattle.sgt_model.specs.StartReply.{args_fit};
 
 use sgt_model::{Args, is_value};
 
-/// Whether there are exactly so many arguments, each of them a value.
+/// Whether there are exactly this many arguments, each of them a value.
 pub fn args_fit(count: u8, args: &Args) -> bool
     ensures { result ≡ args_fit count args.now }
 {

@@ -1,7 +1,7 @@
 //! New edges into a transaction that makes an access.
 ghost use Rattle.std.specs.Prelude.{◌≡◌, ◌≢◌, ℕ, true, [], ◌⊎◌, ◌↔◌};
-ghost use Rattle.sgt_model.specs.Walks.{Member};
-ghost use Rattle.sgt_cycle.specs.Walk.{NoWalk};
+ghost use Rattle.sgt_model.specs.Paths.{Member};
+ghost use Rattle.sgt_cycle.specs.Path.{NoPath};
 
 use sgt_graph::{Graph, Link};
 use sgt_model::{Tid, Tids};
@@ -11,7 +11,7 @@ use sgt_model::{Tid, Tids};
 pub fn follow<G: Graph>(graph: &mut G, t: Tid, rivals: &Tids, link: Link)
     requires node { G.nodes graph.old t ≡ true }
     requires others { (u : ℕ) → Member u rivals.now → (G.nodes graph.old u ≡ true) × (u ≢ t) }
-    requires free { NoWalk (G.pairs graph.old) t rivals.now }
+    requires free { NoPath (G.pairs graph.old) t rivals.now }
     requires planned { rivals.now ≢ [] → G.is_planned graph.old t rivals.now link }
     ensures nodes { (u : ℕ) → G.nodes graph.new u ≡ G.nodes graph.old u }
     ensures pairs { (u v : ℕ) → (G.pairs graph.new u v ≡ true)

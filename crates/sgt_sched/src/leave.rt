@@ -1,6 +1,6 @@
 //! Removing an ended transaction from the lists of the scheduler.
 ghost use Rattle.std.specs.Prelude.{◌≡◌};
-ghost use Rattle.sgt_model.specs.Walks.{Rising};
+ghost use Rattle.sgt_model.specs.Paths.{Rising};
 ghost use Rattle.sgt_sched.specs.LiveList.{numbers, others_live};
 ghost use Rattle.sgt_sched.specs.Steps.{unread};
 

@@ -1,6 +1,6 @@
 //! The list of the live transactions.
 ghost use Rattle.std.specs.Prelude.{◌≡◌, ◌≤◌, [], ◌∷◌, ◌++◌, length, Some, OnOk, OnErr, position};
-ghost use Rattle.sgt_model.specs.Walks.{Rising};
+ghost use Rattle.sgt_model.specs.Paths.{Rising};
 ghost use Rattle.sgt_sched.specs.LiveList.{numbers, has_number, progress_at, started, with_look, with_store, changed, others_live};
 ghost use Rattle.sgt_sched.specs.SchedulerView.{IsAlong};
 
@@ -139,7 +139,7 @@ impl Live {
         self.running[index].store(procedures);
     }
 
-    /// Removes the transaction, which has ended. Its place is kept behind the others, which are moved in one block. It
+    /// Removes the transaction, which has ended. Its place is kept after the others, which are moved in one block. It
     /// allocates nothing.
     pub fn remove(&mut self, t: Tid)
         requires rising { Rising (numbers self.old) }

@@ -1,6 +1,6 @@
 //! The procedures by their numbers.
 ghost use Rattle.std.specs.Prelude.{◌≡◌, ◌↔◌, [], ◌∷◌, ◌++◌, Some, None, IfSome, IsSome, IsNone, OnOk, OnErr};
-ghost use Rattle.sgt_model.specs.Settings.{procedure_at};
+ghost use Rattle.sgt_model.specs.Configurations.{procedure_at};
 
 use sgt_model::{EMPTY_PROCEDURE, NoMemory};
 use sgt_proc::Checked;
@@ -18,7 +18,7 @@ impl Model for ProcedureTable {
     ghost use Rattle.std.specs.Coded.{codes};
     ghost use Rattle.std.specs.Prelude.{◌≡◌, List};
     ghost use Rattle.sgt_model.specs.Codes.{coded_procedure};
-    ghost use Rattle.sgt_model.specs.Settings.{empty_procedure};
+    ghost use Rattle.sgt_model.specs.Configurations.{empty_procedure};
     ghost use Rattle.sgt_model.specs.Syntax.{ProcedureText};
 
     ghost Value = { List ProcedureText };

@@ -9,7 +9,7 @@ ghost use Rattle.sgt_model.specs.Databases.{contents_of};
 ghost use Rattle.sgt_model.specs.Left.{next_left};
 ghost use Rattle.sgt_model.specs.NewState.{IsNew};
 ghost use Rattle.sgt_model.specs.State.{State};
-ghost use Rattle.sgt_model.specs.Walks.{AtMost, Rising};
+ghost use Rattle.sgt_model.specs.Paths.{AtMost, Rising};
 ghost use Rattle.sgt_proc.specs.Nexts.{PutsValue};
 ghost use Rattle.sgt_model.specs.ShortReplies.{reply_with};
 ghost use Rattle.sgt_sched.specs.Replies.{WithLists, with_reply};
@@ -53,8 +53,8 @@ use std::alloc::Global;
 ///   Neumann, ICDE 2019).
 ///
 /// Of an ended transaction it stores how it ended, and nothing else. So the cost of a call grows with what the live
-/// transactions have done and with the cost of the layers. It does not grow with the number of earlier transactions, except
-/// when a list grows now and then.
+/// transactions have done and with the cost of the layers. It does not grow with the number of earlier transactions,
+/// except when a list has to grow.
 #[derive(Drop)]
 pub struct Sched<R: Records, A: Accesses, G: Graph> {
     procedures: ProcedureTable,
@@ -101,8 +101,8 @@ impl<R: Records, A: Accesses, G: Graph> Sched<R, A, G> {
         })
     }
 
-    /// Makes the call of an event: starts, steps, makes an access that the caller asks for, commits or quits. It writes the reply
-    /// without its lists to `reply`, and those that the reply has to `lists`.
+    /// Makes the call of an event: starts, steps, makes an access that the caller requests, commits or aborts. It
+    /// writes the reply without its lists to `reply`, and those that the reply has to `lists`.
     ///
     /// `NoMemory` if an allocation failed; then nothing has changed. An event that ends a live transaction allocates nothing.
     #[inline(always)]
@@ -210,7 +210,7 @@ impl<R: Records, A: Accesses, G: Graph> Sched<R, A, G> {
         requires not_live { IsUnended (state self.now) t → ⊥ }
         ensures { IsNotLive (state self.now) t (reply_with result lists.new) }
     {
-        match self.fates.get(t, &mut lists.walk) {
+        match self.fates.get(t, &mut lists.cycle) {
             Some(fate) => ShortReply::Over(fate),
             None => ShortReply::Unknown,
         }

@@ -8,13 +8,13 @@ use Rattle.sgt_model.specs.declared.entry.Entry.{Entry}
 use Rattle.sgt_model.specs.Continuations.{SettledAreRows}
 use Rattle.sgt_model.specs.Databases.{Row, contents_of}
 use Rattle.sgt_model.specs.OneReply.{SomeReplyIsLegal}
-use Rattle.sgt_model.specs.Settings.{Setting}
+use Rattle.sgt_model.specs.Configurations.{Configuration}
 use Rattle.sgt_model.specs.Values.{settled}
 use Rattle.sgt_format.specs.DatabaseText.{database_text}
 use Rattle.sgt_format.specs.RecordText.{record_lines}
 use Rattle.sgt_format.specs.declared.opening.Opening.{Opening}
 use Rattle.sgt_format.specs.declared.script_line.ScriptLine.{ScriptLine}
-use Rattle.sgt_assembly.specs.Openings.{opened_setting}
+use Rattle.sgt_assembly.specs.Openings.{opened_configuration}
 use Rattle.sgt_input.specs.declared.fault.Fault.{Fault}
 use Rattle.sgt_input.specs.declared.fault.Fault.TheVariants as fault
 use Rattle.sgt_input.specs.Lines.{Cut, cut, has_break}
@@ -26,14 +26,14 @@ use Rattle.sgt_input.specs.Ends.{End, IsOfInput}
 use Rattle.sgt_input.specs.Spelled.{spelled, end_of}
 use Rattle.sgt_script.specs.declared.output.Output.{Output}
 use Rattle.sgt_script.specs.declared.output.Output.TheVariants.{Replies, History, Records, Json}
-use Rattle.sgt_script.specs.Parts.{Answer, LegalAnswer, LegalRun, Part, answer_text, left_by, lines_of, part_behind, part_of, answers_text}
+use Rattle.sgt_script.specs.Parts.{Answer, LegalAnswer, LegalRun, Part, answer_text, left_by, lines_of, part_after, part_of, answers_text}
 use Rattle.sgt_script.specs.Scripts.{ScriptOf, script_line_at, Closing, Last}
 use Rattle.sgt_script.specs.Answering.{AnswersAll, AnswersLine, AnswersRead, AnswersScriptRead, AnswersSome, BeginWith, NoLine}
 use Rattle.sgt_script.specs.Beginnings.{AppendsPart, Begins, IsStop, LineRuns, ScriptRuns, WritesAt}
 use Rattle.sgt_script.specs.Outcomes.{IsCutOff, IsStopped}
 use Rattle.sgt_script.proofs.Answers.{all-answered, appends-trans, begin-next, closes-part}
 use Rattle.sgt_script.proofs.Parts.{lines-newer, part-rows, replies-newer, runs-go-on}
-use Rattle.sgt_script.proofs.WholeLines.{IsReadSo, behind-records, only-records, read-next, read-opened}
+use Rattle.sgt_script.proofs.WholeLines.{IsReadSo, following-records, only-records, read-next, read-opened}
 use Rattle.sgt_script.proofs.FirstLines.{appends-none, output-same}
 
 -- what is written, and what is gathered
@@ -89,7 +89,7 @@ on-failed {P} r f is holds = subst (λ (e : End). OnErr e P) is holds
 -- after some lines
 
 -- of known lines from number n on, those before this intake were answered, and here an engine's part and what is gathered stand
-pub record IsAnsweredSo (w : Output) (s : Setting) (n : ℕ) (known : Option Cut) (from old : Option (List ℕ)) (i : Intake)
+pub record IsAnsweredSo (w : Output) (s : Configuration) (n : ℕ) (known : Option Cut) (from old : Option (List ℕ)) (i : Intake)
     (rest held : Option (List ℕ)) (gathered : List ℕ) (p : Part) : Type 0 where
   pub answers : List Answer
   pub legal : LegalRun s answers
@@ -107,14 +107,14 @@ consumes-none None = tt
 consumes-none (Some xs) = refl
 
 -- before the first
-pub answered-none : (w : Output) (i : Intake) (rest held : Option (List ℕ)) (gathered : List ℕ) (s : Setting) (past : List Entry)
+pub answered-none : (w : Output) (i : Intake) (rest held : Option (List ℕ)) (gathered : List ℕ) (s : Configuration) (past : List Entry)
     → gathered ≡ []
     → past ≡ []
-    → IsAnsweredSo w s (i.number + 1) (cut_left i rest) (bytes_left i rest) held i rest held gathered (record { setting = s; past = past })
+    → IsAnsweredSo w s (i.number + 1) (cut_left i rest) (bytes_left i rest) held i rest held gathered (record { configuration = s; past = past })
 answered-none w i rest held gathered s past empty none = record {
   answers = [];
   legal = tt;
-  part = ap (λ (es : List Entry). record { setting = s; past = es }) (sym none);
+  part = ap (λ (es : List Entry). record { configuration = s; past = es }) (sym none);
   answered = begin-here (i.number + 1) (cut_left i rest);
   read = λ going. record {
     bytes = [];
@@ -127,7 +127,7 @@ answered-none w i rest held gathered s past empty none = record {
   written = ([], appends-none held, sym empty);
 }
 
-module _ (w : Output) (s : Setting) (n : ℕ) (known : Option Cut) (from old : Option (List ℕ)) where
+module _ (w : Output) (s : Configuration) (n : ℕ) (known : Option Cut) (from old : Option (List ℕ)) where
   -- if a prefix of the gathered text is written
   pub answered-flushed : (i : Intake) (rest b c : Option (List ℕ)) (held held' : List ℕ) (p : Part)
       → IsAnsweredSo w s n known from old i rest b held p → Flushed b c held held' → IsAnsweredSo w s n known from old i rest c held' p
@@ -150,7 +150,7 @@ module _ (w : Output) (s : Setting) (n : ℕ) (known : Option Cut) (from old : O
   answered-next i i' rest rest' held gathered gathered' p p' line so begin at took unbroken number before step = record {
     answers = step.answer ∷ so.answers;
     legal = (so.legal, subst (λ (q : Part). LegalAnswer q step.answer) (sym so.part) step.legal);
-    part = ap (part_behind step.answer) so.part ∙ sym step.part;
+    part = ap (part_after step.answer) so.part ∙ sym step.part;
     answered = begin-next n (i.number + 1) (i'.number + 1) known (cut_left i rest) (cut_left i' rest') so.answers step.answer so.answered
         (subst (λ (l : ScriptLine). BeginWith (i.number + 1) (cut_left i rest) (l ∷ []) (i'.number + 1) (cut_left i' rest'))
         (sym step.of_line) begin);
@@ -205,21 +205,21 @@ module _ (w : Output) (s : Setting) (n : ℕ) (known : Option Cut) (from old : O
 
   -- if it stops there
   pub some-stop : {A : Type 0} (i : Intake) (rest to b c : Option (List ℕ)) (held : List ℕ) (p : Part) (r : Result A Fault)
-      (f told : Fault) → (so : IsAnsweredSo w s n known from old i rest b held p) → WritesAt f told b c held → r ≡ Err told
+      (f reported : Fault) → (so : IsAnsweredSo w s n known from old i rest b held p) → WritesAt f reported b c held → r ≡ Err reported
       → (f ≡ fault.Reading → AnswersRead n from to so.answers)
       → AnswersSome w s n known from to old c (r ≢ Err fault.Writing) (r ≡ Err fault.Reading)
-  some-stop i rest to b c held p r f told so (inl (same, written)) is read =
+  some-stop i rest to b c held p r f reported so (inl (same, written)) is read =
       some-written i rest to b c held p (r ≢ Err fault.Writing) (r ≡ Err fault.Reading) so written
       (λ reading. read (cc (sym reading ∙ is ∙ ap (λ (g : Fault). Err g) same)))
-  some-stop i rest to b c held p r f told so (inr (failed, part)) is read =
+  some-stop i rest to b c held p r f reported so (inr (failed, part)) is read =
       some-failed i rest to b c held p r so part (is ∙ ap (λ (g : Fault). Err g) failed)
 
   -- if it stops at a failed allocation, which left the gathered text unchanged
   pub some-refused : {A : Type 0} (i : Intake) (rest to b c : Option (List ℕ)) (held held' : List ℕ) (p : Part) (r : Result A Fault)
-      (told : Fault) → IsAnsweredSo w s n known from old i rest b held p → held' ≡ held → WritesAt fault.NoMemory told b c held'
-      → r ≡ Err told → AnswersSome w s n known from to old c (r ≢ Err fault.Writing) (r ≡ Err fault.Reading)
-  some-refused i rest to b c held held' p r told so kept written is =
-      some-stop i rest to b c held p r fault.NoMemory told so (subst (λ (l : List ℕ). WritesAt fault.NoMemory told b c l) kept written) is
+      (reported : Fault) → IsAnsweredSo w s n known from old i rest b held p → held' ≡ held → WritesAt fault.NoMemory reported b c held'
+      → r ≡ Err reported → AnswersSome w s n known from to old c (r ≢ Err fault.Writing) (r ≡ Err fault.Reading)
+  some-refused i rest to b c held held' p r reported so kept written is =
+      some-stop i rest to b c held p r fault.NoMemory reported so (subst (λ (l : List ℕ). WritesAt fault.NoMemory reported b c l) kept written) is
       (λ reading. absurd (cc reading))
 
   -- if these were all lines
@@ -237,42 +237,42 @@ module _ (w : Output) (s : Setting) (n : ℕ) (known : Option Cut) (from old : O
   )
 
   -- if they end at a fault of the input
-  pub fault-stop : (i : Intake) (rest b c : Option (List ℕ)) (held : List ℕ) (p : Part) (f told : Fault)
-      → (so : IsAnsweredSo w s n known from old i rest b held p) → WritesAt f told b c held
-      → (IsOfInput f → NoLine (i.number + 1) (cut_left i rest) (Err f)) → IsOfInput told → AnswersAll w s n known old c (Err told)
-  fault-stop i rest b c held p f told so (inl (same, written)) none exact =
+  pub fault-stop : (i : Intake) (rest b c : Option (List ℕ)) (held : List ℕ) (p : Part) (f reported : Fault)
+      → (so : IsAnsweredSo w s n known from old i rest b held p) → WritesAt f reported b c held
+      → (IsOfInput f → NoLine (i.number + 1) (cut_left i rest) (Err f)) → IsOfInput reported → AnswersAll w s n known old c (Err reported)
+  fault-stop i rest b c held p f reported so (inl (same, written)) none exact =
       subst (λ (g : Fault). AnswersAll w s n known old c (Err g)) (sym same)
       (all-so i rest b c held p (Err f) so (none (subst IsOfInput same exact)) written).0
-  fault-stop i rest b c held p f told so (inr (failed, part)) none exact = absurd (subst IsOfInput failed exact)
+  fault-stop i rest b c held p f reported so (inr (failed, part)) none exact = absurd (subst IsOfInput failed exact)
 
 -- whole runs
 
 -- what follows the answers
-closes : (w : Output) → SettledAreRows → (s : Setting) (rows : List Row) (answers : List Answer) (end : End) → s.opening ≡ contents_of rows
+closes : (w : Output) → SettledAreRows → (s : Configuration) (rows : List Row) (answers : List Answer) (end : End) → s.opening ≡ contents_of rows
     → (last : List ℕ) × Closing w (left_by (part_of s answers)) end last
 closes History are_rows s rows answers (Ok tt') is = ([], refl)
 closes Replies are_rows s rows answers (Ok tt') is =
     let opened = part-rows are_rows s rows answers is in
-    let told = are_rows opened.0 (part_of s answers).past in (
-      database_text told.0,
-      (told.0, told.1, λ k. told.2 k ∙ ap (λ m. settled m (part_of s answers).past k) (sym opened.1), refl),
+    let reported = are_rows opened.0 (part_of s answers).past in (
+      database_text reported.0,
+      (reported.0, reported.1, λ k. reported.2 k ∙ ap (λ m. settled m (part_of s answers).past k) (sym opened.1), refl),
     )
 closes Records are_rows s rows answers (Ok tt') is =
     let opened = part-rows are_rows s rows answers is in
-    let told = are_rows opened.0 (part_of s answers).past in (
-      record_lines told.0,
-      (told.0, told.1, λ k. told.2 k ∙ ap (λ m. settled m (part_of s answers).past k) (sym opened.1), refl),
+    let reported = are_rows opened.0 (part_of s answers).past in (
+      record_lines reported.0,
+      (reported.0, reported.1, λ k. reported.2 k ∙ ap (λ m. settled m (part_of s answers).past k) (sym opened.1), refl),
     )
 closes Json are_rows s rows answers (Ok tt') is =
     let opened = part-rows are_rows s rows answers is in
-    let told = are_rows opened.0 (part_of s answers).past in (
-      record_lines told.0,
-      (told.0, told.1, λ k. told.2 k ∙ ap (λ m. settled m (part_of s answers).past k) (sym opened.1), refl),
+    let reported = are_rows opened.0 (part_of s answers).past in (
+      record_lines reported.0,
+      (reported.0, reported.1, λ k. reported.2 k ∙ ap (λ m. settled m (part_of s answers).past k) (sym opened.1), refl),
     )
 closes w are_rows s rows answers (Err f) is = ([], refl)
 
 -- what was answered goes on to a whole run
-goes-on : (w : Output) → SomeReplyIsLegal → SettledAreRows → (s : Setting) (rows : List Row) (n m : ℕ) (c : Cut) (left : Option Cut)
+goes-on : (w : Output) → SomeReplyIsLegal → SettledAreRows → (s : Configuration) (rows : List Row) (n m : ℕ) (c : Cut) (left : Option Cut)
     (answers : List Answer) (out rest : List ℕ) → s.opening ≡ contents_of rows → LegalRun s answers
     → BeginWith n (Some c) (lines_of answers) m left → answers_text w answers ≡ out ++ rest → Begins (LineRuns w s n c) answers out
 goes-on w some are_rows s rows n m c None answers out rest is legal answered parts = absurd answered
@@ -280,7 +280,7 @@ goes-on w some are_rows s rows n m c (Some left) answers out rest is legal answe
     let more = runs-go-on some s answers (spelled script_line_at m left.given) legal in
     let end : End = end_of script_line_at n c.given c.ending in
     let closing = closes w are_rows s rows (more.0 ++ answers) end is in record {
-      run = record { setting = s; answers = more.0 ++ answers };
+      run = record { configuration = s; answers = more.0 ++ answers };
       newer = more.0;
       begins = refl;
       rest = rest ++ (answers_text w more.0 ++ closing.0);
@@ -300,16 +300,16 @@ goes-on w some are_rows s rows n m c (Some left) answers out rest is legal answe
     }
 
 -- what a run over known lines from number n on wrote that stopped after a reply
-abbrev pub Stops : Output → Setting → ℕ → Option Cut → (from to old new : Option (List ℕ)) → End → Type 0
+abbrev pub Stops : Output → Configuration → ℕ → Option Cut → (from to old new : Option (List ℕ)) → End → Type 0
 Stops w s n known from to old new end = IfSome known (λ c. (answered : List Answer) × Appends old new (answers_text w answered)
     × Begins (LineRuns w s n c) answered (answers_text w answered) × (end ≡ Err fault.Reading → AnswersRead n from to answered))
 
 -- and what one wrote whose write failed
-abbrev pub Fails : Output → Setting → ℕ → Option Cut → Option (List ℕ) → Option (List ℕ) → Type 0
+abbrev pub Fails : Output → Configuration → ℕ → Option Cut → Option (List ℕ) → Option (List ℕ) → Type 0
 Fails w s n known old new = IfSome known (λ c. (answered : List Answer) × (out : List ℕ) × Appends old new out
     × Begins (LineRuns w s n c) answered out)
 
-pub stops-from : (w : Output) → SomeReplyIsLegal → SettledAreRows → (s : Setting) (rows : List Row) (n : ℕ) (known : Option Cut)
+pub stops-from : (w : Output) → SomeReplyIsLegal → SettledAreRows → (s : Configuration) (rows : List Row) (n : ℕ) (known : Option Cut)
     (from to old new : Option (List ℕ)) (wrote unread : Type 0) (end : End) → s.opening ≡ contents_of rows → wrote
     → (end ≡ Err fault.Reading → unread) → AnswersSome w s n known from to old new wrote unread
     → Stops w s n known from to old new end
@@ -324,7 +324,7 @@ stops-from w answer are_rows s rows n (Some c) from to old new wrote unread end 
       λ reading. some.read (failed reading),
     )
 
-pub fails-from : (w : Output) → SomeReplyIsLegal → SettledAreRows → (s : Setting) (rows : List Row) (n : ℕ) (known : Option Cut)
+pub fails-from : (w : Output) → SomeReplyIsLegal → SettledAreRows → (s : Configuration) (rows : List Row) (n : ℕ) (known : Option Cut)
     (from to old new : Option (List ℕ)) (wrote unread : Type 0) → s.opening ≡ contents_of rows
     → AnswersSome w s n known from to old new wrote unread → Fails w s n known old new
 fails-from w answer are_rows s rows n None from to old new wrote unread is some = tt
@@ -337,7 +337,7 @@ fails-from w answer are_rows s rows n (Some c) from to old new wrote unread is s
 )
 
 -- if the write of the database failed
-pub fails-last : (w : Output) (s : Setting) (n : ℕ) (known : Option Cut) (q : Part) (gathered : List ℕ)
+pub fails-last : (w : Output) (s : Configuration) (n : ℕ) (known : Option Cut) (q : Part) (gathered : List ℕ)
     (held held' held'' : Option (List ℕ))
     → (all : AnswersAll w s n known held held' (Ok tt)) × (part_of s all.answers ≡ q) → Last w (left_by q) gathered
     → AppendsPart held' held'' gathered
@@ -348,7 +348,7 @@ fails-last w s n (Some c) q gathered held held' held'' (all, present) is part = 
   answers_text w all.answers ++ part.written,
   appends-trans held held' held'' (answers_text w all.answers) part.written all.written part.appends,
   record {
-    run = record { setting = s; answers = all.answers };
+    run = record { configuration = s; answers = all.answers };
     newer = [];
     begins = refl;
     rest = part.rest;
@@ -371,8 +371,8 @@ fails-last w s n (Some c) q gathered held held' held'' (all, present) is part = 
 -- from the first line
 
 -- a whole run after an opening is one of the script
-of-script : (w : Output) (s : Setting) (bytes line : List ℕ) (n : ℕ) (c : Cut) (o : Opening) (answered : List Answer) (out : List ℕ)
-    → HaveBegun 1 bytes line o n c → s ≡ opened_setting o → Begins (LineRuns w s n c) answered out
+of-script : (w : Output) (s : Configuration) (bytes line : List ℕ) (n : ℕ) (c : Cut) (o : Opening) (answered : List Answer) (out : List ℕ)
+    → HaveBegun 1 bytes line o n c → s ≡ opened_configuration o → Begins (LineRuns w s n c) answered out
     → Begins (ScriptRuns w bytes) answered out
 of-script w s bytes line n c o answered out opened is begun = record {
   run = begun.run;
@@ -384,7 +384,7 @@ of-script w s bytes line n c o answered out opened is begun = record {
       (record {
         opening = o;
         opens = opened.opens;
-        setting = begun.whole.0 ∙ is;
+        configuration = begun.whole.0 ∙ is;
         output = output-same w begun.run _ n _ c.given _ c.ending (out ++ begun.rest) begun.end opened.number opened.left opened.ending
             begun.whole.1;
       });
@@ -424,9 +424,9 @@ stops-records w (Some bytes) i rest to held o end opened read = record {
 }
 
 -- after an opening
-pub stops-opened : (w : Output) (i k : Intake) (s : Setting) (input rest rest' to old new : Option (List ℕ)) (known : Option Cut)
+pub stops-opened : (w : Output) (i k : Intake) (s : Configuration) (input rest rest' to old new : Option (List ℕ)) (known : Option Cut)
     (first o : Opening) (end : End) → HasOpened 1 input i rest first → Begun 1 input i.line o (k.number + 1) known
-    → s ≡ opened_setting o
+    → s ≡ opened_configuration o
     → (k.ended ≡ false → (i.ended ≡ false) × Passes i.number (bytes_left i rest) k.number (bytes_left k rest'))
     → (end ≡ Err fault.Reading → k.ended ≡ false) → Stops w s (k.number + 1) known (bytes_left k rest') to old new end
     → IsStopped w input to old new end
@@ -440,12 +440,12 @@ stops-opened w i k s (Some bytes) rest rest' to old new (Some c) first o end ope
       read = λ reading.
           let still = passes (going reading) in
           read-opened i bytes rest to first answered opened still.0
-          (behind-records (bytes_left i rest) (bytes_left k rest') to i.number k.number answered opened.number still.1 (read reading));
+          (following-records (bytes_left i rest) (bytes_left k rest') to i.number k.number answered opened.number still.1 (read reading));
       nothing = λ records. subst (Appends old new) (no-answers w answered records) wrote;
     }
 
-pub fails-opened : (w : Output) (s : Setting) (rest old new : Option (List ℕ)) (line : List ℕ) (n : ℕ) (known : Option Cut) (o : Opening)
-    → Begun 1 rest line o n known → s ≡ opened_setting o → Fails w s n known old new → IsCutOff w rest old new
+pub fails-opened : (w : Output) (s : Configuration) (rest old new : Option (List ℕ)) (line : List ℕ) (n : ℕ) (known : Option Cut) (o : Opening)
+    → Begun 1 rest line o n known → s ≡ opened_configuration o → Fails w s n known old new → IsCutOff w rest old new
 fails-opened w s None old new line n known o begun is fails = tt
 fails-opened w s (Some bytes) old new line n None o begun is fails = absurd begun
 fails-opened w s (Some bytes) old new line n (Some c) o begun is (answered, out, wrote, begins) =

@@ -2,7 +2,7 @@
 use Rattle.std.proofs.Common.{◌≡◌, ℕ, List, [], ◌∷◌, refl, ap, sym, ◌∙◌, append-nil, subst, inl, inr}
 use Rattle.std.specs.Prelude.{Option, None, Some, IfSome, Err}
 use Rattle.std.specs.Io.KnownBytes.{Appends}
-use Rattle.sgt_model.specs.Settings.{Setting}
+use Rattle.sgt_model.specs.Configurations.{Configuration}
 use Rattle.sgt_format.specs.declared.opening.Opening.{Opening}
 use Rattle.sgt_input.specs.Lines.{Cut, Ending, cut}
 use Rattle.sgt_input.specs.Ends.{End}
@@ -10,7 +10,7 @@ use Rattle.sgt_script.specs.Opened.{IsRefused, LinesRefused}
 use Rattle.sgt_script.specs.declared.output.Output.{Output}
 use Rattle.sgt_script.specs.Scripts.{Execution, Script, ScriptOf, RunOutput}
 use Rattle.sgt_script.specs.Outcomes.{IsWhole}
-use Rattle.sgt_assembly.specs.Openings.{opened_setting}
+use Rattle.sgt_assembly.specs.Openings.{opened_configuration}
 use Rattle.sgt_input.proofs.Begun.{Begun, HasBadRecord}
 use Rattle.sgt_script.proofs.Answers.{RunWrote}
 use Rattle.sgt_input.specs.declared.fault.Fault.{Fault}
@@ -66,8 +66,8 @@ pub output-same : (w : Output) (run : Execution) (m n : ℕ) (ls ls' : List (Lis
 output-same w run m n ls ls' e e' out end number lines ending output = rw (number, lines, ending) output
 
 -- they open
-pub wrote-opened : (w : Output) (s : Setting) (rest held held' : Option (List ℕ)) (line : List ℕ) (n : ℕ) (new : Option Cut) (o : Opening)
-    (r : End) → Begun 1 rest line o n new → s ≡ opened_setting o → RunWrote w s n new held held' r → Wrote w rest held held' r
+pub wrote-opened : (w : Output) (s : Configuration) (rest held held' : Option (List ℕ)) (line : List ℕ) (n : ℕ) (new : Option Cut) (o : Opening)
+    (r : End) → Begun 1 rest line o n new → s ≡ opened_configuration o → RunWrote w s n new held held' r → Wrote w rest held held' r
 wrote-opened w s None held held' line n new o r begun is output = tt
 wrote-opened w s (Some bytes) held held' line n None o r begun is output = absurd begun
 wrote-opened w s (Some bytes) held held' line n (Some c) o r begun is (run, from, out, wrote, output) = (
@@ -78,7 +78,7 @@ wrote-opened w s (Some bytes) held held' line n (Some c) o r begun is (run, from
       (record {
         opening = o;
         opens = begun.opens;
-        setting = from ∙ is;
+        configuration = from ∙ is;
         output = output-same w run _ n _ c.given _ c.ending out r begun.number begun.left begun.ending output;
       }),
 )

@@ -21,6 +21,6 @@ module _ (headline : HeadlineHolds) (opened : OpenedHoldValues) (settle : Commit
   json-laws (l ∷ ls) ending (Some run) out end s = record {
     parts = parts-laws headline opened settle bank Json l ls ending run out end s;
     last = s.output.last;
-    closing = closing-same Json _ _ end s.output.last (chain-leaves headline run.setting run.answers s.output.legal) s.output.closing;
+    closing = closing-same Json _ _ end s.output.last (chain-leaves headline run.configuration run.answers s.output.legal) s.output.closing;
     written = s.output.text;
   }

@@ -14,12 +14,12 @@ use Rattle.sgt_script.specs.Scripts.{script_line_at}
 use Rattle.sgt_script.specs.Answering.{BeginWith, NoLine}
 
 -- it requests something
-pub line-asks : (n m : ℕ) (old new : Option Cut) (line : List ℕ) (asked : ScriptLine) → m ≡ n → Gives old line new
-    → script_line_at m line ≡ Ok asked → BeginWith n old (asked ∷ []) (m + 1) new
-line-asks n m None new line asked number gives is = tt
-line-asks n m (Some old) None line asked number gives is = absurd gives
-line-asks n m (Some old) (Some new) line asked number gives is =
-    subst (λ k. BeginWith k (Some old) (asked ∷ []) (m + 1) (Some new)) number (
+pub line-asks : (n m : ℕ) (old new : Option Cut) (line : List ℕ) (requested : ScriptLine) → m ≡ n → Gives old line new
+    → script_line_at m line ≡ Ok requested → BeginWith n old (requested ∷ []) (m + 1) new
+line-asks n m None new line requested number gives is = tt
+line-asks n m (Some old) None line requested number gives is = absurd gives
+line-asks n m (Some old) (Some new) line requested number gives is =
+    subst (λ k. BeginWith k (Some old) (requested ∷ []) (m + 1) (Some new)) number (
       ap (spelled script_line_at m) gives.0 ∙ ap (λ r. and_later r (spelled script_line_at (m + 1) new.given)) is,
       ap (λ ls. end_of script_line_at m ls old.ending) gives.0
           ∙ ap (λ r. or_later r (end_of script_line_at (m + 1) new.given old.ending)) is

@@ -81,16 +81,16 @@ reads-no-line i j input rest start kept none going = (
     go (Some xs) (Some ys) stays = sym stays
 
 -- then come record lines
-pub begun-behind : (input : Option (List ℕ)) (i : Intake) (rest : Option (List ℕ)) (new : Option Cut) (first o : Opening) (m : ℕ)
+pub begun-following : (input : Option (List ℕ)) (i : Intake) (rest : Option (List ℕ)) (new : Option Cut) (first o : Opening) (m : ℕ)
     → HasOpened 1 input i rest first → Leaves i.number (contents_of first.database) (cut_left i rest) m (contents_of o.database) new
     → o.limits ≡ first.limits → o.procedures ≡ first.procedures → Begun 1 input i.line o (m + 1) new
-begun-behind input i rest new first o m opened leaves limits procedures =
+begun-following input i rest new first o m opened leaves limits procedures =
     begun 1 before_input input i.line (cut_left i rest) new first o i.number m refl opened.gives opened.opens opened.number leaves limits
     procedures
 
 -- or one that is refused
-pub bad-behind : (input : Option (List ℕ)) (i : Intake) (rest : Option (List ℕ)) (first : Opening) (f : Fault)
+pub bad-following : (input : Option (List ℕ)) (i : Intake) (rest : Option (List ℕ)) (first : Opening) (f : Fault)
     → HasOpened 1 input i rest first → IsBadRecord f i.number (contents_of first.database) (cut_left i rest)
     → HasBadRecord 1 input i.line f
-bad-behind input i rest first f opened refused =
+bad-following input i rest first f opened refused =
     bad-record 1 before_input input i.line (cut_left i rest) first i.number f refl opened.gives opened.opens opened.number refused

@@ -24,7 +24,7 @@ module _ (headline : HeadlineHolds) (opened : OpenedHoldValues) (settle : Commit
       let last : out ≡ s.output.last = s.output.text ∙ ap (λ text. text ++ s.output.last) (no-answers Records run.answers refl) in
       record {
         parts = parts-laws headline opened settle bank Records l ls ending run out end s;
-        written = subst (Closing Records (chained run.setting run.answers).last end) (sym last)
-            (closing-same Records _ _ end s.output.last (chain-leaves headline run.setting run.answers s.output.legal)
+        written = subst (Closing Records (chained run.configuration run.answers).last end) (sym last)
+            (closing-same Records _ _ end s.output.last (chain-leaves headline run.configuration run.answers s.output.legal)
             s.output.closing);
       }

@@ -12,19 +12,19 @@ use Rattle.sgt_input.specs.Records.{Passes, ReadsRecords}
 use Rattle.sgt_input.specs.Ends.{End}
 use Rattle.sgt_input.specs.Spelled.{and_later, or_later, spelled, end_of}
 use Rattle.sgt_input.proofs.Cuts.{whole_lines-first}
-use Rattle.sgt_script.specs.Parts.{Answer, asked}
+use Rattle.sgt_script.specs.Parts.{Answer, requested}
 use Rattle.sgt_script.specs.Scripts.{script_line_at}
-use Rattle.sgt_script.specs.Answering.{AreAnswered, AnswersRead, AreBehindRecords, AreLaterAnswered, AnswersScriptRead}
+use Rattle.sgt_script.specs.Answering.{AreAnswered, AnswersRead, AreAfterRecords, AreLaterAnswered, AnswersScriptRead}
 use Rattle.sgt_script.proofs.Answers.{lines_of-answer}
 
 -- one more line after lines that all spell something
 
 -- after one of these
-spelled-behind : {A : Type 0} (r : Result A Fault) (x : A) (later more : List A) (end end' : End) → or_later r end ≡ Ok tt
+spelled-following : {A : Type 0} (r : Result A Fault) (x : A) (later more : List A) (end end' : End) → or_later r end ≡ Ok tt
     → (end ≡ Ok tt → (more ≡ later ++ x ∷ []) × (end' ≡ Ok tt))
     → (and_later r more ≡ and_later r later ++ x ∷ []) × (or_later r end' ≡ Ok tt)
-spelled-behind (Ok y) x later more end end' well next = (ap (λ l. y ∷ l) (next well).0, (next well).1)
-spelled-behind (Err f) x later more end end' well next = absurd (cc well)
+spelled-following (Ok y) x later more end end' well next = (ap (λ l. y ∷ l) (next well).0, (next well).1)
+spelled-following (Err f) x later more end end' well next = absurd (cc well)
 
 spelled-more : {A : Type 0} (read : ℕ → List ℕ → Result A Fault) (n : ℕ) (ls : List (List ℕ)) (line : List ℕ) (x : A)
     → end_of read n ls AtEnd ≡ Ok tt → read (n + length ls) line ≡ Ok x
@@ -33,15 +33,15 @@ spelled-more read n [] line x well is =
     let at : read n line ≡ Ok x = ap (λ k. read k line) (omega arith) ∙ is in
     (ap (λ r. and_later r []) at, ap (λ r. or_later r (Ok tt)) at)
 spelled-more read n (l ∷ ls) line x well is =
-    spelled-behind (read n l) x (spelled read (n + 1) ls) (spelled read (n + 1) (ls ++ line ∷ []))
+    spelled-following (read n l) x (spelled read (n + 1) ls) (spelled read (n + 1) (ls ++ line ∷ []))
     (end_of read (n + 1) ls AtEnd) (end_of read (n + 1) (ls ++ line ∷ []) AtEnd) well
     (λ later. spelled-more read (n + 1) ls line x later (ap (λ k. read k line) (omega arith) ∙ is))
 
 answered-more : (n : ℕ) (ls : List (List ℕ)) (line : List ℕ) (answers : List Answer) (a : Answer) → AreAnswered n ls answers
-    → script_line_at (n + length ls) line ≡ Ok (asked a) → AreAnswered n (ls ++ line ∷ []) (a ∷ answers)
+    → script_line_at (n + length ls) line ≡ Ok (requested a) → AreAnswered n (ls ++ line ∷ []) (a ∷ answers)
 answered-more n ls line answers a are is =
-    let more = spelled-more script_line_at n ls line (asked a) are.1 is in
-    (more.0 ∙ ap (λ l. l ++ asked a ∷ []) are.0 ∙ sym (lines_of-answer a answers), more.1)
+    let more = spelled-more script_line_at n ls line (requested a) are.1 is in
+    (more.0 ∙ ap (λ l. l ++ requested a ∷ []) are.0 ∙ sym (lines_of-answer a answers), more.1)
 
 -- bytes read one after another
 
@@ -62,7 +62,7 @@ pub record IsReadSo (n : ℕ) (old now : Option (List ℕ)) (answers : List Answ
 
 -- a line with its newline
 read-line : (n m m' : ℕ) (a b c : Option (List ℕ)) (answers : List Answer) (x : Answer) (line : List ℕ) → IsReadSo n a b answers m
-    → Consumes b c (line ++ 10 ∷ []) → has_break line ≡ false → script_line_at m line ≡ Ok (asked x) → m' ≡ m + 1
+    → Consumes b c (line ++ 10 ∷ []) → has_break line ≡ false → script_line_at m line ≡ Ok (requested x) → m' ≡ m + 1
     → IsReadSo n a c (x ∷ answers) m'
 read-line n m m' a b c answers x line read taken unbroken is next = record {
   bytes = read.bytes ++ (line ++ 10 ∷ []);
@@ -80,7 +80,7 @@ read-line n m m' a b c answers x line read taken unbroken is next = record {
 pub read-next : (n : ℕ) (from : Option (List ℕ)) (i i' : Intake) (rest rest' : Option (List ℕ)) (answers : List Answer) (x : Answer)
     → (i.ended ≡ false → IsReadSo n from (bytes_left i rest) answers (i.number + 1)) → (i'.ended ≡ false → i.ended ≡ false)
     → Consumes (bytes_left i rest) (bytes_left i' rest') (taken i') → has_break i'.line ≡ false
-    → script_line_at i'.number i'.line ≡ Ok (asked x) → i'.number ≡ i.number + 1 → i'.ended ≡ false
+    → script_line_at i'.number i'.line ≡ Ok (requested x) → i'.number ≡ i.number + 1 → i'.ended ≡ false
     → IsReadSo n from (bytes_left i' rest') (x ∷ answers) (i'.number + 1)
 read-next n from i i' rest rest' answers x read before took unbroken is number going =
     let line : taken i' ≡ i'.line ++ 10 ∷ [] = rw going refl in
@@ -119,21 +119,21 @@ pub read-nothing : (rest to : Option (List ℕ)) → ReadsNoLine rest to → Ans
 read-nothing rest to (read, took, none) = (read, took, subst (λ (ls : List (List ℕ)). AreLaterAnswered ls []) (sym none) refl)
 
 -- known bytes were read whose whole lines are record lines and lines that got these answers
-abbrev pub AnswersBehind : Option (List ℕ) → Option (List ℕ) → List Answer → Type 0
-AnswersBehind None to answers = ⊤
-AnswersBehind (Some old) to answers = (read : List ℕ) × Consumes (Some old) to read × AreBehindRecords (whole_lines read) answers
+abbrev pub AnswersAfter : Option (List ℕ) → Option (List ℕ) → List Answer → Type 0
+AnswersAfter None to answers = ⊤
+AnswersAfter (Some old) to answers = (read : List ℕ) × Consumes (Some old) to read × AreAfterRecords (whole_lines read) answers
 
 -- after line 1
 pub read-opened : (i : Intake) (bytes : List ℕ) (rest to : Option (List ℕ)) (o : Opening) (answers : List Answer)
-    → HasOpened 1 (Some bytes) i rest o → i.ended ≡ false → AnswersBehind (bytes_left i rest) to answers
+    → HasOpened 1 (Some bytes) i rest o → i.ended ≡ false → AnswersAfter (bytes_left i rest) to answers
     → AnswersScriptRead (Some bytes) to answers
-read-opened i bytes rest to o answers opened going behind =
-    go (bytes_left i rest) (subst (Consumes (Some bytes) (bytes_left i rest)) line opened.took) behind
+read-opened i bytes rest to o answers opened going following =
+    go (bytes_left i rest) (subst (Consumes (Some bytes) (bytes_left i rest)) line opened.took) following
   where
     line : taken i ≡ i.line ++ 10 ∷ []
     line = rw going refl
 
-    go : (mid : Option (List ℕ)) → Consumes (Some bytes) mid (i.line ++ 10 ∷ []) → AnswersBehind mid to answers
+    go : (mid : Option (List ℕ)) → Consumes (Some bytes) mid (i.line ++ 10 ∷ []) → AnswersAfter mid to answers
         → AnswersScriptRead (Some bytes) to answers
     go None consumed answered = absurd consumed
     go (Some mid) consumed (read, then, events) = (
@@ -144,7 +144,7 @@ read-opened i bytes rest to o answers opened going behind =
     )
 
 -- record lines alone were read
-pub only-records : (old to : Option (List ℕ)) → ReadsRecords old to → AnswersBehind old to []
+pub only-records : (old to : Option (List ℕ)) → ReadsRecords old to → AnswersAfter old to []
 only-records None to reads = tt
 only-records (Some old) None reads = absurd reads
 only-records (Some old) (Some now) (read, bytes, are) = (
@@ -154,11 +154,11 @@ only-records (Some old) (Some now) (read, bytes, are) = (
 )
 
 -- others after record lines
-pub behind-records : (old mid to : Option (List ℕ)) (n m : ℕ) (answers : List Answer) → n ≡ 1 → Passes n old m mid
-    → AnswersRead (m + 1) mid to answers → AnswersBehind old to answers
-behind-records None mid to n m answers one passes read = tt
-behind-records (Some old) None to n m answers one passes read = absurd passes
-behind-records (Some old) (Some mid) to n m answers one passed (read, then, events) = (
+pub following-records : (old mid to : Option (List ℕ)) (n m : ℕ) (answers : List Answer) → n ≡ 1 → Passes n old m mid
+    → AnswersRead (m + 1) mid to answers → AnswersAfter old to answers
+following-records None mid to n m answers one passes read = tt
+following-records (Some old) None to n m answers one passes read = absurd passes
+following-records (Some old) (Some mid) to n m answers one passed (read, then, events) = (
   passed.read ++ read,
   consumes-trans (Some old) (Some mid) to passed.read read passed.bytes then,
   record {

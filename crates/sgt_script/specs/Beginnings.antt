@@ -1,7 +1,7 @@
 -- What an unfinished run has written: a prefix of what a whole run writes.
 use Rattle.std.specs.Prelude.{◌≡◌, ℕ, ⊤, List, ◌++◌, Option, Some, Err, ◌⊎◌}
 use Rattle.std.specs.Io.KnownBytes.{Appends}
-use Rattle.sgt_model.specs.Settings.{Setting}
+use Rattle.sgt_model.specs.Configurations.{Configuration}
 use Rattle.sgt_input.specs.declared.fault.Fault.{Fault}
 use Rattle.sgt_input.specs.declared.fault.Fault.TheVariants as fault
 use Rattle.sgt_input.specs.Lines.{Cut}
@@ -35,13 +35,13 @@ abbrev pub ScriptRuns : Output → List ℕ → Wholes
 ScriptRuns w bytes run out end = Script w bytes (Some run) out end
 
 -- the whole runs after an opening, over these lines, from number n on
-abbrev pub LineRuns : Output → Setting → ℕ → Cut → Wholes
-LineRuns w s n c run out end = (run.setting ≡ s) × RunOutput w run n c.given c.ending out end
+abbrev pub LineRuns : Output → Configuration → ℕ → Cut → Wholes
+LineRuns w s n c run out end = (run.configuration ≡ s) × RunOutput w run n c.given c.ending out end
 
 -- these bytes are written, and this fault is reported; or a write failed: a prefix is written, and `Writing` is
 -- reported
 abbrev pub WritesAt : Fault → Fault → Option (List ℕ) → Option (List ℕ) → List ℕ → Type 0
-WritesAt f told old new bytes = ((told ≡ f) × Appends old new bytes) ⊎ ((told ≡ fault.Writing) × AppendsPart old new bytes)
+WritesAt f reported old new bytes = ((reported ≡ f) × Appends old new bytes) ⊎ ((reported ≡ fault.Writing) × AppendsPart old new bytes)
 
 -- the run stopped after the reply to a line: a read or an allocation failed
 abbrev pub IsStop : End → Type 0

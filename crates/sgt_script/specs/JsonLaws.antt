@@ -10,7 +10,7 @@ use Rattle.sgt_script.specs.RunLaws.{InEachPart, chained}
 -- and then, if the run ends well, the record lines of the database that the serial run of all parts, one after another,
 -- leaves.
 pub record JsonLaws (run : Execution) (out : List ℕ) (end : End) : Type 0 where
-  pub parts : InEachPart (parts_of run.setting run.answers)
+  pub parts : InEachPart (parts_of run.configuration run.answers)
   pub last : List ℕ
-  pub closing : Closing Json (chained run.setting run.answers).last end last
+  pub closing : Closing Json (chained run.configuration run.answers).last end last
   pub written : out ≡ answers_text Json run.answers ++ last

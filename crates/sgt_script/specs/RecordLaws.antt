@@ -9,5 +9,5 @@ use Rattle.sgt_script.specs.RunLaws.{InEachPart, chained}
 -- The laws hold for each part of a run. If the run ends well, it wrote the record lines of the database that the
 -- serial run of all parts, one after another, leaves. If it ends at a fault, it wrote nothing.
 pub record RecordLaws (run : Execution) (out : List ℕ) (end : End) : Type 0 where
-  pub parts : InEachPart (parts_of run.setting run.answers)
-  pub written : Closing Records (chained run.setting run.answers).last end out
+  pub parts : InEachPart (parts_of run.configuration run.answers)
+  pub written : Closing Records (chained run.configuration run.answers).last end out

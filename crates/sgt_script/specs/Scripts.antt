@@ -2,17 +2,17 @@
 use Rattle.std.specs.Prelude.{◌≡◌, ◌≢◌, ℕ, List, [], ◌∷◌, ◌++◌, ◌⊎◌, Option, None, Some, Result, Ok, Err}
 use Rattle.sgt_model.specs.Contents.{Key, Contents}
 use Rattle.sgt_model.specs.Databases.{Row, IsByKey, contents_of}
-use Rattle.sgt_model.specs.Settings.{Setting}
+use Rattle.sgt_model.specs.Configurations.{Configuration}
 use Rattle.sgt_format.specs.ScriptLines.{script_line_of}
 use Rattle.sgt_format.specs.declared.script_line.ScriptLine.{ScriptLine}
 use Rattle.sgt_format.specs.Openings.{Refuses}
-use Rattle.sgt_format.specs.FilledOpenings.{OpensWith, RefusesRecord, behind_records, leading_records, number_behind}
+use Rattle.sgt_format.specs.FilledOpenings.{OpensWith, RefusesRecord, after_records, leading_records, number_after}
 use Rattle.sgt_format.specs.DatabaseText.{database_text}
 use Rattle.sgt_format.specs.RecordText.{record_lines}
 use Rattle.sgt_format.specs.declared.opening.Opening.{Opening}
 use Rattle.sgt_format.specs.declared.errors.OpeningError.{OpeningError}
 use Rattle.sgt_format.specs.declared.errors.OpeningError.TheVariants as opening_error
-use Rattle.sgt_assembly.specs.Openings.{opened_setting}
+use Rattle.sgt_assembly.specs.Openings.{opened_configuration}
 use Rattle.sgt_input.specs.declared.fault.Fault.{Fault}
 use Rattle.sgt_input.specs.declared.fault.Fault.TheVariants as fault
 use Rattle.sgt_input.specs.Lines.{Ending, cut}
@@ -41,25 +41,25 @@ Closing w m (Err fault) last = last ≡ []
 
 -- the execution of a script: what it started from, and the answers to its lines, newest first
 pub record Execution : Type 0 where
-  pub setting : Setting
+  pub configuration : Configuration
   pub answers : List Answer
 
 -- what a run over these lines after the opening, from number n on, writes: the text of legal answers to them, and the
 -- closing text for the contents that the last part leaves
 pub record RunOutput (w : Output) (run : Execution) (n : ℕ) (later : List (List ℕ)) (ending : Ending) (out : List ℕ) (end : End) : Type 0 where
   pub last : List ℕ
-  pub legal : LegalRun run.setting run.answers
+  pub legal : LegalRun run.configuration run.answers
   pub lines_are : lines_of run.answers ≡ spelled script_line_at n later
   pub end_is : end ≡ end_of script_line_at n later ending
-  pub closing : Closing w (left_by (part_of run.setting run.answers)) end last
+  pub closing : Closing w (left_by (part_of run.configuration run.answers)) end last
   pub text : out ≡ answers_text w run.answers ++ last
 
 -- line 1 and the record lines after it are an opening, and the lines after those are answered
 pub record Opened (w : Output) (line : List ℕ) (later : List (List ℕ)) (ending : Ending) (run : Execution) (out : List ℕ) (end : End) : Type 0 where
   pub opening : Opening
   pub opens : OpensWith 1 line (leading_records later) opening
-  pub setting : run.setting ≡ opened_setting opening
-  pub output : RunOutput w run (number_behind later) (behind_records later) ending out end
+  pub configuration : run.configuration ≡ opened_configuration opening
+  pub output : RunOutput w run (number_after later) (after_records later) ending out end
 
 -- line 1 is refused as an opening
 pub record Refused (line out : List ℕ) (end : End) : Type 0 where

@@ -3,7 +3,7 @@ ghost use Rattle.std.specs.Prelude.{◌≡◌, ◌≢◌, ℕ, List, Option, fal
 ghost use Rattle.std.specs.Io.KnownBytes.{Appends, Consumes};
 ghost use Rattle.sgt_model.specs.declared.entry.Entry.{Entry};
 ghost use Rattle.sgt_model.specs.Legality.{Legal};
-ghost use Rattle.sgt_engine.specs.EngineView.{setting_of};
+ghost use Rattle.sgt_engine.specs.EngineView.{configuration_of};
 ghost use Rattle.sgt_format.specs.ScriptLines.{line_of, script_line_of};
 ghost use Rattle.sgt_input.specs.Lines.{has_break};
 ghost use Rattle.sgt_input.specs.Intake.{IsGiven, NoLineCame, bytes_left, come, cut_left, has_whole_line, taken};
@@ -117,11 +117,11 @@ fn answer_event(
     output: Output,
     text: &mut Vec<u8>,
 ) -> Result<(), NoMemory>
-    ensures setting { setting_of engine.new ≡ setting_of engine.old }
+    ensures configuration { configuration_of engine.new ≡ configuration_of engine.old }
     ensures answered { OnOk result ((entry : Entry) × (engine.new.past ≡ entry ∷ engine.old.past)
         × (entry.event ≡ event.now)
         × (text.new.items ≡ text.old.items ++ answer_text output (Replied entry))) }
-    ensures legal { Legal (setting_of engine.new) engine.new.past }
+    ensures legal { Legal (configuration_of engine.new) engine.new.past }
     ensures kept { OnErr result (text.new.items ≡ text.old.items) }
 {
     match engine.answer(event, reply) {
@@ -340,13 +340,13 @@ fn answer_lines<S: Source, T: Sink, X: Observer>(
     requires few { come lines.old ≤ 16777217 }
     ensures bounded { S.given source.new + come lines.old ≤ S.given source.old + 16777217 }
     ensures all { OnOk result (
-        (all : AnswersAll output (setting_of engine.old) (lines.old.number + 1)
+        (all : AnswersAll output (configuration_of engine.old) (lines.old.number + 1)
         (cut_left lines.old (S.rest source.old)) (T.held sink.old) (T.held sink.new) (Ok tt))
-        × (part_of (setting_of engine.old) all.answers ≡ part_at engine.new)) }
+        × (part_of (configuration_of engine.old) all.answers ≡ part_at engine.new)) }
     ensures fault { IfErr result (λ f. IsOfInput f →
-        AnswersAll output (setting_of engine.old) (lines.old.number + 1)
+        AnswersAll output (configuration_of engine.old) (lines.old.number + 1)
         (cut_left lines.old (S.rest source.old)) (T.held sink.old) (T.held sink.new) (Err f)) }
-    ensures some { AnswersSome output (setting_of engine.old) (lines.old.number + 1)
+    ensures some { AnswersSome output (configuration_of engine.old) (lines.old.number + 1)
         (cut_left lines.old (S.rest source.old))
         (bytes_left lines.old (S.rest source.old)) (S.rest source.new)
         (T.held sink.old) (T.held sink.new)
@@ -422,19 +422,19 @@ pub(crate) fn run_opened<S: Source, T: Sink, X: Observer>(
     requires fresh { engine.old.past ≡ [] }
     requires few { come lines.old ≤ 16777217 }
     ensures output { IsExact result → IfSome (cut_left lines.old (S.rest source.old)) (λ c.
-        (run : Execution) × (run.setting ≡ setting_of engine.old)
+        (run : Execution) × (run.configuration ≡ configuration_of engine.old)
         × (out : List ℕ) × Appends (T.held sink.old) (T.held sink.new) out
         × RunOutput output run (lines.old.number + 1) c.given c.ending out result) }
     ensures stops { IsStop result → IfSome (cut_left lines.old (S.rest source.old)) (λ c.
         (answered : List Answer) × Appends (T.held sink.old) (T.held sink.new) (answers_text output answered)
-        × Begins (LineRuns output (setting_of engine.old) (lines.old.number + 1) c) answered (answers_text output answered)
+        × Begins (LineRuns output (configuration_of engine.old) (lines.old.number + 1) c) answered (answers_text output answered)
         × (result ≡ Err Fault.Reading → AnswersRead (lines.old.number + 1)
         (bytes_left lines.old (S.rest source.old)) (S.rest source.new) answered)) }
     ensures going { result ≡ Err Fault.Reading → lines.old.ended ≡ false }
     ensures part { result ≡ Err Fault.Writing →
         IfSome (cut_left lines.old (S.rest source.old)) (λ c.
         (answered : List Answer) × (out : List ℕ) × Appends (T.held sink.old) (T.held sink.new) out
-        × Begins (LineRuns output (setting_of engine.old) (lines.old.number + 1) c) answered out) }
+        × Begins (LineRuns output (configuration_of engine.old) (lines.old.number + 1) c) answered out) }
     ensures bounded { S.given source.new + come lines.old ≤ S.given source.old + 16777217 }
     ensures read_well { IsExact result → S.failures source.new ≡ S.failures source.old }
     ensures read_failed { result ≡ Err Fault.Reading →

@@ -5,8 +5,8 @@ use Rattle.sgt_model.specs.declared.event.Event.{Event}
 use Rattle.sgt_model.specs.declared.event.Event.TheVariants.{Start, Step, Access, Commit, Quit}
 use Rattle.sgt_model.specs.declared.reply.Reply.{Reply}
 use Rattle.sgt_session.specs.declared.receipt.Receipt.{Receipt}
-use Rattle.sgt_model.specs.Questions.{started_in, over_in, started_number, tells_end}
-use Rattle.sgt_session.specs.Own.{with_one, open_without, is_open, open_by, open_from, open_of, room_needed}
+use Rattle.sgt_model.specs.Questions.{started_in, over_in, started_number, reports_end}
+use Rattle.sgt_session.specs.Own.{with_one, open_without, is_open, open_by, open_from, open_of, capacity_needed}
 
 -- one is taken out
 pub open_without-few : (t : ℕ) (own : List ℕ) → length (open_without (Some t) own) ≤ length own
@@ -34,12 +34,12 @@ quit-few true t own is = (let h = open_without-fewer t own is in omega (arith, h
 quit-few false t own is = (let h = open_without-few t own in omega (arith, h))
 
 -- this capacity is enough, whatever the reply
-pub room_needed-enough : (e : Event) (own : List ℕ) (r : Reply) → 1 + length (open_by own e r) ≤ room_needed e own
-room_needed-enough (Start p args) own r = (let h = with_one-few (started_number r) own in omega (arith, h))
-room_needed-enough (Step t) own r = without_if-few (tells_end r) t own
-room_needed-enough (Access t d) own r = without_if-few (tells_end r) t own
-room_needed-enough (Commit t) own r = without_if-few (tells_end r) t own
-room_needed-enough (Quit t) own r = quit-few (is_open t own) t own refl
+pub capacity_needed-enough : (e : Event) (own : List ℕ) (r : Reply) → 1 + length (open_by own e r) ≤ capacity_needed e own
+capacity_needed-enough (Start p args) own r = (let h = with_one-few (started_number r) own in omega (arith, h))
+capacity_needed-enough (Step t) own r = without_if-few (reports_end r) t own
+capacity_needed-enough (Access t d) own r = without_if-few (reports_end r) t own
+capacity_needed-enough (Commit t) own r = without_if-few (reports_end r) t own
+capacity_needed-enough (Quit t) own r = quit-few (is_open t own) t own refl
 
 open_from-append : (own : List ℕ) (rs : List Receipt) (r : Receipt) → open_from own (rs ++ r ∷ []) ≡ open_by
     (open_from own rs) r.event r.reply
@@ -52,11 +52,11 @@ pub noted : (old new : List Receipt) (own own' : List ℕ) (r : Receipt) → own
 noted old new own own' r is longer then = rw (then, is, longer) (sym (open_from-append [] old r))
 
 -- there is capacity for the ends of those that are open after it
-pub fits : (own own' : List ℕ) (e : Event) (r : Receipt) (count room room' : ℕ) → own' ≡ own → r.event ≡ e
-    → ((x : Reply) → 1 + length (open_by own e x) ≤ room) → count ≡ length (open_by own' r.event r.reply) → room' + 1 ≡ room
-    → count ≤ room'
-fits own own' e r count room room' same told enough counted used =
-    let is : length (open_by own' r.event r.reply) ≡ length (open_by own e r.reply) = rw (same, told) refl in
+pub fits : (own own' : List ℕ) (e : Event) (r : Receipt) (count spare spare' : ℕ) → own' ≡ own → r.event ≡ e
+    → ((x : Reply) → 1 + length (open_by own e x) ≤ spare) → count ≡ length (open_by own' r.event r.reply) → spare' + 1 ≡ spare
+    → count ≤ spare'
+fits own own' e r count spare spare' same reported enough counted used =
+    let is : length (open_by own' r.event r.reply) ≡ length (open_by own e r.reply) = rw (same, reported) refl in
     let h = enough r.reply in
     omega (arith, h, is, counted, used)
 

@@ -1,5 +1,5 @@
 -- the configuration of a name that is picked
-pub mod Settings
+pub mod Configurations
 -- receipts, and what they say of a history
 pub mod Receipts
 pub mod Accounts

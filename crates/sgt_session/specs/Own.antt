@@ -37,9 +37,9 @@ is_open t own = list_any (λ u. nat_eq u t) own
 
 -- how many receipts must have capacity: that of the event, and one end of each transaction that is open after it.
 -- Quitting an open one uses the capacity of its end
-abbrev pub room_needed : Event → List ℕ → ℕ
-room_needed (Start p args) own = length own + 2
-room_needed (Step t) own = length own + 1
-room_needed (Access t d) own = length own + 1
-room_needed (Commit t) own = length own + 1
-room_needed (Quit t) own = cond (is_open t own) (length own) (length own + 1)
+abbrev pub capacity_needed : Event → List ℕ → ℕ
+capacity_needed (Start p args) own = length own + 2
+capacity_needed (Step t) own = length own + 1
+capacity_needed (Access t d) own = length own + 1
+capacity_needed (Commit t) own = length own + 1
+capacity_needed (Quit t) own = cond (is_open t own) (length own) (length own + 1)

@@ -18,7 +18,7 @@ receipts_of (n ∷ ns) (e ∷ es) = receipt_of n e ∷ receipts_of ns es
 -- what callers see of a session's receipts: the receipts, in the order of its calls, and the capacity for more
 pub record ReceiptsView : Type 0 where
   pub receipts : List Receipt
-  pub room : ℕ
+  pub spare : ℕ
 
 -- the entry of a receipt
 abbrev pub entry_of : Receipt → Entry

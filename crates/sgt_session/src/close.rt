@@ -3,7 +3,7 @@ ghost use Rattle.std.specs.Prelude.{◌≡◌, IfOk, IfErr, length, reverse};
 ghost use Rattle.sgt_model.specs.Legality.{Legal};
 ghost use Rattle.sgt_progress.specs.Progress.{MakesProgress};
 ghost use Rattle.sgt_progress.specs.RealTime.{KeepsRealTime};
-ghost use Rattle.sgt_engine.specs.EngineView.{setting_of};
+ghost use Rattle.sgt_engine.specs.EngineView.{configuration_of};
 ghost use Rattle.sgt_session.specs.Accounts.{AccountsForHistory};
 ghost use Rattle.sgt_session.specs.Closing.{Held};
 
@@ -47,10 +47,10 @@ impl<N: Named, R: Records, A: Accesses, G: Graph> Shared<N, R, A, G> {
         sessions: Vec<Session<N>>,
     ) -> Result<Closed<N, R, A, G>, CloseError<N, R, A, G>>
         requires { N.sessions ≡ N.parts }
-        ensures setting { IfOk result (λ c. setting_of c.engine.value ≡ N.setting) }
-        ensures legal { IfOk result (λ c. Legal N.setting c.engine.value.past) }
-        ensures real_time { IfOk result (λ c. KeepsRealTime N.setting c.engine.value.past) }
-        ensures progress { IfOk result (λ c. MakesProgress N.setting c.engine.value.past) }
+        ensures configuration { IfOk result (λ c. configuration_of c.engine.value ≡ N.configuration) }
+        ensures legal { IfOk result (λ c. Legal N.configuration c.engine.value.past) }
+        ensures real_time { IfOk result (λ c. KeepsRealTime N.configuration c.engine.value.past) }
+        ensures progress { IfOk result (λ c. MakesProgress N.configuration c.engine.value.past) }
         ensures sessions { IfOk result (λ c. c.sessions.items ≡ sessions.items) }
         ensures all { IfOk result (λ c. length c.sessions.items ≡ N.sessions) }
         ensures accounts { IfOk result (λ c. AccountsForHistory (reverse c.engine.value.past) c.sessions.items) }

@@ -25,10 +25,10 @@
 //!     engine: Box<Engine<ListRecords, OneList, PairGraph>>,
 //!     blank: Blank,
 //! ) -> Option<Box<Engine<ListRecords, OneList, PairGraph>>>
-//!     requires setting { setting_of engine.value ≡ N.setting }
+//!     requires configuration { configuration_of engine.value ≡ N.configuration }
 //!     requires empty { engine.value.past ≡ [] }
 //!     requires blank { (blank.name ≡ N.name) × (blank.parts ≡ N.parts) × (blank.parts ≡ 2) × (N.sessions ≡ 2) }
-//!     ensures legal { IfSome result (λ e. Legal N.setting e.value.past) }
+//!     ensures legal { IfSome result (λ e. Legal N.configuration e.value.past) }
 //! {
 //!     let (shared, sessions) = Shared::<N, _, _, _>::new(alloc, engine, blank, 2).ok()?;
 //!     let lock = &shared;
@@ -36,7 +36,7 @@
 //!     Some(shared.close(sessions).ok()?.engine)
 //! }
 //!
-//! /// A deposit of 1.00. If an allocation fails, the transaction is quit, so that nobody waits for it.
+//! /// A deposit of 1.00. If an allocation fails, the transaction is aborted, so that no other waits for it.
 //! fn deposit<N: Named, W: Wait>(
 //!     rt: &W,
 //!     shared: &Shared<N, ListRecords, OneList, PairGraph>,
@@ -76,12 +76,12 @@
 //!
 //! ```
 //! ghosts-two_threads-N-Ledger g a = record { name = a.blank.name; parts = a.blank.parts }
-//! ghosts-two_threads-N-Named g a = record { setting = setting_of a.engine.value; sessions = a.blank.parts }
+//! ghosts-two_threads-N-Named g a = record { configuration = configuration_of a.engine.value; sessions = a.blank.parts }
 //! ```
 //!
-//! The history grows with each call. Threads that run for days should cut it now and then: start no more transactions
-//! until all have ended, and close. Then cut the history, and continue from the committed database with new threads and
-//! new sessions. Each part has a name of its own, and so a configuration of its own:
+//! The history grows with each call. Threads that run for days should cut it from time to time: start no more
+//! transactions until all have ended, and close. Then cut the history, and continue from the committed database with
+//! new threads and new sessions. Each part has a name of its own, and so a configuration of its own:
 //!
 //! ```
 //! fn part<R: Threads + Wait + Sync>(

@@ -1,5 +1,5 @@
 //! How a call takes the engine's lock.
-use crate::own::ReceiptRoom;
+use crate::own::ReceiptCapacity;
 use sgt_model::Event;
 use std::sync::{Mutex, MutexGuard, Wait};
 use std::thread;
@@ -51,7 +51,7 @@ impl LockPolicy {
         rt: &W,
         lock: &'l Mutex<T>,
         event: &Event,
-        _room: ReceiptRoom,
+        _spare: ReceiptCapacity,
     ) -> (Turn<'l>, MutexGuard<'l, T>) {
         if let Some(guard) = lock.try_lock() {
             return (None, guard);

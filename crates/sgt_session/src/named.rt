@@ -1,7 +1,7 @@
 //! The name that ties sessions to their engine.
 ghost use Rattle.std.specs.Prelude.{ℕ};
-ghost use Rattle.sgt_model.specs.Settings.{Setting};
-ghost use Rattle.sgt_session.specs.Settings.{none};
+ghost use Rattle.sgt_model.specs.Configurations.{Configuration};
+ghost use Rattle.sgt_session.specs.Configurations.{none};
 
 use std::marker::Brand;
 use std::sync::ledger::Ledger;
@@ -10,14 +10,14 @@ use std::sync::ledger::Ledger;
 /// program passes `Brand` for it, and the proof of each such call picks what the name stands for.
 pub trait Named: Ledger {
     /// The engine's configuration: its initial database, its procedures and its limits.
-    ghost setting: { Setting };
+    ghost configuration: { Configuration };
 
     /// How many sessions there are. They are the parts of the ledger; `Shared::new` and `close` require that.
     ghost sessions: { ℕ };
 }
 
 impl Named for Brand {
-    ghost setting = { none };
+    ghost configuration = { none };
 
     ghost sessions = { 0 };
 }

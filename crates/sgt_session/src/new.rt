@@ -1,6 +1,6 @@
 //! Puts an engine under its lock, and makes its sessions.
 ghost use Rattle.std.specs.Prelude.{◌≡◌, ◌≤◌, [], replicate, vec_capacity, MatchResult};
-ghost use Rattle.sgt_engine.specs.EngineView.{setting_of};
+ghost use Rattle.sgt_engine.specs.EngineView.{configuration_of};
 
 use crate::lock_policy::LockPolicy;
 use crate::named::Named;
@@ -34,7 +34,7 @@ impl<N: Named, R: Records, A: Accesses, G: Graph> Shared<N, R, A, G> {
         blank: Blank,
         sessions: u16,
     ) -> Result<(Self, Vec<Session<N>>), NewError<R, A, G>>
-        requires setting { setting_of engine.value ≡ N.setting }
+        requires configuration { configuration_of engine.value ≡ N.configuration }
         requires empty { engine.value.past ≡ [] }
         requires blank { (blank.name ≡ N.name) × (blank.parts ≡ N.parts) × (blank.parts ≡ sessions) }
         requires sessions { (N.sessions ≡ sessions) × (1 ≤ sessions) × (sessions ≤ 64) }

@@ -5,47 +5,47 @@ ghost use Rattle.std.specs.Vec.{vec_len, vec_capacity};
 ghost use Rattle.sgt_model.specs.declared.event.Event.TheVariants.{Quit};
 ghost use Rattle.sgt_model.specs.declared.reply.Reply.{Reply};
 ghost use Rattle.sgt_model.specs.Questions.{started_in, over_in};
-ghost use Rattle.sgt_session.specs.Own.{with_one, open_without, open_by, is_open, room_needed};
+ghost use Rattle.sgt_session.specs.Own.{with_one, open_without, open_by, is_open, capacity_needed};
 
 use crate::receipts::Receipts;
 use sgt_log::EntryRef;
 use sgt_model::{Event, NoMemory, Tid};
 
-/// Shows that the capacity for a call is reserved. Only `make_receipt_room` makes it, and taking the engine's lock
+/// Shows that the capacity for a call is reserved. Only `ensure_receipt_capacity` makes it, and taking the engine's lock
 /// requires it. So no thread waits for the lock while another one's receipts grow.
 #[derive(Drop)]
-pub struct ReceiptRoom(());
+pub struct ReceiptCapacity(());
 
 /// Reserves the capacity that a call of this event needs, whatever its reply: for its receipt, and for one end receipt
 /// of each transaction that is open after it. Quitting an open transaction allocates nothing, since its capacity is
 /// reserved.
 ///
 /// `NoMemory` if an allocation failed.
-pub fn make_receipt_room(
+pub fn ensure_receipt_capacity(
     receipts: &mut Receipts,
     own: &mut Vec<Tid>,
     event: &Event,
-) -> Result<ReceiptRoom, NoMemory>
-    requires { vec_len own.old ≤ receipts.old.room }
+) -> Result<ReceiptCapacity, NoMemory>
+    requires { vec_len own.old ≤ receipts.old.spare }
     ensures receipts { receipts.new.receipts ≡ receipts.old.receipts }
     ensures own { own.new.items ≡ own.old.items }
-    ensures ends { vec_len own.new ≤ receipts.new.room }
-    ensures receipt { OnOk result (0 < receipts.new.room) }
-    ensures room { OnOk result ((r : Reply) → 1 + length (open_by own.old.items event.now r) ≤ receipts.new.room) }
+    ensures ends { vec_len own.new ≤ receipts.new.spare }
+    ensures receipt { OnOk result (0 < receipts.new.spare) }
+    ensures spare { OnOk result ((r : Reply) → 1 + length (open_by own.old.items event.now r) ≤ receipts.new.spare) }
     ensures started { OnOk result ((r : Reply) →
         length (with_one (started_in event.now r) own.old.items) ≤ vec_capacity own.new) }
     ensures quits { (t : ℕ) → event.now ≡ Quit t → is_open t own.old.items ≡ true → IsOk result }
 {
-    receipts.make_room(room_needed(event, own.as_slice()))?;
+    receipts.ensure_capacity(capacity_needed(event, own.as_slice()))?;
     if matches!(event, Event::Start { .. }) {
         own.reserve(1)?;
     }
-    Ok(ReceiptRoom(()))
+    Ok(ReceiptCapacity(()))
 }
 
 /// How many more receipts must have capacity.
-fn room_needed(event: &Event, own: &[Tid]) -> usize
-    ensures { result ≡ room_needed event.now own.now }
+fn capacity_needed(event: &Event, own: &[Tid]) -> usize
+    ensures { result ≡ capacity_needed event.now own.now }
 {
     match event {
         Event::Start { .. } => own.len() + 2,

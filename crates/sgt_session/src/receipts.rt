@@ -8,7 +8,7 @@ ghost use Rattle.sgt_log.specs.EntryParts.{is_access, IsQuiet};
 ghost use Rattle.sgt_session.specs.Receipts.{receipt_of, entry_of, IsReceiptAt};
 
 use crate::receipt::Receipt;
-use sgt_log::{EntryRef, History, touch_ahead};
+use sgt_log::{EntryRef, History, prefault_ahead};
 use sgt_model::NoMemory;
 use std::alloc::Global;
 use std::marker::Model;
@@ -31,9 +31,9 @@ pub struct Receipts {
     // The entries that have these numbers.
     calls: History,
     // How many more receipts there is capacity for.
-    room: usize,
+    spare: usize,
     // How far the memory is prefaulted.
-    touched: usize,
+    prefaulted: usize,
 }
 
 impl Model for Receipts {
@@ -45,25 +45,25 @@ impl Model for Receipts {
 
     ghost view = { λ r. record {
       receipts = receipts_of r.numbers.items r.calls.entries;
-      room = r.room;
+      spare = r.spare;
     } };
 
     ghost invariant = { λ r.
         (length r.numbers.items ≡ length r.calls.entries)
-        × (vec_len r.numbers + r.room ≤ vec_capacity r.numbers)
-        × (r.room ≤ r.calls.room) };
+        × (vec_len r.numbers + r.spare ≤ vec_capacity r.numbers)
+        × (r.spare ≤ r.calls.spare) };
 }
 
 impl Receipts {
     /// No receipts and no capacity. Allocates nothing.
     pub(crate) fn new(alloc: Global) -> Self
-        ensures { result ≡ record { receipts = []; room = 0 } }
+        ensures { result ≡ record { receipts = []; spare = 0 } }
     {
         Receipts {
             numbers: Vec::new(alloc),
             calls: History::new(alloc),
-            room: 0,
-            touched: 0,
+            spare: 0,
+            prefaulted: 0,
         }
     }
 
@@ -195,13 +195,13 @@ impl Receipts {
     /// Reserves capacity for this many more receipts, whatever they hold. Capacity never shrinks. Receipts stay.
     ///
     /// `NoMemory` if an allocation failed; the capacity stays then.
-    pub(crate) fn make_room(&mut self, count: usize) -> Result<(), NoMemory>
+    pub(crate) fn ensure_capacity(&mut self, count: usize) -> Result<(), NoMemory>
         ensures receipts { self.new.receipts ≡ self.old.receipts }
-        ensures room { OnOk result (count ≤ self.new.room) }
-        ensures no_less { self.old.room ≤ self.new.room }
-        ensures enough { count ≤ self.old.room → IsOk result }
+        ensures spare { OnOk result (count ≤ self.new.spare) }
+        ensures no_less { self.old.spare ≤ self.new.spare }
+        ensures enough { count ≤ self.old.spare → IsOk result }
     {
-        if count <= self.room {
+        if count <= self.spare {
             return Ok(());
         }
         self.grow(count)
@@ -211,15 +211,15 @@ impl Receipts {
     #[cold]
     #[inline(never)]
     fn grow(&mut self, count: usize) -> Result<(), NoMemory>
-        requires { self.old.room < count }
+        requires { self.old.spare < count }
         ensures receipts { self.new.receipts ≡ self.old.receipts }
-        ensures room { OnOk result (count ≤ self.new.room) }
-        ensures no_less { self.old.room ≤ self.new.room }
+        ensures spare { OnOk result (count ≤ self.new.spare) }
+        ensures no_less { self.old.spare ≤ self.new.spare }
     {
-        let room = count.saturating_add(AHEAD);
-        self.numbers.reserve(room)?;
-        self.calls.reserve(room)?;
-        self.room = room;
+        let spare = count.saturating_add(AHEAD);
+        self.numbers.reserve(spare)?;
+        self.calls.reserve(spare)?;
+        self.spare = spare;
         Ok(())
     }
 
@@ -228,7 +228,7 @@ impl Receipts {
     /// `NoMemory` if an allocation failed.
     pub(crate) fn reserve(&mut self, count: usize) -> Result<(), NoMemory>
         ensures receipts { self.new.receipts ≡ self.old.receipts }
-        ensures no_less { self.old.room ≤ self.new.room }
+        ensures no_less { self.old.spare ≤ self.new.spare }
     {
         self.numbers.reserve(count)?;
         self.calls.reserve_entries(count)
@@ -237,26 +237,26 @@ impl Receipts {
     /// Prefaults the memory of the next receipts once they reach the end of what was prefaulted. Receipts are appended
     /// under the engine's lock: without this, all threads would wait for that memory. Here each thread gets its own,
     /// beside the others.
-    pub(crate) fn touch_room(&mut self)
+    pub(crate) fn prefault_receipts(&mut self)
         ensures { self.new ≡ self.old }
     {
-        if self.numbers.len() >= self.touched {
-            let numbers = touch_ahead(&mut self.numbers, AT_ONCE, 0);
-            self.touched = self.calls.touch(AT_ONCE).min(numbers);
+        if self.numbers.len() >= self.prefaulted {
+            let numbers = prefault_ahead(&mut self.numbers, AT_ONCE, 0);
+            self.prefaulted = self.calls.prefault(AT_ONCE).min(numbers);
         }
     }
 
     /// Appends the receipt of a history's newest entry, within the reserved capacity.
     pub(crate) fn file_newest(&mut self, history: &History)
-        requires room { 0 < self.old.room }
+        requires spare { 0 < self.old.spare }
         requires some { 0 < length history.now.entries }
         ensures filed { (e : Entry) (past : List Entry) → reverse history.now.entries ≡ e ∷ past
             → self.new.receipts ≡ self.old.receipts ++ receipt_of (length past) e ∷ [] }
-        ensures room { self.new.room + 1 ≡ self.old.room }
+        ensures spare { self.new.spare + 1 ≡ self.old.spare }
     {
         let place = history.len() - 1;
         self.numbers.push_reserved(place as u64);
         self.calls.push_copy(history, place);
-        self.room -= 1;
+        self.spare -= 1;
     }
 }

@@ -7,7 +7,7 @@ ghost use Rattle.sgt_model.specs.Fates.{live};
 ghost use Rattle.sgt_model.specs.Legality.{Legal, LegalReply};
 ghost use Rattle.sgt_progress.specs.Progress.{MakesProgress};
 ghost use Rattle.sgt_progress.specs.RealTime.{KeepsRealTime};
-ghost use Rattle.sgt_engine.specs.EngineView.{setting_of, with_entry};
+ghost use Rattle.sgt_engine.specs.EngineView.{configuration_of, with_entry};
 ghost use Rattle.sgt_session.specs.declared.receipt.Receipt.{Receipt};
 
 use crate::named::Named;
@@ -23,7 +23,7 @@ use std::marker::Model;
 use std::sync::ledger::{Book, Share};
 
 /// The state under the lock: the engine, with a book of the sessions' calls. Contracts see it as its engine. An engine
-/// takes 13 KB, so it stands in a box: closing and opening move a pointer.
+/// takes 13 KB, so it is in a box: closing and opening move a pointer.
 #[derive(Drop)]
 pub struct Round<N: Named, R: Records, A: Accesses, G: Graph> {
     engine: Box<Engine<R, A, G>>,
@@ -34,7 +34,7 @@ impl<N: Named, R: Records, A: Accesses, G: Graph> Model for Round<N, R, A, G> {
     ghost use Rattle.std.specs.Coded.{codes};
     ghost use Rattle.std.specs.Prelude.{◌≡◌, length};
     ghost use Rattle.sgt_model.specs.Codes.{coded_procedure};
-    ghost use Rattle.sgt_engine.specs.EngineView.{EngineView, setting_of};
+    ghost use Rattle.sgt_engine.specs.EngineView.{EngineView, configuration_of};
 
     ghost Value = { EngineView };
 
@@ -42,13 +42,13 @@ impl<N: Named, R: Records, A: Accesses, G: Graph> Model for Round<N, R, A, G> {
 
     ghost view = { λ r. r.engine.value };
 
-    ghost invariant = { λ r. (setting_of r.engine.value ≡ N.setting) × (length r.engine.value.past ≡ r.calls.total) };
+    ghost invariant = { λ r. (configuration_of r.engine.value ≡ N.configuration) × (length r.engine.value.past ≡ r.calls.total) };
 }
 
 impl<N: Named, R: Records, A: Accesses, G: Graph> Round<N, R, A, G> {
     /// An engine with an empty history, and a book with no calls.
     pub fn new(engine: Box<Engine<R, A, G>>, calls: Book<N>) -> Self
-        requires setting { setting_of engine.value ≡ N.setting }
+        requires configuration { configuration_of engine.value ≡ N.configuration }
         requires empty { engine.value.past ≡ [] }
         requires calls { calls.total ≡ 0 }
         ensures { result ≡ engine.value }
@@ -65,14 +65,14 @@ impl<N: Named, R: Records, A: Accesses, G: Graph> Round<N, R, A, G> {
         receipts: &mut Receipts,
     ) -> Result<(), NoMemory>
         requires part { 0 < mine.old.parts }
-        requires room { 0 < receipts.old.room }
+        requires spare { 0 < receipts.old.spare }
         ensures filed { OnOk result ((r : Receipt) × (r.event ≡ event.now) × (r.number ≡ length self.old.past)
             × (self.new ≡ with_entry r.event r.reply self.old)
-            × LegalReply (setting_of self.old) self.old.past r.event r.reply
+            × LegalReply (configuration_of self.old) self.old.past r.event r.reply
             × (receipts.new.receipts ≡ receipts.old.receipts ++ r ∷ [])) }
         ensures counted { OnOk result (mine.new.amount ≡ mine.old.amount + 1) }
         ensures parts { mine.new.parts ≡ mine.old.parts }
-        ensures room { OnOk result (receipts.new.room + 1 ≡ receipts.old.room) }
+        ensures spare { OnOk result (receipts.new.spare + 1 ≡ receipts.old.spare) }
         ensures unchanged { OnErr result ((self.new ≡ self.old) × (mine.new ≡ mine.old) × (receipts.new ≡ receipts.old)) }
         ensures quits { (t : ℕ) → event.now ≡ Quit t → live self.old.past t ≡ true → IsOk result }
     {
@@ -106,10 +106,10 @@ impl<N: Named, R: Records, A: Accesses, G: Graph> Round<N, R, A, G> {
     /// The engine, taken out of the lock.
     pub fn into_engine(self) -> Box<Engine<R, A, G>>
         ensures same { result.value ≡ self }
-        ensures setting { setting_of result.value ≡ N.setting }
-        ensures legal { Legal (setting_of result.value) result.value.past }
-        ensures real_time { KeepsRealTime (setting_of result.value) result.value.past }
-        ensures progress { MakesProgress (setting_of result.value) result.value.past }
+        ensures configuration { configuration_of result.value ≡ N.configuration }
+        ensures legal { Legal (configuration_of result.value) result.value.past }
+        ensures real_time { KeepsRealTime (configuration_of result.value) result.value.past }
+        ensures progress { MakesProgress (configuration_of result.value) result.value.past }
     {
         let Round { engine, calls: _ } = self;
         let _ = engine.history();

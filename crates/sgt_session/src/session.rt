@@ -10,7 +10,7 @@ ghost use Rattle.sgt_session.specs.Receipts.{entry_of, IsWaitOf};
 
 use crate::end_signal::WaitCount;
 use crate::named::Named;
-use crate::own::{make_receipt_room, note};
+use crate::own::{ensure_receipt_capacity, note};
 use crate::receipt::Receipt;
 use crate::receipts::Receipts;
 use crate::shared::Shared;
@@ -50,7 +50,7 @@ impl<N: Named> Model for Session<N> {
         (s.share.parts ≡ 1)
         × (s.share.amount ≡ length s.receipts.receipts)
         × (s.own.items ≡ open_of s.receipts.receipts)
-        × (vec_len s.own ≤ s.receipts.room) };
+        × (vec_len s.own ≤ s.receipts.spare) };
 }
 
 impl<N: Named> Session<N> {
@@ -120,7 +120,7 @@ impl<N: Named> Session<N> {
     /// returns it. A reply that ends a live transaction wakes the waiting commits.
     ///
     /// `NoMemory` if an allocation failed; then there is no receipt, and the engine has not changed. The session
-    /// allocates before it takes the lock. Quitting a transaction that this session started cannot fail, as long as the
+    /// allocates before it takes the lock. To abort a transaction that this session started cannot fail, as long as the
     /// transaction is live and none of the session's calls that named it has returned its end. Neither session nor
     /// engine allocates then.
     ///
@@ -149,9 +149,9 @@ impl<N: Named> Session<N> {
             (λ _. (r : Receipt) × (r.event ≡ event.now) × (self.new ≡ self.old ++ r ∷ []))
             (λ _. self.new ≡ self.old) }
     {
-        // A start can wait, and a session that is alone delays nobody.
+        // A start can wait, and a session that is alone delays no other.
         if shared.sessions > 1 && matches!(event, Event::Start { .. }) {
-            self.receipts.touch_room();
+            self.receipts.prefault_receipts();
         }
         self.make_one(rt, shared, event, false, &mut WaitCount::new())?;
         Ok(())
@@ -237,10 +237,10 @@ impl<N: Named> Session<N> {
             (λ waited. count.new ≡ count.old + cond waited 1 0)
             (λ _. count.new ≡ count.old) }
     {
-        let room = make_receipt_room(&mut self.receipts, &mut self.own, event)?;
-        let (turn, mut round) = shared.lock_policy.lock(rt, &shared.round, event, room);
+        let spare = ensure_receipt_capacity(&mut self.receipts, &mut self.own, event)?;
+        let (turn, mut round) = shared.lock_policy.lock(rt, &shared.round, event, spare);
         round.apply(event, &mut self.share, &mut self.receipts)?;
-        // Most calls start and end nothing, and nobody waits for them.
+        // Most calls start and end nothing, and no other call waits for them.
         if self.receipts.is_last_step() {
             drop(round);
             drop(turn);
@@ -278,7 +278,7 @@ fn note_and_wake(own: &mut Vec<Tid>, waiters: &Waiters, entry: &EntryRef<'_>)
     waiters.wake_after(entry);
 }
 
-/// Lends each session's part and count to `seen` until all are together, then gives them back.
+/// Lends each session's part and count to `seen` until all are together, then returns them.
 pub(crate) fn lend<N: Named>(sessions: &mut [Session<N>], calls: &mut Book<N>, seen: &mut Share<N>)
     requires { (N.parts ≤ seen.old.parts + length sessions.old) × (seen.old.parts ≤ N.parts) }
     ensures sessions { sessions.new ≡ sessions.old }

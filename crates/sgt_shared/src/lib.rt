@@ -1,4 +1,4 @@
-//! The program's engine behind a desk: what threads decide that share it.
+//! The program's engine with a desk: the decisions of threads that share it.
 //!
 //! `sgt_desk` decides over any engine that answers as its `Answering` says. The program's engine does, so that each promise of the desk
 //! holds of it: the library for C lends it from its handle for each turn (`Lent` of `sgt_c`). What the desk asks of it, and the engine

@@ -14,7 +14,7 @@ use Rattle.sgt_model.specs.Contents.{Key, key_eq, Contents}
 use Rattle.sgt_smallbank.specs.declared.account.Account.{Account}
 use Rattle.sgt_smallbank.specs.declared.errors.OpeningFault.{OpeningFault}
 use Rattle.sgt_smallbank.specs.declared.errors.OpeningFault.TheVariants.{SameName, SameCustomer, Range}
-use Rattle.sgt_smallbank.specs.Accounts.{name_key, saving_key, with_account, with_accounts, opened, fault_behind, first_fault, fault_of, has_name, has_customer, is_in_range}
+use Rattle.sgt_smallbank.specs.Accounts.{name_key, saving_key, with_account, with_accounts, opened, fault_after, first_fault, fault_of, has_name, has_customer, is_in_range}
 
 -- ---- accounts by a number: their name or their customer
 
@@ -139,12 +139,12 @@ none_or : (o p : Option OpeningFault) → option_or o p ≡ None → (o ≡ None
 none_or None p is = (refl, is)
 none_or (Some f) p is = absurd cc
 
-of_behind : (a b c : Bool) → cond a (cond b (Some SameName) (cond c (Some SameCustomer) None)) (Some Range) ≡ None
+of_after : (a b c : Bool) → cond a (cond b (Some SameName) (cond c (Some SameCustomer) None)) (Some Range) ≡ None
     → (a ≡ true) × (b ≡ false) × (c ≡ false)
-of_behind true false false is = (refl, refl, refl)
-of_behind true false true is = absurd cc
-of_behind true true c is = absurd cc
-of_behind false b c is = absurd cc
+of_after true false false is = (refl, refl, refl)
+of_after true false true is = absurd cc
+of_after true true c is = absurd cc
+of_after false b c is = absurd cc
 
 flawless_if_none : (earlier l : List Account) → first_fault earlier l ≡ None → Flawless earlier l
 flawless_if_none earlier [] is = record {
@@ -153,8 +153,8 @@ flawless_if_none earlier [] is = record {
   customers = record { unlike = λ n seen. refl; apart = λ n. omega arith };
 }
 flawless_if_none earlier (a ∷ l) is =
-    let both = none_or (fault_behind earlier a) (first_fault (earlier ++ a ∷ []) l) is in
-    let here = of_behind (is_in_range a) (has_name earlier a.name) (has_customer earlier a.customer) both.0 in
+    let both = none_or (fault_after earlier a) (first_fault (earlier ++ a ∷ []) l) is in
+    let here = of_after (is_in_range a) (has_name earlier a.name) (has_customer earlier a.customer) both.0 in
     let rest = flawless_if_none (earlier ++ a ∷ []) l both.1 in
     record {
       in_range = All-cons (λ a. is_in_range a ≡ true) a l here.0 rest.in_range;

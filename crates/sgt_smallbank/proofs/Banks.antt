@@ -36,10 +36,10 @@ put_zero : (fits : Bool) (k : Key) (rest : Run) (m : Contents) (last : Outcome) 
 put_zero fits k rest m last e then = rw e then
 
 -- a code raised if a test holds
-ask_step : (test : Bool) (code : ℕ) (rest : Run) (m : Contents) (next : Outcome) → serial rest m ≡ next
+raise_step : (test : Bool) (code : ℕ) (rest : Run) (m : Contents) (next : Outcome) → serial rest m ≡ next
     → serial (cond test (raises code) rest) m ≡ refused_if test code next
-ask_step true code rest m next then = refl
-ask_step false code rest m next then = then
+raise_step true code rest m next then = refl
+raise_step false code rest m next then = then
 
 ranged : (fits : Bool) (z : ℤ) (go : ℤ → Run) (m : Contents) (next : ℤ → Outcome) → (fits ≡ true → serial (go z) m ≡ next z)
     → serial (with_value (cond fits (is z) over) go) m ≡ cond fits (next z) (Asked 1000)
@@ -116,7 +116,7 @@ module _ (m : Contents) (hold : HoldValues m) where
   deposit_checking_is [] count values = absurd (omega arith)
   deposit_checking_is (a ∷ []) count values = absurd (omega arith)
   deposit_checking_is (name ∷ amount ∷ []) count values =
-      ask_step _ _ _ m _ (
+      raise_step _ _ _ m _ (
       look_step _ _ _ _ m _ (first_value name (amount ∷ []) values) (λ customer at.
       look_step _ _ _ _ m _ (held_value m hold _ customer at) (λ c _.
       range_step (c +ℤ amount) _ m _ (λ new fits.
@@ -130,7 +130,7 @@ module _ (m : Contents) (hold : HoldValues m) where
       look_step _ _ _ _ m _ (first_value name (amount ∷ []) values) (λ customer at.
       look_step _ _ _ _ m _ (held_value m hold _ customer at) (λ s _.
       range_step (s +ℤ amount) _ m (λ new. refused_if (int_lt new (pos 0)) 3 (now_has m (saving customer) new)) (λ new fits.
-      ask_step (int_lt new (pos 0)) 3 _ m _ (
+      raise_step (int_lt new (pos 0)) 3 _ m _ (
       put_step _ _ _ _ _ m _ (held_value m hold _ customer at) fits refl))))
   transact_saving_is (a ∷ b ∷ d ∷ rest) count values = absurd (omega arith)
 
@@ -138,7 +138,7 @@ module _ (m : Contents) (hold : HoldValues m) where
   amalgamate_is [] count values = absurd (omega arith)
   amalgamate_is (a ∷ []) count values = absurd (omega arith)
   amalgamate_is (from ∷ to ∷ []) count values =
-      ask_step _ _ _ m _ (
+      raise_step _ _ _ m _ (
       look_step _ _ _ _ m _ (first_value from (to ∷ []) values) (λ giver gives.
       look_step _ _ _ _ m _ (second_value from to [] values) (λ taker takes.
       look_step _ _ _ _ m _ (held_value m hold _ giver gives) (λ s _.
@@ -155,7 +155,7 @@ module _ (m : Contents) (hold : HoldValues m) where
   write_check_is [] count values = absurd (omega arith)
   write_check_is (a ∷ []) count values = absurd (omega arith)
   write_check_is (name ∷ amount ∷ []) count values =
-      ask_step _ _ _ m _ (
+      raise_step _ _ _ m _ (
       look_step _ _ _ _ m _ (first_value name (amount ∷ []) values) (λ customer at.
       look_step _ _ _ _ m _ (held_value m hold _ customer at) (λ s _.
       look_step _ _ _ _ m _ (held_value m hold _ customer at) (λ c _.

@@ -8,7 +8,7 @@ use Rattle.sgt_model.specs.Contents.{Key, key_eq, Contents}
 use Rattle.sgt_smallbank.specs.declared.account.Account.{Account}
 use Rattle.sgt_smallbank.specs.declared.errors.OpeningFault.{OpeningFault}
 use Rattle.sgt_smallbank.specs.declared.errors.OpeningFault.TheVariants.{SameName, SameCustomer, Range}
-use Rattle.sgt_smallbank.specs.Accounts.{name_key, saving_key, checking_key, with_account, with_accounts, opened, fault_among, fault_behind, first_fault, fault_of, has_name, has_customer, IsInRange, is_in_range}
+use Rattle.sgt_smallbank.specs.Accounts.{name_key, saving_key, checking_key, with_account, with_accounts, opened, fault_among, fault_after, first_fault, fault_of, has_name, has_customer, IsInRange, is_in_range}
 use Rattle.sgt_smallbank.specs.Tables.{account, saving}
 use Rattle.sgt_smallbank.proofs.Values.{Decides-is_value}
 
@@ -85,7 +85,7 @@ module _ (accounts : List Account) (i : ℕ) (d : Account) (rows : Contents) (wi
     (same : (k : Key) → rows k ≡ opened (take i accounts) k)
     (so_far : first_fault (take i accounts) (drop i accounts) ≡ fault_of accounts) where
   -- its fault among the rows of those before it is its fault among those before it
-  same_fault : (a : Account) → fault_among rows a ≡ fault_behind (take i accounts) a
+  same_fault : (a : Account) → fault_among rows a ≡ fault_after (take i accounts) a
   same_fault a =
       ap (λ b. cond (is_in_range a) (cond b (Some SameName) (cond (is_some (rows (saving_key a))) (Some SameCustomer) None)) (Some Range))
       (ap is_some (same (name_key a)) ∙ names_among (λ key. None) (take i accounts) a.name)
@@ -96,8 +96,8 @@ module _ (accounts : List Account) (i : ℕ) (d : Account) (rows : Contents) (wi
       → option_or (fault_among rows a) (first_fault (take (i + 1) accounts) (drop (i + 1) accounts)) ≡ fault_of accounts
   here a is =
       ap (λ o. option_or o (first_fault (take (i + 1) accounts) (drop (i + 1) accounts))) (same_fault a)
-      ∙ ap (λ x. option_or (fault_behind (take i accounts) x) (first_fault (take (i + 1) accounts) (drop (i + 1) accounts))) is
-      ∙ ap (λ l. option_or (fault_behind (take i accounts) (get_or accounts i d)) (first_fault l (drop (i + 1) accounts)))
+      ∙ ap (λ x. option_or (fault_after (take i accounts) x) (first_fault (take (i + 1) accounts) (drop (i + 1) accounts))) is
+      ∙ ap (λ l. option_or (fault_after (take i accounts) (get_or accounts i d)) (first_fault l (drop (i + 1) accounts)))
       (take_more accounts i d within)
       ∙ sym (at_drop_more (first_fault (take i accounts)) accounts i d within)
       ∙ so_far

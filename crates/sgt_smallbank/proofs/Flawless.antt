@@ -43,29 +43,29 @@ none_found = false ∷ false ∷ false ∷ false ∷ false ∷ false ∷ false �
 not_both : (b : Bool) → b ≡ false → b ≡ true → ⊥
 not_both b is_not is_so = cc
 
-tests_tell : (p : ProcedureText) → tests p ≡ none_found → IsFlawless p
-tests_tell p t HighRegister h = not_both (in_block high_register p.body) (cc) h
-tests_tell p t UnsetRegister h = none_below 16 (λ r. uses_unset r (onto p.body way.end)) (cc) h.0 h.1.0 h.1.1
-tests_tell p t NoArgument h = not_both (in_block (no_argument p.args) p.body) (cc) h
-tests_tell p t HighTable h = not_both (in_block high_table p.body) (cc) h
-tests_tell p t TooLong h = not_both (nat_lt 64 (size p.body)) (cc) (lt-ltb _ _ h)
-tests_tell p t TooDeep h = not_both (nat_lt 16 (max (depth p.body) (exprs_depth p.body))) (cc) (lt-ltb _ _ h)
-tests_tell p t ManyAnswers h = not_both (nat_lt 8 (most_answers (onto p.body way.end))) (cc) (lt-ltb _ _ h)
-tests_tell p t BadCode h = not_both (in_block bad_code p.body) (cc) h
-tests_tell p t ManyArguments h = not_both (nat_lt 4 p.args) (cc) (lt-ltb _ _ h)
-tests_tell p t BadLiteral h = not_both (in_block bad_literal p.body) (cc) h
+tests_suffice : (p : ProcedureText) → tests p ≡ none_found → IsFlawless p
+tests_suffice p t HighRegister h = not_both (in_block high_register p.body) (cc) h
+tests_suffice p t UnsetRegister h = none_below 16 (λ r. uses_unset r (onto p.body way.end)) (cc) h.0 h.1.0 h.1.1
+tests_suffice p t NoArgument h = not_both (in_block (no_argument p.args) p.body) (cc) h
+tests_suffice p t HighTable h = not_both (in_block high_table p.body) (cc) h
+tests_suffice p t TooLong h = not_both (nat_lt 64 (size p.body)) (cc) (lt-ltb _ _ h)
+tests_suffice p t TooDeep h = not_both (nat_lt 16 (max (depth p.body) (exprs_depth p.body))) (cc) (lt-ltb _ _ h)
+tests_suffice p t ManyAnswers h = not_both (nat_lt 8 (most_answers (onto p.body way.end))) (cc) (lt-ltb _ _ h)
+tests_suffice p t BadCode h = not_both (in_block bad_code p.body) (cc) h
+tests_suffice p t ManyArguments h = not_both (nat_lt 4 p.args) (cc) (lt-ltb _ _ h)
+tests_suffice p t BadLiteral h = not_both (in_block bad_literal p.body) (cc) h
 
 pub balance_is_flawless : IsFlawless balance
-balance_is_flawless = tests_tell balance refl
+balance_is_flawless = tests_suffice balance refl
 
 pub deposit_checking_is_flawless : IsFlawless deposit_checking
-deposit_checking_is_flawless = tests_tell deposit_checking refl
+deposit_checking_is_flawless = tests_suffice deposit_checking refl
 
 pub transact_saving_is_flawless : IsFlawless transact_saving
-transact_saving_is_flawless = tests_tell transact_saving refl
+transact_saving_is_flawless = tests_suffice transact_saving refl
 
 pub amalgamate_is_flawless : IsFlawless amalgamate
-amalgamate_is_flawless = tests_tell amalgamate refl
+amalgamate_is_flawless = tests_suffice amalgamate refl
 
 pub write_check_is_flawless : IsFlawless write_check
-write_check_is_flawless = tests_tell write_check refl
+write_check_is_flawless = tests_suffice write_check refl

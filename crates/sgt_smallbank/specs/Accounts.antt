@@ -58,8 +58,8 @@ has_customer accounts customer = list_any (λ a. int_eq a.customer customer) acc
 
 -- the fault of an account that comes after these: a number is out of range, or else one of these has its name, or else
 -- one has its customer
-abbrev pub fault_behind : List Account → Account → Option OpeningFault
-fault_behind earlier a =
+abbrev pub fault_after : List Account → Account → Option OpeningFault
+fault_after earlier a =
     cond (is_in_range a)
     (cond (has_name earlier a.name) (Some SameName) (cond (has_customer earlier a.customer) (Some SameCustomer) None))
     (Some Range)
@@ -74,7 +74,7 @@ fault_among m a =
 -- the fault of the first account that has one, if these come before
 abbrev pub first_fault : List Account → List Account → Option OpeningFault
 first_fault earlier [] = None
-first_fault earlier (a ∷ accounts) = option_or (fault_behind earlier a) (first_fault (earlier ++ a ∷ []) accounts)
+first_fault earlier (a ∷ accounts) = option_or (fault_after earlier a) (first_fault (earlier ++ a ∷ []) accounts)
 
 -- the first fault of all
 abbrev pub fault_of : List Account → Option OpeningFault

@@ -8,7 +8,7 @@ use Rattle.sgt_model.specs.declared.reply.Reply.TheVariants as reply
 use Rattle.sgt_model.specs.Contents.{Contents}
 use Rattle.sgt_model.specs.Syntax.{ProcedureText}
 use Rattle.sgt_model.specs.Runs.{Done, Asked, with_accesses}
-use Rattle.sgt_model.specs.Settings.{Setting, setting}
+use Rattle.sgt_model.specs.Configurations.{Configuration, configuration}
 use Rattle.sgt_model.specs.Legality.{Legal}
 use Rattle.sgt_model.specs.Fates.{subject}
 use Rattle.sgt_model.specs.Progress.{call_of, caller_accesses}
@@ -23,7 +23,7 @@ use Rattle.sgt_smallbank.specs.Accounts.{opened, fault_of}
 -- those before it left, the bank's arithmetic, and then the accesses that its caller made, end with the answers of the reply,
 -- and leave the contents with which the replay continues. An entry that refuses one: on those contents, the bank's arithmetic raises the code of the
 -- reply, and the replay continues with the same contents
-abbrev pub CommitIsBank : Setting → List Entry → Event → Reply → Type 0
+abbrev pub CommitIsBank : Configuration → List Entry → Event → Reply → Type 0
 CommitIsBank s past event (reply.Committed answers) =
     (call_of past (subject event)).procedure < 5
     → with_accesses (caller_accesses past (subject event)) (bank (call_of past (subject event)).procedure (call_of past (subject event)).args (folded s past).last)
@@ -47,17 +47,17 @@ CommitIsBank s past event (reply.Waits t) = Unit {0}
 CommitIsBank s past event (reply.Aborted why fell) = Unit {0}
 
 -- this holds for each entry
-abbrev pub CommitsAreBank : Setting → List Entry → Type 0
+abbrev pub CommitsAreBank : Configuration → List Entry → Type 0
 CommitsAreBank s [] = Unit {0}
 CommitsAreBank s (e ∷ past) = CommitsAreBank s past × CommitIsBank s past e.event e.reply
 
 -- the configuration with the bank's procedures, followed by these
-abbrev pub bank_setting : Contents → List ProcedureText → Limits → Setting
-bank_setting opening others limits = setting opening (procedures ++ others) limits
+abbrev pub bank_configuration : Contents → List ProcedureText → Limits → Configuration
+bank_configuration opening others limits = configuration opening (procedures ++ others) limits
 
 -- if the initial database holds values, this holds in every legal history
 abbrev pub ReplayIsBank : Type 0
-ReplayIsBank = (opening : Contents) (others : List ProcedureText) (limits : Limits) (past : List Entry) → HoldValues opening → Legal (bank_setting opening others limits) past → CommitsAreBank (bank_setting opening others limits) past
+ReplayIsBank = (opening : Contents) (others : List ProcedureText) (limits : Limits) (past : List Entry) → HoldValues opening → Legal (bank_configuration opening others limits) past → CommitsAreBank (bank_configuration opening others limits) past
 
 -- the initial database of accounts without a fault holds values
 abbrev pub OpeningsHoldValues : Type 0

@@ -2,7 +2,7 @@
 ghost use Rattle.std.specs.Prelude.{◌≡◌, ◌≢◌, ◌↔◌, [], None, IsSome, IfSome, OnSome, OnOk, IfOk, IfErr};
 ghost use Rattle.sgt_model.specs.Contents.{Key};
 ghost use Rattle.sgt_model.specs.Databases.{contents_of};
-ghost use Rattle.sgt_smallbank.specs.Accounts.{name_key, saving_key, checking_key, with_account, opened, IsInRange, has_name, has_customer, fault_among, fault_behind, fault_of, AreRefused};
+ghost use Rattle.sgt_smallbank.specs.Accounts.{name_key, saving_key, checking_key, with_account, opened, IsInRange, has_name, has_customer, fault_among, fault_after, fault_of, AreRefused};
 
 use crate::account_rows::AccountRows;
 use crate::errors::{BadOpening, OpeningFault};
@@ -61,7 +61,7 @@ fn first_fault(accounts: &[Account]) -> Option<OpeningFault>
     ensures { result ≡ fault_of accounts.now }
 {
     for (index, account) in accounts.iter().enumerate() {
-        let fault = fault_behind(&accounts[..index], account);
+        let fault = fault_after(&accounts[..index], account);
         if fault.is_some() {
             return fault;
         }
@@ -70,8 +70,8 @@ fn first_fault(accounts: &[Account]) -> Option<OpeningFault>
 }
 
 /// The fault of an account that comes after these.
-fn fault_behind(earlier: &[Account], account: &Account) -> Option<OpeningFault>
-    ensures { result ≡ fault_behind earlier.now account.now }
+fn fault_after(earlier: &[Account], account: &Account) -> Option<OpeningFault>
+    ensures { result ≡ fault_after earlier.now account.now }
 {
     if keys(account).is_none() {
         return Some(OpeningFault::Range);

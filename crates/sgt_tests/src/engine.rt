@@ -45,7 +45,7 @@ fn replies(a: Global, history: &History) -> Result<Vec<u8>, NoMemory> {
 }
 
 /// The lines of the replies, then those of the database after them.
-fn told(a: Global, engine: &SimpleEngine) -> Result<Vec<u8>, Fail> {
+fn reported(a: Global, engine: &SimpleEngine) -> Result<Vec<u8>, Fail> {
     let mut text = replies(a, engine.history())?;
     append_database(&mut text, &engine.database(a)?)?;
     Ok(text)
@@ -67,12 +67,12 @@ fn looked_at(a: Global, ran: &SimpleRan) -> Result<Seen, Fail> {
     Ok(Seen {
         done: ran.done,
         committed: ran.engine.committed(Key::new(3, 7).unwrap()),
-        text: told(a, &ran.engine)?,
+        text: reported(a, &ran.engine)?,
     })
 }
 
 /// The observation after these events.
-fn seen_behind(a: Global, events: &[Event]) -> Result<Seen, Fail> {
+fn seen_after(a: Global, events: &[Event]) -> Result<Seen, Fail> {
     let Opening {
         limits,
         database,
@@ -83,7 +83,7 @@ fn seen_behind(a: Global, events: &[Event]) -> Result<Seen, Fail> {
 
 /// The observation after the events of these lines.
 fn seen_of(a: Global, lines: &str) -> Result<Seen, Fail> {
-    seen_behind(a, events_of(a, lines)?.as_slice())
+    seen_after(a, events_of(a, lines)?.as_slice())
 }
 
 /// Whether these lines are returned after these events, all of which are applied.
@@ -101,8 +101,9 @@ const STORE: &str = r#"["start",0,[]]
 /// What is shown, events, and the lines expected after them.
 type Row = (&'static str, &'static str, &'static str);
 
-/// An uncommitted write is not in the database. If a quit after a write has refusals around it, and then a transaction
-/// commits, each event has its entry. A caller's accesses come after the procedure's end, and a removal leaves no record.
+/// An uncommitted write is not in the database. If an abort after a write has refusals around it, and then a
+/// transaction commits, each event has its entry. A caller's accesses come after the procedure's end, and a removal
+/// leaves no record.
 const ROWS: [Row; 4] = [
     (
         "an own write is read back",
@@ -196,7 +197,7 @@ fn events_are_answered(rt: HostRuntime) -> Result<(), Fail> {
 }
 
 #[test]
-fn a_committed_value_is_told(rt: HostRuntime) -> Result<(), Fail> {
+fn a_committed_value_is_reported(rt: HostRuntime) -> Result<(), Fail> {
     assert!(rt; seen_of(rt.alloc(), STORE)?.committed == Some(4));
     Ok(())
 }
@@ -255,7 +256,7 @@ fn events(a: Global, count: u32) -> Result<Vec<Event>, NoMemory> {
 
 /// Whether this many events are all applied.
 fn are_applied(a: Global, count: u32) -> Result<bool, Fail> {
-    Ok(seen_behind(a, events(a, count)?.as_slice())?.done == count as usize)
+    Ok(seen_after(a, events(a, count)?.as_slice())?.done == count as usize)
 }
 
 #[test]

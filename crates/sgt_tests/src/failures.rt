@@ -15,9 +15,9 @@ enum Call {
 }
 
 impl Read for Call {
-    fn read(&mut self, room: &mut [u8]) -> io::Result<usize> {
+    fn read(&mut self, buffer: &mut [u8]) -> io::Result<usize> {
         match self {
-            Call::TakesAll => Ok(room.len()),
+            Call::TakesAll => Ok(buffer.len()),
             Call::TakesNothing => Ok(0),
             Call::Fails => Err(io::Error::from(ErrorKind::Other)),
         }
@@ -41,8 +41,8 @@ impl Write for Call {
 /// Whether a read fails, and the count after it.
 fn reads(call: Call) -> (bool, u64) {
     let mut reader = Reader::new(call);
-    let mut room = [0; 4];
-    let is_failed = reader.read(&mut room).is_err();
+    let mut buffer = [0; 4];
+    let is_failed = reader.read(&mut buffer).is_err();
     (is_failed, reader.failures)
 }
 
@@ -68,9 +68,9 @@ impl FailsOnce {
 }
 
 impl Read for FailsOnce {
-    fn read(&mut self, room: &mut [u8]) -> io::Result<usize> {
+    fn read(&mut self, buffer: &mut [u8]) -> io::Result<usize> {
         if self.works() {
-            Ok(room.len())
+            Ok(buffer.len())
         } else {
             Err(io::Error::from(ErrorKind::Interrupted))
         }
@@ -101,14 +101,14 @@ const WORKED: Seen = (false, 1, 2);
 #[test]
 fn a_read_that_failed_is_not_tried_again(rt: HostRuntime) {
     let mut reader = Reader::new(FailsOnce { calls: 0 });
-    let mut room = [0; 4];
+    let mut buffer = [0; 4];
     let first = (
-        reader.read(&mut room).is_err(),
+        reader.read(&mut buffer).is_err(),
         reader.failures,
         reader.inner.calls,
     );
     let second = (
-        reader.read(&mut room).is_err(),
+        reader.read(&mut buffer).is_err(),
         reader.failures,
         reader.inner.calls,
     );

@@ -8,13 +8,13 @@ use std::test::Fail;
 /// What a line contains, if it is a record line, and the record that it writes, if all is in range.
 fn read(alloc: Global, line: &[u8]) -> Result<String, Fail> {
     match read_record_line(alloc, line)? {
-        Some(said) => told(alloc, &said),
+        Some(said) => reported(alloc, &said),
         None => Ok(String::from_str(alloc, "none")?),
     }
 }
 
 /// The numbers of a record line, and its record, if it writes one.
-fn told(alloc: Global, said: &RecordLine) -> Result<String, Fail> {
+fn reported(alloc: Global, said: &RecordLine) -> Result<String, Fail> {
     let RecordLine {
         table,
         number,

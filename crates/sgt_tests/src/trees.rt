@@ -61,10 +61,15 @@ fn smallbank_is_written_as_its_trees(rt: HostRuntime) -> Result<(), Fail> {
 }
 
 /// A null after this many pieces of text, followed by as many others.
-fn nested(alloc: Global, before: &str, behind: &str, times: usize) -> Result<String, AllocError> {
+fn nested(
+    alloc: Global,
+    before: &str,
+    following: &str,
+    times: usize,
+) -> Result<String, AllocError> {
     let before = before.repeat(alloc, times)?;
-    let behind = behind.repeat(alloc, times)?;
-    format!(in alloc; "{before}null{behind}")
+    let following = following.repeat(alloc, times)?;
+    format!(in alloc; "{before}null{following}")
 }
 
 /// A procedure that answers sums, nested deeper than a line can be. Ten sums, with a null as the second part of the
@@ -82,7 +87,7 @@ fn deep_sums(alloc: Global) -> Result<Value, Fail> {
 }
 
 /// The reported position of the shape error of a tree.
-fn misfit(alloc: Global, tree: &Value) -> Result<String, Fail> {
+fn shape_error(alloc: Global, tree: &Value) -> Result<String, Fail> {
     match read(alloc, tree).err() {
         Some(error) => Ok(error.to_string(alloc)?),
         None => Ok(String::from_str(alloc, "no misfit")?),
@@ -93,8 +98,8 @@ fn misfit(alloc: Global, tree: &Value) -> Result<String, Fail> {
 fn a_place_keeps_its_first_128_positions(rt: HostRuntime) -> Result<(), Fail> {
     let ones = " 1".repeat(rt.alloc(), 125)?;
     let want = format!(in rt.alloc(); "shape at 1 0{ones} 2")?;
-    let told = misfit(rt.alloc(), &deep_sums(rt.alloc())?)?;
-    assert!(rt; told.as_str() == want.as_str());
+    let reported = shape_error(rt.alloc(), &deep_sums(rt.alloc())?)?;
+    assert!(rt; reported.as_str() == want.as_str());
     Ok(())
 }
 

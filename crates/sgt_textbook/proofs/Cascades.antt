@@ -1,12 +1,12 @@
--- In a recoverable history whoever has read from an aborted transaction does not commit.
+-- In a recoverable history, a transaction that has read from an aborted one does not commit.
 use Rattle.std.specs.Prelude.{◌≡◌, ◌≢◌, ℕ, ◌<◌, List, [], ◌∷◌, ◌++◌, length, Some, slice_get}
 use Rattle.std.proofs.Common.{sym, ap, ◌∙◌, subst, inl, inr, arith}
 use Rattle.std.proofs.lemmas.Bool.{cases_lt, cases_eq}
 use Rattle.std.proofs.lemmas.Option.{slice_get_within}
 use Rattle.sgt_model.specs.declared.entry.Entry.{Entry}
 use Rattle.sgt_model.specs.Contents.{Key}
-use Rattle.sgt_model.specs.Walks.{PathOf, last_of}
-use Rattle.sgt_model.specs.Settings.{Setting}
+use Rattle.sgt_model.specs.Paths.{PathOf, last_of}
+use Rattle.sgt_model.specs.Configurations.{Configuration}
 use Rattle.sgt_model.specs.Legality.{Legal}
 use Rattle.sgt_model.proofs.Facts.{some_is}
 use Rattle.sgt_classes.specs.declared.operation.Operation.{Operation}
@@ -61,7 +61,7 @@ source_commits h well recoverable i j x w r apart f (c, at) none = elim (cases_l
   ]
 ]
 
-module _ (number : Key → ℕ) (injective : IsNumbering number) (s : Setting) (past : List Entry) (legal : Legal s past) (more : List Operation)
+module _ (number : Key → ℕ) (injective : IsNumbering number) (s : Configuration) (past : List Entry) (legal : Legal s past) (more : List Operation)
     (well : IsWellFormed (textbook number past ++ more)) (recoverable : IsRecoverable (textbook number past ++ more)) where
   -- along reads from t to one that commits, all commit
   source_along : (t : ℕ) (path : List ℕ) → PathOf (Feeds past) t path → Commits (textbook number past ++ more) (last_of t path)

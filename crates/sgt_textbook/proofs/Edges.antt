@@ -16,7 +16,7 @@ use Rattle.sgt_classes.specs.Serializability.{Conflict, IsEdge}
 use Rattle.sgt_textbook.specs.Textbook.{operations_of, textbook}
 use Rattle.sgt_textbook.specs.Laws.{EdgesArePairs}
 use Rattle.sgt_textbook.proofs.Places.{in_first, in_second}
-use Rattle.sgt_textbook.proofs.Entries.{does, action_on, tells}
+use Rattle.sgt_textbook.proofs.Entries.{does, action_on, reports}
 use Rattle.sgt_textbook.proofs.Histories.{commit_committed, committed_commits, conflict_precedes}
 
 -- an operation of t on an item that conflicts with one of that kind
@@ -38,7 +38,7 @@ earlier number (e ∷ past) t k kind h = elim (or_cases (conflicts (access_of e)
 ]
   where
     here : Conflicting (access_of e) t k kind → Earlier number (e ∷ past) t k kind
-    here c = let there = (tells number e.event e.reply).access_there c.access c.is in
+    here c = let there = (reports number e.event e.reply).access_there c.access c.is in
         let p = in_second (textbook number past) (operations_of number e) 0 _ there in
         record {
           place = p.0;
@@ -76,7 +76,7 @@ in_turn number (e ∷ past) t u (inr before) = let o = in_turn number past t u b
 in_turn number (e ∷ past) t u (inl now) = let f = follows-access past (access_of e) t u now in
     let o = earlier number past t f.access.key f.access.kind f.access_list in
     let within = slice_get_within (textbook number past) o.place _ o.does_so in
-    let p = in_second (textbook number past) (operations_of number e) 0 _ ((tells number e.event e.reply).access_there f.access f.is) in
+    let p = in_second (textbook number past) (operations_of number e) 0 _ ((reports number e.event e.reply).access_there f.access f.is) in
     record {
       first = o.place;
       second = p.0;

@@ -8,10 +8,10 @@ use Rattle.sgt_model.specs.declared.reply.Reply.TheVariants as reply
 use Rattle.sgt_model.specs.declared.reply.Fate.TheVariants as fate
 use Rattle.sgt_model.specs.declared.entry.Entry.{Entry}
 use Rattle.sgt_model.specs.Contents.{Key}
-use Rattle.sgt_model.specs.Walks.{Member, Rising}
+use Rattle.sgt_model.specs.Paths.{Member, Rising}
 use Rattle.sgt_model.specs.Fates.{subject, live}
 use Rattle.sgt_model.specs.Falls.{Falls}
-use Rattle.sgt_model.specs.Settings.{Setting}
+use Rattle.sgt_model.specs.Configurations.{Configuration}
 use Rattle.sgt_model.specs.Legality.{LegalReply, Legal}
 use Rattle.sgt_model.specs.Aborts.{ReplyIsJustified, AbortsHaveCause}
 use Rattle.sgt_model.specs.Laws.{AbortsAlwaysHaveCause}
@@ -23,7 +23,7 @@ use Rattle.sgt_classes.specs.Histories.{Does, Ends, IsWellFormed}
 use Rattle.sgt_textbook.specs.Textbook.{named, stepping, each_does, operations_in, operations_of, textbook}
 use Rattle.sgt_textbook.specs.Laws.{AreWellFormed}
 use Rattle.sgt_textbook.proofs.Places.{InFirst, InSecond, split_at, still}
-use Rattle.sgt_textbook.proofs.Entries.{does, Told, tells, each_is, alone, named_is}
+use Rattle.sgt_textbook.proofs.Entries.{does, Reported, reports, each_is, alone, named_is}
 use Rattle.sgt_textbook.proofs.Histories.{commit_committed, abort_aborted}
 
 -- each number is once in the list
@@ -81,7 +81,7 @@ each_once : (a : Action) (l : List ℕ) → AreOnce l → (n m t : ℕ) (b c : A
     → slice_get (each_does a l) m ≡ Some (does t c) → n ≡ m
 each_once a l once n m t b c first second = once n m t (each_is a l n t b first).1 (each_is a l m t c second).1
 
-one_each : (number : Key → ℕ) (s : Setting) (past : List Entry) (event : Event) (r : Reply) → ReplyIsJustified s past event r
+one_each : (number : Key → ℕ) (s : Configuration) (past : List Entry) (event : Event) (r : Reply) → ReplyIsJustified s past event r
     → (n m t : ℕ) (a b : Action) → slice_get (operations_in number event r) n ≡ Some (does t a)
     → slice_get (operations_in number event r) m ≡ Some (does t b) → n ≡ m
 one_each number s past event (reply.Looked k v) cause = each_once _ (stepping event) (stepping_once event)
@@ -92,16 +92,16 @@ one_each number s past event (reply.Refused code fell) cause = each_once _ (name
 one_each number s past event _ cause = λ n m t a b first second. absurd (cc)
 
 -- a transaction with an operation was live before
-acts_live : (number : Key → ℕ) (s : Setting) (past : List Entry) (event : Event) (r : Reply) → LegalReply s past event r
-    → (j t : ℕ) (a : Action) → Told number event r j t a → live past t ≡ true
-acts_live number s past event r h j t (action.Read x) told =
-    subst (λ u. live past u ≡ true) told.by (access-live s past event r h told.access told.is)
-acts_live number s past event r h j t (action.Write x) told =
-    subst (λ u. live past u ≡ true) told.by (access-live s past event r h told.access told.is)
-acts_live number s past event r h j t action.Commit told = end-live s past event r h t fate.Committed told
-acts_live number s past event r h j t action.Abort told = end-live s past event r h t told.0 told.1
+acts_live : (number : Key → ℕ) (s : Configuration) (past : List Entry) (event : Event) (r : Reply) → LegalReply s past event r
+    → (j t : ℕ) (a : Action) → Reported number event r j t a → live past t ≡ true
+acts_live number s past event r h j t (action.Read x) reported =
+    subst (λ u. live past u ≡ true) reported.by (access-live s past event r h reported.access reported.is)
+acts_live number s past event r h j t (action.Write x) reported =
+    subst (λ u. live past u ≡ true) reported.by (access-live s past event r h reported.access reported.is)
+acts_live number s past event r h j t action.Commit reported = end-live s past event r h t fate.Committed reported
+acts_live number s past event r h j t action.Abort reported = end-live s past event r h t reported.0 reported.1
 
-ends_last : (number : Key → ℕ) (s : Setting) (past : List Entry) → AbortsHaveCause s past → Legal s past
+ends_last : (number : Key → ℕ) (s : Configuration) (past : List Entry) → AbortsHaveCause s past → Legal s past
     → IsWellFormed (textbook number past)
 ends_last number s [] caused h i t a at ended = absurd (cc)
 ends_last number s (e ∷ past) caused h i t a at ended =
@@ -109,7 +109,7 @@ ends_last number s (e ∷ past) caused h i t a at ended =
   where
     -- before the entry it had not ended
     first : (m : ℕ) → slice_get (operations_of number e) m ≡ Some (does t a) → live past t ≡ true
-    first m there = acts_live number s past e.event e.reply h.1 m t a ((tells number e.event e.reply).told m t a there)
+    first m there = acts_live number s past e.event e.reply h.1 m t a ((reports number e.event e.reply).reported m t a there)
 
     -- and by the entry it ends once
     later : (m : ℕ) → i ≡ length (textbook number past) + m → slice_get (operations_of number e) m ≡ Some (does t a) → (b : Action)

@@ -15,7 +15,7 @@ use Rattle.sgt_model.specs.declared.reply.Fate.TheVariants as fate
 use Rattle.sgt_model.specs.declared.kind.Kind.{Kind}
 use Rattle.sgt_model.specs.declared.kind.Kind.TheVariants.{Look, Store}
 use Rattle.sgt_model.specs.Contents.{Key}
-use Rattle.sgt_model.specs.Walks.{Member}
+use Rattle.sgt_model.specs.Paths.{Member}
 use Rattle.sgt_model.specs.Accesses.{Access, access_at, access_in}
 use Rattle.sgt_model.specs.Fates.{subject, concerns, undone_in, ending_in, has_aborted}
 use Rattle.sgt_model.proofs.Facts.{some_is, member_from}
@@ -51,15 +51,15 @@ abbrev pub Undone : Event → Reply → ℕ → Type 0
 Undone event r t = (f : Fate) × (ending_in event r t ≡ Some f) × (has_aborted (Some f) ≡ true)
 
 -- what the action of an operation says
-abbrev pub Told : (Key → ℕ) → Event → Reply → ℕ → ℕ → Action → Type 0
-Told number event r j t (action.Read x) = IsAccess number event r j t Look x
-Told number event r j t (action.Write x) = IsAccess number event r j t Store x
-Told number event r j t action.Commit = ending_in event r t ≡ Some fate.Committed
-Told number event r j t action.Abort = Undone event r t
+abbrev pub Reported : (Key → ℕ) → Event → Reply → ℕ → ℕ → Action → Type 0
+Reported number event r j t (action.Read x) = IsAccess number event r j t Look x
+Reported number event r j t (action.Write x) = IsAccess number event r j t Store x
+Reported number event r j t action.Commit = ending_in event r t ≡ Some fate.Committed
+Reported number event r j t action.Abort = Undone event r t
 
 -- what holds of each entry and its operations
-pub record Tells (number : Key → ℕ) (event : Event) (r : Reply) : Type 0 where
-  pub told : (j t : ℕ) (a : Action) → slice_get (operations_in number event r) j ≡ Some (does t a) → Told number event r j t a
+pub record Says (number : Key → ℕ) (event : Event) (r : Reply) : Type 0 where
+  pub reported : (j t : ℕ) (a : Action) → slice_get (operations_in number event r) j ≡ Some (does t a) → Reported number event r j t a
   pub access_there : (a : Access) → access_in event r ≡ Some a
       → slice_get (operations_in number event r) 0 ≡ Some (access_as number a)
   pub abort_there : (t : ℕ) → Undone event r t
@@ -150,9 +150,9 @@ undone_stands true c x y f hx hy h = ap has_aborted (sym h) ∙ hx
 undone_stands false true x y f hx hy h = ap has_aborted (sym h) ∙ hy
 undone_stands false false x y f hx hy h = absurd (cc)
 
-undone_told : (event : Event) (why : Cause) (fell : List ℕ) (j t : ℕ) → slice_get (named event ++ fell) j ≡ Some t
+undone_reported : (event : Event) (why : Cause) (fell : List ℕ) (j t : ℕ) → slice_get (named event ++ fell) j ≡ Some t
     → (f : Fate) × (undone_in event why fell t ≡ Some f) × (has_aborted (Some f) ≡ true)
-undone_told event why fell j t at = undone_by _ _ _ _ refl refl (elim (split_at (named event) fell j t at) [
+undone_reported event why fell j t at = undone_by _ _ _ _ refl refl (elim (split_at (named event) fell j t at) [
   | inl own ↦ inl (named_is event j t own.1).1
   | inr other ↦ inr (any_at fell other.0 t other.2)
 ])
@@ -170,19 +170,19 @@ no_place [] j x e at = cc
 no_place (y ∷ l) j x e at = cc
 
 idle : (number : Key → ℕ) (event : Event) (r : Reply) → operations_in number event r ≡ [] → access_in event r ≡ None
-    → ((t : ℕ) → ending_in event r t ≡ None) → committed_in event r ≡ [] → Tells number event r
+    → ((t : ℕ) → ending_in event r t ≡ None) → committed_in event r ≡ [] → Says number event r
 idle number event r no_operations no_access ends_none no_commit = record {
-  told = λ j t a at. absurd (no_place _ j _ no_operations at);
+  reported = λ j t a at. absurd (no_place _ j _ no_operations at);
   access_there = λ a is. absurd (cc (sym no_access ∙ is));
   abort_there = λ t undone. absurd (cc (sym (ends_none t) ∙ undone.1));
   commit_there = λ t now. absurd (cc (sym (ends_none t) ∙ now));
   commit_does = λ j t at. absurd (no_place _ j _ no_commit at);
 }
 
-looked : (number : Key → ℕ) (event : Event) (k : Key) (v : Option ℤ) → Tells number event (reply.Looked k v)
+looked : (number : Key → ℕ) (event : Event) (k : Key) (v : Option ℤ) → Says number event (reply.Looked k v)
 looked number event k v = record {
-  told = λ j t a at. let e = each_is _ (stepping event) j t a at in let s = stepping_is event k Look v j t e.1 in
-      subst (Told number event (reply.Looked k v) j t) e.0
+  reported = λ j t a at. let e = each_is _ (stepping event) j t a at in let s = stepping_is event k Look v j t e.1 in
+      subst (Reported number event (reply.Looked k v) j t) e.0
       (record { access = _; is = s.1; by = refl; kind_is = refl; item = refl; first = s.0 });
   access_there = λ a is. stepping_at number event k Look v a is;
   abort_there = λ t undone. absurd (cc undone.1);
@@ -190,10 +190,10 @@ looked number event k v = record {
   commit_does = λ j t at. absurd (cc at);
 }
 
-wrote : (number : Key → ℕ) (event : Event) (k : Key) (v : Option ℤ) → Tells number event (reply.Wrote k v)
+wrote : (number : Key → ℕ) (event : Event) (k : Key) (v : Option ℤ) → Says number event (reply.Wrote k v)
 wrote number event k v = record {
-  told = λ j t a at. let e = each_is _ (stepping event) j t a at in let s = stepping_is event k Store v j t e.1 in
-      subst (Told number event (reply.Wrote k v) j t) e.0
+  reported = λ j t a at. let e = each_is _ (stepping event) j t a at in let s = stepping_is event k Store v j t e.1 in
+      subst (Reported number event (reply.Wrote k v) j t) e.0
       (record { access = _; is = s.1; by = refl; kind_is = refl; item = refl; first = s.0 });
   access_there = λ a is. stepping_at number event k Store v a is;
   abort_there = λ t undone. absurd (cc undone.1);
@@ -209,10 +209,10 @@ ended_so : (b : Bool) (f : Fate) → cond b (Some fate.Committed) None ≡ Some 
 ended_so true f h a = cc (ap has_aborted h ∙ a)
 ended_so false f h a = cc
 
-commits : (number : Key → ℕ) (event : Event) (answers : List ℤ) → Tells number event (reply.Committed answers)
+commits : (number : Key → ℕ) (event : Event) (answers : List ℤ) → Says number event (reply.Committed answers)
 commits number event answers = record {
-  told = λ j t a at. let e = each_is _ (named event) j t a at in
-      subst (Told number event (reply.Committed answers) j t) e.0
+  reported = λ j t a at. let e = each_is _ (named event) j t a at in
+      subst (Reported number event (reply.Committed answers) j t) e.0
       (ap (λ b. cond b (Some fate.Committed) None) (named_is event j t e.1).1);
   access_there = λ a is. absurd (cc is);
   abort_there = λ t undone. absurd (ended_so (concerns event t) undone.0 undone.1 undone.2);
@@ -230,10 +230,10 @@ undoes : (number : Key → ℕ) (event : Event) (r : Reply) (why : Cause) (fell 
     → ((j t : ℕ) (a : Action) → slice_get (operations_in number event r) j ≡ Some (does t a)
     → (action.Abort ≡ a) × (slice_get (named event ++ fell) j ≡ Some t))
     → ((j t : ℕ) → slice_get (named event ++ fell) j ≡ Some t → slice_get (operations_in number event r) j ≡ Some (does t action.Abort))
-    → Tells number event r
+    → Says number event r
 undoes number event r why fell undoing is_abort abort_at = record {
-  told = λ j t a at. let e = is_abort j t a at in let u = undone_told event why fell j t e.1 in
-      subst (Told number event r j t) e.0 (u.0, undoing.ends t ∙ u.1, u.2);
+  reported = λ j t a at. let e = is_abort j t a at in let u = undone_reported event why fell j t e.1 in
+      subst (Reported number event r j t) e.0 (u.0, undoing.ends t ∙ u.1, u.2);
   access_there = λ a is. absurd (cc (sym undoing.no_access ∙ is));
   abort_there = λ t undone. let p = undone_there event fell t (undone_from _ _ _ _ undone.0 (sym (undoing.ends t) ∙ undone.1)) in
       (p.0, abort_at p.0 t p.1);
@@ -245,23 +245,23 @@ undoes number event r why fell undoing is_abort abort_at = record {
     no_commit t now = cc (undone_stands (concerns event t) (list_any (λ u. nat_eq u t) fell) (fate.Aborted why) (fate.Fell (subject event))
         fate.Committed refl refl now)
 
-pub tells : (number : Key → ℕ) (event : Event) (r : Reply) → Tells number event r
-tells number event (reply.Looked k v) = looked number event k v
-tells number event (reply.Wrote k v) = wrote number event k v
-tells number event (reply.Committed answers) = commits number event answers
-tells number event (reply.Aborted why fell) = undoes number event _ why fell
+pub reports : (number : Key → ℕ) (event : Event) (r : Reply) → Says number event r
+reports number event (reply.Looked k v) = looked number event k v
+reports number event (reply.Wrote k v) = wrote number event k v
+reports number event (reply.Committed answers) = commits number event answers
+reports number event (reply.Aborted why fell) = undoes number event _ why fell
     (record { ends = λ _. refl; no_access = refl; no_commit = refl })
     (λ j t a at. each_is action.Abort (named event ++ fell) j t a at) (λ j t at. each_at action.Abort (named event ++ fell) j t at)
-tells number event (reply.Refused code fell) = undoes number event _ (cause.Asked code) fell
+reports number event (reply.Refused code fell) = undoes number event _ (cause.Asked code) fell
     (record { ends = λ _. refl; no_access = refl; no_commit = refl })
     (λ j t a at. each_is action.Abort (named event ++ fell) j t a at) (λ j t at. each_at action.Abort (named event ++ fell) j t at)
-tells number event (reply.Started u) = idle number event _ refl refl (λ _. refl) refl
-tells number event reply.NoProcedure = idle number event _ refl refl (λ _. refl) refl
-tells number event reply.BadArgs = idle number event _ refl refl (λ _. refl) refl
-tells number event reply.Spent = idle number event _ refl refl (λ _. refl) refl
-tells number event reply.Full = idle number event _ refl refl (λ _. refl) refl
-tells number event reply.Unknown = idle number event _ refl refl (λ _. refl) refl
-tells number event (reply.Over ended) = idle number event _ refl refl (λ _. refl) refl
-tells number event reply.Ended = idle number event _ refl refl (λ _. refl) refl
-tells number event reply.NotEnded = idle number event _ refl refl (λ _. refl) refl
-tells number event (reply.Waits u) = idle number event _ refl refl (λ _. refl) refl
+reports number event (reply.Started u) = idle number event _ refl refl (λ _. refl) refl
+reports number event reply.NoProcedure = idle number event _ refl refl (λ _. refl) refl
+reports number event reply.BadArgs = idle number event _ refl refl (λ _. refl) refl
+reports number event reply.Spent = idle number event _ refl refl (λ _. refl) refl
+reports number event reply.Full = idle number event _ refl refl (λ _. refl) refl
+reports number event reply.Unknown = idle number event _ refl refl (λ _. refl) refl
+reports number event (reply.Over ended) = idle number event _ refl refl (λ _. refl) refl
+reports number event reply.Ended = idle number event _ refl refl (λ _. refl) refl
+reports number event reply.NotEnded = idle number event _ refl refl (λ _. refl) refl
+reports number event (reply.Waits u) = idle number event _ refl refl (λ _. refl) refl

@@ -8,7 +8,7 @@ use Rattle.sgt_model.specs.Contents.{Key}
 use Rattle.sgt_model.specs.Legality.{Legal}
 use Rattle.sgt_model.proofs.Facts.{some_is}
 use Rattle.sgt_model.proofs.Computed.{made_by}
-use Rattle.sgt_model.proofs.ExampleSettings.{small_bank_tell, entry}
+use Rattle.sgt_model.proofs.ExampleConfigurations.{small_bank_read, entry}
 use Rattle.sgt_model.proofs.ExamplesCallers.{write_skew, own_removal}
 use Rattle.sgt_model.proofs.ExamplesReads.{dirty_read_waits, quit_takes_reader, read_past_aborted}
 use Rattle.sgt_model.proofs.ExamplesReplay.{two_deposits}
@@ -56,7 +56,7 @@ dirty_read_waits-textbook number = refl
 dirty_read_waits-order : commit_order dirty_read_waits ≡ 0 ∷ 1 ∷ []
 dirty_read_waits-order = refl
 
--- one that is quit in between does not stand in the order of commits
+-- one that is aborted in between is not in the order of commits
 two_deposits-order : commit_order two_deposits ≡ 0 ∷ 2 ∷ []
 two_deposits-order = refl
 
@@ -100,7 +100,7 @@ dirty_read =
     ∷ entry (Start 5 (pos 1 ∷ [])) (reply.Started 0)
     ∷ []
 
-dirty_read-legal : Legal small_bank_tell dirty_read
+dirty_read-legal : Legal small_bank_read dirty_read
 dirty_read-legal = ((((tt, refl), refl), inr (made_by (0 ∷ []) refl)), inr (made_by (1 ∷ []) refl))
 
 dirty_read-textbook : (number : Key → ℕ) → textbook number dirty_read ≡
@@ -124,7 +124,7 @@ no_commit x e = cc
 -- so a legal history need not avoid cascading aborts
 pub some_cascade : SomeCascade
 some_cascade = (
-  small_bank_tell,
+  small_bank_read,
   dirty_read,
   dirty_read-legal,
   λ number avoids. avoids 0 1 (record {

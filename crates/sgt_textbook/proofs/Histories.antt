@@ -15,7 +15,7 @@ use Rattle.sgt_model.specs.Accesses.{access_of}
 use Rattle.sgt_model.specs.Fates.{fate_of, has_committed, has_aborted, aborted, committed}
 use Rattle.sgt_model.specs.Values.{stores}
 use Rattle.sgt_model.specs.Pairs.{one_stores, conflicts, has_conflicting, FollowsIn, Precedes}
-use Rattle.sgt_model.specs.Settings.{Setting}
+use Rattle.sgt_model.specs.Configurations.{Configuration}
 use Rattle.sgt_model.specs.Legality.{Legal}
 use Rattle.sgt_model.specs.CommitOrder.{CommitsBefore}
 use Rattle.sgt_model.specs.Laws.{CommitsAlwaysInOrder, CommitsAlwaysInLine}
@@ -27,18 +27,18 @@ use Rattle.sgt_classes.specs.Serializability.{Conflict}
 use Rattle.sgt_textbook.specs.Textbook.{IsNumbering, operations_of, textbook}
 use Rattle.sgt_textbook.specs.Laws.{AreCommitOrdered}
 use Rattle.sgt_textbook.proofs.Places.{InFirst, InSecond, split_at, in_first, in_second, still}
-use Rattle.sgt_textbook.proofs.Entries.{does, action_on, IsAccess, Told, tells}
+use Rattle.sgt_textbook.proofs.Entries.{does, action_on, IsAccess, Reported, reports}
 
 -- of ends
 
 -- who commits in the textbook's history is committed
-pub commit_committed : (number : Key → ℕ) (s : Setting) (past : List Entry) → Legal s past → (i t : ℕ)
+pub commit_committed : (number : Key → ℕ) (s : Configuration) (past : List Entry) → Legal s past → (i t : ℕ)
     → Does (textbook number past) i t action.Commit → committed past t ≡ true
 commit_committed number s [] h i t at = absurd (cc)
 commit_committed number s (e ∷ past) h i t at = elim (split_at (textbook number past) (operations_of number e) i _ at) [
   | inl old ↦ committed-stays s e past h t (commit_committed number s past h.0 i t old.1)
   | inr new ↦ ap (λ o. has_committed (option_or o (fate_of past t)))
-      ((tells number e.event e.reply).told new.0 t action.Commit new.2)
+      ((reports number e.event e.reply).reported new.0 t action.Commit new.2)
 ]
 
 -- and conversely
@@ -46,19 +46,19 @@ pub committed_commits : (number : Key → ℕ) (past : List Entry) (t : ℕ) →
     → (i : ℕ) × Does (textbook number past) i t action.Commit
 committed_commits number [] t c = absurd (cc)
 committed_commits number (e ∷ past) t c = elim (commit-case e past t c) [
-  | inl now ↦ let told = tells number e.event e.reply in let there = told.commit_does 0 t (told.commit_there t now) in
+  | inl now ↦ let reported = reports number e.event e.reply in let there = reported.commit_does 0 t (reported.commit_there t now) in
       let p = in_second (textbook number past) (operations_of number e) 0 _ there.1 in (p.0, p.2)
   | inr before ↦ let p = committed_commits number past t before.1 in
       (p.0, in_first (textbook number past) (operations_of number e) p.0 _ p.1)
 ]
 
 -- who aborts in it is aborted
-pub abort_aborted : (number : Key → ℕ) (s : Setting) (past : List Entry) → Legal s past → (i t : ℕ)
+pub abort_aborted : (number : Key → ℕ) (s : Configuration) (past : List Entry) → Legal s past → (i t : ℕ)
     → Does (textbook number past) i t action.Abort → aborted past t ≡ true
 abort_aborted number s [] h i t at = absurd (cc)
 abort_aborted number s (e ∷ past) h i t at = elim (split_at (textbook number past) (operations_of number e) i _ at) [
   | inl old ↦ aborted-stays s e past h t (abort_aborted number s past h.0 i t old.1)
-  | inr new ↦ let undone = (tells number e.event e.reply).told new.0 t action.Abort new.2 in
+  | inr new ↦ let undone = (reports number e.event e.reply).reported new.0 t action.Abort new.2 in
       ap (λ o. has_aborted (option_or o (fate_of past t))) undone.1 ∙ undone.2
 ]
 
@@ -67,13 +67,13 @@ pub aborted_aborts : (number : Key → ℕ) (past : List Entry) (t : ℕ) → ab
     → (i : ℕ) × Does (textbook number past) i t action.Abort
 aborted_aborts number [] t a = absurd (cc)
 aborted_aborts number (e ∷ past) t a = elim (abort-case e past t a) [
-  | inl now ↦ let there = (tells number e.event e.reply).abort_there t now in
+  | inl now ↦ let there = (reports number e.event e.reply).abort_there t now in
       let p = in_second (textbook number past) (operations_of number e) there.0 _ there.1 in (p.0, p.2)
   | inr before ↦ let p = aborted_aborts number past t before in (p.0, in_first (textbook number past) (operations_of number e) p.0 _ p.1)
 ]
 
 -- who committed before another commits in the textbook's history before it
-pub commits_in_turn : CommitsAlwaysInLine → (number : Key → ℕ) (s : Setting) (past : List Entry) → Legal s past → (t u c : ℕ)
+pub commits_in_turn : CommitsAlwaysInLine → (number : Key → ℕ) (s : Configuration) (past : List Entry) → Legal s past → (t u c : ℕ)
     → CommitsBefore past t u → Does (textbook number past) c u action.Commit → CommittedBefore (textbook number past) t c
 commits_in_turn in_line number s [] h t u c b at = absurd b
 commits_in_turn in_line number s (e ∷ past) h t u c b at = go (λ b old. commits_in_turn in_line number s past h.0 t u c b old)
@@ -96,16 +96,16 @@ commits_in_turn in_line number s (e ∷ past) h t u c b at = go (λ b old. commi
 
 -- of conflicts
 
-told_access : (number : Key → ℕ) (event : Event) (r : Reply) (j t : ℕ) (kind : Kind) (x : ℕ) → Told number event r j t (action_on kind x)
+reported_access : (number : Key → ℕ) (event : Event) (r : Reply) (j t : ℕ) (kind : Kind) (x : ℕ) → Reported number event r j t (action_on kind x)
     → IsAccess number event r j t kind x
-told_access number event r j t Look x told = told
-told_access number event r j t Store x told = told
+reported_access number event r j t Look x reported = reported
+reported_access number event r j t Store x reported = reported
 
 -- an operation on an item is an access of its key
 pub does_access : (number : Key → ℕ) (e : Entry) (j t : ℕ) (kind : Kind) (x : ℕ)
     → slice_get (operations_of number e) j ≡ Some (does t (action_on kind x)) → IsAccess number e.event e.reply j t kind x
 does_access number e j t kind x at =
-    told_access number e.event e.reply j t kind x ((tells number e.event e.reply).told j t (action_on kind x) at)
+    reported_access number e.event e.reply j t kind x ((reports number e.event e.reply).reported j t (action_on kind x) at)
 
 pub same_key : (number : Key → ℕ) → IsNumbering number → (j k : Key) → number j ≡ number k → key_eq j k ≡ true
 same_key number injective j k same = subst (λ l. key_eq j l ≡ true) (injective j k same) (key_eq-refl j)
@@ -161,7 +161,7 @@ conflict_precedes number injective past i j t u earlier c = go c.3 c.1 c.2
     go (inr write) (inr first) second = uses_in_turn number injective past i j t u c.0 Store Store refl earlier first write
 
 -- of two that commit, the one with the earlier of two operations that conflict commits first
-pub conflict_commits : CommitsAlwaysInOrder → (number : Key → ℕ) → IsNumbering number → (s : Setting) (past : List Entry) → Legal s past
+pub conflict_commits : CommitsAlwaysInOrder → (number : Key → ℕ) → IsNumbering number → (s : Configuration) (past : List Entry) → Legal s past
     → (i j t u c d : ℕ) → t ≢ u → i < j → Conflict (textbook number past) i t j u → Does (textbook number past) c t action.Commit
     → Does (textbook number past) d u action.Commit → CommitsBefore past t u
 conflict_commits in_order number injective s past h i j t u c d apart earlier conflict commits_first commits_second =

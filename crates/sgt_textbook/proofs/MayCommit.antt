@@ -5,12 +5,12 @@ use Rattle.std.proofs.lemmas.Bool.{both_ways}
 use Rattle.sgt_model.specs.declared.entry.Entry.{Entry}
 use Rattle.sgt_model.specs.declared.kind.Kind.{Kind}
 use Rattle.sgt_model.specs.Contents.{Key}
-use Rattle.sgt_model.specs.Walks.{PathOf, last_of, Member, Acyclic, Rising}
+use Rattle.sgt_model.specs.Paths.{PathOf, last_of, Member, Acyclic, Rising}
 use Rattle.sgt_model.specs.Accesses.{Access, access_of}
 use Rattle.sgt_model.specs.Fates.{ending_in, aborted, live, live_ones, started_ones}
 use Rattle.sgt_model.specs.Pairs.{Pair}
 use Rattle.sgt_model.specs.Closes.{Closes}
-use Rattle.sgt_model.specs.Settings.{Setting}
+use Rattle.sgt_model.specs.Configurations.{Configuration}
 use Rattle.sgt_model.specs.Aborts.{IsAccessBy}
 use Rattle.sgt_model.specs.Legality.{Legal}
 use Rattle.sgt_model.proofs.Facts.{some_is, committed-stands, live-stands, live-not_committed, status, precedes-started}
@@ -33,7 +33,7 @@ use Rattle.sgt_classes.specs.Equivalence.{IsSerializable}
 use Rattle.sgt_classes.proofs.EdgeDecisions.{acyclic_serializable, serializability_theorem}
 use Rattle.sgt_textbook.specs.Textbook.{IsNumbering, textbook, operations_of, each_does}
 use Rattle.sgt_textbook.proofs.Places.{split_at, in_second, still}
-use Rattle.sgt_textbook.proofs.Entries.{does, each_is, tells}
+use Rattle.sgt_textbook.proofs.Entries.{does, each_is, reports}
 use Rattle.sgt_textbook.proofs.Histories.{abort_aborted, commit_committed, conflict_precedes}
 use Rattle.sgt_progress.proofs.Needed.{closing_precedes, access_ends, access_aborts, free_acyclic, rejected_or_free}
 use Rattle.sgt_textbook.proofs.Ends.{well_formed}
@@ -66,7 +66,7 @@ rising_once (v ∷ l) r (suc i) zero u at also = let e : v ≡ u = cc in let les
 rising_once (v ∷ l) r (suc i) (suc j) u at also = let same = rising_once l (rising_rest v l r) i j u at also in omega arith
 
 -- an edge from a live transaction leads to a live one
-next_live : (s : Setting) (past : List Entry) → Legal s past → (t u : ℕ) → live past t ≡ true → Pair past t u → live past u ≡ true
+next_live : (s : Configuration) (past : List Entry) → Legal s past → (t u : ℕ) → live past t ≡ true → Pair past t u → live past u ≡ true
 next_live s past h t u alive p = elim (status past u (precedes-started s past h t u p.precedes).1) [
   | inl lives ↦ lives
   | inr (inl c) ↦ absurd (no_pair_from_live s past h t u alive c p)
@@ -119,7 +119,7 @@ module _ (number : Key → ℕ) (injective : IsNumbering number) (whole : List E
       let long : length (others ++ t ∷ []) ≡ length others + 1 = length-append others (t ∷ []) in
       acyclic t (others ++ t ∷ []) (omega arith) (path_of t others t p) (last_of-append t others (t ∷ [])))
 
-committed_stood : (number : Key → ℕ) (s : Setting) (past : List Entry) → Legal s past → (t : ℕ) → Commits (textbook number past) t → aborted past t ≡ false
+committed_stood : (number : Key → ℕ) (s : Configuration) (past : List Entry) → Legal s past → (t : ℕ) → Commits (textbook number past) t → aborted past t ≡ false
 committed_stood number s past h t c = committed-stands past t (commit_committed number s past h c.0 t c.1)
 
 pub live_ones_may_commit : LiveOnesMayCommit
@@ -127,7 +127,7 @@ live_ones_may_commit number injective s past h ones alive = completed number inj
     (λ u m. live-stands past u (alive u m)) (no_cycle s past h)
 
 -- a path from a live transaction is of live ones
-live_path : (s : Setting) (past : List Entry) → Legal s past → (t : ℕ) → live past t ≡ true → (rest : List ℕ) → PathOf (Pair past) t rest
+live_path : (s : Configuration) (past : List Entry) → Legal s past → (t : ℕ) → live past t ≡ true → (rest : List ℕ) → PathOf (Pair past) t rest
     → (u : ℕ) → Member u (t ∷ rest) → live past u ≡ true
 live_path s past h t alive rest p u (inl e) = subst (λ x. live past x ≡ true) (sym e) alive
 live_path s past h t alive [] p u (inr m) = absurd m
@@ -136,7 +136,7 @@ live_path s past h t alive (v ∷ rest) p u (inr m) = live_path s past h v (next
 pub cycles_are_live : CyclesAreLive
 cycles_are_live s past h t alive k kind rest c u m = live_path s past h t alive rest c.pairs u m
 
-module _ (number : Key → ℕ) (injective : IsNumbering number) (s : Setting) (past : List Entry) (h : Legal s past) (t : ℕ) (alive : live past t ≡ true)
+module _ (number : Key → ℕ) (injective : IsNumbering number) (s : Configuration) (past : List Entry) (h : Legal s past) (t : ℕ) (alive : live past t ≡ true)
     (k : Key) (kind : Kind) (e : Entry) (is : IsAccessBy (access_of e) t k kind) where
   abbrev with_it : List Operation
   with_it = textbook number (e ∷ past)
@@ -149,19 +149,19 @@ module _ (number : Key → ℕ) (injective : IsNumbering number) (s : Setting) (
   ends_none j u f ends = cc (sym (access_ends e.event e.reply t k kind is u) ∙ ends)
 
   not_commit : (j u : ℕ) → slice_get (operations_of number e) j ≡ Some (does u action.Commit) → ⊥
-  not_commit j u at = ends_none j u fate.Committed ((tells number e.event e.reply).told j u action.Commit at)
+  not_commit j u at = ends_none j u fate.Committed ((reports number e.event e.reply).reported j u action.Commit at)
 
   not_abort : (j u : ℕ) → slice_get (operations_of number e) j ≡ Some (does u action.Abort) → ⊥
-  not_abort j u at = let w = (tells number e.event e.reply).told j u action.Abort at in ends_none j u w.0 w.1
+  not_abort j u at = let w = (reports number e.event e.reply).reported j u action.Abort at in ends_none j u w.0 w.1
 
   by_access : (o : Option Access) → access_of e ≡ o → IsAccessBy o t k kind → (a : Access) → access_of e ≡ Some a → a.by ≡ t
   by_access None same w a own = absurd w
   by_access (Some b) same w a own = ap (λ (x : Access). x.by) (some_is a b (sym own ∙ same)) ∙ w.0
 
   is_by_t : (j u : ℕ) (a : Action) → slice_get (operations_of number e) j ≡ Some (does u a) → u ≡ t
-  is_by_t j u (action.Read x) at = let w = (tells number e.event e.reply).told j u (action.Read x) at in
+  is_by_t j u (action.Read x) at = let w = (reports number e.event e.reply).reported j u (action.Read x) at in
       sym w.by ∙ by_access (access_of e) refl is w.access w.is
-  is_by_t j u (action.Write x) at = let w = (tells number e.event e.reply).told j u (action.Write x) at in
+  is_by_t j u (action.Write x) at = let w = (reports number e.event e.reply).reported j u (action.Write x) at in
       sym w.by ∙ by_access (access_of e) refl is w.access w.is
   is_by_t j u action.Commit at = absurd (not_commit j u at)
   is_by_t j u action.Abort at = absurd (not_abort j u at)

@@ -11,7 +11,7 @@ use Rattle.sgt_model.specs.Accesses.{Access, access_of, is_store}
 use Rattle.sgt_model.specs.Fates.{aborted}
 use Rattle.sgt_model.specs.Values.{stores, newest_store}
 use Rattle.sgt_model.specs.ReadFrom.{IsBy, LooksFrom, ReadFrom}
-use Rattle.sgt_model.specs.Settings.{Setting}
+use Rattle.sgt_model.specs.Configurations.{Configuration}
 use Rattle.sgt_model.specs.Legality.{Legal}
 use Rattle.sgt_model.specs.Laws.{CommitsAlwaysInOrder, CommitsAlwaysInLine}
 use Rattle.sgt_model.proofs.Stores.{key_eq-true, stores-some, Stored}
@@ -23,7 +23,7 @@ use Rattle.sgt_classes.specs.Classes.{ReadsFrom}
 use Rattle.sgt_textbook.specs.Textbook.{IsNumbering, operations_of, textbook}
 use Rattle.sgt_textbook.specs.Laws.{ReadsSomewhere, ReadsAgree, AreRecoverable}
 use Rattle.sgt_textbook.proofs.Places.{split_at, in_first, in_second, still}
-use Rattle.sgt_textbook.proofs.Entries.{does, action_on, IsAccess, tells}
+use Rattle.sgt_textbook.proofs.Entries.{does, action_on, IsAccess, reports}
 use Rattle.sgt_textbook.proofs.Histories.{same_key, abort_aborted, aborted_aborts, does_access, commits_in_turn, commit_committed}
 
 store_kind : (kind : Kind) → is_store kind ≡ true → kind ≡ Store
@@ -56,7 +56,7 @@ newest_is number injective (e ∷ past) counts k i w at counted last =
 
     uncounted : (a : Access) → Stored counts k (access_of e) a → i < length (textbook number past) → counts a.by ≡ false
     uncounted a stored within = let p = in_second (textbook number past) (operations_of number e) 0 _
-        ((tells number e.event e.reply).access_there a stored.is) in
+        ((reports number e.event e.reply).access_there a stored.is) in
         last p.0 a.by (omega (arith, within, p.1)) (p.2 ∙ ap₂ (λ (kind : Kind) (key : Key). Some (does a.by (action_on kind (number key))))
         (store_kind a.kind stored.stores) (key_eq-true a.key k stored.same_key))
 
@@ -67,7 +67,7 @@ newest_is number injective (e ∷ past) counts k i w at counted last =
         absurd (both_ways _ (uncounted a stored within) stored.is_counted)
 
 -- who reads from another in the textbook's history has read from it
-reads_from : (number : Key → ℕ) → IsNumbering number → (s : Setting) (past : List Entry) → Legal s past → (i k x w r : ℕ) → r ≢ w
+reads_from : (number : Key → ℕ) → IsNumbering number → (s : Configuration) (past : List Entry) → Legal s past → (i k x w r : ℕ) → r ≢ w
     → ReadsFrom (textbook number past) i k x w r → ReadFrom past r w
 reads_from number injective s [] h i k x w r apart reads = absurd (cc reads.read)
 reads_from number injective s (e ∷ past) h i k x w r apart reads =
@@ -105,7 +105,7 @@ reads_from number injective s (e ∷ past) h i k x w r apart reads =
         absurd (reads.standing (a.0, omega (arith, within, place), there a.0 w action.Abort a.1))
 
     now : (m : ℕ) → k ≡ length was + m → IsAccess number e.event e.reply m r Look x → LooksFrom past (access_of e) r w
-    now m behind a = let place : k ≡ length was = (let f = a.first in omega (arith, behind, f)) in
+    now m following a = let place : k ≡ length was = (let f = a.first in omega (arith, following, f)) in
         subst (λ o. LooksFrom past o r w) (sym a.is) (
           a.kind_is,
           a.by,
@@ -158,7 +158,7 @@ last_write number injective (e ∷ past) counts k w by =
       ];
     }
     go rest (Some a) is by = let stored = stores-some counts k (access_of e) a is in
-        let p = in_second (textbook number past) (operations_of number e) 0 _ ((tells number e.event e.reply).access_there a stored.is) in
+        let p = in_second (textbook number past) (operations_of number e) 0 _ ((reports number e.event e.reply).access_there a stored.is) in
         record {
           place = p.0;
           write = p.2 ∙ ap₂ (λ (kind : Kind) (key : Key). Some (does a.by (action_on kind (number key))))
@@ -173,7 +173,7 @@ last_write number injective (e ∷ past) counts k w by =
         }
 
 -- who has read from another reads from it in the textbook's history
-reads_back : (number : Key → ℕ) → IsNumbering number → (s : Setting) (past : List Entry) → Legal s past → (w r : ℕ) → ReadFrom past r w
+reads_back : (number : Key → ℕ) → IsNumbering number → (s : Configuration) (past : List Entry) → Legal s past → (w r : ℕ) → ReadFrom past r w
     → ReadsSomewhere (textbook number past) w r
 reads_back number injective s [] h w r from = absurd from
 reads_back number injective s (e ∷ past) h w r (inr before) = let o = reads_back number injective s past h.0 w r before in
@@ -209,18 +209,18 @@ reads_back number injective s (e ∷ past) h w r (inl now) = go (access_of e) re
       read = at ∙ ap₂ (λ (kind : Kind) (v : ℕ). Some (does v (action_on kind (number a.key)))) is_look by;
       standing = λ b. both_ways (aborted past w) (not-true (aborted past w) l.counted) (abort_aborted number s past h.0 b.0 w
           (still (textbook number past) (operations_of number e) b.0 _ (let less = b.1 in omega (arith, less, place)) b.2));
-      last = λ m t above below write. behind t (not-false (aborted past t) (l.last m t above
+      last = λ m t above below write. following t (not-false (aborted past t) (l.last m t above
           (still (textbook number past) (operations_of number e) m _ (omega (arith, below, place)) write)));
     }
       where
-        behind : (t : ℕ) → aborted past t ≡ true → AbortedBefore (textbook number (e ∷ past)) t k
-        behind t ended = let b = aborted_aborts number past t ended in let less = slice_get_within (textbook number past) b.0 _ b.1 in
+        following : (t : ℕ) → aborted past t ≡ true → AbortedBefore (textbook number (e ∷ past)) t k
+        following t ended = let b = aborted_aborts number past t ended in let less = slice_get_within (textbook number past) b.0 _ b.1 in
             (b.0, omega (arith, less, place), in_first (textbook number past) (operations_of number e) b.0 _ b.1)
 
     go : (o : Option Access) → access_of e ≡ o → LooksFrom past o r w → ReadsSomewhere (textbook number (e ∷ past)) w r
     go None is from = absurd from
     go (Some a) is from = let l = last_write number injective past (λ v. not (aborted past v)) a.key w from.2 in
-        let p = in_second (textbook number past) (operations_of number e) 0 _ ((tells number e.event e.reply).access_there a is) in
+        let p = in_second (textbook number past) (operations_of number e) 0 _ ((reports number e.event e.reply).access_there a is) in
         (l.place, p.0, number a.key, look a from.0 from.1 l p.0 (here a p.0 p.1 p.2) p.2)
 
 pub reads_agree : ReadsAgree

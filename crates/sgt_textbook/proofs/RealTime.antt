@@ -4,7 +4,7 @@ use Rattle.std.proofs.Common.{inl, inr, arith}
 use Rattle.sgt_model.specs.declared.entry.Entry.{Entry}
 use Rattle.sgt_model.specs.Contents.{Key}
 use Rattle.sgt_model.specs.CommitOrder.{CommitsBefore}
-use Rattle.sgt_model.specs.Settings.{Setting}
+use Rattle.sgt_model.specs.Configurations.{Configuration}
 use Rattle.sgt_model.specs.Legality.{Legal}
 use Rattle.sgt_model.specs.Laws.{CommitsAlwaysInOrder, CommitsAlwaysInLine}
 use Rattle.sgt_classes.specs.declared.operation.Action.TheVariants as action
@@ -18,7 +18,7 @@ use Rattle.sgt_textbook.proofs.SerialOrder.{listed_in_turn, commit_order_serial}
 use Rattle.sgt_textbook.specs.Laws.{CommitOrdersKeepRealTime, AreStrictlySerializable}
 
 -- who did all before another did anything commits first
-commits_first : CommitsAlwaysInLine → (number : Key → ℕ) (s : Setting) (past : List Entry) → Legal s past → (t u : ℕ) → t ≢ u
+commits_first : CommitsAlwaysInLine → (number : Key → ℕ) (s : Configuration) (past : List Entry) → Legal s past → (t u : ℕ) → t ≢ u
     → (first : Commits (textbook number past) t) → (second : Commits (textbook number past) u)
     → IsWhollyBefore (textbook number past) t u → CommitsBefore past t u
 commits_first in_line number s past h t u apart (i, ti) (j, uj) wholly =

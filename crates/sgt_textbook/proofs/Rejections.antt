@@ -3,7 +3,7 @@ use Rattle.std.specs.Prelude.{◌≢◌, ℕ, ◌⊎◌, List, [], ◌∷◌, �
 use Rattle.std.proofs.Common.{refl, inl, inr}
 use Rattle.sgt_model.specs.declared.entry.Entry.{Entry}
 use Rattle.sgt_model.specs.Contents.{Key}
-use Rattle.sgt_model.specs.Walks.{PathOf, last_of, Member}
+use Rattle.sgt_model.specs.Paths.{PathOf, last_of, Member}
 use Rattle.sgt_model.specs.Pairs.{Precedes, Pair}
 use Rattle.sgt_classes.specs.declared.operation.Operation.{Operation}
 use Rattle.sgt_classes.specs.declared.operation.Action.TheVariants as action

@@ -6,7 +6,7 @@ use Rattle.sgt_model.specs.declared.reply.Fate.TheVariants as fate
 use Rattle.sgt_model.specs.declared.entry.Entry.{Entry}
 use Rattle.sgt_model.specs.Contents.{Key}
 use Rattle.sgt_model.specs.Fates.{ending_in, fate_of, has_committed, committed}
-use Rattle.sgt_model.specs.Settings.{Setting}
+use Rattle.sgt_model.specs.Configurations.{Configuration}
 use Rattle.sgt_model.specs.Legality.{Legal}
 use Rattle.sgt_model.specs.CommitOrder.{CommitsBefore}
 use Rattle.sgt_model.specs.Laws.{CommitsAlwaysInOrder, CommitsAlwaysInLine}
@@ -15,22 +15,22 @@ use Rattle.sgt_classes.specs.declared.operation.Action.TheVariants as action
 use Rattle.sgt_classes.specs.Serializability.{IsSerialOrder}
 use Rattle.sgt_textbook.specs.Textbook.{IsNumbering, textbook, committed_in, commit_order}
 use Rattle.sgt_textbook.proofs.Places.{split_at, in_first, in_second}
-use Rattle.sgt_textbook.proofs.Entries.{tells}
+use Rattle.sgt_textbook.proofs.Entries.{reports}
 use Rattle.sgt_textbook.proofs.Histories.{commit_committed, committed_commits, conflict_commits}
 
 -- a transaction whose reply is a commit does commit
 now_commits : (number : Key → ℕ) (e : Entry) (j t : ℕ) → slice_get (committed_in e.event e.reply) j ≡ Some t
     → (j ≡ 0) × (ending_in e.event e.reply t ≡ Some fate.Committed)
-now_commits number e j t at = let d = (tells number e.event e.reply).commit_does j t at in
-    (d.0, (tells number e.event e.reply).told j t action.Commit d.1)
+now_commits number e j t at = let d = (reports number e.event e.reply).commit_does j t at in
+    (d.0, (reports number e.event e.reply).reported j t action.Commit d.1)
 
 -- and had not committed before
-once_only : (s : Setting) (e : Entry) (past : List Entry) → Legal s (e ∷ past) → (t : ℕ)
+once_only : (s : Configuration) (e : Entry) (past : List Entry) → Legal s (e ∷ past) → (t : ℕ)
     → ending_in e.event e.reply t ≡ Some fate.Committed → committed past t ≡ true → ⊥
 once_only s e past h t now before = live-not_committed past t (end-live s past e.event e.reply h.1 t fate.Committed now) before
 
 -- who stands in the order of commits is committed
-listed_committed : (number : Key → ℕ) (s : Setting) (past : List Entry) → Legal s past → (i t : ℕ)
+listed_committed : (number : Key → ℕ) (s : Configuration) (past : List Entry) → Legal s past → (i t : ℕ)
     → slice_get (commit_order past) i ≡ Some t → committed past t ≡ true
 listed_committed number s [] h i t at = absurd (cc)
 listed_committed number s (e ∷ past) h i t at = elim (split_at (commit_order past) (committed_in e.event e.reply) i t at) [
@@ -43,7 +43,7 @@ committed_listed : (number : Key → ℕ) (past : List Entry) (t : ℕ) → comm
     → (i : ℕ) × (slice_get (commit_order past) i ≡ Some t)
 committed_listed number [] t c = absurd (cc)
 committed_listed number (e ∷ past) t c = elim (commit-case e past t c) [
-  | inl now ↦ let there = (tells number e.event e.reply).commit_there t now in
+  | inl now ↦ let there = (reports number e.event e.reply).commit_there t now in
       let p = in_second (commit_order past) (committed_in e.event e.reply) 0 t there in (p.0, p.2)
   | inr before ↦ let p = committed_listed number past t before.1 in
       (p.0, in_first (commit_order past) (committed_in e.event e.reply) p.0 t p.1)
@@ -54,14 +54,14 @@ abbrev Placed : Entry → List Entry → ℕ → ℕ → Type 0
 Placed e past i t = ((i < length (commit_order past)) × (slice_get (commit_order past) i ≡ Some t) × (committed past t ≡ true))
     ⊎ ((i ≡ length (commit_order past)) × (ending_in e.event e.reply t ≡ Some fate.Committed))
 
-placed : (number : Key → ℕ) (s : Setting) (e : Entry) (past : List Entry) → Legal s past → (i t : ℕ)
+placed : (number : Key → ℕ) (s : Configuration) (e : Entry) (past : List Entry) → Legal s past → (i t : ℕ)
     → slice_get (commit_order (e ∷ past)) i ≡ Some t → Placed e past i t
 placed number s e past h i t at = elim (split_at (commit_order past) (committed_in e.event e.reply) i t at) [
   | inl old ↦ inl (old.0, old.1, listed_committed number s past h i t old.1)
   | inr new ↦ let now = now_commits number e new.0 t new.2 in inr ((let p = new.1 in let z = now.0 in omega (arith, p, z)), now.1)
 ]
 
-listed_once : (number : Key → ℕ) (s : Setting) (past : List Entry) → Legal s past → (i j t : ℕ) → slice_get (commit_order past) i ≡ Some t
+listed_once : (number : Key → ℕ) (s : Configuration) (past : List Entry) → Legal s past → (i j t : ℕ) → slice_get (commit_order past) i ≡ Some t
     → slice_get (commit_order past) j ≡ Some t → i ≡ j
 listed_once number s [] h i j t first second = absurd (cc)
 listed_once number s (e ∷ past) h i j t first second = go (λ a b. listed_once number s past h.0 i j t a b)
@@ -75,7 +75,7 @@ listed_once number s (e ∷ past) h i j t first second = go (λ a b. listed_once
     go rest (inr a) (inr b) = a.0 ∙ sym b.0
 
 -- who commits before another stands before it
-pub listed_in_turn : CommitsAlwaysInLine → (number : Key → ℕ) (s : Setting) (past : List Entry) → Legal s past → (i j t u : ℕ)
+pub listed_in_turn : CommitsAlwaysInLine → (number : Key → ℕ) (s : Configuration) (past : List Entry) → Legal s past → (i j t u : ℕ)
     → CommitsBefore past t u → slice_get (commit_order past) i ≡ Some t → slice_get (commit_order past) j ≡ Some u → i < j
 listed_in_turn in_line number s [] h i j t u b first second = absurd b
 listed_in_turn in_line number s (e ∷ past) h i j t u b first second =
@@ -91,7 +91,7 @@ listed_in_turn in_line number s (e ∷ past) h i j t u b first second =
     go rest (inr b) (inl x) (inr y) = let p = y.0 in omega (arith, x.0, p)
     go rest (inr b) (inr x) y = absurd (once_only s e past h t x.1 ((in_line s past h.0).of_committed t u b).0)
 
-pub commit_order_serial : CommitsAlwaysInOrder → CommitsAlwaysInLine → (number : Key → ℕ) → IsNumbering number → (s : Setting)
+pub commit_order_serial : CommitsAlwaysInOrder → CommitsAlwaysInLine → (number : Key → ℕ) → IsNumbering number → (s : Configuration)
     (past : List Entry) → Legal s past → IsSerialOrder (textbook number past) (commit_order past)
 commit_order_serial in_order in_line number injective s past h = record {
   once = listed_once number s past h;

@@ -5,7 +5,7 @@ use Rattle.sgt_model.specs.Contents.{Key}
 use Rattle.sgt_model.specs.Fates.{committed}
 use Rattle.sgt_model.specs.ReadFrom.{ReadFrom}
 use Rattle.sgt_model.specs.Pairs.{Pair}
-use Rattle.sgt_model.specs.Settings.{Setting}
+use Rattle.sgt_model.specs.Configurations.{Configuration}
 use Rattle.sgt_model.specs.Legality.{Legal}
 use Rattle.sgt_model.specs.Laws.{InEach}
 use Rattle.sgt_classes.specs.declared.operation.Operation.{Operation}
@@ -86,4 +86,4 @@ KeysCanBeNumbered = (number : Key → ℕ) × IsNumbering number
 -- the textbook's history of some legal one does not avoid cascading aborts, and so is not strict
 abbrev pub SomeCascade : Type 0
 SomeCascade =
-    (s : Setting) × (past : List Entry) × Legal s past × ((number : Key → ℕ) → ¬ AvoidsCascadingAborts (textbook number past))
+    (s : Configuration) × (past : List Entry) × Legal s past × ((number : Key → ℕ) → ¬ AvoidsCascadingAborts (textbook number past))

@@ -6,7 +6,7 @@ use Rattle.sgt_model.specs.declared.event.Event.{Event}
 use Rattle.sgt_model.specs.declared.reply.Reply.{Reply}
 use Rattle.sgt_model.specs.declared.kind.Kind.{Kind}
 use Rattle.sgt_model.specs.Contents.{Key}
-use Rattle.sgt_model.specs.Walks.{Member}
+use Rattle.sgt_model.specs.Paths.{Member}
 use Rattle.sgt_model.specs.Accesses.{access_of}
 use Rattle.sgt_model.specs.Fates.{live, live_ones}
 use Rattle.sgt_model.specs.Falls.{Falls}

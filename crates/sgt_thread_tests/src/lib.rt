@@ -7,10 +7,10 @@
 #[cfg(test)]
 mod engine;
 #[cfg(test)]
-mod feed;
-#[cfg(test)]
 mod outcomes;
 #[cfg(test)]
 mod plays;
+#[cfg(test)]
+mod queue;
 #[cfg(test)]
 mod sessions;

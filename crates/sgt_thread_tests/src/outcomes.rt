@@ -93,7 +93,7 @@ fn tids_of(alloc: Global, digits: &str) -> Result<Vec<Tid>, NoMemory> {
 }
 
 /// The outcome of a job by its name, with an entry's number or digits of transactions; none if it is no such name.
-fn told(alloc: Global, name: &str, digits: &str) -> Option<Outcome<u8>> {
+fn reported(alloc: Global, name: &str, digits: &str) -> Option<Outcome<u8>> {
     let entry = digits.parse::<u64>().unwrap_or(0);
     match name {
         "done" => Some(Outcome::Done(entry)),
@@ -124,11 +124,11 @@ struct Claims {
 }
 
 /// Adds a job, if a word names its call, or the outcome that the word names.
-fn add_told(alloc: Global, all: &mut Claims, word: &str) -> Option<()> {
+fn add_reported(alloc: Global, all: &mut Claims, word: &str) -> Option<()> {
     let (name, digits) = parts(word);
     match call(name) {
         Some(call) => all.jobs.push(job(all.jobs.len(), call)).ok(),
-        None => all.outcomes.push(told(alloc, name, digits)?).ok(),
+        None => all.outcomes.push(reported(alloc, name, digits)?).ok(),
     }
 }
 
@@ -139,7 +139,7 @@ fn claims_of(alloc: Global, words: &str) -> Option<Claims> {
         outcomes: Vec::new(alloc),
     };
     for word in words.split_ascii_whitespace() {
-        add_told(alloc, &mut all, word)?;
+        add_reported(alloc, &mut all, word)?;
     }
     Some(all)
 }
@@ -209,7 +209,7 @@ fn first_wrong_after<'a>(alloc: Global, deeds: &str, table: &'a str) -> &'a str 
 /// What is shown; the events of an engine; and a table of outcomes. A line of the table says whether they are true.
 /// Then come the numbers of workers and of tries, and after an arrow the call of each job with its outcome.
 ///
-/// An event word is the start of a call with steps of these transactions, or their steps, commits or quits alone.
+/// An event word is the start of a call with steps of these transactions, or their steps, commits or aborts alone.
 type Row = (&'static str, &'static str, &'static str);
 
 const ROWS: [Row; 5] = [

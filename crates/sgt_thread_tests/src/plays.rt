@@ -27,8 +27,8 @@ pub enum Play {
     /// One calls a commit that has to wait.
     AskAtOnce,
     /// The first deposits twice, and two others ask for the balance meanwhile.
-    AskBehindTwo,
-    /// The first deposits and then quits. The second, which has read the deposit, waits meanwhile.
+    AskAfterTwo,
+    /// The first deposits and then aborts. The second, which has read the deposit, waits meanwhile.
     WaitForQuit,
     /// The first writes and raises a code at its commit. The second, which has read what it wrote, waits meanwhile.
     WaitForRefusal,
@@ -40,7 +40,7 @@ enum Deed {
     /// Starts a transaction of this procedure with these arguments, and makes three steps.
     Starts(u16, &'static [i64]),
     /// Signals to the others that it has come this far.
-    Tells,
+    Says,
     /// Waits for the signal of this seat's thread. If it does not come in time, the thread does nothing more.
     Needs(usize),
     /// Waits for the signal of this seat's thread, as long as there is time.
@@ -54,21 +54,21 @@ enum Deed {
     Commits(u32),
     /// Goes on only if its session has this many receipts.
     Counts(usize),
-    /// Quits a transaction.
+    /// Aborts a transaction.
     Quits(u32),
     /// Starts a transaction of this procedure with these arguments, and makes one step.
     StartsShort(u16, &'static [i64]),
     /// Signals to the others that its last call has returned.
-    TellsEnd,
+    ReportsEnd,
     /// Checks for that signal of the second seat's thread. If it does not come in time, starts one more transaction and
     /// commits it. So a thread that no end has woken goes on, and the play ends.
     WakesUnlessEnded,
 }
 
-/// Deposits 1.00, and commits once the other has asked to commit.
+/// Deposits 1.00, and commits once the other has requested its commit.
 const DEPOSITS: [Deed; 5] = [
     Deed::Starts(DEPOSIT_CHECKING, &[1, 100]),
-    Deed::Tells,
+    Deed::Says,
     Deed::Awaits(1),
     Deed::LetsCall(0, 5),
     Deed::Commits(0),
@@ -79,7 +79,7 @@ const DEPOSITS: [Deed; 5] = [
 const PUTS_IN_TWICE: [Deed; 9] = [
     Deed::Starts(DEPOSIT_CHECKING, &[1, 100]),
     Deed::Starts(TRANSACT_SAVING, &[1, 50]),
-    Deed::Tells,
+    Deed::Says,
     Deed::Awaits(1),
     Deed::Awaits(2),
     Deed::LetsCall(1, 12),
@@ -92,7 +92,7 @@ const PUTS_IN_TWICE: [Deed; 9] = [
 const ASKS: [Deed; 4] = [
     Deed::Needs(0),
     Deed::Starts(BALANCE, &[1]),
-    Deed::Tells,
+    Deed::Says,
     Deed::Commits(0),
 ];
 
@@ -101,13 +101,13 @@ const ASKS_TWICE: [Deed; 5] = [
     Deed::Needs(0),
     Deed::Starts(BALANCE, &[1]),
     Deed::CallsCommit(0),
-    Deed::Tells,
+    Deed::Says,
     Deed::Commits(0),
 ];
 
 /// Asks for a balance after an own deposit. A call of that commit returns at once, with one receipt; then both are
 /// committed.
-const ASKS_BEHIND_OWN: [Deed; 6] = [
+const ASKS_AFTER_OWN: [Deed; 6] = [
     Deed::Starts(DEPOSIT_CHECKING, &[1, 100]),
     Deed::Starts(BALANCE, &[1]),
     Deed::CallsCommit(0),
@@ -116,10 +116,10 @@ const ASKS_BEHIND_OWN: [Deed; 6] = [
     Deed::CallsCommit(0),
 ];
 
-/// Deposits 1.00, and quits once the other has asked to commit. Its end must wake the other.
+/// Deposits 1.00, and aborts once the other has requested its commit. Its end must wake the other.
 const DEPOSITS_AND_QUITS: [Deed; 6] = [
     Deed::Starts(DEPOSIT_CHECKING, &[1, 100]),
-    Deed::Tells,
+    Deed::Says,
     Deed::Awaits(1),
     Deed::LetsCall(0, 5),
     Deed::Quits(0),
@@ -128,19 +128,19 @@ const DEPOSITS_AND_QUITS: [Deed; 6] = [
 
 /// Asks for the balance once all is written, commits after those that it has read from, and signals when that call has
 /// returned.
-const ASKS_AND_TELLS: [Deed; 5] = [
+const ASKS_AND_REPORTS: [Deed; 5] = [
     Deed::Needs(0),
     Deed::Starts(BALANCE, &[1]),
-    Deed::Tells,
+    Deed::Says,
     Deed::Commits(0),
-    Deed::TellsEnd,
+    Deed::ReportsEnd,
 ];
 
-/// Writes, and commits once the other has asked to commit. Its procedure raises a code, so the commit is refused, and
-/// that end must wake the other.
+/// Writes, and commits once the other has requested its commit. Its procedure raises a code, so the commit is refused,
+/// and that end must wake the other.
 const STORES_AND_RAISES: [Deed; 6] = [
     Deed::StartsShort(PUT_AND_RAISE, &[]),
-    Deed::Tells,
+    Deed::Says,
     Deed::Awaits(1),
     Deed::LetsCall(0, 3),
     Deed::Commits(0),
@@ -148,12 +148,12 @@ const STORES_AND_RAISES: [Deed; 6] = [
 ];
 
 /// Reads what was written, commits after the writer, and signals when that call has returned.
-const READS_AND_TELLS: [Deed; 5] = [
+const READS_AND_REPORTS: [Deed; 5] = [
     Deed::Needs(0),
     Deed::StartsShort(READ_IT, &[]),
-    Deed::Tells,
+    Deed::Says,
     Deed::Commits(0),
-    Deed::TellsEnd,
+    Deed::ReportsEnd,
 ];
 
 /// The script of this seat's thread in a play.
@@ -161,13 +161,13 @@ fn deeds(play: Play, seat: usize) -> &'static [Deed] {
     match (play, seat) {
         (Play::Meet, 0) => &DEPOSITS,
         (Play::Meet, _) => &ASKS,
-        (Play::AskAtOnce, _) => &ASKS_BEHIND_OWN,
-        (Play::AskBehindTwo, 0) => &PUTS_IN_TWICE,
-        (Play::AskBehindTwo, _) => &ASKS_TWICE,
+        (Play::AskAtOnce, _) => &ASKS_AFTER_OWN,
+        (Play::AskAfterTwo, 0) => &PUTS_IN_TWICE,
+        (Play::AskAfterTwo, _) => &ASKS_TWICE,
         (Play::WaitForQuit, 0) => &DEPOSITS_AND_QUITS,
-        (Play::WaitForQuit, _) => &ASKS_AND_TELLS,
+        (Play::WaitForQuit, _) => &ASKS_AND_REPORTS,
         (Play::WaitForRefusal, 0) => &STORES_AND_RAISES,
-        (Play::WaitForRefusal, _) => &READS_AND_TELLS,
+        (Play::WaitForRefusal, _) => &READS_AND_REPORTS,
     }
 }
 
@@ -176,7 +176,7 @@ fn deeds(play: Play, seat: usize) -> &'static [Deed] {
 #[derive(Drop)]
 struct Stage {
     play: Play,
-    has_told: [AtomicBool; 3],
+    has_reported: [AtomicBool; 3],
     /// Whether the last call of the second seat's thread has returned.
     has_ended: AtomicBool,
 }
@@ -299,8 +299,8 @@ fn wakes_unless_ended<N: Named, W: Wait>(
 }
 
 /// The transaction after which a thread has started this many.
-fn before(newest: Tid, behind: u32) -> Tid {
-    Tid(newest.0.saturating_sub(behind))
+fn before(newest: Tid, following: u32) -> Tid {
+    Tid(newest.0.saturating_sub(following))
 }
 
 /// Does a step of the script by the session, and returns whether to go on.
@@ -315,23 +315,23 @@ fn does<N: Named, W: Wait>(
         Deed::Starts(procedure, args) => {
             starts(rt, shared, session, newest, start(*procedure, args))
         }
-        Deed::LetsCall(behind, others) => {
-            lets_others_call(rt, shared, session, before(*newest, *behind), *others)
+        Deed::LetsCall(following, others) => {
+            lets_others_call(rt, shared, session, before(*newest, *following), *others)
         }
-        Deed::CallsCommit(behind) => {
+        Deed::CallsCommit(following) => {
             session
-                .make(rt, shared, &Event::Commit(before(*newest, *behind)))
+                .make(rt, shared, &Event::Commit(before(*newest, *following)))
                 .is_ok()
         }
-        Deed::Commits(behind) => {
+        Deed::Commits(following) => {
             session
-                .make_commit(rt, shared, before(*newest, *behind))
+                .make_commit(rt, shared, before(*newest, *following))
                 .is_ok()
         }
         Deed::Counts(count) => session.receipts().len() == *count,
-        Deed::Quits(behind) => {
+        Deed::Quits(following) => {
             session
-                .make(rt, shared, &Event::Quit(before(*newest, *behind)))
+                .make(rt, shared, &Event::Quit(before(*newest, *following)))
                 .is_ok()
         }
         Deed::StartsShort(procedure, args) => {
@@ -343,17 +343,20 @@ fn does<N: Named, W: Wait>(
 
 /// The flag of a seat.
 fn flag(stage: &Stage, seat: usize) -> &AtomicBool {
-    stage.has_told.get(seat).unwrap_or(&stage.has_told[0])
+    stage
+        .has_reported
+        .get(seat)
+        .unwrap_or(&stage.has_reported[0])
 }
 
 /// Does a step of the script beside the session, and returns whether to go on.
 fn meets(stage: &Stage, seat: usize, deed: &Deed) -> bool {
     match deed {
-        Deed::Tells => {
+        Deed::Says => {
             flag(stage, seat).store(true, Ordering::SeqCst);
             true
         }
-        Deed::TellsEnd => {
+        Deed::ReportsEnd => {
             stage.has_ended.store(true, Ordering::SeqCst);
             true
         }
@@ -394,7 +397,7 @@ pub fn all_play<N: Named + Send + Sync, R: Threads + Wait + Sync>(
 ) {
     let stage = Stage {
         play,
-        has_told: [
+        has_reported: [
             AtomicBool::new(false),
             AtomicBool::new(false),
             AtomicBool::new(false),

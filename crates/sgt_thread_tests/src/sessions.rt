@@ -1,6 +1,6 @@
 //! Sessions: threads that share one engine, and the replies that their transactions get.
 ghost use Rattle.std.specs.Prelude.{◌≡◌, ◌≤◌, [], IsTrue};
-ghost use Rattle.sgt_engine.specs.EngineView.{setting_of};
+ghost use Rattle.sgt_engine.specs.EngineView.{configuration_of};
 
 use crate::engine::{ListEngine, SharedEngine, new_engine, new_engine_at_commit};
 use crate::plays::{Play, all_play};
@@ -89,7 +89,7 @@ fn run<N: Named + Send + Sync, R: Threads + Wait + Sync>(
     threads: u16,
     play: Play,
 ) -> Option<ListEngine>
-    requires setting { setting_of engine.value ≡ N.setting }
+    requires configuration { configuration_of engine.value ≡ N.configuration }
     requires empty { engine.value.past ≡ [] }
     requires blank { (blank.name ≡ N.name) × (blank.parts ≡ N.parts) × (blank.parts ≡ threads) }
     requires threads { (N.sessions ≡ threads) × (1 ≤ threads) × (threads ≤ 64) }
@@ -138,7 +138,7 @@ fn is_cut(alloc: Global, engine: &mut ListEngine) -> bool
 }
 
 /// Two new sessions meet on the engine after a cut.
-fn met_behind_a_cut<R: Threads + Wait + Sync>(
+fn met_after_a_cut<R: Threads + Wait + Sync>(
     rt: &R,
     alloc: Global,
     engine: ListEngine,
@@ -151,13 +151,13 @@ fn met_behind_a_cut<R: Threads + Wait + Sync>(
 }
 
 /// Two threads meet, and two new sessions after a cut.
-fn left_behind_a_cut<R: Threads + Wait + Sync>(rt: &R, alloc: Global) -> Option<ListEngine> {
-    met_behind_a_cut(rt, alloc, left_by(rt, alloc, 2, Play::Meet)?)
+fn left_after_a_cut<R: Threads + Wait + Sync>(rt: &R, alloc: Global) -> Option<ListEngine> {
+    met_after_a_cut(rt, alloc, left_by(rt, alloc, 2, Play::Meet)?)
 }
 
 /// The compared part of a reply.
 #[derive(Clone, Copy, PartialEq, Eq)]
-enum Told {
+enum Reported {
     Started,
     Looked(Option<i64>),
     Wrote(Option<i64>),
@@ -170,29 +170,29 @@ enum Told {
 }
 
 /// The compared part of the reply to a step.
-fn stepped(reply: &Reply) -> Option<Told> {
+fn stepped(reply: &Reply) -> Option<Reported> {
     match reply {
-        Reply::Looked { value, .. } => Some(Told::Looked(*value)),
-        Reply::Wrote { value, .. } => Some(Told::Wrote(*value)),
+        Reply::Looked { value, .. } => Some(Reported::Looked(*value)),
+        Reply::Wrote { value, .. } => Some(Reported::Wrote(*value)),
         _ => None,
     }
 }
 
 /// The compared part of the reply to a commit.
-fn ended(reply: &Reply) -> Option<Told> {
+fn ended(reply: &Reply) -> Option<Reported> {
     match reply {
-        Reply::Waits(first) => Some(Told::Waits(first.0)),
-        Reply::Committed(answers) => Some(Told::Committed(answers.as_slice().first().copied())),
-        Reply::Refused { code, .. } => Some(Told::Refused(*code)),
-        Reply::Over(Fate::Fell(first)) => Some(Told::Fell(first.0)),
+        Reply::Waits(first) => Some(Reported::Waits(first.0)),
+        Reply::Committed(answers) => Some(Reported::Committed(answers.as_slice().first().copied())),
+        Reply::Refused { code, .. } => Some(Reported::Refused(*code)),
+        Reply::Over(Fate::Fell(first)) => Some(Reported::Fell(first.0)),
         _ => None,
     }
 }
 
-/// The compared part of the reply to a quit. None for a transaction that has ended.
-fn quit(reply: &Reply) -> Option<Told> {
+/// The compared part of the reply to an abort. None for a transaction that has ended.
+fn quit(reply: &Reply) -> Option<Reported> {
     match reply {
-        Reply::Aborted { .. } => Some(Told::Quit),
+        Reply::Aborted { .. } => Some(Reported::Quit),
         _ => None,
     }
 }
@@ -206,9 +206,9 @@ fn is_started(reply: &Reply, t: Tid) -> bool {
 }
 
 /// The compared part of an entry of a transaction: its start, its accesses, and its commits.
-fn compared(entry: &Entry, t: Tid) -> Option<Told> {
+fn compared(entry: &Entry, t: Tid) -> Option<Reported> {
     match &entry.event {
-        Event::Start { .. } if is_started(&entry.reply, t) => Some(Told::Started),
+        Event::Start { .. } if is_started(&entry.reply, t) => Some(Reported::Started),
         Event::Step(s) if *s == t => stepped(&entry.reply),
         Event::Commit(s) if *s == t => ended(&entry.reply),
         Event::Quit(s) if *s == t => quit(&entry.reply),
@@ -217,7 +217,7 @@ fn compared(entry: &Entry, t: Tid) -> Option<Told> {
 }
 
 /// Whether the reply with this number is this.
-fn is_at(all: &[Told], number: usize, one: &Told) -> bool {
+fn is_at(all: &[Reported], number: usize, one: &Reported) -> bool {
     match all.get(number) {
         Some(other) => *other == *one,
         None => false,
@@ -226,8 +226,8 @@ fn is_at(all: &[Told], number: usize, one: &Told) -> bool {
 
 /// Whether this is one more `Waits` for the same transaction as the last of these. It occurs after a wake without
 /// cause, which a commit may have.
-fn waits_again(all: &[Told], count: usize, one: &Told) -> bool {
-    matches!(one, Told::Waits(_)) && count > 0 && is_at(all, count - 1, one)
+fn waits_again(all: &[Reported], count: usize, one: &Reported) -> bool {
+    matches!(one, Reported::Waits(_)) && count > 0 && is_at(all, count - 1, one)
 }
 
 /// How often a commit may get one more `Waits` for the same transaction. A wake without cause is rare. A commit that
@@ -235,7 +235,7 @@ fn waits_again(all: &[Told], count: usize, one: &Told) -> bool {
 const MOST_REPEATS: u32 = 8;
 
 /// Whether the transaction got exactly these replies, each wait once or a few times more.
-fn is_told(history: &History, t: Tid, all: &[Told]) -> bool {
+fn is_reported(history: &History, t: Tid, all: &[Reported]) -> bool {
     let mut count: usize = 0;
     let mut repeats: u32 = 0;
     for place in 0..history.len() {
@@ -254,9 +254,9 @@ fn is_told(history: &History, t: Tid, all: &[Told]) -> bool {
 }
 
 /// Whether each of these transactions got exactly these replies.
-fn all_told(history: &History, all: &[(u32, &[Told])]) -> bool {
-    for (t, told) in all {
-        if !is_told(history, Tid(*t), told) {
+fn all_reported(history: &History, all: &[(u32, &[Reported])]) -> bool {
+    for (t, reported) in all {
+        if !is_reported(history, Tid(*t), reported) {
             return false;
         }
     }
@@ -264,74 +264,83 @@ fn all_told(history: &History, all: &[(u32, &[Told])]) -> bool {
 }
 
 /// Whether each of these transactions of an engine got exactly these replies.
-fn are_told(engine: Option<ListEngine>, all: &[(u32, &[Told])]) -> bool {
+fn are_reported(engine: Option<ListEngine>, all: &[(u32, &[Reported])]) -> bool {
     match engine {
-        Some(engine) => all_told(engine.history(), all),
+        Some(engine) => all_reported(engine.history(), all),
         None => false,
     }
 }
 
-const DEPOSITED: [Told; 5] = [
-    Told::Started,
-    Told::Looked(Some(101)),
-    Told::Looked(Some(1000)),
-    Told::Wrote(Some(1100)),
-    Told::Committed(Some(1100)),
+const DEPOSITED: [Reported; 5] = [
+    Reported::Started,
+    Reported::Looked(Some(101)),
+    Reported::Looked(Some(1000)),
+    Reported::Wrote(Some(1100)),
+    Reported::Committed(Some(1100)),
 ];
 
 /// The third read finds what is not committed yet.
-const ASKED: [Told; 6] = [
-    Told::Started,
-    Told::Looked(Some(101)),
-    Told::Looked(Some(500)),
-    Told::Looked(Some(1100)),
-    Told::Waits(0),
-    Told::Committed(Some(1600)),
+const ASKED: [Reported; 6] = [
+    Reported::Started,
+    Reported::Looked(Some(101)),
+    Reported::Looked(Some(500)),
+    Reported::Looked(Some(1100)),
+    Reported::Waits(0),
+    Reported::Committed(Some(1600)),
 ];
 
 /// It is woken by the end of the first, and has to wait for the second.
-const ASKED_BEHIND_TWO: [Told; 7] = [
-    Told::Started,
-    Told::Looked(Some(101)),
-    Told::Looked(Some(550)),
-    Told::Looked(Some(1100)),
-    Told::Waits(0),
-    Told::Waits(1),
-    Told::Committed(Some(1650)),
+const ASKED_AFTER_TWO: [Reported; 7] = [
+    Reported::Started,
+    Reported::Looked(Some(101)),
+    Reported::Looked(Some(550)),
+    Reported::Looked(Some(1100)),
+    Reported::Waits(0),
+    Reported::Waits(1),
+    Reported::Committed(Some(1650)),
 ];
 
 /// What is shown, how many threads play what, and the replies that their transactions get. One that is not started gets
 /// none.
-type Row = (&'static str, u16, Play, &'static [(u32, &'static [Told])]);
+type Row = (
+    &'static str,
+    u16,
+    Play,
+    &'static [(u32, &'static [Reported])],
+);
 
-/// The deposit, which is quit once the other waits.
-const QUIT: [Told; 5] = [
-    Told::Started,
-    Told::Looked(Some(101)),
-    Told::Looked(Some(1000)),
-    Told::Wrote(Some(1100)),
-    Told::Quit,
+/// The deposit, which is aborted once the other waits.
+const QUIT: [Reported; 5] = [
+    Reported::Started,
+    Reported::Looked(Some(101)),
+    Reported::Looked(Some(1000)),
+    Reported::Wrote(Some(1100)),
+    Reported::Quit,
 ];
 
-/// It has read the deposit that is quit; its commit returns so.
-const FELL: [Told; 6] = [
-    Told::Started,
-    Told::Looked(Some(101)),
-    Told::Looked(Some(500)),
-    Told::Looked(Some(1100)),
-    Told::Waits(0),
-    Told::Fell(0),
+/// It has read the deposit that is aborted; its commit returns so.
+const FELL: [Reported; 6] = [
+    Reported::Started,
+    Reported::Looked(Some(101)),
+    Reported::Looked(Some(500)),
+    Reported::Looked(Some(1100)),
+    Reported::Waits(0),
+    Reported::Fell(0),
 ];
 
 /// It writes, and is refused at its commit.
-const REFUSED: [Told; 3] = [Told::Started, Told::Wrote(Some(1)), Told::Refused(9)];
+const REFUSED: [Reported; 3] = [
+    Reported::Started,
+    Reported::Wrote(Some(1)),
+    Reported::Refused(9),
+];
 
 /// It has read what the refused one wrote.
-const FELL_WITH_REFUSED: [Told; 4] = [
-    Told::Started,
-    Told::Looked(Some(1)),
-    Told::Waits(0),
-    Told::Fell(0),
+const FELL_WITH_REFUSED: [Reported; 4] = [
+    Reported::Started,
+    Reported::Looked(Some(1)),
+    Reported::Waits(0),
+    Reported::Fell(0),
 ];
 
 const ROWS: [Row; 5] = [
@@ -350,8 +359,8 @@ const ROWS: [Row; 5] = [
     (
         "an end wakes all that wait for it",
         3,
-        Play::AskBehindTwo,
-        &[(2, &ASKED_BEHIND_TWO), (3, &ASKED_BEHIND_TWO)],
+        Play::AskAfterTwo,
+        &[(2, &ASKED_AFTER_TWO), (3, &ASKED_AFTER_TWO)],
     ),
     (
         "a quit wakes who waits for it",
@@ -370,7 +379,7 @@ const ROWS: [Row; 5] = [
 /// What the first row shows whose transactions get any other reply.
 fn first_wrong<R: Threads + Wait + Sync>(rt: &R, alloc: Global, rows: &[Row]) -> &'static str {
     for (what, threads, play, all) in rows {
-        if !are_told(left_by(rt, alloc, *threads, *play), all) {
+        if !are_reported(left_by(rt, alloc, *threads, *play), all) {
             return what;
         }
     }
@@ -378,37 +387,37 @@ fn first_wrong<R: Threads + Wait + Sync>(rt: &R, alloc: Global, rows: &[Row]) ->
 }
 
 #[test]
-fn sessions_are_told_what_they_share(rt: HostRuntime) {
+fn sessions_see_what_they_share(rt: HostRuntime) {
     let wrong = first_wrong(&rt, rt.alloc(), &ROWS);
     assert!(rt; wrong.is_empty(), "{wrong}");
 }
 
 /// The same as two that meet, with the balances that those before them have left.
-const AGAIN: [(u32, &[Told]); 2] = [
+const AGAIN: [(u32, &[Reported]); 2] = [
     (
         0,
         &[
-            Told::Started,
-            Told::Looked(Some(101)),
-            Told::Looked(Some(1100)),
-            Told::Wrote(Some(1200)),
-            Told::Committed(Some(1200)),
+            Reported::Started,
+            Reported::Looked(Some(101)),
+            Reported::Looked(Some(1100)),
+            Reported::Wrote(Some(1200)),
+            Reported::Committed(Some(1200)),
         ],
     ),
     (
         1,
         &[
-            Told::Started,
-            Told::Looked(Some(101)),
-            Told::Looked(Some(500)),
-            Told::Looked(Some(1200)),
-            Told::Waits(0),
-            Told::Committed(Some(1700)),
+            Reported::Started,
+            Reported::Looked(Some(101)),
+            Reported::Looked(Some(500)),
+            Reported::Looked(Some(1200)),
+            Reported::Waits(0),
+            Reported::Committed(Some(1700)),
         ],
     ),
 ];
 
 #[test]
-fn new_sessions_go_on_behind_a_cut(rt: HostRuntime) {
-    assert!(rt; are_told(left_behind_a_cut(&rt, rt.alloc()), &AGAIN));
+fn new_sessions_go_on_after_a_cut(rt: HostRuntime) {
+    assert!(rt; are_reported(left_after_a_cut(&rt, rt.alloc()), &AGAIN));
 }

@@ -15,7 +15,7 @@ use std::alloc::Global;
 /// The height of a row.
 const ROW: usize = 92;
 
-/// The top of the boxes of the first row.
+/// The upper edge of the boxes of the first row.
 const TOP: usize = 40;
 
 /// The least width of a picture.
@@ -144,7 +144,7 @@ impl Layout {
         Ok(())
     }
 
-    /// The top of the transaction's row, which now reaches to a mark with this middle.
+    /// The upper edge of the transaction's row, which now reaches to a mark with this middle.
     fn row_top(&mut self, transaction: u32, middle: usize) -> Result<usize, NoMemory>
         ensures { self.new.marks ≡ self.old.marks }
     {

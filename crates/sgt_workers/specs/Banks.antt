@@ -3,13 +3,13 @@ use Rattle.std.specs.Prelude.{◌≡◌, ℕ, ◌≤◌, List, length, Some, sli
 use Rattle.sgt_model.specs.declared.limits.Limits.{Limits}
 use Rattle.sgt_model.specs.Bounds.{AreInRange}
 use Rattle.sgt_model.specs.Databases.{contents_of}
-use Rattle.sgt_model.specs.Settings.{Setting, setting}
+use Rattle.sgt_model.specs.Configurations.{Configuration, configuration}
 use Rattle.sgt_audit.specs.declared.job.Job.{Job}
 use Rattle.sgt_workers.specs.declared.bank.Bank.{Bank}
 
 -- the configuration of a bank's engine
-abbrev pub engine_setting : Bank → Setting
-engine_setting bank = setting (contents_of bank.opening) bank.procedures.items bank.limits
+abbrev pub engine_configuration : Bank → Configuration
+engine_configuration bank = configuration (contents_of bank.opening) bank.procedures.items bank.limits
 
 -- how many workers there may be
 abbrev pub AreWorkers : ℕ → Type 0

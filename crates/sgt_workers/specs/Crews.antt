@@ -1,6 +1,6 @@
 -- What a pool of workers leaves when it ends.
 use Rattle.std.specs.Prelude.{◌≡◌}
-use Rattle.sgt_dispatch.specs.Ends.{PutterState}
+use Rattle.sgt_dispatch.specs.Ends.{ProducerState}
 use Rattle.sgt_workers.specs.declared.errors.PoolError.{PoolError}
 use Rattle.sgt_workers.specs.declared.errors.PoolError.TheVariants as error
 
@@ -15,5 +15,5 @@ IsRunError error.Spawn = Unit {0}
 IsRunError error.Mismatch = Unit {0}
 
 -- the same feed, with the same takers joined and not joined
-abbrev pub KeepsTakers : PutterState → PutterState → Type 0
-KeepsTakers old new = (new.feed ≡ old.feed) × (new.joined ≡ old.joined) × (new.unjoined ≡ old.unjoined)
+abbrev pub KeepsConsumers : ProducerState → ProducerState → Type 0
+KeepsConsumers old new = (new.queue ≡ old.queue) × (new.joined ≡ old.joined) × (new.unjoined ≡ old.unjoined)

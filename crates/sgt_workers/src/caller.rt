@@ -27,7 +27,7 @@ enum Attempt<X> {
     Halted(Halt<X>),
 }
 
-/// Why a worker stops during an attempt. Its transaction, if live, must be quit.
+/// Why a worker stops during an attempt. Its transaction, if live, must be aborted.
 #[derive(Drop)]
 enum Halt<X> {
     /// The gate makes it leave.
@@ -59,7 +59,7 @@ impl<X> Halt<X> {
     }
 }
 
-/// One worker's session, and the gate that is asked before each call to it.
+/// One worker's session, and the gate that is called before each call to it.
 #[derive(Drop)]
 pub struct Caller<'a, N: Named, R: Records, A: Accesses, G: Graph, T: Gate, W: Wait> {
     pub rt: &'a W,
@@ -159,7 +159,7 @@ impl<'a, N: Named, R: Records, A: Accesses, G: Graph, T: Gate, W: Wait> Caller<
         Ok(())
     }
 
-    /// Asks the gate. Passes how many calls the session has made: as many as it has receipts.
+    /// Calls the gate with the number of calls that the session has made, which is the number of its receipts.
     fn pass(&self) -> Result<(), Halt<T::Note>> {
         match self
             .gate
@@ -170,7 +170,7 @@ impl<'a, N: Named, R: Records, A: Accesses, G: Graph, T: Gate, W: Wait> Caller<
         }
     }
 
-    /// Quits a transaction, so that no other waits for it. If it is live, this allocates nothing and succeeds. If it
+    /// Aborts a transaction, so that no other waits for it. If it is live, this allocates nothing and succeeds. If it
     /// has ended or was aborted in cascade, the reply says so, which is one entry more, or an allocation fails.
     fn quit(&mut self, t: Tid) {
         let _ = self.session.make(self.rt, self.shared, &Event::Quit(t));
@@ -182,10 +182,10 @@ fn attempt_of<X>(t: Tid, number: u64, entry: &EntryRef<'_>) -> Result<Attempt<X>
     if entry.is_commit() {
         return Ok(Attempt::Done(number));
     }
-    if entry.is_ask() {
+    if entry.is_raised() {
         return Ok(Attempt::Asked(number));
     }
-    if entry.is_by_cycle() || entry.tells_fall() {
+    if entry.is_by_cycle() || entry.reports_fall() {
         return Ok(Attempt::Failed(t));
     }
     Err(Halt::Unexpected)

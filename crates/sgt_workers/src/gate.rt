@@ -1,4 +1,4 @@
-//! The gate: asked before each call of a worker, and notified of what becomes of each job.
+//! The gate: called before each call of a worker, and notified of what becomes of each job.
 use sgt_audit::Outcome;
 use sgt_model::Tid;
 
@@ -10,11 +10,11 @@ pub enum Pass<N> {
     Leave(N),
 }
 
-/// Asked before each call that a worker makes to its session, and notified of each job that the worker took. A gate may
-/// block a worker: no lock is held during these calls.
+/// Called before each call that a worker makes to its session, and notified of each job that the worker took. A gate
+/// may block a worker: no lock is held during these calls.
 pub trait Gate {
-    /// The note in the outcome of a job that was left. Only a gate makes notes, so no worker can leave a job without
-    /// asking.
+    /// The note in the outcome of a job that was left. Only a gate makes notes, so no worker can leave a job unless its
+    /// gate says so.
     type Note: Drop + Send;
 
     /// Whether the worker goes on. The workers are numbered from 0; `calls` is how many calls this one has made.

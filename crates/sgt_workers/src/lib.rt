@@ -1,7 +1,7 @@
 //! Workers that run jobs as transactions of one engine.
 //!
 //! A job is one call of a procedure. [`run`] has up to 16 threads, which take jobs from a queue and make their calls to
-//! one engine. Each call holds the engine's lock once. A [`Gate`] is asked before each call, and notified of each
+//! one engine. Each call holds the engine's lock once. A [`Gate`] is called before each call, and notified of each
 //! failed attempt and of each job's end. A job's result is an [`Outcome`], which names entries of the engine's history
 //! or transactions in it. `run` returns no report with an outcome that is not true.
 //!
@@ -39,9 +39,9 @@
 
 mod bank;
 mod caller;
-mod crew;
 mod errors;
 mod gate;
+mod pool;
 mod report;
 mod runs;
 mod worker;

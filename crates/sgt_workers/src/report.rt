@@ -1,7 +1,7 @@
 //! The report of a run, and the test that its outcomes are true.
 ghost use Rattle.std.specs.Prelude.{◌≡◌, IfOk, IfErr, OnOk, reverse};
 ghost use Rattle.sgt_audit.specs.AllOutcomes.{OutcomesStand};
-ghost use Rattle.sgt_engine.specs.EngineView.{setting_of};
+ghost use Rattle.sgt_engine.specs.EngineView.{configuration_of};
 ghost use Rattle.sgt_workers.specs.Crews.{IsRunError};
 ghost use Rattle.sgt_workers.specs.Reports.{IsReportOf};
 
@@ -39,7 +39,7 @@ pub fn report_of<R: Records, A: Accesses, G: Graph, X: Drop>(
     workers: u32,
     tries: u32,
 ) -> Result<Report<X>, PoolError>
-    ensures report { IfOk result (λ r. IsReportOf (setting_of engine) jobs.now workers tries r) }
+    ensures report { IfOk result (λ r. IsReportOf (configuration_of engine) jobs.now workers tries r) }
     ensures history { IfOk result (λ r. reverse r.history.entries ≡ engine.past) }
     ensures error { IfErr result IsRunError }
 {

@@ -1,15 +1,15 @@
 //! A run of jobs: a new engine, its sessions, the threads, and the report.
 ghost use Rattle.std.specs.Prelude.{◌≡◌, ◌↔◌, [], Err, IfOk, IfErr};
-ghost use Rattle.sgt_engine.specs.EngineView.{setting_of as made_with};
+ghost use Rattle.sgt_engine.specs.EngineView.{configuration_of as made_with};
 ghost use Rattle.sgt_workers.specs.declared.errors.PoolError.TheVariants as PoolError;
-ghost use Rattle.sgt_workers.specs.Banks.{engine_setting, AreWorkers, AreTries, AreLimitsFor, AreJobs};
+ghost use Rattle.sgt_workers.specs.Banks.{engine_configuration, AreWorkers, AreTries, AreLimitsFor, AreJobs};
 ghost use Rattle.sgt_workers.specs.Crews.{IsRunError};
 ghost use Rattle.sgt_workers.specs.Reports.{IsReportOf};
 
 use crate::bank::{Bank, check};
-use crate::crew::run_sessions;
 use crate::errors::PoolError;
 use crate::gate::Gate;
+use crate::pool::run_sessions;
 use crate::report::{Report, report_of};
 use sgt_access::Accesses;
 use sgt_audit::{Job, Outcome};
@@ -29,9 +29,9 @@ const CALLS_OF_A_JOB: usize = 8;
 /// Runs the jobs as transactions of a new engine, each worker in a thread of its own, and reports what became of them.
 ///
 /// A worker takes a job, starts a transaction for it, steps until its procedure ends, and commits. If an attempt is
-/// aborted by a cycle or in cascade, the worker tries again, up to `tries` in all. The gate is asked before each of
-/// these calls. If an allocation fails in a call, the transaction is quit, the job has the outcome `NoMemory`, and the
-/// worker continues with the next job.
+/// aborted by a cycle or in cascade, the worker tries again, up to `tries` in all. The gate is called before each of
+/// these calls. If an allocation fails in a call, the transaction is aborted, the job has the outcome `NoMemory`, and
+/// the worker continues with the next job.
 ///
 /// These errors are tested first, in this order, before any allocation:
 /// - `BadWorkers`: the workers are not from 1 to `MOST_WORKERS`.
@@ -53,7 +53,7 @@ pub fn run<R: Records, A: Accesses, G: Graph, T: Gate + Sync, W: Threads + Wait 
     tries: u32,
     gate: &T,
 ) -> Result<Report<T::Note>, PoolError>
-    ensures report { IfOk result (λ r. IsReportOf (engine_setting bank) jobs.now workers tries r) }
+    ensures report { IfOk result (λ r. IsReportOf (engine_configuration bank) jobs.now workers tries r) }
     ensures bad_workers { (result ≡ Err PoolError.BadWorkers) ↔ (¬ AreWorkers workers) }
     ensures bad_tries { (result ≡ Err PoolError.BadTries) ↔ (AreWorkers workers × (¬ AreTries tries)) }
     ensures bad_limits { (result ≡ Err PoolError.BadLimits)
@@ -87,7 +87,7 @@ fn run_bank<R: Records, A: Accesses, G: Graph, T: Gate + Sync, W: Threads + Wait
     gate: &T,
 ) -> Result<(Box<Engine<R, A, G>>, Vec<Outcome<T::Note>>), PoolError>
     requires { AreWorkers workers }
-    ensures setting { IfOk result (λ r. made_with r.0.value ≡ engine_setting bank) }
+    ensures configuration { IfOk result (λ r. made_with r.0.value ≡ engine_configuration bank) }
     ensures error { IfErr result IsRunError }
 {
     let outcomes = Mutex::new(all_untaken::<T::Note>(alloc, jobs.len())?);
@@ -142,17 +142,17 @@ fn run_named<
     calls: usize,
     gate: &T,
 ) -> Result<Box<Engine<R, A, G>>, PoolError>
-    requires engine { (made_with engine.value ≡ N.setting) × (engine.value.past ≡ []) }
+    requires engine { (made_with engine.value ≡ N.configuration) × (engine.value.past ≡ []) }
     requires blank { (blank.name ≡ N.name) × (blank.parts ≡ N.parts) × (blank.parts ≡ workers) × (N.sessions ≡ workers) }
     requires workers { AreWorkers workers }
-    ensures setting { IfOk result (λ e. made_with e.value ≡ N.setting) }
+    ensures configuration { IfOk result (λ e. made_with e.value ≡ N.configuration) }
     ensures error { IfErr result IsRunError }
 {
     let Ok((shared, sessions)) = Shared::<N, R, A, G>::new(alloc, engine, blank, workers) else {
         return Err(PoolError::NoMemory);
     };
     let calls = calls / usize::from(workers);
-    let (_putter, sessions) = run_sessions(
+    let (_producer, sessions) = run_sessions(
         rt, alloc, &shared, gate, outcomes, jobs, tries, calls, sessions,
     )?;
     let Ok(

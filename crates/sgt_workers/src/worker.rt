@@ -27,7 +27,7 @@ pub struct Worker<'a, N: Named> {
     /// Where it stores the attempts at a job.
     pub alloc: Global,
     pub session: Session<N>,
-    pub taker: Taker,
+    pub consumer: Taker,
 }
 
 /// What a worker leaves when it ends.
@@ -39,16 +39,16 @@ pub struct Ended<N: Named> {
     pub is_expected: bool,
 }
 
-/// A worker's promise: what it leaves belongs to its feed (queue).
+/// A worker's promise: what it leaves belongs to its queue.
 #[derive(Drop)]
-pub struct SameFeed(pub Snapshot<Taker>);
+pub struct SameQueue(pub Snapshot<Taker>);
 
-impl<N: Named> Promise<Ended<N>> for SameFeed {
-    ghost kept_by = { λ p r. r.stub.feed ≡ p.0.value.feed };
+impl<N: Named> Promise<Ended<N>> for SameQueue {
+    ghost kept_by = { λ p r. r.stub.queue ≡ p.0.value.queue };
 }
 
 /// Takes jobs by their numbers and runs them until it receives a stop, the gate makes it leave, or a reply is
-/// unexpected. Writes each job's outcome at the job's number among the outcomes. A worker that ends leaves its feed at
+/// unexpected. Writes each job's outcome at the job's number among the outcomes. A worker that ends leaves its queue at
 /// once.
 pub fn work<N: Named, R: Records, A: Accesses, G: Graph, T: Gate, W: Wait>(
     rt: &W,
@@ -57,7 +57,7 @@ pub fn work<N: Named, R: Records, A: Accesses, G: Graph, T: Gate, W: Wait>(
     outcomes: &Mutex<Vec<Outcome<T::Note>>>,
     worker: Worker<'_, N>,
 ) -> Ended<N>
-    ensures { result.stub.feed ≡ worker.entry.taker.feed }
+    ensures { result.stub.queue ≡ worker.entry.consumer.queue }
 {
     let Worker {
         number,
@@ -66,7 +66,7 @@ pub fn work<N: Named, R: Records, A: Accesses, G: Graph, T: Gate, W: Wait>(
         calls,
         alloc,
         mut session,
-        mut taker,
+        mut consumer,
     } = worker;
     let _ = session.reserve(calls);
     let mut caller = Caller {
@@ -78,7 +78,7 @@ pub fn work<N: Named, R: Records, A: Accesses, G: Graph, T: Gate, W: Wait>(
     };
     let mut is_expected = true;
     for _ in rt.forever() {
-        let Some(job) = next_job(rt, &mut taker, jobs) else {
+        let Some(job) = next_job(rt, &mut consumer, jobs) else {
             break;
         };
         let Ok(outcome) = caller.run_job(alloc, job, tries) else {
@@ -94,16 +94,16 @@ pub fn work<N: Named, R: Records, A: Accesses, G: Graph, T: Gate, W: Wait>(
     }
     Ended {
         session: caller.session,
-        stub: taker.leave(),
+        stub: consumer.leave(),
         is_expected,
     }
 }
 
 /// The job whose number is taken next, if it is not a stop.
-fn next_job<'a, W: Wait>(rt: &W, taker: &mut Taker, jobs: &'a [Job]) -> Option<&'a Job>
-    ensures { taker.new.feed ≡ taker.old.feed }
+fn next_job<'a, W: Wait>(rt: &W, consumer: &mut Taker, jobs: &'a [Job]) -> Option<&'a Job>
+    ensures { consumer.new.queue ≡ consumer.old.queue }
 {
-    match taker.take(rt) {
+    match consumer.take(rt) {
         Take::Job(number) => jobs.get(number as usize),
         Take::Stop | Take::Gone => None,
     }

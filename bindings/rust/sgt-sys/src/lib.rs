@@ -257,7 +257,7 @@ extern "C" {
         number: *mut u16,
         fault: *mut Fault,
     ) -> u32;
-    pub fn sgt_procedure_text(engine: *const Engine, number: u64, text: *mut u8, room: usize, length: *mut u64) -> u32;
+    pub fn sgt_procedure_text(engine: *const Engine, number: u64, text: *mut u8, capacity: usize, length: *mut u64) -> u32;
     pub fn sgt_close(engine: *mut Engine);
     pub fn sgt_start(engine: *mut Engine, procedure: u64, args: *const i64, count: usize, reply: *mut Reply) -> u32;
     pub fn sgt_run(
@@ -273,7 +273,7 @@ extern "C" {
         calls: *const Call,
         count: usize,
         outcomes: *mut Outcome,
-        room: usize,
+        capacity: usize,
         done: *mut u64,
     ) -> u32;
     pub fn sgt_step(engine: *mut Engine, tid: u32, reply: *mut Reply) -> u32;
@@ -283,9 +283,9 @@ extern "C" {
     pub fn sgt_read(engine: *mut Engine, tid: u32, table: u64, number: i64, reply: *mut Reply) -> u32;
     pub fn sgt_write(engine: *mut Engine, tid: u32, table: u64, number: i64, value: i64, reply: *mut Reply) -> u32;
     pub fn sgt_remove(engine: *mut Engine, tid: u32, table: u64, number: i64, reply: *mut Reply) -> u32;
-    pub fn sgt_accesses(engine: *const Engine, tid: u32, accesses: *mut Access, room: usize, count: *mut u64) -> u32;
+    pub fn sgt_accesses(engine: *const Engine, tid: u32, accesses: *mut Access, capacity: usize, count: *mut u64) -> u32;
     pub fn sgt_get(engine: *const Engine, table: u64, number: i64, value: *mut i64) -> u32;
-    pub fn sgt_rows(engine: *const Engine, table: u64, number: i64, rows: *mut Row, room: usize, count: *mut u64) -> u32;
+    pub fn sgt_rows(engine: *const Engine, table: u64, number: i64, rows: *mut Row, capacity: usize, count: *mut u64) -> u32;
     pub fn sgt_records(engine: *const Engine, count: *mut u64) -> u32;
     pub fn sgt_live_tids(engine: *const Engine, tids: *mut u32, count: *mut u64) -> u32;
     pub fn sgt_entries(engine: *const Engine, count: *mut u64) -> u32;
@@ -294,22 +294,22 @@ extern "C" {
         engine: *const Engine,
         from: u64,
         calls: *mut Call,
-        room: usize,
+        capacity: usize,
         count: *mut u64,
         next: *mut u64,
     ) -> u32;
     pub fn sgt_reserve(engine: *mut Engine, entries: u64) -> u32;
     pub fn sgt_cut(engine: *mut Engine, live: *mut u64) -> u32;
     pub fn sgt_part(engine: *const Engine, part: *mut u64) -> u32;
-    pub fn sgt_reply_text(reply: *const Reply, text: *mut u8, room: usize, length: *mut u64) -> u32;
-    pub fn sgt_fault_text(fault: *const Fault, text: *mut u8, room: usize, length: *mut u64) -> u32;
-    pub fn sgt_explain_opening(opening: *const u8, length: usize, text: *mut u8, room: usize, written: *mut u64) -> u32;
+    pub fn sgt_reply_text(reply: *const Reply, text: *mut u8, capacity: usize, length: *mut u64) -> u32;
+    pub fn sgt_fault_text(fault: *const Fault, text: *mut u8, capacity: usize, length: *mut u64) -> u32;
+    pub fn sgt_explain_opening(opening: *const u8, length: usize, text: *mut u8, capacity: usize, written: *mut u64) -> u32;
     pub fn sgt_explain_procedure(
         number: u64,
         procedure: *const u8,
         length: usize,
         text: *mut u8,
-        room: usize,
+        capacity: usize,
         written: *mut u64,
     ) -> u32;
     pub fn sgt_version() -> *const c_char;
@@ -354,7 +354,7 @@ extern "C-unwind" {
         shared: *mut Shared,
         ticket: *const Ticket,
         accesses: *mut Access,
-        room: usize,
+        capacity: usize,
         count: *mut u64,
     ) -> u32;
     pub fn sgt_shared_try(shared: *mut Shared, transaction: *mut Transaction, options: *const TransactOptions) -> u32;
@@ -363,7 +363,7 @@ extern "C-unwind" {
     pub fn sgt_transaction_remove(transaction: *mut Transaction, table: u64, number: i64) -> u32;
     pub fn sgt_transaction_commit(transaction: *mut Transaction, wait_ns: i64) -> u32;
     pub fn sgt_transaction_quit(transaction: *mut Transaction) -> u32;
-    pub fn sgt_shared_live(shared: *mut Shared, rows: *mut Live, room: usize, count: *mut u64) -> u32;
+    pub fn sgt_shared_live(shared: *mut Shared, rows: *mut Live, capacity: usize, count: *mut u64) -> u32;
     pub fn sgt_shared_cut(shared: *mut Shared, wait_ns: i64) -> u32;
     pub fn sgt_shared_get(shared: *mut Shared, table: u64, number: i64, value: *mut i64) -> u32;
     pub fn sgt_shared_rows(
@@ -371,7 +371,7 @@ extern "C-unwind" {
         table: u64,
         number: i64,
         rows: *mut Row,
-        room: usize,
+        capacity: usize,
         count: *mut u64,
     ) -> u32;
     pub fn sgt_shared_entries(shared: *mut Shared, count: *mut u64, part: *mut u64) -> u32;
@@ -379,7 +379,7 @@ extern "C-unwind" {
         shared: *mut Shared,
         wait_ns: i64,
         calls: *mut Ended,
-        room: usize,
+        capacity: usize,
         count: *mut u64,
     ) -> u32;
     pub fn sgt_shared_watch(interrupted: Option<InterruptedHook>, context: *mut c_void);

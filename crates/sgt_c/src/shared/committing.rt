@@ -5,7 +5,7 @@ ghost use Rattle.sgt_desk.specs.declared.ask.Ask.{Ask};
 ghost use Rattle.sgt_desk.specs.declared.ask.Turn.{Turn};
 ghost use Rattle.sgt_desk.specs.Desks.{state, Wakes};
 ghost use Rattle.sgt_c.specs.DeskStructs.{IsAsk, ask_in, desk_in, lent_state};
-ghost use Rattle.sgt_c.specs.DeskTurns.{CommitTurn, OfBoth, TellsNewest, status_of};
+ghost use Rattle.sgt_c.specs.DeskTurns.{CommitTurn, OfBoth, ReportsNewest, status_of};
 ghost use Rattle.sgt_c.specs.KeptFields.{KeepsOtherFields};
 ghost use Rattle.sgt_c.specs.Handles.{IsBusy, IsClosed};
 
@@ -14,7 +14,7 @@ use crate::reply_struct::SgtReply;
 use crate::shared::ask_struct::{SgtAsk, ask_struct, read_ask};
 use crate::shared::desk_struct::SgtDesk;
 use crate::shared::lent::{Lent, give_back, lend};
-use crate::shared::turns::{note_wake, status_of, tell};
+use crate::shared::turns::{note_wake, report, status_of};
 use crate::status;
 use sgt_desk::{Desk, Ticket, commit};
 use sgt_model::Tid;
@@ -39,7 +39,7 @@ pub extern "C" fn sgt_desk_commit(
         (turn : Result Turn NoMemory) × (next : Ask) × (result ≡ status_of turn) × IsAsk ask.new next
         × CommitTurn (record { part = part; tid = t }) now (desk_in desk.old h) (ask_in ask.old) (desk_in desk.new h')
         next turn) }
-    ensures told { result ≡ 0 → OfBoth engine.old.slot.held engine.new.slot.held (λ h h'. TellsNewest reply.new h'.engine.past) }
+    ensures reported { result ≡ 0 → OfBoth engine.old.slot.held engine.new.slot.held (λ h h'. ReportsNewest reply.new h'.engine.past) }
     ensures wakes { result ≢ 2 → result ≢ 10 → OfBoth engine.old.slot.held engine.new.slot.held (λ h h'.
         Wakes (desk_in desk.old h) (desk_in desk.new h') (nat_eq wakes.new 1)) }
     ensures kept { result ≡ 0 → KeepsOtherFields reply.old reply.new }
@@ -75,7 +75,7 @@ fn commit_lent(
 ) -> u32
     ensures turn { (turn : Result Turn NoMemory) × (next : Ask) × (result ≡ status_of turn) × IsAsk ask.new next
         × CommitTurn ticket now (state lent_state desk.old) (ask_in ask.old) (state lent_state desk.new) next turn }
-    ensures told { result ≡ 0 → TellsNewest reply.new (state lent_state desk.new).past }
+    ensures reported { result ≡ 0 → ReportsNewest reply.new (state lent_state desk.new).past }
     ensures wakes { Wakes (state lent_state desk.old) (state lent_state desk.new) (nat_eq wakes.new 1) }
     ensures kept { result ≡ 0 → KeepsOtherFields reply.old reply.new }
     ensures unwritten { result ≢ 0 → reply.new ≡ reply.old }
@@ -86,7 +86,7 @@ fn commit_lent(
     let made = commit(desk, &mut call, ticket, now, &mut woken);
     *ask = ask_struct(&call);
     note_wake(wakes, woken);
-    tell(
+    report(
         reply,
         &made,
         &call.reply,

@@ -112,7 +112,7 @@ pub extern "C" fn sgt_desk_cuts(
 #[unsafe(no_mangle)]
 pub extern "C" fn sgt_desk_leave(desk: &mut SgtDesk, ask: &mut SgtAsk, wakes: &mut u32)
     ensures cutters { desk.new.cutters ≡ without_call (nat_eq ask.old.is_counted 1) desk.old.cutters }
-    ensures counts { (desk.new.ended ≡ desk.old.ended) × (desk.new.told ≡ desk.old.told) × (desk.new.committing ≡ desk.old.committing) }
+    ensures counts { (desk.new.ended ≡ desk.old.ended) × (desk.new.reported ≡ desk.old.reported) × (desk.new.committing ≡ desk.old.committing) }
     ensures counted { ask.new.is_counted ≡ cond (nat_eq ask.old.is_counted 1) 0 ask.old.is_counted }
     ensures wakes { 0 < desk.old.cutters → desk.new.cutters ≡ 0 → wakes.new ≡ 1 }
     ensures woken { wakes.old ≡ 1 → wakes.new ≡ 1 }

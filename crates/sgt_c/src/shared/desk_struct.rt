@@ -7,7 +7,7 @@ pub struct SgtDesk {
     /// How often a transaction has ended.
     pub ended: u64,
     /// How many calls were committed or refused.
-    pub told: u64,
+    pub reported: u64,
     /// The calls that rest in a commit.
     pub committing: u64,
     /// The calls that wait for a cut.

@@ -48,7 +48,7 @@ pub fn lend(held: Box<Held>, known: &SgtDesk) -> Desk<Lent>
         part: held.part,
         engine: Lent { held },
         ended: known.ended,
-        told: known.told,
+        reported: known.reported,
         committing: known.committing,
         cutters: known.cutters,
     }
@@ -63,14 +63,14 @@ pub fn give_back(desk: Desk<Lent>, known: &mut SgtDesk) -> Box<Held>
         engine,
         part,
         ended,
-        told,
+        reported,
         committing,
         cutters,
     } = desk;
     let Lent { mut held } = engine;
     held.part = part;
     known.ended = ended;
-    known.told = told;
+    known.reported = reported;
     known.committing = committing;
     known.cutters = cutters;
     held

@@ -5,16 +5,16 @@ ghost use Rattle.sgt_model.specs.declared.short_reply.ShortReply.{ShortReply};
 ghost use Rattle.sgt_desk.specs.declared.ask.Turn.{Turn};
 ghost use Rattle.sgt_desk.specs.Desks.{state, Wakes};
 ghost use Rattle.sgt_c.specs.DeskStructs.{asked_in, desk_in, lent_state};
-ghost use Rattle.sgt_c.specs.DeskTurns.{IsAsked, MakeTurn, OfBoth, TellsNewest, status_of};
+ghost use Rattle.sgt_c.specs.DeskTurns.{IsRunnable, MakeTurn, OfBoth, ReportsNewest, status_of};
 ghost use Rattle.sgt_c.specs.KeptFields.{KeepsOtherFields};
 ghost use Rattle.sgt_c.specs.Handles.{IsBusy, IsClosed};
 
-use crate::asked::keyed;
 use crate::handle::Handle;
 use crate::reply_struct::SgtReply;
+use crate::requested::keyed;
 use crate::shared::desk_struct::SgtDesk;
 use crate::shared::lent::{Lent, give_back, lend};
-use crate::shared::turns::{note_wake, status_of, tell};
+use crate::shared::turns::{note_wake, report, status_of};
 use crate::status;
 use sgt_desk::{Asked, Desk, Ticket, make};
 use sgt_model::{Key, Request, ShortReply, Tid};
@@ -39,23 +39,23 @@ pub extern "C" fn sgt_desk_make(
     wakes: &mut u32,
 ) -> u32
     ensures turn { result ≢ 2 → result ≢ 5 → result ≢ 10 → OfBoth engine.old.slot.held engine.new.slot.held (λ h h'.
-        IfSome (asked_in kind (table, number) value) (λ asked.
+        IfSome (asked_in kind (table, number) value) (λ requested.
         (turn : Result Turn NoMemory) × (short : ShortReply) × (result ≡ status_of turn)
-        × MakeTurn (record { part = part; tid = t }) asked (desk_in desk.old h) short (desk_in desk.new h') turn)) }
-    ensures told { result ≡ 0 → OfBoth engine.old.slot.held engine.new.slot.held (λ h h'. TellsNewest reply.new h'.engine.past) }
+        × MakeTurn (record { part = part; tid = t }) requested (desk_in desk.old h) short (desk_in desk.new h') turn)) }
+    ensures reported { result ≡ 0 → OfBoth engine.old.slot.held engine.new.slot.held (λ h h'. ReportsNewest reply.new h'.engine.past) }
     ensures wakes { result ≢ 2 → result ≢ 5 → result ≢ 10 → OfBoth engine.old.slot.held engine.new.slot.held (λ h h'.
         Wakes (desk_in desk.old h) (desk_in desk.new h') (nat_eq wakes.new 1)) }
     ensures kept { result ≡ 0 → KeepsOtherFields reply.old reply.new }
     ensures unwritten { result ≢ 0 → reply.new ≡ reply.old }
     ensures unchanged { (result ≡ 2) ⊎ (result ≡ 5) ⊎ (result ≡ 10) → (engine.new.slot.held ≡ engine.old.slot.held)
         × (desk.new ≡ desk.old) × (wakes.new ≡ wakes.old) }
-    ensures bad_call { (result ≡ 5) ↔ (¬ IsAsked kind table number) }
-    ensures busy { (result ≡ 10) ↔ (IsAsked kind table number × IsBusy engine.old.state) }
-    ensures closed { (result ≡ 2) ↔ (IsAsked kind table number × IsClosed engine.old.state engine.old.slot.held) }
+    ensures bad_call { (result ≡ 5) ↔ (¬ IsRunnable kind table number) }
+    ensures busy { (result ≡ 10) ↔ (IsRunnable kind table number × IsBusy engine.old.state) }
+    ensures closed { (result ≡ 2) ↔ (IsRunnable kind table number × IsClosed engine.old.state engine.old.slot.held) }
     ensures leaves { IsBusy engine.new.state → IsBusy engine.old.state }
     ensures stays { IsBusy engine.old.state → engine.new.state ≡ engine.old.state }
 {
-    let Some(asked) = asked_of(kind, table, number, value) else {
+    let Some(requested) = asked_of(kind, table, number, value) else {
         return status::BAD_CALL;
     };
     if engine.is_busy() {
@@ -66,15 +66,15 @@ pub extern "C" fn sgt_desk_make(
     };
     let mut lent = lend(held, desk);
     let ticket = Ticket { part, tid: Tid(t) };
-    let made = make_lent(&mut lent, ticket, asked, reply, wakes);
+    let made = make_lent(&mut lent, ticket, requested, reply, wakes);
     engine.put(give_back(lent, desk));
     made
 }
 
 /// What these numbers ask, if it is something.
 fn asked_of(kind: u32, table: u64, number: i64, value: i64) -> Option<Asked>
-    ensures some { IfSome result (λ asked. asked_in kind (table, number) value ≡ Some asked) }
-    ensures none { IsNone result ↔ (¬ IsAsked kind table number) }
+    ensures some { IfSome result (λ requested. asked_in kind (table, number) value ≡ Some requested) }
+    ensures none { IsNone result ↔ (¬ IsRunnable kind table number) }
 {
     match keyed(table, number) {
         Some(key) => read_asked(kind, key, value),
@@ -105,13 +105,13 @@ fn read_asked(kind: u32, key: Key, value: i64) -> Option<Asked>
 fn make_lent(
     desk: &mut Desk<Lent>,
     ticket: Ticket,
-    asked: Asked,
+    requested: Asked,
     reply: &mut SgtReply,
     wakes: &mut u32,
 ) -> u32
     ensures turn { (turn : Result Turn NoMemory) × (short : ShortReply) × (result ≡ status_of turn)
-        × MakeTurn ticket asked (state lent_state desk.old) short (state lent_state desk.new) turn }
-    ensures told { result ≡ 0 → TellsNewest reply.new (state lent_state desk.new).past }
+        × MakeTurn ticket requested (state lent_state desk.old) short (state lent_state desk.new) turn }
+    ensures reported { result ≡ 0 → ReportsNewest reply.new (state lent_state desk.new).past }
     ensures wakes { Wakes (state lent_state desk.old) (state lent_state desk.new) (nat_eq wakes.new 1) }
     ensures kept { result ≡ 0 → KeepsOtherFields reply.old reply.new }
     ensures unwritten { result ≢ 0 → reply.new ≡ reply.old }
@@ -119,8 +119,8 @@ fn make_lent(
 {
     let mut short = ShortReply::Unknown;
     let mut woken = false;
-    let made = make(desk, ticket, asked, &mut short, &mut woken);
+    let made = make(desk, ticket, requested, &mut short, &mut woken);
     note_wake(wakes, woken);
-    tell(reply, &made, &short, desk.engine.held.engine.reply_lists());
+    report(reply, &made, &short, desk.engine.held.engine.reply_lists());
     status_of(&made)
 }

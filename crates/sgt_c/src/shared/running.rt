@@ -6,17 +6,17 @@ ghost use Rattle.sgt_desk.specs.declared.running.Run.{Run};
 ghost use Rattle.sgt_desk.specs.Desks.{state, Wakes};
 ghost use Rattle.sgt_c.specs.Asked.{IsCall};
 ghost use Rattle.sgt_c.specs.DeskStructs.{IsRun, desk_in, lent_state, run_in};
-ghost use Rattle.sgt_c.specs.DeskTurns.{RunTurn, OfBoth, TellsNewest, status_of};
+ghost use Rattle.sgt_c.specs.DeskTurns.{RunTurn, OfBoth, ReportsNewest, status_of};
 ghost use Rattle.sgt_c.specs.KeptFields.{KeepsOtherFields};
 ghost use Rattle.sgt_c.specs.Handles.{IsBusy, IsClosed};
 
-use crate::asked::{arguments, is_call};
 use crate::handle::Handle;
 use crate::reply_struct::SgtReply;
+use crate::requested::{arguments, is_call};
 use crate::shared::desk_struct::SgtDesk;
 use crate::shared::lent::{Lent, give_back, lend};
 use crate::shared::run_struct::{SgtRun, read_run, run_struct};
-use crate::shared::turns::{note_wake, status_of, tell};
+use crate::shared::turns::{note_wake, report, status_of};
 use crate::status;
 use sgt_desk::{Desk, run_procedure};
 use sgt_model::Args;
@@ -43,7 +43,7 @@ pub extern "C" fn sgt_desk_run(
         (turn : Result Turn NoMemory) × (next : Run) × (result ≡ status_of turn) × IsRun run.new next
         × RunTurn procedure args.now now (desk_in desk.old h) (run_in run.old) (desk_in desk.new h')
         next turn) }
-    ensures told { result ≡ 0 → OfBoth engine.old.slot.held engine.new.slot.held (λ h h'. TellsNewest reply.new h'.engine.past) }
+    ensures reported { result ≡ 0 → OfBoth engine.old.slot.held engine.new.slot.held (λ h h'. ReportsNewest reply.new h'.engine.past) }
     ensures wakes { result ≢ 2 → result ≢ 5 → result ≢ 10 → OfBoth engine.old.slot.held engine.new.slot.held (λ h h'.
         Wakes (desk_in desk.old h) (desk_in desk.new h') (nat_eq wakes.new 1)) }
     ensures kept { result ≡ 0 → KeepsOtherFields reply.old reply.new }
@@ -84,7 +84,7 @@ fn run_lent(
 ) -> u32
     ensures turn { (turn : Result Turn NoMemory) × (next : Run) × (result ≡ status_of turn) × IsRun run.new next
         × RunTurn procedure args.now now (state lent_state desk.old) (run_in run.old) (state lent_state desk.new) next turn }
-    ensures told { result ≡ 0 → TellsNewest reply.new (state lent_state desk.new).past }
+    ensures reported { result ≡ 0 → ReportsNewest reply.new (state lent_state desk.new).past }
     ensures wakes { Wakes (state lent_state desk.old) (state lent_state desk.new) (nat_eq wakes.new 1) }
     ensures kept { result ≡ 0 → KeepsOtherFields reply.old reply.new }
     ensures unwritten { result ≢ 0 → reply.new ≡ reply.old }
@@ -95,7 +95,7 @@ fn run_lent(
     let made = run_procedure(desk, &mut call, procedure, args, now, &mut woken);
     *run = run_struct(&call);
     note_wake(wakes, woken);
-    tell(
+    report(
         reply,
         &made,
         &call.ask.reply,

@@ -36,13 +36,13 @@ pub fn note_wake(wakes: &mut u32, woken: bool)
 
 /// Writes the reply of a call, if it is done.
 #[inline(always)]
-pub fn tell(
+pub fn report(
     into: &mut SgtReply,
     turn: &Result<Turn, NoMemory>,
     short: &ShortReply,
     lists: &ReplyLists,
 )
-    ensures told { turn.now ≡ Ok Turn.Done → HoldsReply into.new (reply_with short.now lists.now) }
+    ensures reported { turn.now ≡ Ok Turn.Done → HoldsReply into.new (reply_with short.now lists.now) }
     ensures kept { turn.now ≡ Ok Turn.Done → KeepsOtherFields into.old into.new }
     ensures unwritten { turn.now ≢ Ok Turn.Done → into.new ≡ into.old }
 {

@@ -8,10 +8,10 @@ ghost use Rattle.sgt_model.specs.Legality.{Legal};
 ghost use Rattle.sgt_model.specs.NewState.{IsNew};
 ghost use Rattle.sgt_model.specs.Pairs.{Pair};
 ghost use Rattle.sgt_model.specs.Replay.{folded, ReplayAgrees};
-ghost use Rattle.sgt_model.specs.Walks.{Acyclic};
+ghost use Rattle.sgt_model.specs.Paths.{Acyclic};
 ghost use Rattle.sgt_sched.specs.Scheduler.{state, Keeps};
 ghost use Rattle.sgt_engine.specs.Cuts.{GoesOn, NobodyLive};
-ghost use Rattle.sgt_engine.specs.EngineView.{setting_of};
+ghost use Rattle.sgt_engine.specs.EngineView.{configuration_of};
 
 use crate::changes::keys_without_value;
 use crate::engine::Engine;
@@ -48,10 +48,10 @@ impl From<NoMemory> for CutError {
 }
 
 impl<R: Records, A: Accesses, G: Graph> Engine<R, A, G> {
-    /// Cuts the history off, if no transaction is live. The events and replies become a past of their own. The engine continues
-    /// from the committed database as a new one would, with an empty history and numbers from 0. Procedures and limits stay, and
-    /// starts are counted anew. An engine that is cut now and then holds only what its database and the events since the last cut
-    /// take, however long it runs.
+    /// Cuts the history off, if no transaction is live. The events and replies become a past of their own. The engine
+    /// continues from the committed database as a new one would, with an empty history and numbers from 0. Procedures
+    /// and limits stay, and starts are counted anew. An engine that is cut from time to time holds only its database
+    /// and the events since the last cut, however long it runs.
     ///
     /// The headline holds of each part, and the parts chain: what the replay of one leaves is the initial database of the next. That
     /// is a copy of the old one with what the part has written, or of all records if they are fewer than the entries. If the part
@@ -63,12 +63,12 @@ impl<R: Records, A: Accesses, G: Graph> Engine<R, A, G> {
         ensures entries { IfOk result (λ p. reverse p.history.entries ≡ self.old.past) }
         ensures goes_on { OnOk result (GoesOn self.old self.new) }
         ensures replayed { OnOk result ((k : Key) →
-            contents_of self.new.opening k ≡ (folded (setting_of self.old) self.old.past).last k) }
+            contents_of self.new.opening k ≡ (folded (configuration_of self.old) self.old.past).last k) }
         ensures by_key { OnOk result (IsByKey self.new.opening) }
-        ensures legal { IfOk result (λ p. Legal (setting_of self.old) (reverse p.history.entries)) }
-        ensures replay { IfOk result (λ p. ReplayAgrees (setting_of self.old) (reverse p.history.entries)) }
+        ensures legal { IfOk result (λ p. Legal (configuration_of self.old) (reverse p.history.entries)) }
+        ensures replay { IfOk result (λ p. ReplayAgrees (configuration_of self.old) (reverse p.history.entries)) }
         ensures no_cycle { IfOk result (λ p. Acyclic (Pair (reverse p.history.entries))) }
-        ensures causes { IfOk result (λ p. AbortsHaveCause (setting_of self.old) (reverse p.history.entries)) }
+        ensures causes { IfOk result (λ p. AbortsHaveCause (configuration_of self.old) (reverse p.history.entries)) }
         ensures order { IfOk result (λ p. CommitsInOrder (reverse p.history.entries)) }
         ensures still_live { (result ≡ Err CutError.StillLive) ↔ (¬ NobodyLive self.old.past) }
         ensures unchanged { OnErr result (self.new ≡ self.old) }

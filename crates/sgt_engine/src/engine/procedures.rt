@@ -69,7 +69,7 @@ impl<R: Records, A: Accesses, G: Graph> Engine<R, A, G> {
         ensures free { IfOk result (λ n. n < 65535) }
         ensures begun { result ≡ Err AddError.Begun → self.now.past ≢ [] }
         ensures too_many { result ≡ Err AddError.TooMany → (self.now.past ≡ []) × (65535 ≤ length self.now.procedures) }
-        ensures no_growth { result ≢ Err AddError.NoMemory }
+        ensures no_allocation { result ≢ Err AddError.NoMemory }
     {
         if !self.is_new() {
             return Err(AddError::Begun);

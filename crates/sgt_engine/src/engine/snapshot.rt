@@ -4,7 +4,7 @@ ghost use Rattle.sgt_model.specs.Contents.{Key};
 ghost use Rattle.sgt_model.specs.Databases.{contents_of, IsByKey};
 ghost use Rattle.sgt_model.specs.Replay.{folded};
 ghost use Rattle.sgt_model.specs.Values.{settled};
-ghost use Rattle.sgt_engine.specs.EngineView.{setting_of};
+ghost use Rattle.sgt_engine.specs.EngineView.{configuration_of};
 
 use crate::engine::Engine;
 use sgt_access::Accesses;
@@ -26,7 +26,7 @@ impl<R: Records, A: Accesses, G: Graph> Engine<R, A, G> {
         ensures values { IfSome result (λ rows. (k : Key) →
             contents_of rows.now k ≡ settled (contents_of self.now.opening) self.now.past k) }
         ensures replayed { IfSome result (λ rows. (k : Key) →
-            contents_of rows.now k ≡ (folded (setting_of self.now) self.now.past).last k) }
+            contents_of rows.now k ≡ (folded (configuration_of self.now) self.now.past).last k) }
         ensures by_key { IfSome result (λ rows. IsByKey rows.now) }
         ensures at_start { self.now.past ≡ [] → IsSome result }
     {

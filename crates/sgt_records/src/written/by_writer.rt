@@ -33,7 +33,7 @@ impl Written {
         requires ready { HasRoomFor chains.old 1 }
         requires held { IsHeld chains.old (slot_in self) }
         requires chain { IsChain (chain_at chains.old self) }
-        requires room { writes_in t (chain_at chains.old self) ≡ false → length (chain_at chains.old self) < 32 }
+        requires capacity { writes_in t (chain_at chains.old self) ≡ false → length (chain_at chains.old self) < 32 }
         ensures last { chain_at chains.new result.0 ≡ write_last t value (chain_at chains.old self) }
         ensures again { result.1 ≡ writes_in t (chain_at chains.old self) }
         ensures moves { Moves chains.old chains.new (slot_in self) (slot_in result.0) }

@@ -1,4 +1,4 @@
-//! Aborts by a step, a commit or a quit.
+//! Aborts by a step, by a commit or at the caller's request.
 ghost use Rattle.std.specs.Prelude.{◌≡◌, true};
 ghost use Rattle.sgt_model.specs.declared.short_reply.ShortReply.TheVariants.{Aborted};
 ghost use Rattle.sgt_model.specs.ShortReplies.{full_cause, full_fate};
@@ -23,23 +23,23 @@ impl<R: Records, A: Accesses, G: Graph> Sched<R, A, G> {
     #[inline(never)]
     pub(super) fn abort(&mut self, t: Tid, cause: ShortCause, lists: &mut ReplyLists)
         requires live { (state self.old).nodes t ≡ true }
-        ensures { Turns (WithLists (AbortEffect t (full_cause cause lists.old.walk)) lists.new)
+        ensures { Turns (WithLists (AbortEffect t (full_cause cause lists.old.cycle)) lists.new)
             self.old (Aborted cause) self.new }
     {
-        lists.fell = self.undo(t, cause, &lists.walk);
+        lists.fell = self.undo(t, cause, &lists.cycle);
     }
 
     // Undoes a live transaction for this cause, with the path of a cycle, and in cascade those that have read from it. It
     // returns the latter.
-    pub(super) fn undo(&mut self, t: Tid, cause: ShortCause, walk: &Tids) -> Tids
+    pub(super) fn undo(&mut self, t: Tid, cause: ShortCause, cycle: &Tids) -> Tids
         requires live { (state self.old).nodes t ≡ true }
-        ensures undone { Undo t (full_cause cause walk.now) result (state self.old) (state self.new) }
+        ensures undone { Undo t (full_cause cause cycle.now) result (state self.old) (state self.new) }
         ensures kept { Keeps self.old self.new }
     {
         let fell = self.falling_with(t);
-        self.end_aborted(t, ShortFate::Aborted(cause), walk);
+        self.end_aborted(t, ShortFate::Aborted(cause), cycle);
         for reader in fell.as_slice() {
-            self.end_aborted(*reader, ShortFate::Fell(t), walk);
+            self.end_aborted(*reader, ShortFate::Fell(t), cycle);
         }
         fell
     }
@@ -54,13 +54,13 @@ impl<R: Records, A: Accesses, G: Graph> Sched<R, A, G> {
 
     // Removes a live transaction that is aborted, by itself or in cascade, from all layers. Its readers stay. The path is looked
     // at only if it closed a cycle.
-    fn end_aborted(&mut self, t: Tid, fate: ShortFate, walk: &Tids)
+    fn end_aborted(&mut self, t: Tid, fate: ShortFate, cycle: &Tids)
         requires live { (state self.old).nodes t ≡ true }
-        ensures ends { EndsAborted t (full_fate fate walk.now) (state self.old) (state self.new) }
+        ensures ends { EndsAborted t (full_fate fate cycle.now) (state self.old) (state self.new) }
         ensures kept { Keeps self.old self.new }
     {
         unwind(&mut self.records, &mut self.accesses, &mut self.graph, t);
         leave(&mut self.live, &mut self.read_from, t);
-        self.fates.end(t, fate, walk);
+        self.fates.end(t, fate, cycle);
     }
 }

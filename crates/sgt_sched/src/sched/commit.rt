@@ -59,14 +59,14 @@ impl<R: Records, A: Accesses, G: Graph> Sched<R, A, G> {
                 Some(first) => *reply = ShortReply::Waits(first),
                 None => *reply = self.finish_commit(t, index, lists),
             },
-            Ahead::Asks(code) => *reply = self.commit_asked(t, code, lists),
+            Ahead::Asks(code) => *reply = self.commit_raised(t, code, lists),
             _ => *reply = ShortReply::NotEnded,
         }
     }
 
     // The same, for a live transaction whose procedure raises this code.
     #[inline(always)]
-    fn commit_asked(&mut self, t: Tid, code: u16, lists: &mut ReplyLists) -> ShortReply
+    fn commit_raised(&mut self, t: Tid, code: u16, lists: &mut ReplyLists) -> ShortReply
         requires live { (state self.old).nodes t ≡ true }
         ensures { Turns (WithLists (CommitOn (asks_of self.old) t (Raises code)) lists.new) self.old result self.new }
     {
@@ -89,7 +89,7 @@ impl<R: Records, A: Accesses, G: Graph> Sched<R, A, G> {
         requires first { (u : ℕ) → (state self.old).pairs u t ≡ false }
         ensures { Turns (WithLists (RefusesIn t code) lists.new) self.old (Refused code) self.new }
     {
-        lists.fell = self.undo(t, ShortCause::Asked(code), &lists.walk);
+        lists.fell = self.undo(t, ShortCause::Asked(code), &lists.cycle);
     }
 
     // Commits a live transaction, which has this index, is at its end and has no predecessor.
@@ -104,7 +104,7 @@ impl<R: Records, A: Accesses, G: Graph> Sched<R, A, G> {
         lists.answers = self.live.at(t, index).answers().copied();
         finish(&mut self.records, &mut self.accesses, &mut self.graph, t);
         leave(&mut self.live, &mut self.read_from, t);
-        self.fates.end(t, ShortFate::Committed, &lists.walk);
+        self.fates.end(t, ShortFate::Committed, &lists.cycle);
         ShortReply::Committed
     }
 

@@ -1,4 +1,4 @@
-//! Quits: aborts at the caller's request.
+//! Aborts at the caller's request.
 ghost use Rattle.sgt_model.specs.CallEffects.{QuitEffect};
 ghost use Rattle.sgt_sched.specs.Replies.{WithLists};
 ghost use Rattle.sgt_sched.specs.Scheduler.{Turns};

@@ -6,8 +6,8 @@ ghost use Rattle.sgt_model.specs.declared.kind.Kind.TheVariants.{Look, Store};
 ghost use Rattle.sgt_model.specs.CallEffects.{StepEffect, StepOn, MakesLook, MakesStore};
 ghost use Rattle.sgt_model.specs.Numbers.{IsValue};
 ghost use Rattle.sgt_model.specs.Traces.{Raises};
-ghost use Rattle.sgt_model.specs.Walks.{Member};
-ghost use Rattle.sgt_cycle.specs.Walk.{NoWalk};
+ghost use Rattle.sgt_model.specs.Paths.{Member};
+ghost use Rattle.sgt_cycle.specs.Path.{NoPath};
 ghost use Rattle.sgt_sched.specs.Replies.{WithLists, WithAnyLists, with_reply};
 ghost use Rattle.sgt_sched.specs.Endings.{EndsOne, IsBlocked};
 ghost use Rattle.sgt_sched.specs.LiveList.{has_number};
@@ -75,7 +75,7 @@ impl<R: Records, A: Accesses, G: Graph> Sched<R, A, G> {
                 Ok(())
             }
             Ahead::Asks(code) => {
-                *reply = self.step_asked(t, code, lists);
+                *reply = self.step_raised(t, code, lists);
                 Ok(())
             }
         }
@@ -156,7 +156,7 @@ impl<R: Records, A: Accesses, G: Graph> Sched<R, A, G> {
         requires at { position (has_number t) (parts self.old).live ≡ Some index }
         requires in_range { WritesValue operation }
         requires rivals { AreRivals (state self.old) t key (kind_of operation) rivals.now }
-        requires free { NoWalk (state self.old).pairs t rivals.now }
+        requires free { NoPath (state self.old).pairs t rivals.now }
         requires planned { rivals.now ≢ [] → G.is_planned (parts self.old).graph t rivals.now link }
         ensures { Tries (WithAnyLists (StepOn (asks_of self.old) t (next_of key operation))) self.old (with_reply result reply.new) self.new }
     {
@@ -180,7 +180,7 @@ impl<R: Records, A: Accesses, G: Graph> Sched<R, A, G> {
         requires live { (state self.old).nodes t ≡ true }
         requires at { position (has_number t) (parts self.old).live ≡ Some index }
         requires writers { AreRivals (state self.old) t key Look writers.now }
-        requires free { NoWalk (state self.old).pairs t writers.now }
+        requires free { NoPath (state self.old).pairs t writers.now }
         requires planned { writers.now ≢ [] → G.is_planned (parts self.old).graph t writers.now link }
         ensures { Tries (WithAnyLists (MakesLook t key)) self.old (with_reply result reply.new) self.new }
     {
@@ -212,7 +212,7 @@ impl<R: Records, A: Accesses, G: Graph> Sched<R, A, G> {
         requires at { position (has_number t) (parts self.old).live ≡ Some index }
         requires in_range { IfSome value IsValue }
         requires rivals { AreRivals (state self.old) t key Store rivals.now }
-        requires free { NoWalk (state self.old).pairs t rivals.now }
+        requires free { NoPath (state self.old).pairs t rivals.now }
         requires planned { rivals.now ≢ [] → G.is_planned (parts self.old).graph t rivals.now link }
         ensures { Tries (WithAnyLists (MakesStore t key value)) self.old (with_reply result reply.new) self.new }
     {
@@ -236,8 +236,8 @@ impl<R: Records, A: Accesses, G: Graph> Sched<R, A, G> {
     {
         match self.graph.plan(t, rivals) {
             Plan::Free(link) => Some(link),
-            Plan::Closes(walk) => {
-                lists.walk = walk;
+            Plan::Closes(cycle) => {
+                lists.cycle = cycle;
                 self.abort(t, ShortCause::Cycle, lists);
                 None
             }
@@ -246,7 +246,7 @@ impl<R: Records, A: Accesses, G: Graph> Sched<R, A, G> {
 
     // Aborts a live transaction whose procedure raises this code, or leaves it to its commit.
     #[inline(always)]
-    fn step_asked(&mut self, t: Tid, code: u16, lists: &mut ReplyLists) -> ShortReply
+    fn step_raised(&mut self, t: Tid, code: u16, lists: &mut ReplyLists) -> ShortReply
         requires live { (state self.old).nodes t ≡ true }
         ensures { Turns (WithLists (StepOn (asks_of self.old) t (Raises code)) lists.new) self.old result self.new }
     {

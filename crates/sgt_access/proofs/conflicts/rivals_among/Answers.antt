@@ -2,20 +2,20 @@ use Rattle.std.proofs.Common.{◌≡◌, ◌↔◌, ◌⊎◌, ◌<◌, ℕ, len
 use Rattle.std.proofs.lemmas.Bool.{true≢false}
 use Rattle.std.proofs.lemmas.List.{take_all}
 use Rattle.sgt_model.specs.AccessList.{ListedAccess, is_listed}
-use Rattle.sgt_model.specs.Walks.{Member}
-use Rattle.sgt_access.proofs.RisingLists.{room_left}
+use Rattle.sgt_model.specs.Paths.{Member}
+use Rattle.sgt_access.proofs.RisingLists.{capacity_left}
 use Rattle.sgt_access.proofs.Rivals.{AreRivals, rival_added, no_rival_added, rival_listed, listed_at}
 use Rattle.sgt_access.proofs.conflicts.rivals_among.Goals as goal
 use Rattle.sgt_access.proofs.conflicts.rivals_among.Goals.{then-is_rival_of, else-is_rival_of}
 
-pub add_rising-requires-clause-room : goal.add_rising-requires-clause-room
-add_rising-requires-clause-room c =
+pub add_rising-requires-clause-capacity : goal.add_rising-requires-clause-capacity
+add_rising-requires-clause-capacity c =
     let list = c.args.accesses.now in
     let rivals = c.loop-access.rivals.items in
     let short : c.loop-access.access-index < length list = c.loop-access-test.true in
     let is : c.access-item.result ≡ get_or list c.loop-access.access-index c.access-item.result = c.access-item.is in
     subst (λ t. ¬ Member t rivals → length rivals < 32) (sym (ap (λ (a : ListedAccess). a.by) c.access.view_is))
-    (room_left 32 (is_listed list) rivals _ c.requires.few c.loop-access.invariant.rising
+    (capacity_left 32 (is_listed list) rivals _ c.requires.few c.loop-access.invariant.rising
     (λ u m. rival_listed list c.loop-access.access-index u c.args.key c.args.kind ((c.loop-access.invariant.exact u).0 m).1)
     (listed_at list c.loop-access.access-index c.access-item.result short is))
 

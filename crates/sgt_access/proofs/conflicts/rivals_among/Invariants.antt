@@ -1,6 +1,6 @@
 use Rattle.std.proofs.Common.{take}
 use Rattle.sgt_access.proofs.Rivals.{AreRivals}
-use Rattle.sgt_model.specs.Walks.{Rising}
+use Rattle.sgt_model.specs.Paths.{Rising}
 use Rattle.sgt_access.proofs.conflicts.rivals_among.Given as goal
 
 -- the rivals among the accesses so far

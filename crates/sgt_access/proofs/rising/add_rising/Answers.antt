@@ -1,12 +1,12 @@
 use Rattle.std.proofs.Common.{ℕ, ◌<◌, subst, sym, inl, inr, Ok, Err, arith}
-use Rattle.sgt_model.specs.Walks.{Member}
+use Rattle.sgt_model.specs.Paths.{Member}
 use Rattle.sgt_access.proofs.RisingLists.{IsIndex, search_finds, index_absent, index_rises, member_inserted, member_last, rises_last}
 use Rattle.sgt_access.proofs.rising.add_rising.Goals as goal
 
 pub push-requires : goal.push-requires
 push-requires c = (
   omega arith,
-  c.requires.room (λ m.
+  c.requires.capacity (λ m.
       let less : c.args.t < c.args.t = c.is_above.ensures c.if-is_above.true c.args.t
       (subst (Member c.args.t) (sym c.as_slice.ensures.value) m) in
       absurd (omega (arith, less))),
@@ -23,7 +23,7 @@ pub insert-requires : goal.insert-requires
 insert-requires c =
     let index : IsIndex c.args.tids.now.items c.args.t c.in-Err.index =
     search_finds _ _ _ (Err c.in-Err.index) c.deref.ensures.0 c.requires.rising c.in-Err.ensures.position in
-    (omega arith, (index.within, c.requires.room (index_absent _ _ _ index)))
+    (omega arith, (index.within, c.requires.capacity (index_absent _ _ _ index)))
 
 pub returns-in-Err-clause-members : goal.returns-in-Err-clause-members
 returns-in-Err-clause-members c = rw c.insert.ensures.items (member_inserted c.args.tids.now.items c.in-Err.index c.args.t)

@@ -4,6 +4,6 @@ use Rattle.sgt_appends.proofs.order.none_named.Given as goal
 abbrev pub invariant-loop : goal.invariant-loop
 invariant-loop l = record {
   long : vec_len l.named ≡ l.counter;
-  room : vec_capacity l.named ≡ l.len;
+  capacity : vec_capacity l.named ≡ l.len;
   none : (t : ℕ) → get_or l.named.items t false ≡ false;
 }

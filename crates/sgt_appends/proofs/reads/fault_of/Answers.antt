@@ -3,7 +3,7 @@ use Rattle.std.proofs.lemmas.Grind.{common_steps}
 use Rattle.std.proofs.lemmas.List.{take_all, take_more}
 use Rattle.sgt_appends.specs.Indexes.{position_of}
 use Rattle.sgt_appends.specs.Reads.{own_at, last_in, IsPassed}
-use Rattle.sgt_appends.proofs.Passed.{passed_one, passed_clean, fault_one, twice_told}
+use Rattle.sgt_appends.proofs.Passed.{passed_one, passed_clean, fault_one, twice_reported}
 use Rattle.sgt_appends.proofs.reads.fault_of.Goals as goal
 
 pub returns-then-not-is_end_of-clause-fault : goal.returns-then-not-is_end_of-clause-fault
@@ -23,7 +23,7 @@ returns-in-Some-clause-fault c = (
   c.args.read.seen.now,
   c.requires.committed,
   c.requires.read,
-  twice_told c.args.history.now c.args.read.reader c.args.read.key
+  twice_reported c.args.history.now c.args.read.reader c.args.read.key
       (own_at c.args.history.now c.args.read.reader c.args.read.position c.args.read.key) c.args.read.seen.now c.in-Some.fault
       _ c.in_ok-twice_or.ensures
       (fault_one c.args.history.now (position_of c.args.appends.now) c.args.read.reader c.args.read.position c.args.read.key

@@ -1,5 +1,5 @@
 use Rattle.std.proofs.Common.{rules}
-use Rattle.sgt_appends.proofs.Passed.{all_clean, clean_one, clean_behind}
+use Rattle.sgt_appends.proofs.Passed.{all_clean, clean_one, clean_after}
 use Rattle.sgt_appends.proofs.reads.first_fault.Goals as goal
 
 pub loop-number-preserved : goal.loop-number-preserved
@@ -8,4 +8,4 @@ loop-number-preserved c =
 
 pub returns-clause-clean : goal.returns-clause-clean
 returns-clause-clean c = λ none.
-    all_clean c.args.history.now (clean_behind c.args.history.now c.loop-number.number c.loop-number.invariant (search rules))
+    all_clean c.args.history.now (clean_after c.args.history.now c.loop-number.number c.loop-number.invariant (search rules))

@@ -1,4 +1,4 @@
-use Rattle.sgt_appends.specs.Walks.{Reaches}
+use Rattle.sgt_appends.specs.Paths.{Reaches}
 use Rattle.sgt_appends.proofs.witness.is_cycle.Given as goal
 
 abbrev pub invariant-loop-edge : goal.invariant-loop-edge

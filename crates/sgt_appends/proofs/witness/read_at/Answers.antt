@@ -4,7 +4,7 @@ use Rattle.std.proofs.lemmas.Grind.{common_steps}
 use Rattle.std.proofs.lemmas.Option.{gets}
 use Rattle.sgt_appends.specs.declared.transaction.Operation.TheVariants.{Read}
 use Rattle.sgt_appends.specs.Precedences.{HasSeen}
-use Rattle.sgt_appends.specs.Walks.{ReadAt}
+use Rattle.sgt_appends.specs.Paths.{ReadAt}
 use Rattle.sgt_appends.proofs.Spots.{seen_at, read_place_at}
 use Rattle.sgt_appends.proofs.witness.read_at.Goals as goal
 

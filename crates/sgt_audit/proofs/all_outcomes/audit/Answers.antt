@@ -2,7 +2,7 @@ use Rattle.std.proofs.Common.{rules, ◌≡◌, ◌↔◌, ℕ, ◌+◌, ◌<◌
 use Rattle.std.specs.List.{All, AllZip, count_by, flat_map}
 use Rattle.std.proofs.lemmas.Bool.{false≢true}
 use Rattle.sgt_model.specs.Fates.{start_count}
-use Rattle.sgt_model.specs.Walks.{Distinct}
+use Rattle.sgt_model.specs.Paths.{Distinct}
 use Rattle.sgt_model.specs.declared.entry.Entry.{Entry}
 use Rattle.sgt_model.specs.Questions.{is_commit, is_quit}
 use Rattle.sgt_audit.specs.Lives.{AreLives}

@@ -5,7 +5,7 @@ use Rattle.std.proofs.lemmas.Result.{on_ok_weaker}
 use Rattle.sgt_model.specs.Fates.{ending_in}
 use Rattle.sgt_audit.specs.Lives.{AreLives, life_after, with_started}
 use Rattle.sgt_audit.proofs.Rows.{lives_ended, lives_started_by}
-use Rattle.sgt_audit.proofs.Told.{started_some}
+use Rattle.sgt_audit.proofs.Reported.{started_some}
 use Rattle.sgt_audit.proofs.lives.add_entry.Goals as goal
 
 pub returns-then-is_start : goal.returns-then-is_start

@@ -1,7 +1,7 @@
 use Rattle.std.proofs.Common.{◌≡◌, ◌+◌, ◌<◌, false, true, get_or, set, length, take, drop, sym, subst, ◌∙◌}
 use Rattle.std.proofs.lemmas.Bool.{true≢false, false≢true}
 use Rattle.std.proofs.lemmas.List.{get_or_read, take_more, take-append-drop, length-set}
-use Rattle.sgt_model.specs.Walks.{Distinct}
+use Rattle.sgt_model.specs.Paths.{Distinct}
 use Rattle.sgt_audit.proofs.Numbers.{is_among, among_member, member_among, distinct_push, distinct_front, pushed_twice, marked_more}
 use Rattle.sgt_audit.proofs.names.none_twice.Goals.{After-index}
 use Rattle.sgt_audit.proofs.names.none_twice.Goals as goal

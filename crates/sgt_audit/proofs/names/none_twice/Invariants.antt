@@ -1,5 +1,5 @@
 use Rattle.std.proofs.Common.{◌≡◌, ℕ, false, get_or, length, take}
-use Rattle.sgt_model.specs.Walks.{Distinct}
+use Rattle.sgt_model.specs.Paths.{Distinct}
 use Rattle.sgt_audit.proofs.Numbers.{is_among}
 use Rattle.sgt_audit.proofs.names.none_twice.Given as goal
 

@@ -3,7 +3,7 @@ use Rattle.std.specs.Prelude.{IfErr}
 use Rattle.sgt_input.specs.Lines.{AtEnd}
 use Rattle.sgt_input.specs.Intake.{cut_left}
 use Rattle.sgt_input.specs.Ends.{IsOfInput}
-use Rattle.sgt_bank.proofs.Beginnings.{Fails, fails-empty, fails-refused, fails-record, fails-behind, fails-long, asks-all}
+use Rattle.sgt_bank.proofs.Beginnings.{Fails, fails-empty, fails-refused, fails-record, fails-following, fails-long, asks-all}
 use Rattle.sgt_input.proofs.Begun.{begun, bad-record}
 use Rattle.sgt_bank.proofs.input.read_input.Goals as goal
 
@@ -41,7 +41,7 @@ pub returns-in_err-jobs-clause-fault : goal.returns-in_err-jobs-clause-fault
 returns-in_err-jobs-clause-fault g c =
     let failed : c.from_residual-in_err-jobs.result ≡ Err c.in_err-jobs.field-0.0 = search rules in
     subst (λ r. IfErr r (λ f. IsOfInput f → Fails c.args.workers (g.S.Source.rest c.args.source.now) f)) (sym failed)
-    (λ exact. fails-behind c.args.workers (g.S.Source.rest c.args.source.now) c.next_line.new.self.line
+    (λ exact. fails-following c.args.workers (g.S.Source.rest c.args.source.now) c.next_line.new.self.line
     (c.read_records.new.lines.number + 1) (cut_left c.read_records.new.lines (g.S.Source.rest c.read_records.new.source))
     c.in_ok-opening-2.opening _
     (begun c.args.workers c.in_ok-lines.lines (g.S.Source.rest c.args.source.now) c.next_line.new.self.line

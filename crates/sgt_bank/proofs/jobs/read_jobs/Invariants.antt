@@ -7,7 +7,7 @@ use Rattle.sgt_bank.proofs.jobs.read_jobs.Given as goal
 
 abbrev pub invariant-loop-jobs : goal.invariant-loop-jobs
 invariant-loop-jobs g l = record {
-  asked : (cs : List JobCall) × (l.jobs.items ≡ numbered 0 cs) × (l.lines.number ≡ l.fn.lines.number + length cs) × (length cs ≤ 1000000)
+  requested : (cs : List JobCall) × (l.jobs.items ≡ numbered 0 cs) × (l.lines.number ≡ l.fn.lines.number + length cs) × (length cs ≤ 1000000)
       × TakesCalls
       (l.fn.lines.number + 1) (cut_left l.fn.lines (g.S.Source.rest l.fn.source)) cs (cut_left l.lines (g.S.Source.rest l.source));
   counted : g.S.Source.given l.source + come l.fn.lines ≤ g.S.Source.given l.fn.source + come l.lines;

@@ -16,7 +16,7 @@ loop-place-preserved c =
       counted = added.1 ∙ ap length (sym next);
       holds = subst (HoldAccesses c.put-count.new.to) (sym next) added.0;
       few = omega (arith, c.put-count.ensures.step.1, c.loop-place.invariant.few);
-      room = c.put-count.ensures.room ∙ c.loop-place.invariant.room;
+      capacity = c.put-count.ensures.capacity ∙ c.loop-place.invariant.capacity;
       rest = c.put-count.ensures.rest
           ∙ rest_later c.loop-place.to c.args.to.now c.loop-place.count c.put-count.result c.put-count.ensures.step.0 c.loop-place.invariant.rest;
     }

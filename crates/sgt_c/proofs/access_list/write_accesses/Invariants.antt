@@ -8,6 +8,6 @@ invariant-loop-place l = record {
   counted : l.count ≡ length (accesses_of (past_at l.history.entries l.place) l.t);
   holds : HoldAccesses l.to (accesses_of (past_at l.history.entries l.place) l.t);
   few : l.count ≤ l.place;
-  room : length l.to ≡ length l.initial.to;
+  capacity : length l.to ≡ length l.initial.to;
   rest : drop l.count l.to ≡ drop l.count l.initial.to;
 }

@@ -8,6 +8,6 @@ returns-clause-opened c =
       _,
       c.in_ok-opening.ensures.opening,
       (refl, refl, c.in_ok-database.ensures),
-      c.in_ok-engine.ensures.setting,
+      c.in_ok-engine.ensures.configuration,
       c.in_ok-engine.ensures.fresh,
     )

@@ -1,17 +1,17 @@
 use Rattle.std.proofs.Common.{◌≡◌, ◌-◌, ◌≤◌, length, take, drop}
 use Rattle.std.specs.List.{All}
 use Rattle.sgt_c.specs.ManyRuns.{IsStartable}
-use Rattle.sgt_c.specs.ReplayedCalls.{AreTold}
+use Rattle.sgt_c.specs.ReplayedCalls.{AreReported}
 use Rattle.sgt_c.proofs.replayed_calls.pass_from.Given as goal
 
 abbrev pub invariant-loop-next : goal.invariant-loop-next
 invariant-loop-next l = record {
-  told : AreTold l.history.entries l.from l.to l.count l.next;
-  asked : All IsStartable (take l.count l.to);
+  reported : AreReported l.history.entries l.from l.to l.count l.next;
+  requested : All IsStartable (take l.count l.to);
   onward : l.from ≤ l.next;
   within : l.next ≤ length l.history.entries;
   fits : l.count ≤ length l.to;
-  room : length l.to ≡ length l.initial.to;
+  capacity : length l.to ≡ length l.initial.to;
   rest : drop l.count l.to ≡ drop l.count l.initial.to;
 }
 

@@ -1,12 +1,12 @@
 use Rattle.std.proofs.Common.{rules, subst, sym}
 use Rattle.sgt_model.specs.Legality.{Legal}
-use Rattle.sgt_engine.specs.EngineView.{setting_of}
+use Rattle.sgt_engine.specs.EngineView.{configuration_of}
 use Rattle.sgt_c.proofs.Reruns.{taken_can_be_rerun}
 use Rattle.sgt_c.proofs.replayed_calls.sgt_calls.Goals as goal
 
 pub pass-passed-requires : goal.pass-passed-requires
 pass-passed-requires c =
-    (setting_of c.deref.result.now.engine, subst (Legal (setting_of c.deref.result.now.engine)) (sym c.history.ensures.entries) c.history.ensures.legal)
+    (configuration_of c.deref.result.now.engine, subst (Legal (configuration_of c.deref.result.now.engine)) (sym c.history.ensures.entries) c.history.ensures.legal)
 
 pub returns-in-Some-passed-clause-again : goal.returns-in-Some-passed-clause-again
 returns-in-Some-passed-clause-again c _ =

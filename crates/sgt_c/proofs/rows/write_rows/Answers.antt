@@ -1,11 +1,11 @@
 use Rattle.std.proofs.Common.{rules, ◌∙◌}
-use Rattle.sgt_c.proofs.RowSteps.{tell_row, rest_row}
+use Rattle.sgt_c.proofs.RowSteps.{report_row, rest_row}
 use Rattle.sgt_c.proofs.rows.write_rows.Goals as goal
 
 pub loop-i-preserved : goal.loop-i-preserved
 loop-i-preserved c = record {
-  room = search rules;
-  written = tell_row c.loop-i.to c.args.rows.now c.loop-i.i c.index-rows-i.result c.told_row.result (search rules) (search rules)
-      (c.told_row.ensures ∙ c.index-rows-i.is) c.loop-i.invariant.written;
-  rest = rest_row c.loop-i.to c.args.to.now c.loop-i.i c.told_row.result c.loop-i.invariant.rest;
+  capacity = search rules;
+  written = report_row c.loop-i.to c.args.rows.now c.loop-i.i c.index-rows-i.result c.reported_row.result (search rules) (search rules)
+      (c.reported_row.ensures ∙ c.index-rows-i.is) c.loop-i.invariant.written;
+  rest = rest_row c.loop-i.to c.args.to.now c.loop-i.i c.reported_row.result c.loop-i.invariant.rest;
 }

@@ -6,7 +6,7 @@ use Rattle.sgt_c.proofs.run_many.run_each.Given as goal
 abbrev pub invariant-loop-index : goal.invariant-loop-index
 invariant-loop-index l = record {
   ran : RanAll (take l.index l.calls) l.outcomes l.initial.engine l.engine;
-  room : length l.outcomes ≡ length l.initial.outcomes;
+  capacity : length l.outcomes ≡ length l.initial.outcomes;
   rest : drop l.index l.outcomes ≡ drop l.index l.initial.outcomes;
   kept : KeepOtherFields l.initial.outcomes l.outcomes;
 }

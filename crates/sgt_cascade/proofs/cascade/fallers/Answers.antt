@@ -1,5 +1,5 @@
 use Rattle.std.proofs.Common.{rules, ◌≡◌, ℕ, List, true, false, sym, subst, ◌∙◌}
-use Rattle.sgt_model.specs.Walks.{Member}
+use Rattle.sgt_model.specs.Paths.{Member}
 use Rattle.sgt_cascade.specs.Standing.{stands, has_read}
 use Rattle.sgt_cascade.proofs.Fallen.{IsStanding, standing_first, standing_next, fewer_stand, fallen_exact, none_reached}
 use Rattle.sgt_cascade.proofs.cascade.fallers.Goals as goal

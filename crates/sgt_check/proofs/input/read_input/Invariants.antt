@@ -6,7 +6,7 @@ abbrev pub invariant-loop-count : goal.invariant-loop-count
 invariant-loop-count g l = record {
   taken : Consumes (g.S.Source.rest l.fn.source) (g.S.Source.rest l.source) l.text.items;
   short : length l.text.items ≤ 268435456;
-  room : length l.room.items ≡ 65536;
+  buffer : length l.buffer.items ≡ 65536;
   given : g.S.Source.given l.source ≤ g.S.Source.given l.fn.source + length l.text.items;
   well : g.S.Source.failures l.source ≡ g.S.Source.failures l.fn.source;
 }

@@ -1,12 +1,12 @@
 use Rattle.std.proofs.Common.{◌++◌, ◌∙◌, ap}
 use Rattle.std.specs.Prelude.{codes}
 use Rattle.sgt_check.specs.ReportText.{avoiding_why}
-use Rattle.sgt_check.proofs.Pieces.{on_ok, told_no}
+use Rattle.sgt_check.proofs.Pieces.{on_ok, reported_no}
 use Rattle.sgt_check.proofs.report_text.append_avoiding.Goals as goal
 
 pub returns : goal.returns
 returns c =
     on_ok c.append_broken.result _ _
     (λ more. more ∙ ap (λ l. c.args.text.now.items ++ l)
-    (told_no (codes "avoids cascading aborts") (avoiding_why c.args.history.now) c.args.violation.now c.in-Some.violation c.in-Some.is))
+    (reported_no (codes "avoids cascading aborts") (avoiding_why c.args.history.now) c.args.violation.now c.in-Some.violation c.in-Some.is))
     c.append_broken.ensures

@@ -8,11 +8,11 @@ pub returns : goal.returns
 returns c =
     let start = c.args.text.now.items in
     let named = c.extend_from_slice.new.self.items in
-    let told = c.extend_from_slice-2.new.self.items in
+    let reported = c.extend_from_slice-2.new.self.items in
     on_ok c.append_pieces.result _ _
-    (λ more. grow start told c.append_pieces.new.text.items (c.args.name.now ++ codes " no: ")
+    (λ more. grow start reported c.append_pieces.new.text.items (c.args.name.now ++ codes " no: ")
     (pieces_text c.args.history.now c.args.why.now)
-    (grow start named told c.args.name.now (codes " no: ") c.in_ok-extend_from_slice.ensures.items
+    (grow start named reported c.args.name.now (codes " no: ") c.in_ok-extend_from_slice.ensures.items
     c.in_ok-extend_from_slice-2.ensures.items)
-    (more ∙ ap (λ l. told ++ l) (pieces_all c.args.history.now c.args.why.now)))
+    (more ∙ ap (λ l. reported ++ l) (pieces_all c.args.history.now c.args.why.now)))
     c.append_pieces.ensures

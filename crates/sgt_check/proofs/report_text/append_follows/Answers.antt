@@ -1,11 +1,11 @@
 use Rattle.std.proofs.Common.{◌++◌, ◌∙◌, ap}
 use Rattle.sgt_check.specs.ReportText.{follows_why}
-use Rattle.sgt_check.proofs.Pieces.{on_ok, told_no}
+use Rattle.sgt_check.proofs.Pieces.{on_ok, reported_no}
 use Rattle.sgt_check.proofs.report_text.append_follows.Goals as goal
 
 pub returns : goal.returns
 returns c =
     on_ok c.append_broken.result _ _
     (λ more. more ∙ ap (λ l. c.args.text.now.items ++ l)
-    (told_no (c.args.name.now) (follows_why c.args.history.now) c.args.violation.now c.in-Some.violation c.in-Some.is))
+    (reported_no (c.args.name.now) (follows_why c.args.history.now) c.args.violation.now c.in-Some.violation c.in-Some.is))
     c.append_broken.ensures

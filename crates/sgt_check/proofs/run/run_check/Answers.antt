@@ -1,7 +1,7 @@
 use Rattle.std.proofs.Common.{rules, ◌≡◌, ◌∙◌, Err, ap, sym, subst}
 use Rattle.std.specs.Prelude.{IfErr, IfSome}
 use Rattle.sgt_check.specs.Checks.{IsChecked, IsFaultOf}
-use Rattle.sgt_check.proofs.Whole.{is_told, is_begun, input_fault, text_fault}
+use Rattle.sgt_check.proofs.Whole.{is_reported, is_begun, input_fault, text_fault}
 use Rattle.sgt_check.proofs.run.run_check.Goals as goal
 
 pub returns-in_err-text-clause-fault : goal.returns-in_err-text-clause-fault
@@ -15,7 +15,7 @@ returns-in_err-text-clause-fault g c =
 
 pub returns-clause-checked : goal.returns-clause-checked
 returns-clause-checked g c =
-    is_told (IsChecked c.args.output) (g.S.Source.rest c.args.source.now) (g.T.Sink.held c.args.sink.now)
+    is_reported (IsChecked c.args.output) (g.S.Source.rest c.args.source.now) (g.T.Sink.held c.args.sink.now)
     (g.T.Sink.held c.write_all.new.sink)
     c.in_ok-text.text.items c.in_ok-checked.checked.lines.items c.in_ok-checked.checked.sound
     c.in_ok-text.ensures.bytes

@@ -10,6 +10,6 @@ returns c =
     let h = c.args.history.now in
     let q = c.in_ok-projection.projection.items in
     let es = c.in_ok-conflicts.conflicts.edges.items in
-    let pairs = get pair_cmp c.in_ok-conflicts.conflicts.told in
+    let pairs = get pair_cmp c.in_ok-conflicts.conflicts.reported in
     first_conflicts_of h q (length q) es pairs c.in_ok-projection.ensures.projection
     (subst (λ l. AreConflicts l (length l) (length l) es pairs) c.as_slice.ensures.value c.in_ok-conflicts.ensures)

@@ -5,7 +5,7 @@ use Rattle.sgt_clients.specs.declared.fault.ClientsFault.TheVariants as fault
 use Rattle.sgt_clients.specs.Checks.{IsChecked, IsFaultOf}
 use Rattle.sgt_clients.specs.Faults.{IsOwn}
 use Rattle.sgt_clients.proofs.Faulty.{input_fault, own_fault, own_not}
-use Rattle.sgt_clients.proofs.Told.{is_told, is_begun}
+use Rattle.sgt_clients.proofs.Reported.{is_reported, is_begun}
 use Rattle.sgt_clients.proofs.run.run_clients.Goals as goal
 
 pub returns-in_err-input-clause-fault : goal.returns-in_err-input-clause-fault
@@ -17,7 +17,7 @@ returns-in_err-input-clause-fault g c =
 
 pub returns-clause-checked : goal.returns-clause-checked
 returns-clause-checked g c =
-    is_told (IsChecked c.args.question c.args.output) (g.S.Source.rest c.args.source.now) (g.T.Sink.held c.args.sink.now)
+    is_reported (IsChecked c.args.question c.args.output) (g.S.Source.rest c.args.source.now) (g.T.Sink.held c.args.sink.now)
     (g.T.Sink.held c.write_all.new.sink)
     c.in_ok-input.input.items c.in_ok-checked.checked.text.items c.in_ok-checked.checked.answer
     c.in_ok-input.ensures.bytes

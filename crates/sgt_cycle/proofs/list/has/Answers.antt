@@ -1,5 +1,5 @@
 use Rattle.std.proofs.Common.{◌≡◌, refl, subst, ℕ, List, Option, Some, None, IfSome, IsNone, IsTrue, is_some, ◌<◌, ◌↔◌, length, slice_index}
-use Rattle.sgt_model.specs.Walks.{Member}
+use Rattle.sgt_model.specs.Paths.{Member}
 use Rattle.sgt_cycle.proofs.Members.{at_member}
 use Rattle.sgt_cycle.proofs.list.has.Goals as goal
 

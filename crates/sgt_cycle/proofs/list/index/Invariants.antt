@@ -1,5 +1,5 @@
 use Rattle.std.proofs.Common.{take}
-use Rattle.sgt_model.specs.Walks.{Member}
+use Rattle.sgt_model.specs.Paths.{Member}
 use Rattle.sgt_cycle.proofs.list.index.Given as goal
 
 abbrev pub invariant-loop-i : goal.invariant-loop-i

@@ -2,9 +2,9 @@ use Rattle.std.proofs.Common.{◌≡◌, ◌<◌, ◌≤◌, ◌+◌, ◌∙◌,
 use Rattle.std.specs.Prelude.{◌&&◌, not}
 use Rattle.std.proofs.lemmas.Bool.{and_parts, and_from, both_ways, false_from_ne_true}
 use Rattle.sgt_cycle.specs.Indices.{is_set, is_bit, indices}
-use Rattle.sgt_cycle.specs.Walk.{IsWalk}
+use Rattle.sgt_cycle.specs.Path.{IsPath}
 use Rattle.sgt_cycle.proofs.Bits.{none_above}
-use Rattle.sgt_cycle.proofs.RowWalks.{Searching, search_starts, search_fits, search_here, search_push, search_room, search_pop, search_ends, search_none, no_row}
+use Rattle.sgt_cycle.proofs.RowPaths.{Searching, search_starts, search_fits, search_here, search_push, search_capacity, search_pop, search_ends, search_none, no_row}
 use Rattle.sgt_cycle.proofs.rows.walk_rows.Goals as goal
 use Rattle.sgt_cycle.proofs.rows.walk_rows.Goals.{In-Some-least}
 
@@ -23,7 +23,7 @@ loop-here-init c = rw (c.push.ensures.items, c.new-path.ensures)
     (search_starts c.args.rows.now c.args.source c.args.targets c.complement-fresh.result c.requires.index
     (λ i low. c.complement-fresh.ensures i low ∙ ap not (c.only.ensures i))
     (λ i high. none_above c.args.targets i c.ranges.targets.fits high)
-    (λ i j high. no_row c.args.rows.now i j (omega (arith, c.told-rows)) high))
+    (λ i j high. no_row c.args.rows.now i j (omega (arith, c.reported-rows)) high))
 
 pub has-requires : goal.has-requires
 has-requires c =
@@ -45,7 +45,7 @@ returns-then-has-clause-some c =
     let s : Searching c.args.rows.now c.args.source c.args.targets c.loop-here.fresh (path ++ here ∷ []) =
     rw c.in-Some.ensures.items at c.loop-here.invariant in
     let target : is_set c.args.targets here ≡ true = sym (c.if-has.ensures) in
-    found c.from_slice.result (path ++ here ∷ []) (IsWalk (is_bit c.args.rows.now) c.args.source (indices c.args.targets))
+    found c.from_slice.result (path ++ here ∷ []) (IsPath (is_bit c.args.rows.now) c.args.source (indices c.args.targets))
     (rw (c.as_slice.ensures.value, c.push-then-has.ensures.items) at c.from_slice.ensures.items)
     (search_ends c.args.rows.now c.args.source c.args.targets c.loop-here.fresh path here s target)
 
@@ -80,7 +80,7 @@ push-requires-in-Some-least-2 c =
     let next : ℕ = c.in-Some-least.next in
     let at = (goal.at.push-requires-in-Some-least-2 c).In-Some-least in
     let fits : length ((path ++ here ∷ []) ++ next ∷ []) ≤ 32 =
-    search_room c.args.rows.now c.args.source c.args.targets c.loop-here.fresh path here (searching at) next
+    search_capacity c.args.rows.now c.args.source c.args.targets c.loop-here.fresh path here (searching at) next
     c.in-Some-least.ensures.some.0 (next_is at).1 in
     let long : length c.push-in-Some-least.new.self.items ≡ length (path ++ here ∷ []) = ap length c.push-in-Some-least.ensures.items in
     (omega arith, omega (arith, length-append (path ++ here ∷ []) (next ∷ [])))

@@ -1,5 +1,5 @@
 use Rattle.std.proofs.Common.{◌+◌, ◌*◌, length}
-use Rattle.sgt_cycle.proofs.RowWalks.{Searching}
+use Rattle.sgt_cycle.proofs.RowPaths.{Searching}
 use Rattle.sgt_cycle.proofs.rows.walk_rows.Given as goal
 
 abbrev pub invariant-loop-here : goal.invariant-loop-here

@@ -1,6 +1,6 @@
 use Rattle.std.proofs.Common.{◌≡◌, ◌<◌, length, slice_index_or, sym, refl, take, subst, arith, true≢false}
 use Rattle.std.proofs.lemmas.List.{take_all}
-use Rattle.sgt_model.specs.Walks.{Member}
+use Rattle.sgt_model.specs.Paths.{Member}
 use Rattle.sgt_cycle.proofs.Searched.{collected_push, collected_skip}
 use Rattle.sgt_cycle.proofs.search.distinct_members.Goals as goal
 use Rattle.sgt_cycle.proofs.search.distinct_members.Goals.{then-not-has, else-not-has}

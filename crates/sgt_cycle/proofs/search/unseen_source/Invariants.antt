@@ -1,5 +1,5 @@
 use Rattle.std.proofs.Common.{◌≡◌, ℕ, true, take}
-use Rattle.sgt_model.specs.Walks.{Member}
+use Rattle.sgt_model.specs.Paths.{Member}
 use Rattle.sgt_cycle.specs.Links.{is_link}
 use Rattle.sgt_cycle.proofs.search.unseen_source.Given as goal
 

@@ -1,5 +1,5 @@
 use Rattle.std.proofs.Common.{arith, refl}
-use Rattle.sgt_cycle.proofs.Searched.{searched_start, searched_room, searched_push, searched_next}
+use Rattle.sgt_cycle.proofs.Searched.{searched_start, searched_capacity, searched_push, searched_next}
 use Rattle.sgt_cycle.proofs.search.with_ancestors.Goals as goal
 
 pub loop-at-init : goal.loop-at-init
@@ -9,7 +9,7 @@ loop-at-init c = searched_start c.args.links.now c.args.targets.now c.distinct_m
 pub push-requires : goal.push-requires
 push-requires c = (
   omega arith,
-  searched_room c.args.links.now c.args.targets.now c.requires.few c.distinct_members-seen.result c.loop-at.seen c.loop-at.at
+  searched_capacity c.args.links.now c.args.targets.now c.requires.few c.distinct_members-seen.result c.loop-at.seen c.loop-at.at
       c.in-Some.source c.index-as_slice-at.result
       (λ t m. (c.distinct_members-seen.ensures.exact t).1 m) c.distinct_members-seen.ensures.few c.loop-at.invariant c.in-Some.ensures.link
       (λ m. c.in-Some.ensures.new (rw c.as_slice-in-loop-at.ensures m)),

@@ -5,7 +5,7 @@ use Rattle.sgt_desk.proofs.running.try_once.Goals as goal
 pub returns-in-Full-clause-why : goal.returns-in-Full-clause-why
 returns-in-Full-clause-why g c =
     inr (c.live_count.ensures
-    ∙ full_count (g.E.Answering.state c.args.desk.now.engine).setting c.args.procedure c.copied.result
+    ∙ full_count (g.E.Answering.state c.args.desk.now.engine).configuration c.args.procedure c.copied.result
     (g.E.Answering.state c.args.desk.now.engine).past (g.E.Answering.state c.answer.new.self.engine).past c.answer.new.reply
     c.in_ok-answer.ensures.adds.entry.answered c.in-Full.is
-    ∙ ap (λ s. s.rules.limits.live) (sym c.in_ok-answer.ensures.adds.entry.setting))
+    ∙ ap (λ s. s.rules.limits.live) (sym c.in_ok-answer.ensures.adds.entry.configuration))

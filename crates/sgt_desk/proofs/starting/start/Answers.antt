@@ -5,6 +5,6 @@ use Rattle.sgt_desk.proofs.starting.start.Goals as goal
 pub returns-in-Full-clause-why : goal.returns-in-Full-clause-why
 returns-in-Full-clause-why g c =
     inr (c.live_count.ensures
-    ∙ full_count (g.E.Answering.state c.args.desk.now.engine).setting c.args.procedure c.copied.result
+    ∙ full_count (g.E.Answering.state c.args.desk.now.engine).configuration c.args.procedure c.copied.result
     (g.E.Answering.state c.args.desk.now.engine).past (g.E.Answering.state c.answer.new.self.engine).past c.answer.new.reply
     c.in_ok-answer.ensures.adds.entry.answered c.in-Full.is)

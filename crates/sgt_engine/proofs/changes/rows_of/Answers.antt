@@ -9,7 +9,7 @@ use Rattle.sgt_model.specs.Numbers.{IsValue}
 use Rattle.sgt_model.specs.Contents.{key_eq}
 use Rattle.sgt_model.specs.Databases.{key_cmp, contents_of}
 use Rattle.sgt_model.proofs.Rows.{key_order}
-use Rattle.sgt_records.proofs.RecordsRead.{read_so_far, value_more, blank_more, all_read}
+use Rattle.sgt_records.proofs.RecordsRead.{read_so_far, value_more, empty_more, all_read}
 use Rattle.sgt_engine.proofs.changes.rows_of.Goals as goal
 
 pub put-requires : goal.put-requires
@@ -47,7 +47,7 @@ loop-key-preserved c k =
     (btree_map_turn deref_pair c.loop-key.yielded c.into_iter-key-iterator.result c.loop-key.key-iterator c.next.new.self c.next.result
     (c.in-Some.key, c.in-Some.value) c.loop-key.yielded_by c.in-Some.is c.next.ensures.steps key_order values start.0 start.5).1 in
     c.loop-key.invariant k
-    ∙ (sym (blank_more values (map deref_pair c.loop-key.yielded) key (found ∙ ap (λ o. Some o) c.in_default.is) k)
+    ∙ (sym (empty_more values (map deref_pair c.loop-key.yielded) key (found ∙ ap (λ o. Some o) c.in_default.is) k)
     ∙ (ap (λ (o : Option ℤ). read_so_far values (map deref_pair c.loop-key.yielded ++ (key, o) ∷ []) k) (sym c.in_default.is)
     ∙ ap (λ l. read_so_far values l k) (sym (map-append deref_pair c.loop-key.yielded ((c.in-Some.key, c.in-Some.value) ∷ [])))))
 

@@ -6,7 +6,7 @@ use Rattle.sgt_model.specs.Contents.{Key, key_eq}
 use Rattle.sgt_model.specs.Databases.{key_cmp}
 use Rattle.sgt_model.specs.Numbers.{IsValue}
 use Rattle.sgt_records.proofs.SettledValues.{same_key}
-use Rattle.sgt_engine.specs.Writes.{is_written, tells_write}
+use Rattle.sgt_engine.specs.Writes.{is_written, reports_write}
 use Rattle.sgt_engine.proofs.KeysWritten.{written_at, no_write, range_put, value_put, value_kept, value_more}
 use Rattle.sgt_engine.proofs.changes.written_values.Goals.{in-Wrote+in_ok-insert, then-removes, else-removes, in_default}
 use Rattle.sgt_engine.proofs.changes.written_values.Goals as goal
@@ -17,7 +17,7 @@ loop-place-preserved g c =
     let settled = g.R.Records.settled c.args.records.now in
     let place = c.loop-place.place in
     let old = c.loop-place.values in
-    let more : (k : Key) → is_written k (take (place + 1) entries) ≡ is_written k (take place entries) || tells_write k c.reply_at.result =
+    let more : (k : Key) → is_written k (take (place + 1) entries) ≡ is_written k (take place entries) || reports_write k c.reply_at.result =
     λ k. written_at k entries place c.reply_at.result c.reply_at.ensures in
     elim c.match-reply_at.branch [
       | in-Wrote+in_ok-insert w ↦
@@ -37,7 +37,7 @@ loop-place-preserved g c =
                 w.committed-value.ensures.value
                 ∙ (value_more k key (is_written k (take place entries)) settled
                 ∙ ap (λ b. cond b (Some (settled k)) None)
-                (sym (more k ∙ ap (λ r. is_written k (take place entries) || tells_write k r) w.in-Wrote.is)))));
+                (sym (more k ∙ ap (λ r. is_written k (take place entries) || reports_write k r) w.in-Wrote.is)))));
             in_range = λ k. subst (λ (o : Option (Option ℤ)). IfSome (option_flatten o) IsValue) (sym (put k))
                 (range_put (key_eq key k) value (get key_cmp old k) w.committed-value.ensures.in_range (c.loop-place.invariant.in_range k));
             removes = λ quiet k. subst (λ (o : Option (Option ℤ)). o ≢ Some None) (sym (put k))

@@ -2,7 +2,7 @@ use Rattle.std.proofs.Common.{rules, arith, Some, refl, sym, ap, subst, ◌∙�
 use Rattle.std.proofs.lemmas.Option.{slice_get_read}
 use Rattle.std.specs.Prelude.{slice_get}
 use Rattle.std.specs.Result.{is_ok}
-use Rattle.sgt_engine.specs.EngineView.{EngineView, setting_of}
+use Rattle.sgt_engine.specs.EngineView.{EngineView, configuration_of}
 use Rattle.sgt_model.specs.Histories.{events_of}
 use Rattle.sgt_model.specs.Legality.{Legal}
 use Rattle.sgt_engine.proofs.Entries.{legal_new, events_taken}
@@ -14,7 +14,7 @@ pub loop-event-init : goal.loop-event-init
 loop-event-init g c =
     record {
       done = refl;
-      setting = search rules;
+      configuration = search rules;
       events = search rules;
       legal = legal_new _ _ _ _ c.in_ok-engine.ensures.made;
     }
@@ -22,7 +22,7 @@ loop-event-init g c =
 pub loop-event-preserved : goal.loop-event-preserved
 loop-event-preserved g c = record {
   done = ap (λ n. n + 1) c.loop-event.invariant.done;
-  setting = ap setting_of c.in-Ok.ensures.adds ∙ c.loop-event.invariant.setting;
+  configuration = ap configuration_of c.in-Ok.ensures.adds ∙ c.loop-event.invariant.configuration;
   events = ap (λ (e : EngineView). events_of e.past) c.in-Ok.ensures.adds
       ∙ events_taken _ c.loop-event.engine.past c.args.events.now c.loop-event.done c.loop-event.event-index c.event-item.result
       c.loop-event.invariant.done (search rules) c.loop-event.invariant.events c.event-item.is c.copied.ensures;
@@ -44,7 +44,7 @@ returns-clause-stops g c =
 
 pub returns-clause-legal : goal.returns-clause-legal
 returns-clause-legal g c =
-    let legal_at : EngineView → Type 0 = λ e. Legal (setting_of e) e.past in
+    let legal_at : EngineView → Type 0 = λ e. Legal (configuration_of e) e.past in
     elim c.loop-event-test.branch [
       | else-loop-event-test w ↦ subst legal_at (sym w.engine-is) c.loop-event.invariant.legal
       | then-loop-event-test+in-Err w

@@ -1,7 +1,7 @@
 use Rattle.std.proofs.Common.{rules, ◌≡◌, ◌<◌, ℕ, Some, length, subst}
 use Rattle.std.specs.Prelude.{OnOk}
 use Rattle.sgt_model.specs.Questions.{named_by}
-use Rattle.sgt_model.specs.Walks.{Member}
+use Rattle.sgt_model.specs.Paths.{Member}
 use Rattle.sgt_explain.proofs.IndexSteps.{names_covered}
 use Rattle.sgt_explain.proofs.bounds.cover_entry.Goals as goal
 use Rattle.sgt_explain.proofs.bounds.cover_entry.Goals.{in-Some+in_ok-cover+in_ok-cover-2, in_default}

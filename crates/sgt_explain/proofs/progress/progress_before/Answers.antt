@@ -30,5 +30,5 @@ loop-at-preserved c =
       made = c.in_ok-note.ensures.made
           ∙ ap (λ n. n + length (act_in c.made_at.result c.args.t [])) c.loop-at.invariant.made
           ∙ rw c.made_at.ensures (sym (made_next c.args.history.now c.loop-at.at c.args.t within));
-      few = let told = c.in_ok-note.ensures.made in let few = c.loop-at.invariant.few in omega (arith, told, few, one);
+      few = let reported = c.in_ok-note.ensures.made in let few = c.loop-at.invariant.few in omega (arith, reported, few, one);
     }

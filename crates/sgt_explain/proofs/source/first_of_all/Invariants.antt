@@ -1,5 +1,5 @@
 use Rattle.std.proofs.Common.{◌<◌, ◌≤◌, ℕ, take}
-use Rattle.sgt_model.specs.Walks.{Member}
+use Rattle.sgt_model.specs.Paths.{Member}
 use Rattle.sgt_explain.specs.Indexes.{IsUntouched}
 use Rattle.sgt_explain.proofs.source.first_of_all.Given as goal
 

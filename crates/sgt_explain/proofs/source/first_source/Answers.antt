@@ -4,10 +4,10 @@ use Rattle.sgt_explain.proofs.FirstSources.{none_more, reads_by, reads_low, read
 use Rattle.sgt_explain.proofs.source.first_source.Goals as goal
 use Rattle.sgt_explain.proofs.source.first_source.Goals.{in-Some+else-is_undone, in_default}
 
-pub returns-then-is_undone-clause-told : goal.returns-then-is_undone-clause-told
-returns-then-is_undone-clause-told c =
+pub returns-then-is_undone-clause-reported : goal.returns-then-is_undone-clause-reported
+returns-then-is_undone-clause-reported c =
     source_first c.args.history.now c.args.end c.args.reader c.loop-place.place c.in-Some.source (search rules)
-    c.loop-place.invariant c.in-Some.ensures.told (search rules)
+    c.loop-place.invariant c.in-Some.ensures.reported (search rules)
 
 pub loop-place-preserved : goal.loop-place-preserved
 loop-place-preserved c =

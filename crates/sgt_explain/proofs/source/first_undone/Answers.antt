@@ -3,7 +3,7 @@ use Rattle.std.specs.Option.{option_and_then}
 use Rattle.sgt_model.specs.declared.entry.Entry.{Entry}
 use Rattle.sgt_model.specs.Questions.{named_by}
 use Rattle.sgt_model.specs.ShortReplies.{fell_in}
-use Rattle.sgt_model.specs.Walks.{Member}
+use Rattle.sgt_model.specs.Paths.{Member}
 use Rattle.sgt_explain.specs.Places.{listed_by}
 use Rattle.sgt_explain.proofs.source.first_undone.Goals as goal
 

@@ -5,8 +5,8 @@ use Rattle.sgt_explain.proofs.FirstSources.{if_none, reads_below}
 use Rattle.sgt_explain.proofs.NewestStores.{look_is, looks_from, looks_from_one}
 use Rattle.sgt_explain.proofs.source.source_at.Goals as goal
 
-pub returns-clause-told : goal.returns-clause-told
-returns-clause-told c =
+pub returns-clause-reported : goal.returns-clause-reported
+returns-clause-reported c =
     let entries = c.args.history.now in
     let made : Access = record { by = c.made.inside.by; key = c.made.inside.key; kind = c.made.inside.kind; value = c.made.inside.value } in
     record {

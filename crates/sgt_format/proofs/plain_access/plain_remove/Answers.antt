@@ -12,5 +12,5 @@ returns c =
     let place : key_of c.in_ok-t.table c.in_ok-t.id ≡ Some c.in_ok-key_of.field-0 =
     ap (λ n. key_of n c.in_ok-t.id) (from_bits c.in_ok-t.table (search rules))
     ∙ ap (key_of (to_z w64 (of_z w64 c.in_ok-t.table))) (from_bits c.in_ok-t.id (search rules)) ∙ sym c.in_ok-key_of.ensures in
-    plain_remove _ c.in_ok-item_behind.ensures.0 _ _ _ _ _ _ _ c.in_ok-item_behind.ensures.1 c.in_ok-item_behind.ensures.2 c.in_ok-t.ensures
+    plain_remove _ c.in_ok-item_after.ensures.0 _ _ _ _ _ _ _ c.in_ok-item_after.ensures.1 c.in_ok-item_after.ensures.2 c.in_ok-t.ensures
     (c.if-not-is_bracket.ensures refl) tid place

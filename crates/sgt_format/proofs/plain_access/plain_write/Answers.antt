@@ -13,6 +13,6 @@ returns c =
     ap (λ n. key_of n c.in_ok-t.id) (from_bits c.in_ok-t.table (search rules))
     ∙ ap (key_of (to_z w64 (of_z w64 c.in_ok-t.table))) (from_bits c.in_ok-t.id (search rules)) ∙ sym c.in_ok-key_of.ensures in
     let held : to_z w64 (of_z w64 c.in_ok-value.value) ≡ c.in_ok-value.value = sym (from_bits c.in_ok-value.value (search rules)) in
-    rw held (plain_write _ c.in_ok-item_behind.ensures.0 _ _ c.in_ok-item_behind-2.ensures.0 _ _ _ _ _ _ _ _
-    c.in_ok-item_behind.ensures.1 c.in_ok-item_behind.ensures.2 c.in_ok-t.ensures c.in_ok-item_behind-2.ensures.1
-    c.in_ok-item_behind-2.ensures.2 c.in_ok-value.ensures.text (c.if-not-is_bracket.ensures refl) c.in_ok-value.ensures.small tid place)
+    rw held (plain_write _ c.in_ok-item_after.ensures.0 _ _ c.in_ok-item_after-2.ensures.0 _ _ _ _ _ _ _ _
+    c.in_ok-item_after.ensures.1 c.in_ok-item_after.ensures.2 c.in_ok-t.ensures c.in_ok-item_after-2.ensures.1
+    c.in_ok-item_after-2.ensures.2 c.in_ok-value.ensures.text (c.if-not-is_bracket.ensures refl) c.in_ok-value.ensures.small tid place)

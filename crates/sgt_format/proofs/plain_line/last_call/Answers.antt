@@ -4,6 +4,6 @@ use Rattle.sgt_format.proofs.plain_line.last_call.Goals as goal
 
 pub returns : goal.returns
 returns c =
-    call_of _ _ _ _ c.in_ok-item_behind.ensures.0 c.in_ok-number.number _ _ c.in_ok-number.ensures.text c.in_ok-item_behind.ensures.1
-    c.in_ok-item_behind.ensures.2 c.in_ok-behind.ensures c.in_ok-last_arguments.ensures.text
+    call_of _ _ _ _ c.in_ok-item_after.ensures.0 c.in_ok-number.number _ _ c.in_ok-number.ensures.text c.in_ok-item_after.ensures.1
+    c.in_ok-item_after.ensures.2 c.in_ok-following.ensures c.in_ok-last_arguments.ensures.text
     (search rules) (search rules) c.in_ok-last_arguments.ensures.small c.in_ok-last_arguments.ensures.few

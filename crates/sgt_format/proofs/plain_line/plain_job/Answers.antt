@@ -3,4 +3,4 @@ use Rattle.sgt_format.proofs.plain_line.plain_job.Goals as goal
 
 pub returns : goal.returns
 returns c =
-    job_called _ c.in_ok-item_behind.ensures.0 _ _ c.in_ok-item_behind.ensures.1 c.in_ok-item_behind.ensures.2 c.in_ok-last_call.ensures
+    job_called _ c.in_ok-item_after.ensures.0 _ _ c.in_ok-item_after.ensures.1 c.in_ok-item_after.ensures.2 c.in_ok-last_call.ensures

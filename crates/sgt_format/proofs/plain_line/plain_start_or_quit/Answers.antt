@@ -7,8 +7,8 @@ use Rattle.sgt_format.proofs.plain_line.plain_start_or_quit.Goals as goal
 
 pub returns-then-line-eq105 : goal.returns-then-line-eq105
 returns-then-line-eq105 c =
-    plain_quit _ c.in_ok-tid_behind.ensures.number.0 _ _ c.in_ok-tid_behind.ensures.number.1 c.in_ok-tid_behind.ensures.number.2 refl
-    c.in_ok-tid_behind.ensures.small
+    plain_quit _ c.in_ok-tid_after.ensures.number.0 _ _ c.in_ok-tid_after.ensures.number.1 c.in_ok-tid_after.ensures.number.2 refl
+    c.in_ok-tid_after.ensures.small
 
 pub returns : goal.returns
 returns c =

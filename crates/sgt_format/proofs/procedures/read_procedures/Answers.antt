@@ -7,7 +7,7 @@ loop-index-preserved c = record {
   so_far = rw c.push_reserved.ensures.items
       (one_more c.args.trees.now c.loop-index.index _ c.loop-index.list.items c.in_ok-read_procedure.field-0 c.loop-index-test.true
       c.index-trees-index.is c.loop-index.invariant.so_far c.in_ok-read_procedure.ensures.procedure);
-  room = search rules;
+  capacity = search rules;
   count = search rules;
 }
 

@@ -8,6 +8,6 @@ use Rattle.sgt_format.proofs.procedures.read_procedures.Given as goal
 abbrev pub invariant-loop-index : goal.invariant-loop-index
 invariant-loop-index l = record {
   so_far : AreProcedures (map view (take l.index l.trees)) l.list.items;
-  room : vec_capacity l.list ≡ length l.trees;
+  capacity : vec_capacity l.list ≡ length l.trees;
   count : vec_len l.list ≡ l.index;
 }

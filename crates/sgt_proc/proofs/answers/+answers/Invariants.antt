@@ -6,7 +6,7 @@ use Rattle.sgt_proc.proofs.answers.+answers.Given as goal
 abbrev pub invariant-most_answers-loop-ahead : goal.invariant-most_answers-loop-ahead
 invariant-most_answers-loop-ahead l = record {
   within : l.ahead ≤ length l.statements;
-  so_far : IsFound (λ w. min 9 (most_answers w)) l.statements l.ahead l.behind l.most;
+  so_far : IsFound (λ w. min 9 (most_answers w)) l.statements l.ahead l.following l.most;
 }
 
 abbrev pub decreases-most_answers-loop-ahead : goal.decreases-most_answers-loop-ahead

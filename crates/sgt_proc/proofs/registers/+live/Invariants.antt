@@ -6,7 +6,7 @@ use Rattle.sgt_proc.proofs.registers.+live.Given as goal
 abbrev pub invariant-is_live-loop-ahead : goal.invariant-is_live-loop-ahead
 invariant-is_live-loop-ahead l = record {
   within : l.ahead ≤ length l.statements;
-  so_far : IsFound (uses_unset l.register) l.statements l.ahead l.behind l.live;
+  so_far : IsFound (uses_unset l.register) l.statements l.ahead l.following l.live;
 }
 
 abbrev pub decreases-is_live-loop-ahead : goal.decreases-is_live-loop-ahead

@@ -2,8 +2,8 @@ use Rattle.std.proofs.Common.{rules, inl, inr}
 use Rattle.std.proofs.lemmas.List.{drop_all}
 use Rattle.serde_json.specs.View.{items_view}
 use Rattle.sgt_proc_json.proofs.IfRows.{row_of_if, row_of_other, four_are, branches_are, no_if_row, no_branches, if_made}
-use Rattle.sgt_proc_json.proofs.InTurn.{handed_on, first_tells, second_tells, both_read}
-use Rattle.sgt_proc_json.proofs.Lengths.{told_here}
+use Rattle.sgt_proc_json.proofs.InTurn.{handed_on, first_reports, second_reports, both_read}
+use Rattle.sgt_proc_json.proofs.Lengths.{reported_here}
 use Rattle.sgt_proc_json.proofs.StatementsRead.{one_more, one_refused, all_read}
 use Rattle.sgt_proc_json.proofs.read_statement.+statement.Goals as goal
 use Rattle.sgt_proc_json.proofs.read_statement.+statement.Goals.{
@@ -32,13 +32,13 @@ read_row-returns-clause-err t c =
 pub if_row-returns-in_err-cond-in-len4-clause-err : goal.if_row-returns-in_err-cond-in-len4-clause-err
 if_row-returns-in_err-cond-in-len4-clause-err t c =
     handed_on _ c.in_err-cond-in-len4.field-0.0 c.from_residual.result (search rules)
-    (first_tells _ _ _ _ _ (four_are c.args.items.now _ c.in-len4.len_at_least c.in-len4.len_below c.cond-item.is)
+    (first_reports _ _ _ _ _ (four_are c.args.items.now _ c.in-len4.len_at_least c.in-len4.len_below c.cond-item.is)
     c.in_err-cond-in-len4.ensures.err)
 
 pub if_row-returns-in_err-yes-in-len4-clause-err : goal.if_row-returns-in_err-yes-in-len4-clause-err
 if_row-returns-in_err-yes-in-len4-clause-err t c =
     handed_on _ c.in_err-yes-in-len4.field-0.0 c.from_residual-in_err-yes-in-len4.result (search rules)
-    (second_tells _ _ _ _ _ _ (four_are c.args.items.now _ c.in-len4.len_at_least c.in-len4.len_below c.cond-item.is)
+    (second_reports _ _ _ _ _ _ (four_are c.args.items.now _ c.in-len4.len_at_least c.in-len4.len_below c.cond-item.is)
     c.in_ok-cond-in-len4.ensures.ok
     c.in_err-yes-in-len4.ensures.err)
 
@@ -51,21 +51,21 @@ if_row-returns-in_ok-yes-in-len4-clause-ok t c =
 pub if_row-returns-in_default-clause-err : goal.if_row-returns-in_default-clause-err
 if_row-returns-in_default-clause-err t c =
     elim c.in_default.branch [
-      | if_row-in_default-via-then-items-lt4 w ↦ told_here _ _ c.here.ensures (no_if_row c.args.items.now (inl (search rules)))
-      | if_row-in_default-via-else-items-lt4+else-items-lt5 w ↦ told_here _ _ c.here.ensures (no_if_row c.args.items.now (inr
+      | if_row-in_default-via-then-items-lt4 w ↦ reported_here _ _ c.here.ensures (no_if_row c.args.items.now (inl (search rules)))
+      | if_row-in_default-via-else-items-lt4+else-items-lt5 w ↦ reported_here _ _ c.here.ensures (no_if_row c.args.items.now (inr
           (search rules)))
     ]
 
 pub branches-returns-in_err-yes-in-len4-clause-err : goal.branches-returns-in_err-yes-in-len4-clause-err
 branches-returns-in_err-yes-in-len4-clause-err t c =
     handed_on _ c.in_err-yes-in-len4.field-0.0 c.from_residual.result (search rules)
-    (first_tells _ _ _ _ _ (branches_are c.args.items.now _ _ c.in-len4.len_at_least c.in-len4.len_below c.yes-item.is c.no-item.is)
+    (first_reports _ _ _ _ _ (branches_are c.args.items.now _ _ c.in-len4.len_at_least c.in-len4.len_below c.yes-item.is c.no-item.is)
     c.in_err-yes-in-len4.ensures.err)
 
 pub branches-returns-in_err-no-in-len4-clause-err : goal.branches-returns-in_err-no-in-len4-clause-err
 branches-returns-in_err-no-in-len4-clause-err t c =
     handed_on _ c.in_err-no-in-len4.field-0.0 c.from_residual-in_err-no-in-len4.result (search rules)
-    (second_tells _ _ _ _ _ _ (branches_are c.args.items.now _ _ c.in-len4.len_at_least c.in-len4.len_below c.yes-item.is
+    (second_reports _ _ _ _ _ _ (branches_are c.args.items.now _ _ c.in-len4.len_at_least c.in-len4.len_below c.yes-item.is
     c.no-item.is) c.in_ok-yes-in-len4.ensures.ok
     c.in_err-no-in-len4.ensures.err)
 
@@ -77,8 +77,8 @@ branches-returns-in_ok-no-in-len4-clause-ok t c =
 pub branches-returns-in_default-clause-err : goal.branches-returns-in_default-clause-err
 branches-returns-in_default-clause-err t c =
     elim c.in_default.branch [
-      | branches-in_default-via-then-items-lt4 w ↦ told_here _ _ c.here.ensures (no_branches c.args.items.now (inl (search rules)))
-      | branches-in_default-via-else-items-lt4+else-items-lt5 w ↦ told_here _ _ c.here.ensures (no_branches c.args.items.now (inr
+      | branches-in_default-via-then-items-lt4 w ↦ reported_here _ _ c.here.ensures (no_branches c.args.items.now (inl (search rules)))
+      | branches-in_default-via-else-items-lt4+else-items-lt5 w ↦ reported_here _ _ c.here.ensures (no_branches c.args.items.now (inr
           (search rules)))
     ]
 
@@ -88,7 +88,7 @@ read_statements-loop-position-preserved t c = record {
       rw c.push_reserved.ensures.items (one_more c.args.items.now c.loop-position.position _ c.loop-position.list.items
       c.in_ok-statement_at.field-0 _ c.loop-position.invariant.so_far c.loop-position-test.true c.index-items-position.is
       c.in_ok-statement_at.ensures.ok);
-  room = search rules;
+  capacity = search rules;
   count = search rules;
 }
 

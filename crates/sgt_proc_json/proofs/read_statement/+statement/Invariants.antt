@@ -9,6 +9,6 @@ use Rattle.sgt_proc_json.proofs.read_statement.+statement.Given as goal
 abbrev pub invariant-read_statements-loop-position : goal.invariant-read_statements-loop-position
 invariant-read_statements-loop-position l = record {
   so_far : statements 0 (items_view l.items) ≡ one (onto_block l.list.items) (statements l.position (items_view (drop l.position l.items)));
-  room : vec_capacity l.list ≡ length l.items;
+  capacity : vec_capacity l.list ≡ length l.items;
   count : vec_len l.list ≡ l.position;
 }

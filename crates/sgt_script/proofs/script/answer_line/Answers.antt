@@ -5,4 +5,4 @@ pub returns-in_ok-answer_event-in-Event-clause-answered : goal.returns-in_ok-ans
 returns-in_ok-answer_event-in-Event-clause-answered g c =
     let one = c.in_ok-answer_event-in-Event.ensures.answered in
     rw c.in-Event.is (replied c.args.output one.0 c.args.event.now c.args.engine.now c.answer_event.new.engine _ _
-    c.answer_event.ensures.setting one.1 one.2 one.3 c.answer_event.ensures.legal)
+    c.answer_event.ensures.configuration one.1 one.2 one.3 c.answer_event.ensures.legal)

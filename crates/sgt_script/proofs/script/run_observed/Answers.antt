@@ -1,11 +1,11 @@
 use Rattle.std.proofs.Common.{rules, ◌≡◌, Err, ◌+◌, sym, ◌∙◌, subst}
 use Rattle.sgt_input.specs.Intake.{cut_left}
 use Rattle.sgt_input.specs.Ends.{IsExact}
-use Rattle.sgt_engine.specs.EngineView.{setting_of}
+use Rattle.sgt_engine.specs.EngineView.{configuration_of}
 use Rattle.sgt_script.proofs.Outcomes.{with-laws}
 use Rattle.sgt_script.proofs.FirstLines.{wrote-bad-record, wrote-refused, wrote-opened}
 use Rattle.sgt_script.proofs.Beginnings.{stops-nothing, stops-records, stops-opened, fails-opened}
-use Rattle.sgt_script.proofs.Opened.{begun-behind, bad-behind}
+use Rattle.sgt_script.proofs.Opened.{begun-following, bad-following}
 use Rattle.sgt_script.proofs.WholeLines.{read-nothing}
 use Rattle.sgt_input.specs.declared.fault.Fault.TheVariants as fault
 use Rattle.sgt_script.proofs.script.run_observed.Goals as goal
@@ -21,7 +21,7 @@ returns-in_err-opening-clause-script g c = λ exact.
     let failed : c.from_residual-in_err-opening.result ≡ Err c.in_err-opening.field-0.0 = search rules in
     wrote-bad-record c.args.output (g.S.Source.rest c.args.source.now) (g.T.Sink.held c.args.sink.now) c.in_ok-lines.lines.line
     c.in_err-opening.field-0.0 c.from_residual-in_err-opening.result
-    (bad-behind (g.S.Source.rest c.args.source.now) c.in_ok-lines.lines (g.S.Source.rest c.open_input.new.source)
+    (bad-following (g.S.Source.rest c.args.source.now) c.in_ok-lines.lines (g.S.Source.rest c.open_input.new.source)
     c.in_ok-lines.opening c.in_err-opening.field-0.0 c.in_ok-lines.ensures.opened
     (c.in_err-opening.ensures.fault (subst IsExact failed exact)))
     failed
@@ -32,15 +32,15 @@ returns-clause-script g c = λ exact.
     c.replay_is_bank.ensures.replay c.legal_are_commit_ordered.ensures c.legal_are_serializable.ensures
     c.legal_are_recoverable.ensures c.transcripts_spell_textbooks.ensures c.args.output (g.S.Source.rest c.args.source.now)
     (g.T.Sink.held c.args.sink.now) (g.T.Sink.held c.run_opened.new.sink) c.run_opened.result
-    (wrote-opened c.args.output (setting_of c.in_ok-engine.engine) (g.S.Source.rest c.args.source.now)
+    (wrote-opened c.args.output (configuration_of c.in_ok-engine.engine) (g.S.Source.rest c.args.source.now)
     (g.T.Sink.held c.args.sink.now) (g.T.Sink.held c.run_opened.new.sink) c.in_ok-lines.lines.line
     (c.read_records.new.lines.number + 1) (cut_left c.read_records.new.lines (g.S.Source.rest c.read_records.new.source))
     c.in_ok-opening.opening c.run_opened.result
-    (begun-behind (g.S.Source.rest c.args.source.now) c.in_ok-lines.lines (g.S.Source.rest c.open_input.new.source)
+    (begun-following (g.S.Source.rest c.args.source.now) c.in_ok-lines.lines (g.S.Source.rest c.open_input.new.source)
     (cut_left c.read_records.new.lines (g.S.Source.rest c.read_records.new.source)) c.in_ok-lines.opening c.in_ok-opening.opening
     c.read_records.new.lines.number c.in_ok-lines.ensures.opened c.in_ok-opening.ensures.filled c.in_ok-opening.ensures.limits
     c.in_ok-opening.ensures.procedures)
-    c.in_ok-engine.ensures.setting (c.run_opened.ensures.output exact))
+    c.in_ok-engine.ensures.configuration (c.run_opened.ensures.output exact))
 
 pub returns-in_err-lines-clause-stops : goal.returns-in_err-lines-clause-stops
 returns-in_err-lines-clause-stops g c = λ stop.
@@ -67,26 +67,26 @@ returns-in_err-engine-clause-stops g c = λ stop.
 
 pub returns-clause-stops : goal.returns-clause-stops
 returns-clause-stops g c = λ stop.
-    stops-opened c.args.output c.in_ok-lines.lines c.read_records.new.lines (setting_of c.in_ok-engine.engine)
+    stops-opened c.args.output c.in_ok-lines.lines c.read_records.new.lines (configuration_of c.in_ok-engine.engine)
     (g.S.Source.rest c.args.source.now) (g.S.Source.rest c.open_input.new.source) (g.S.Source.rest c.read_records.new.source)
     (g.S.Source.rest c.run_opened.new.source) (g.T.Sink.held c.args.sink.now) (g.T.Sink.held c.run_opened.new.sink)
     (cut_left c.read_records.new.lines (g.S.Source.rest c.read_records.new.source)) c.in_ok-lines.opening c.in_ok-opening.opening
     c.run_opened.result c.in_ok-lines.ensures.opened
-    (begun-behind (g.S.Source.rest c.args.source.now) c.in_ok-lines.lines (g.S.Source.rest c.open_input.new.source)
+    (begun-following (g.S.Source.rest c.args.source.now) c.in_ok-lines.lines (g.S.Source.rest c.open_input.new.source)
     (cut_left c.read_records.new.lines (g.S.Source.rest c.read_records.new.source)) c.in_ok-lines.opening c.in_ok-opening.opening
     c.read_records.new.lines.number c.in_ok-lines.ensures.opened c.in_ok-opening.ensures.filled c.in_ok-opening.ensures.limits
     c.in_ok-opening.ensures.procedures)
-    c.in_ok-engine.ensures.setting (λ still. (c.read_records.ensures.ended still, c.in_ok-opening.ensures.passed still))
+    c.in_ok-engine.ensures.configuration (λ still. (c.read_records.ensures.ended still, c.in_ok-opening.ensures.passed still))
     c.run_opened.ensures.going (c.run_opened.ensures.stops stop)
 
 pub returns-clause-part : goal.returns-clause-part
 returns-clause-part g c = λ failed.
-    fails-opened c.args.output (setting_of c.in_ok-engine.engine) (g.S.Source.rest c.args.source.now)
+    fails-opened c.args.output (configuration_of c.in_ok-engine.engine) (g.S.Source.rest c.args.source.now)
     (g.T.Sink.held c.args.sink.now) (g.T.Sink.held c.run_opened.new.sink) c.in_ok-lines.lines.line
     (c.read_records.new.lines.number + 1) (cut_left c.read_records.new.lines (g.S.Source.rest c.read_records.new.source))
     c.in_ok-opening.opening
-    (begun-behind (g.S.Source.rest c.args.source.now) c.in_ok-lines.lines (g.S.Source.rest c.open_input.new.source)
+    (begun-following (g.S.Source.rest c.args.source.now) c.in_ok-lines.lines (g.S.Source.rest c.open_input.new.source)
     (cut_left c.read_records.new.lines (g.S.Source.rest c.read_records.new.source)) c.in_ok-lines.opening c.in_ok-opening.opening
     c.read_records.new.lines.number c.in_ok-lines.ensures.opened c.in_ok-opening.ensures.filled c.in_ok-opening.ensures.limits
     c.in_ok-opening.ensures.procedures)
-    c.in_ok-engine.ensures.setting (c.run_opened.ensures.part failed)
+    c.in_ok-engine.ensures.configuration (c.run_opened.ensures.part failed)

@@ -1,6 +1,6 @@
 use Rattle.std.proofs.Common.{◌≡◌, take, ap, sym, ◌∙◌}
 use Rattle.sgt_format.specs.ScriptLines.{script_line_of}
-use Rattle.sgt_format.proofs.LineTokens.{asked_event}
+use Rattle.sgt_format.proofs.LineTokens.{requested_event}
 use Rattle.sgt_script.proofs.NextLines.{window-break, window-line}
 use Rattle.sgt_script.proofs.script.takes_event_ahead.Goals as goal
 
@@ -18,4 +18,4 @@ returns-clause-event c = λ _.
     let line : c.pass.new.self.line ≡ take found.len c.in-Some.window.now =
     c.pass.ensures.line ∙ sym (window-line from.held c.in-Some.window.now from.within found.len c.in-Some.ensures.bytes
     c.in-Some.ensures.size found.ensures.end.0) in
-    ap script_line_of line ∙ asked_event (take found.len c.in-Some.window.now) _ found.ensures.event
+    ap script_line_of line ∙ requested_event (take found.len c.in-Some.window.now) _ found.ensures.event

@@ -8,14 +8,14 @@ use Rattle.sgt_model.specs.Legality.{Legal}
 use Rattle.sgt_model.specs.Pairs.{Pair}
 use Rattle.sgt_model.specs.Replay.{folded, ReplayAgrees}
 use Rattle.sgt_model.specs.Values.{settled}
-use Rattle.sgt_model.specs.Walks.{Acyclic}
-use Rattle.sgt_engine.specs.EngineView.{setting_of}
+use Rattle.sgt_model.specs.Paths.{Acyclic}
+use Rattle.sgt_engine.specs.EngineView.{configuration_of}
 use Rattle.sgt_audit.specs.AllOutcomes.{OutcomesStand}
 use Rattle.sgt_workers.proofs.report.report_of.Goals as goal
 
 pub returns-clause-report : goal.returns-clause-report
 returns-clause-report g c =
-    let s = setting_of c.args.engine in
+    let s = configuration_of c.args.engine in
     let past = c.into_past-opening.ensures in
     let h = c.into_past-opening.result.history.entries in
     let is = sym past.entries in

@@ -2,13 +2,13 @@ use Rattle.std.proofs.Common.{◌≡◌, ◌∙◌, List, reverse, ap, sym, subs
 use Rattle.std.proofs.lemmas.List.{reverse-reverse}
 use Rattle.sgt_model.specs.declared.entry.Entry.{Entry}
 use Rattle.sgt_model.specs.Legality.{Legal}
-use Rattle.sgt_engine.specs.EngineView.{setting_of}
+use Rattle.sgt_engine.specs.EngineView.{configuration_of}
 use Rattle.sgt_audit.specs.AllOutcomes.{OutcomesStand}
 use Rattle.sgt_workers.proofs.report.test_outcomes.Goals as goal
 
 pub audit-requires : goal.audit-requires
 audit-requires g c =
-    let s = setting_of c.args.engine.now in
+    let s = configuration_of c.args.engine.now in
     (s, subst (λ past. Legal s past) (sym c.history.ensures.entries) c.history.ensures.legal)
 
 pub returns-clause-stand : goal.returns-clause-stand

@@ -3,4 +3,4 @@ use Rattle.sgt_workers.proofs.worker.work.Given as goal
 
 abbrev pub invariant-loop : goal.invariant-loop
 invariant-loop g l = (goal.iterator-loop g).can_next l.iterator' × (goal.iterator-loop g).is_finite l.iterator'
-    × (l.taker.feed ≡ l.fn.worker.taker.feed)
+    × (l.consumer.queue ≡ l.fn.worker.consumer.queue)

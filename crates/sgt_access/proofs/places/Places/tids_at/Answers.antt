@@ -1,15 +1,15 @@
 use Rattle.std.proofs.Common.{rules, ◌≡◌, length, refl, slice_index, slice_index_or, ap, subst, ◌∙◌}
 use Rattle.sgt_access.specs.Places.{Taken}
-use Rattle.sgt_access.proofs.Collected.{collected_room, collected_more, collected_all, read_at}
+use Rattle.sgt_access.proofs.Collected.{collected_capacity, collected_more, collected_all, read_at}
 use Rattle.sgt_access.proofs.places.Places.tids_at.Goals as goal
 
-pub add_rising-requires-clause-room : goal.add_rising-requires-clause-room
-add_rising-requires-clause-room c =
+pub add_rising-requires-clause-capacity : goal.add_rising-requires-clause-capacity
+add_rising-requires-clause-capacity c =
     let inside = c.self.inside.tids in
     let tids = c.args.self.now.tids in
     let same : inside ≡ tids = ap (λ (v : Taken). v.tids) c.self.view_is in
     let size : length inside ≡ 32 = search rules in
-    collected_room c.args.places tids c.loop-place.left c.in-Some.place c.loop-place.tids.items c.ranges.places.fits
+    collected_capacity c.args.places tids c.loop-place.left c.in-Some.place c.loop-place.tids.items c.ranges.places.fits
     (subst (λ l. length l ≡ 32) same size) c.loop-place.invariant c.in-Some.ensures.some.1 _
     (read_at inside c.from.result c.in-Some.place c.index-self-from.result size c.from.ensures c.in-Some.ensures.some.0
     ∙ ap (λ l. slice_index l c.in-Some.place) same)

@@ -1,7 +1,7 @@
 use mir.Facts.{to_z-of_z}
 use Rattle.std.proofs.Common.{subst}
 use Rattle.std.specs.Prelude.{IsNone}
-use Rattle.sgt_c.specs.DeskTurns.{IsAsked}
+use Rattle.sgt_c.specs.DeskTurns.{IsRunnable}
 use Rattle.sgt_c.proofs.DeskTurns.{no_status}
 use Rattle.sgt_c.proofs.shared.making.sgt_desk_make.Goals as goal
 
@@ -12,5 +12,5 @@ pub returns-clause-bad_call : goal.returns-clause-bad_call
 returns-clause-bad_call c = (
   λ e. absurd (c.make_lent-made.ensures.turns.1 e),
   λ f. absurd (cc (subst IsNone c.in-Some.is
-      (c.asked_of.ensures.none.1 (λ a. f (subst (IsAsked c.args.kind c.args.table) (to_z-of_z c.ranges.number) a))))),
+      (c.asked_of.ensures.none.1 (λ a. f (subst (IsRunnable c.args.kind c.args.table) (to_z-of_z c.ranges.number) a))))),
 )

@@ -64,7 +64,7 @@ returns-in_ok-cycle-in-Some-first_left-clause-acyclic c =
     (λ k e at. c.loop-order.invariant.reach.are_edges k e (subst (λ l. slice_get l k ≡ Some e) edges at)) in
     (λ never. absurd never, cycle_not_acyclic h c.in_ok-cycle-in-Some-first_left.field-0.items cycle)
 
--- with nobody left, all are in order
+-- with no transaction left, all are in order
 serial : (c : goal.In-None) → IsSerialOrder c.args.history.now c.loop-order.order.items
 serial c =
     let gone : (t : ℕ) → entry_of c.take_first.new.self.left t ≡ None = search rules in

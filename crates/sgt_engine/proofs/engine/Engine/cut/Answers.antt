@@ -1,7 +1,7 @@
 use Rattle.std.proofs.Common.{rules, ap, reverse, ◌∙◌}
 use Rattle.sgt_model.specs.Databases.{contents_of}
 use Rattle.sgt_model.specs.Legality.{Legal}
-use Rattle.sgt_engine.specs.EngineView.{setting_of}
+use Rattle.sgt_engine.specs.EngineView.{configuration_of}
 use Rattle.sgt_engine.proofs.Cuts.{goes_on_from}
 use Rattle.sgt_engine.proofs.engine.Engine.cut.Goals as goal
 
@@ -13,10 +13,10 @@ returns-clause-goes_on g c =
 
 pub returns-clause-replay : goal.returns-clause-replay
 returns-clause-replay g c =
-    let legal : Legal (setting_of c.args.self.now) (reverse c.replace-history.result.entries) = search rules in
+    let legal : Legal (configuration_of c.args.self.now) (reverse c.replace-history.result.entries) = search rules in
     (c.headline_holds.ensures _ _ legal).replay
 
 pub returns-clause-causes : goal.returns-clause-causes
 returns-clause-causes g c =
-    let legal : Legal (setting_of c.args.self.now) (reverse c.replace-history.result.entries) = search rules in
+    let legal : Legal (configuration_of c.args.self.now) (reverse c.replace-history.result.entries) = search rules in
     (c.headline_holds.ensures _ _ legal).causes

@@ -3,13 +3,13 @@ use Rattle.sgt_cycle.specs.Indices.{is_set, is_bit, indices}
 use Rattle.sgt_graph.proofs.Insertion.{no_path}
 use Rattle.sgt_graph.proofs.Placed.{member_index}
 use Rattle.sgt_graph.proofs.RowSteps.{leads_reach, low_index}
-use Rattle.sgt_graph.proofs.BitSteps.{walk_low}
+use Rattle.sgt_graph.proofs.BitSteps.{path_low}
 use Rattle.sgt_graph.proofs.bit_graph.BitGraph.verdict.Goals as goal
 
 pub tids_at-requires-clause-low : goal.tids_at-requires-clause-low
 tids_at-requires-clause-low c i m =
-    walk_low c.self.inside.taken c.self.inside.tids c.self.inside.pairs c.self.inside.reached c.self.invariant c.args.index c.args.from
-    c.in-Some.walk c.requires.low (rw c.rows.ensures at c.in-Some.ensures.some) i (rw c.as_slice.ensures at m)
+    path_low c.self.inside.taken c.self.inside.tids c.self.inside.pairs c.self.inside.reached c.self.invariant c.args.index c.args.from
+    c.in-Some.cycle c.requires.low (rw c.rows.ensures at c.in-Some.ensures.some) i (rw c.as_slice.ensures at m)
 
 pub unreachable-requires : goal.unreachable-requires
 unreachable-requires c =

@@ -2,8 +2,8 @@ use Rattle.std.proofs.Common.{◌≡◌, ◌∙◌, ℕ, Bool, List, true, false
 use Rattle.std.specs.Prelude.{◌||◌, not}
 use Rattle.sgt_cycle.specs.Indices.{is_set}
 use Rattle.sgt_graph.specs.BitGraphs.{is_placed, is_pair, IsBitGraph}
-use Rattle.sgt_model.specs.Walks.{AtMost}
-use Rattle.sgt_graph.proofs.BitSteps.{grown, grown_nodes, grown_pairs, no_room}
+use Rattle.sgt_model.specs.Paths.{AtMost}
+use Rattle.sgt_graph.proofs.BitSteps.{grown, grown_nodes, grown_pairs, no_capacity}
 use Rattle.sgt_graph.proofs.bit_graph.BitGraphGraph.add.Goals as goal
 use Rattle.sgt_graph.proofs.bit_graph.BitGraphGraph.add.Goals.{After-joined-self-inside}
 
@@ -17,8 +17,8 @@ free_there true e = absurd (true≢false (sym e))
 
 pub unreachable-requires : goal.unreachable-requires
 unreachable-requires c =
-    no_room c.self.inside.taken c.self.inside.tids c.self.inside.pairs c.self.inside.reached c.self.invariant
-    (subst (λ (v : ℕ × List ℕ × List ℕ × List ℕ). AtMost 31 (is_placed v.0 v.1)) (sym c.self.view_is) c.requires.room)
+    no_capacity c.self.inside.taken c.self.inside.tids c.self.inside.pairs c.self.inside.reached c.self.invariant
+    (subst (λ (v : ℕ × List ℕ × List ℕ × List ℕ). AtMost 31 (is_placed v.0 v.1)) (sym c.self.view_is) c.requires.capacity)
     (λ i low. taken_there (is_set c.self.inside.taken i) (sym (c.complement.ensures i low) ∙ c.in_default.ensures.none refl i))
 
 -- the index is free

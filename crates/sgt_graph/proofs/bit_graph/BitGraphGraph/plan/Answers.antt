@@ -1,7 +1,7 @@
 use Rattle.std.proofs.Common.{◌≡◌, ℕ, List, true, sym, subst, refl, slice_index}
 use Rattle.std.specs.Prelude.{◌↔◌}
 use Rattle.std.proofs.lemmas.Bool.{both_ways}
-use Rattle.sgt_model.specs.Walks.{Member}
+use Rattle.sgt_model.specs.Paths.{Member}
 use Rattle.sgt_cycle.specs.Indices.{is_set}
 use Rattle.sgt_graph.specs.declared.verdict.Verdict.{Verdict}
 use Rattle.sgt_graph.specs.declared.verdict.Verdict.TheVariants.{Accepted, Closes}
@@ -52,5 +52,5 @@ returns-in-Accepted c =
 
 pub returns-in-Closes : goal.returns-in-Closes
 returns-in-Closes c = record {
-  plan = verdict (goal.at.returns-in-Closes c).After-verdict (Closes c.in-Closes.walk) c.in-Closes.ensures;
+  plan = verdict (goal.at.returns-in-Closes c).After-verdict (Closes c.in-Closes.cycle) c.in-Closes.ensures;
 }

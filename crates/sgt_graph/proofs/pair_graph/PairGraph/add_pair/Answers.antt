@@ -1,7 +1,7 @@
 use Rattle.std.proofs.Common.{◌≡◌, ◌≤◌, ◌++◌, ◌∷◌, [], ℕ, List, true, false, length, length-append, sym, subst, arith}
-use Rattle.sgt_model.specs.Walks.{Reaches}
+use Rattle.sgt_model.specs.Paths.{Reaches}
 use Rattle.sgt_cycle.specs.Links.{is_link}
-use Rattle.sgt_cycle.specs.Walk.{Holds}
+use Rattle.sgt_cycle.specs.Path.{Holds}
 use Rattle.sgt_graph.specs.PairGraphs.{is_node, IsPairGraph}
 use Rattle.sgt_graph.proofs.Lists.{pair_again}
 use Rattle.sgt_graph.proofs.Kept.{pairs_few, kept_pair}

@@ -1,7 +1,7 @@
 use Rattle.std.proofs.Common.{◌≡◌, ◌<◌, ◌∙◌, ℕ, List, length, slice_index_or, take, sym, subst}
-use Rattle.sgt_model.specs.Walks.{Member}
+use Rattle.sgt_model.specs.Paths.{Member}
 use Rattle.sgt_cycle.specs.Links.{is_link}
-use Rattle.sgt_cycle.specs.Walk.{NoWalk}
+use Rattle.sgt_cycle.specs.Path.{NoPath}
 use Rattle.sgt_graph.proofs.Lists.{at_member}
 use Rattle.sgt_graph.proofs.Insertion.{no_path, still_no_path, adds_next}
 use Rattle.sgt_graph.proofs.pair_graph.PairGraphGraph.link.Goals as goal
@@ -20,7 +20,7 @@ pub add_pair-requires-clause-free : goal.add_pair-requires-clause-free
 add_pair-requires-clause-free c =
     let member : Member c.pred-item.result c.args.preds.now = rw c.as_slice-pred-items.ensures at
     (member_here c.as_slice-pred-items.result.now c.loop-pred.pred-index c.pred-item.result c.loop-pred-test.true c.pred-item.is) in
-    let none : NoWalk (is_link c.args.self.now.1) c.args.t c.args.preds.now = c.requires.free in
+    let none : NoPath (is_link c.args.self.now.1) c.args.t c.args.preds.now = c.requires.free in
     still_no_path c.args.self.now.1 c.loop-pred.self.1 c.args.t (take c.loop-pred.pred-index c.args.preds.now) c.loop-pred.invariant.pairs
     c.pred-item.result
     (no_path (is_link c.args.self.now.1) c.args.t c.args.preds.now none c.pred-item.result member)

@@ -3,7 +3,7 @@ use Rattle.std.specs.Prelude.{Some}
 use Rattle.sgt_input.specs.Lines.{IsBreak}
 use Rattle.sgt_input.specs.Intake.{Intake, AtRest, IsGiven}
 use Rattle.sgt_input.proofs.Breaks.{break-whole}
-use Rattle.sgt_input.proofs.Ahead.{found-going, given-found, rest-behind}
+use Rattle.sgt_input.proofs.Ahead.{found-going, given-found, rest-following}
 use Rattle.sgt_input.proofs.lines.Lines.pass.Goals as goal
 
 pub overflow_sub-self-2 : goal.overflow_sub-self-2
@@ -18,7 +18,7 @@ invariant_of-self c =
     subst (λ (i : Intake). IsBreak (take i.within i.held) (Some c.args.len)) (sym c.self.view_is) c.requires.line in
     subst (λ held. AtRest (c.self.inside.number + 1) (c.self.inside.within - (c.args.len + 1)) c.self.inside.ended held
     (c.self.inside.whole - (c.args.len + 1))) (sym c.take.ensures.held)
-    (rest-behind c.self.inside.number c.self.inside.within c.self.inside.ended c.self.inside.buffer.held c.self.inside.whole c.args.len
+    (rest-following c.self.inside.number c.self.inside.within c.self.inside.ended c.self.inside.buffer.held c.self.inside.whole c.args.len
     c.self.invariant at)
 
 pub returns-clause-given : goal.returns-clause-given

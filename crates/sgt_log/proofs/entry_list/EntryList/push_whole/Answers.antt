@@ -14,7 +14,7 @@ invariant_of-self c =
       among_pushed os os c.self.inside.packed.items c.push_reserved.new.self.items
           c.args.entry ([], sym (append-nil _)) c.self.invariant.0 (whole_among _ c.args.entry c.requires.whole)
           c.push_reserved.ensures.items,
-      omega (arith, c.requires.room, count, long, capacity, held, c.push_reserved.ensures.len),
+      omega (arith, c.requires.spare, count, long, capacity, held, c.push_reserved.ensures.len),
       omega (arith, c.self.invariant.2, c.push_reserved.ensures.capacity),
       omega (arith, c.self.invariant.3, c.push_reserved.ensures.len),
     )

@@ -6,15 +6,15 @@ use Rattle.sgt_log.proofs.history.History.push_access.Goals as goal
 
 pub invariant_of-self : goal.invariant_of-self
 invariant_of-self c =
-    let used = ap (λ h. h.room) c.self.view_is in
+    let used = ap (λ h. h.spare) c.self.view_is in
     let filed : StoredEntry = record { event = c.of-event.result; reply = c.args.reply } in (
       entries-pushed c.self.inside.tids.items c.self.inside.tids.items c.self.inside.values.items c.of-event.new.values.items
           c.self.inside.entries.items c.push.new.self.items filed ([], sym (append-nil _)) c.of-event.ensures.more
           c.self.invariant.0 (c.of-event.ensures.within, plain-reply-within _ _ c.args.reply c.requires.reply c.requires.key)
           c.push.ensures.items,
-      omega (arith, used, c.requires.room, c.self.invariant.1, c.push.ensures.len, c.push.ensures.capacity),
-      omega (arith, used, c.requires.room, c.self.invariant.2),
-      omega (arith, used, c.requires.room, c.self.invariant.3, c.of-event.ensures.len, c.of-event.ensures.capacity),
+      omega (arith, used, c.requires.spare, c.self.invariant.1, c.push.ensures.len, c.push.ensures.capacity),
+      omega (arith, used, c.requires.spare, c.self.invariant.2),
+      omega (arith, used, c.requires.spare, c.self.invariant.3, c.of-event.ensures.len, c.of-event.ensures.capacity),
     )
 
 pub returns-clause-entries : goal.returns-clause-entries

@@ -10,7 +10,7 @@ use Rattle.sgt_log.proofs.history.History.push_commit.Goals as goal
 
 pub invariant_of-self : goal.invariant_of-self
 invariant_of-self c =
-    let used = ap (λ h. h.room) c.self.view_is in
+    let used = ap (λ h. h.spare) c.self.view_is in
     let filed : StoredEntry = record {
       event = stored_event.Commit c.args.t;
       reply = stored_reply.Committed c.append-part.result.count c.append-part.result.from;
@@ -22,18 +22,18 @@ invariant_of-self c =
             record {
               answers = c.append-part.ensures.within;
               few = omega (arith, c.append-part.ensures.count, c.requires.few);
-              walk = (omega arith, omega arith);
+              cycle = (omega arith, omega arith);
               fell = (omega arith, omega arith);
               key = tt;
             },
           )
           c.push_whole.ensures.items,
-      omega (arith, used, c.requires.room, c.self.invariant.1, c.push_whole.ensures.len, c.push_whole.ensures.capacity),
-      omega (arith, used, c.requires.room, c.self.invariant.2),
+      omega (arith, used, c.requires.spare, c.self.invariant.1, c.push_whole.ensures.len, c.push_whole.ensures.capacity),
+      omega (arith, used, c.requires.spare, c.self.invariant.2),
       omega (
         arith,
         used,
-        c.requires.room,
+        c.requires.spare,
         c.requires.few,
         c.self.invariant.3,
         c.append-part.ensures.len,

@@ -6,13 +6,13 @@ use Rattle.sgt_log.proofs.history.History.push_parts.Goals as goal
 
 pub invariant_of-self : goal.invariant_of-self
 invariant_of-self c =
-    let used = ap (λ h. h.room) c.self.view_is in (
+    let used = ap (λ h. h.spare) c.self.view_is in (
       entries-pushed c.self.inside.tids.items c.of-event.new.tids.items c.self.inside.values.items c.of-event.new.values.items
           c.self.inside.entries.items c.push.new.self.items c.of-event.result c.of-event.ensures.more_tids
           c.of-event.ensures.more_values c.self.invariant.0 c.of-event.ensures.within c.push.ensures.items,
-      omega (arith, used, c.requires.room, c.self.invariant.1, c.push.ensures.len, c.push.ensures.capacity),
-      omega (arith, used, c.requires.room, c.self.invariant.2, c.of-event.ensures.len_tids, c.of-event.ensures.capacity_tids),
-      omega (arith, used, c.requires.room, c.self.invariant.3, c.of-event.ensures.len_values, c.of-event.ensures.capacity_values),
+      omega (arith, used, c.requires.spare, c.self.invariant.1, c.push.ensures.len, c.push.ensures.capacity),
+      omega (arith, used, c.requires.spare, c.self.invariant.2, c.of-event.ensures.len_tids, c.of-event.ensures.capacity_tids),
+      omega (arith, used, c.requires.spare, c.self.invariant.3, c.of-event.ensures.len_values, c.of-event.ensures.capacity_values),
     )
 
 pub returns-clause-entries : goal.returns-clause-entries

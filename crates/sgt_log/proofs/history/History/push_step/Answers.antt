@@ -9,7 +9,7 @@ push_whole-requires-clause-whole c = step_whole c.args.step c.requires.step
 
 pub invariant_of-self : goal.invariant_of-self
 invariant_of-self c =
-    let used = ap (λ h. h.room) c.self.view_is in
+    let used = ap (λ h. h.spare) c.self.view_is in
     let step = unpacked [] c.args.step in
     let plain = step_plain [] c.args.step c.requires.step in (
       entries-pushed c.self.inside.tids.items c.self.inside.tids.items c.self.inside.values.items c.self.inside.values.items
@@ -17,9 +17,9 @@ invariant_of-self c =
           ([], sym (append-nil _)) ([], sym (append-nil _))
           c.self.invariant.0 (plain-within _ _ step.event step.reply plain.0 plain.1 c.requires.key)
           c.push_whole.ensures.items,
-      omega (arith, used, c.requires.room, c.self.invariant.1, c.push_whole.ensures.len, c.push_whole.ensures.capacity),
-      omega (arith, used, c.requires.room, c.self.invariant.2),
-      omega (arith, used, c.requires.room, c.self.invariant.3),
+      omega (arith, used, c.requires.spare, c.self.invariant.1, c.push_whole.ensures.len, c.push_whole.ensures.capacity),
+      omega (arith, used, c.requires.spare, c.self.invariant.2),
+      omega (arith, used, c.requires.spare, c.self.invariant.3),
     )
 
 pub returns-clause-entries : goal.returns-clause-entries

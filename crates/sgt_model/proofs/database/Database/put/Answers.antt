@@ -1,7 +1,7 @@
 use Rattle.std.proofs.Common.{◌≡◌, None, rules, arith, sym, subst, w64, ◌≤◌, length}
 use Rattle.std.proofs.lemmas.Int.{to_z-of_z}
 use Rattle.sgt_model.specs.Databases.{contents_of, IsByKey, IsRowIndex}
-use Rattle.sgt_model.proofs.Rows.{set_rows, insert_rows, set_told, insert_told, index_within, value_missing}
+use Rattle.sgt_model.proofs.Rows.{set_rows, insert_rows, set_reported, insert_reported, index_within, value_missing}
 use Rattle.sgt_model.proofs.database.Database.put.Goals as goal
 
 pub invariant_of-self : goal.invariant_of-self
@@ -25,12 +25,12 @@ invariant_of-self-in-Continue-1 c =
 pub returns-in-Ok-clause-put : goal.returns-in-Ok-clause-put
 returns-in-Ok-clause-put c =
     let found = c.in-Ok.ensures in
-    set_told c.args.key c.args.value _ c.self.inside.rows.items c.args.self.now c.in-Ok.at found.1
+    set_reported c.args.key c.args.value _ c.self.inside.rows.items c.args.self.now c.in-Ok.at found.1
     (to_z-of_z w64 c.args.value c.ranges.value) c.self.view_is found.0 found.2
 
 pub returns-in_ok-insert-in-Err-clause-put : goal.returns-in_ok-insert-in-Err-clause-put
 returns-in_ok-insert-in-Err-clause-put c =
-    insert_told c.args.key c.args.value _ c.self.inside.rows.items c.args.self.now c.insert.new.self.items c.in-Err.at
+    insert_reported c.args.key c.args.value _ c.self.inside.rows.items c.args.self.now c.insert.new.self.items c.in-Err.at
     (to_z-of_z w64 c.args.value c.ranges.value) c.self.view_is c.in_ok-insert-in-Err.ensures.items c.in-Err.ensures.0
 
 pub returns-in_err-insert-in-Err-clause-absent : goal.returns-in_err-insert-in-Err-clause-absent

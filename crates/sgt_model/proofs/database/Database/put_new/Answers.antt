@@ -1,7 +1,7 @@
 use Rattle.std.proofs.Common.{refl, IsSome, arith, sym, subst, w64, ◌≤◌, length}
 use Rattle.std.proofs.lemmas.Int.{to_z-of_z}
 use Rattle.sgt_model.specs.Databases.{IsByKey, IsRowIndex}
-use Rattle.sgt_model.proofs.Rows.{insert_rows, insert_told, index_within, value_found, value_missing}
+use Rattle.sgt_model.proofs.Rows.{insert_rows, insert_reported, index_within, value_found, value_missing}
 use Rattle.sgt_model.proofs.database.Database.put_new.Goals as goal
 
 pub insert-requires : goal.insert-requires
@@ -24,7 +24,7 @@ returns-in-Ok-clause-taken c same =
 
 pub returns-in_ok-insert-in-Err-clause-put : goal.returns-in_ok-insert-in-Err-clause-put
 returns-in_ok-insert-in-Err-clause-put c same =
-    insert_told c.args.key c.args.value _ c.self.inside.rows.items c.args.self.now c.insert.new.self.items c.in-Err.at
+    insert_reported c.args.key c.args.value _ c.self.inside.rows.items c.args.self.now c.insert.new.self.items c.in-Err.at
     (to_z-of_z w64 c.args.value c.ranges.value) c.self.view_is c.in_ok-insert-in-Err.ensures.items c.in-Err.ensures.0
 
 pub returns-in_ok-insert-in-Err-clause-new : goal.returns-in_ok-insert-in-Err-clause-new

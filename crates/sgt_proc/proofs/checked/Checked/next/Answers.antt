@@ -4,7 +4,7 @@ use Rattle.sgt_proc.specs.declared.next.Next.TheVariants.{Look}
 use Rattle.sgt_proc.specs.Nexts.{seen}
 use Rattle.sgt_proc.specs.Flaws.{IsFlawless}
 use Rattle.sgt_proc.proofs.Fews.{few_made}
-use Rattle.sgt_proc.proofs.Passed.{HasPassed, look_passed, store_passed, next_behind, next_stays_on, look_stays}
+use Rattle.sgt_proc.proofs.Passed.{HasPassed, look_passed, store_passed, next_following, next_stays_on, look_stays}
 use Rattle.sgt_proc.proofs.checked.Checked.next.Goals as goal
 use Rattle.sgt_proc.proofs.checked.Checked.next.Goals.{in-Look+else-used-read, in-Put}
 
@@ -38,7 +38,7 @@ loop-preserved c = elim c.match-next.branch [
 
 pub returns-clause-next : goal.returns-clause-next
 returns-clause-next c =
-    next_behind c.args.self.now c.args.args.now c.args.read.now c.loop.used c.args.made c.loop.cursor
+    next_following c.args.self.now c.args.args.now c.args.read.now c.loop.used c.args.made c.loop.cursor
     (subst (λ i. HasPassed c.args.self.now c.args.args.now c.args.read.now c.loop.used i c.loop.cursor)
     (omega (arith, c.loop-test.false, c.loop.auto.counter-end)) c.loop.invariant)
     (seen c.next-2.result) c.next-2.ensures.next

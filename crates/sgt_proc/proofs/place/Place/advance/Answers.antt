@@ -5,14 +5,14 @@ use Rattle.sgt_model.specs.ProcedureTexts.{block_of}
 use Rattle.sgt_proc.specs.Paths.{inner, IsPath}
 use Rattle.sgt_proc.specs.Places.{GoesOn, Passes, Stops}
 use Rattle.sgt_proc.proofs.PathTexts.{path_less}
-use Rattle.sgt_proc.proofs.Stepped.{at_statement, at_few, at_room, out_step, end_here, none_left}
+use Rattle.sgt_proc.proofs.Stepped.{at_statement, at_few, at_capacity, out_step, end_here, none_left}
 use Rattle.sgt_proc.proofs.place.Place.advance.Goals as goal
 use Rattle.sgt_proc.proofs.place.Place.advance.Goals.{After-step, After-list_at-list-in-Inside, In-On, In-Some}
 
-pub step-requires-clause-room : goal.step-requires-clause-room
-step-requires-clause-room c =
+pub step-requires-clause-capacity : goal.step-requires-clause-capacity
+step-requires-clause-capacity c =
     let e : c.loop-list.self.at < length c.loop-list.list.now = search rules in
-    at_room c.loop-list.list.now (block_of c.args.body.now) c.loop-list.self
+    at_capacity c.loop-list.list.now (block_of c.args.body.now) c.loop-list.self
     c.loop-list.invariant.list c.index-list-at.result e
     (c.index-list-at.is ∙ ap (λ n. get_or c.loop-list.list.now n c.index-list-at.result) c.from-at.ensures)
     c.loop-list.invariant.inside.path c.requires.shallow

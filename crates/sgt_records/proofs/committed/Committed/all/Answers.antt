@@ -9,7 +9,7 @@ use Rattle.sgt_model.specs.Numbers.{IsValue}
 use Rattle.sgt_model.specs.Contents.{key_eq}
 use Rattle.sgt_model.specs.Databases.{key_cmp, contents_of}
 use Rattle.sgt_model.proofs.Rows.{key_order}
-use Rattle.sgt_records.proofs.RecordsRead.{read_so_far, value_more, blank_more, all_read}
+use Rattle.sgt_records.proofs.RecordsRead.{read_so_far, value_more, empty_more, all_read}
 use Rattle.sgt_records.proofs.committed.Committed.all.Goals as goal
 
 pub put-requires : goal.put-requires
@@ -53,7 +53,7 @@ loop-key-preserved c =
     record {
       by_key = c.loop-key.invariant.by_key;
       values = λ k. c.loop-key.invariant.values k
-          ∙ (sym (blank_more records (map deref_pair c.loop-key.yielded) key (found ∙ ap (λ o. Some o) c.in_default.is) k)
+          ∙ (sym (empty_more records (map deref_pair c.loop-key.yielded) key (found ∙ ap (λ o. Some o) c.in_default.is) k)
           ∙ (ap (λ (o : Option ℤ). read_so_far records (map deref_pair c.loop-key.yielded ++ (key, o) ∷ []) k) (sym c.in_default.is)
           ∙ ap (λ l. read_so_far records l k) (sym (map-append deref_pair c.loop-key.yielded ((c.in-Some.key, c.in-Some.record) ∷ [])))));
     }

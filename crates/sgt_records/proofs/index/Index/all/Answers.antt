@@ -12,7 +12,7 @@ use Rattle.sgt_model.proofs.Rows.{key_order}
 use Rattle.sgt_records.specs.declared.record.Record.{Record}
 use Rattle.sgt_records.specs.declared.table.Table.{Table}
 use Rattle.sgt_records.specs.Tables.{record_in}
-use Rattle.sgt_records.proofs.EntriesRead.{given_so_far, value_more, blank_more, all_given}
+use Rattle.sgt_records.proofs.EntriesRead.{given_so_far, value_more, empty_more, all_given}
 use Rattle.sgt_records.proofs.RecordSlots.{value_there}
 use Rattle.sgt_records.proofs.index.Index.all.Goals as goal
 
@@ -73,7 +73,7 @@ loop-key-preserved c =
     record {
       by_key = c.loop-key.invariant.by_key;
       values = λ k. c.loop-key.invariant.values k
-          ∙ (sym (blank_more (value table) indices (map deref_pair c.loop-key.yielded) key index found
+          ∙ (sym (empty_more (value table) indices (map deref_pair c.loop-key.yielded) key index found
           (value_is table c.at.result.now index (get key_cmp indices key) found c.at.ensures ∙ c.in_default.is) k)
           ∙ ap (λ l. given_so_far (value table) indices l k) (sym (map-append deref_pair c.loop-key.yielded
           ((c.in-Some.key, c.in-Some.index) ∷ []))));

@@ -17,12 +17,12 @@ use Rattle.sgt_records.proofs.index.Index.of.Goals as goal
 
 -- the table of rows
 module _ (rows seen : List Row) (same : seen ≡ rows) (table : Table)
-    (told : (k : Key) → record_in table k ≡ option_map record_with (contents_of seen k)) where
+    (returned : (k : Key) → record_in table k ≡ option_map record_with (contents_of seen k)) where
   none_written : (k : Key) → written_by (record_in table k) ≡ Nothing
-  none_written k = ap written_by (told k) ∙ row_unwritten (contents_of seen k)
+  none_written k = ap written_by (returned k) ∙ row_unwritten (contents_of seen k)
 
   are_committed : (k : Key) → committed_of (record_in table) k ≡ contents_of rows k
-  are_committed k = ap (option_and_then (λ (r : Record). r.committed)) (told k) ∙ row_committed (contents_of seen k)
+  are_committed k = ap (option_and_then (λ (r : Record). r.committed)) (returned k) ∙ row_committed (contents_of seen k)
       ∙ ap (λ l. contents_of l k) same
 
 pub invariant_of-result : goal.invariant_of-result

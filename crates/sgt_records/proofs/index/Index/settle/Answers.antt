@@ -5,7 +5,7 @@ use Rattle.sgt_model.specs.Chains.{chain_without, value_in}
 use Rattle.sgt_records.specs.Slots.{chain_at}
 use Rattle.sgt_records.specs.Tables.{record_in}
 use Rattle.sgt_records.specs.Validity.{IsChain}
-use Rattle.sgt_records.proofs.RecordSlots.{chain_there, value_there, written_is, committed_is, index_told, chain_by, committed_by}
+use Rattle.sgt_records.proofs.RecordSlots.{chain_there, value_there, written_is, committed_is, index_returned, chain_by, committed_by}
 use Rattle.sgt_records.proofs.ChainsKept.{chain_left, value_settled}
 use Rattle.sgt_records.proofs.index.Index.settle.Goals as goal
 
@@ -21,7 +21,7 @@ invariant_of-self c =
     c.unwrap_or-committed.ensures ∙ ap (λ (v : Option (Option ℤ)). unwrap_or v old.committed) c.take_out-written.ensures.value in
     let chain = chain_there records chains c.args.key old is index in
     record {
-      is_index = index_told records (record_in c.put.new.self) c.args.key _ c.put.ensures.put chains c.take_out-written.new.chains index
+      is_index = index_returned records (record_in c.put.new.self) c.args.key _ c.put.ensures.put chains c.take_out-written.new.chains index
           old.written was c.take_out-written.ensures.moves (subst IsChain (sym c.take_out-written.ensures.left)
           (chain_left c.args.t _ chain))
           (subst (λ (o : Option ℤ). IfSome o IsValue) (sym value)

@@ -3,7 +3,7 @@ use Rattle.std.proofs.lemmas.Bool.{eqb-true, eqb-false}
 use Rattle.std.specs.Option.{unwrap_or}
 use Rattle.sgt_model.specs.Chains.{chain_without, value_in}
 use Rattle.sgt_records.specs.Slots.{key_chain, committed_of}
-use Rattle.sgt_records.proofs.LiveWritesLeft.{undo_more, settle_more, live_other, tell_at}
+use Rattle.sgt_records.proofs.LiveWritesLeft.{undo_more, settle_more, live_other, agree_at}
 use Rattle.std.specs.BTreeMap.{get}
 use Rattle.sgt_model.specs.Databases.{key_cmp}
 use Rattle.sgt_records.specs.Tables.{record_in, index_in}
@@ -13,7 +13,7 @@ use Rattle.sgt_records.proofs.index.Index.settle_all.Goals.{then-eq, else-eq}
 pub settle-requires : goal.settle-requires
 settle-requires c = record {
   index = ap (λ m. get key_cmp m c.write-item.result.key) c.loop-write.invariant.indices
-      ∙ tell_at (index_in c.args.self.now.table) c.args.writes.now c.loop-write.write-index c.write-item.result c.loop-write-test.true
+      ∙ agree_at (index_in c.args.self.now.table) c.args.writes.now c.loop-write.write-index c.write-item.result c.loop-write-test.true
       c.write-item.is c.requires.indices;
 }
 

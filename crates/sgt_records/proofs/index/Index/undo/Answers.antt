@@ -2,7 +2,7 @@ use Rattle.std.proofs.Common.{◌≡◌, Some, sym, subst}
 use Rattle.sgt_model.specs.Chains.{chain_without}
 use Rattle.sgt_records.specs.Tables.{record_in}
 use Rattle.sgt_records.specs.Validity.{IsChain}
-use Rattle.sgt_records.proofs.RecordSlots.{chain_there, value_there, written_is, committed_is, index_told, chain_by, committed_same}
+use Rattle.sgt_records.proofs.RecordSlots.{chain_there, value_there, written_is, committed_is, index_returned, chain_by, committed_same}
 use Rattle.sgt_records.proofs.ChainsKept.{chain_left}
 use Rattle.sgt_records.proofs.index.Index.undo.Goals as goal
 
@@ -15,7 +15,7 @@ invariant_of-self c =
     let is : records c.args.key ≡ Some old = c.at.ensures in
     let was = written_is records chains c.args.key old is index in
     record {
-      is_index = index_told records (record_in c.put.new.self) c.args.key _ c.put.ensures.put chains c.take_out-written.new.chains index
+      is_index = index_returned records (record_in c.put.new.self) c.args.key _ c.put.ensures.put chains c.take_out-written.new.chains index
           old.written was c.take_out-written.ensures.moves (subst IsChain (sym c.take_out-written.ensures.left)
           (chain_left c.args.t _ (chain_there records chains c.args.key old is index)))
           (value_there records chains c.args.key old is index);

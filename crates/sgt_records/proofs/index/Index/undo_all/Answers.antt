@@ -2,7 +2,7 @@ use Rattle.std.proofs.Common.{◌≡◌, ◌≢◌, cond, ap, sym, ◌∙◌}
 use Rattle.std.proofs.lemmas.Bool.{eqb-true, eqb-false}
 use Rattle.sgt_model.specs.Chains.{chain_without}
 use Rattle.sgt_records.specs.Slots.{key_chain}
-use Rattle.sgt_records.proofs.LiveWritesLeft.{undo_more, live_other, tell_at}
+use Rattle.sgt_records.proofs.LiveWritesLeft.{undo_more, live_other, agree_at}
 use Rattle.std.specs.BTreeMap.{get}
 use Rattle.sgt_model.specs.Databases.{key_cmp}
 use Rattle.sgt_records.specs.Tables.{record_in, index_in}
@@ -12,7 +12,7 @@ use Rattle.sgt_records.proofs.index.Index.undo_all.Goals.{then-eq, else-eq}
 pub undo-requires : goal.undo-requires
 undo-requires c = record {
   index = ap (λ m. get key_cmp m c.write-item.result.key) c.loop-write.invariant.indices
-      ∙ tell_at (index_in c.args.self.now.table) c.args.writes.now c.loop-write.write-index c.write-item.result c.loop-write-test.true
+      ∙ agree_at (index_in c.args.self.now.table) c.args.writes.now c.loop-write.write-index c.write-item.result c.loop-write-test.true
       c.write-item.is c.requires.indices;
 }
 

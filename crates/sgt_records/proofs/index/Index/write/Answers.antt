@@ -3,7 +3,7 @@ use Rattle.sgt_model.specs.Chains.{write_last, writes_in}
 use Rattle.sgt_records.specs.Slots.{chain_at}
 use Rattle.sgt_records.specs.Tables.{record_in}
 use Rattle.sgt_records.specs.Validity.{IsChain}
-use Rattle.sgt_records.proofs.RecordSlots.{chain_there, value_there, written_is, committed_is, index_told, chain_by, committed_same}
+use Rattle.sgt_records.proofs.RecordSlots.{chain_there, value_there, written_is, committed_is, index_returned, chain_by, committed_same}
 use Rattle.sgt_records.proofs.ChainsKept.{chain_written}
 use Rattle.sgt_records.proofs.index.Index.write.Goals as goal
 
@@ -19,10 +19,10 @@ invariant_of-self c =
     ≡ write_last c.args.t c.args.value (chain_at chains old.written) =
     c.write-written.ensures.last ∙ ap (λ (v : Option ℤ). write_last c.args.t v (chain_at chains old.written)) c.of.ensures in
     record {
-      is_index = index_told records (record_in c.put.new.self) c.args.key _ c.put.ensures.put chains c.write-written.new.chains index
+      is_index = index_returned records (record_in c.put.new.self) c.args.key _ c.put.ensures.put chains c.write-written.new.chains index
           old.written was c.write-written.ensures.moves (subst IsChain (sym last) (chain_written c.args.t c.args.value _
           (chain_there records chains c.args.key old is index) c.requires.in_range
-          (subst (λ l. writes_in c.args.t l ≡ false → length l < 32) (ap (chain_at chains) was) c.requires.room)))
+          (subst (λ l. writes_in c.args.t l ≡ false → length l < 32) (ap (chain_at chains) was) c.requires.capacity)))
           (value_there records chains c.args.key old is index);
     }
 

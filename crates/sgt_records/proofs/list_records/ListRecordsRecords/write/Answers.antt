@@ -13,7 +13,7 @@ invariant_of-self c =
     record {
       are_pending = subst (λ (l : List Write). ArePending c.args.self.now.committed.records l) (sym after)
           (pending_written _ _ c.args.self.now.are_pending c.args.t c.args.key c.args.value c.requires.ready.0 c.requires.in_range
-          c.requires.room);
+          c.requires.capacity);
     }
 
 pub returns-clause-chain : goal.returns-clause-chain

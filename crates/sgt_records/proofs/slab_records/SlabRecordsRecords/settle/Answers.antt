@@ -6,9 +6,9 @@ use Rattle.sgt_model.specs.Chains.{chain_without}
 use Rattle.std.specs.BTreeMap.{get}
 use Rattle.sgt_model.specs.Databases.{key_cmp}
 use Rattle.sgt_records.specs.Tables.{index_in, record_in}
-use Rattle.sgt_records.specs.LiveWrites.{is_live, TellIndices}
+use Rattle.sgt_records.specs.LiveWrites.{is_live, IndicesAgree}
 use Rattle.sgt_records.specs.Slots.{key_chain, committed_of}
-use Rattle.sgt_records.proofs.LiveWritesLeft.{not_by, undone, settled_once, live_ended, tell_left}
+use Rattle.sgt_records.proofs.LiveWritesLeft.{not_by, undone, settled_once, live_ended, agree_left}
 use Rattle.sgt_records.proofs.slab_records.SlabRecordsRecords.settle.Goals as goal
 
 pub invariant_of-self : goal.invariant_of-self
@@ -25,8 +25,8 @@ invariant_of-self c =
     (ap (is_live c.args.t k) c.as_slice.ensures.value ∙ c.args.self.now.are_live c.args.t k) (c.settle_all.ensures.chain k) in
     record {
       are_live = λ u k. live_ended c.args.t u k live _ _ _ (c.args.self.now.are_live u k) left (out k);
-      tell_indices = subst (λ m. TellIndices (get key_cmp m) c.retain.new.self.items) (sym c.settle_all.ensures.indices)
-          (tell_left (index_in old.table) c.args.t live _ left c.args.self.now.tell_indices);
+      indices_agree = subst (λ m. IndicesAgree (get key_cmp m) c.retain.new.self.items) (sym c.settle_all.ensures.indices)
+          (agree_left (index_in old.table) c.args.t live _ left c.args.self.now.indices_agree);
     }
 
 pub returns-clause-chain : goal.returns-clause-chain

@@ -5,7 +5,7 @@ use Rattle.sgt_model.specs.Databases.{key_cmp}
 use Rattle.sgt_records.specs.declared.record.Record.{Record}
 use Rattle.sgt_records.specs.declared.written.Written.TheVariants.{Nothing}
 use Rattle.sgt_records.specs.Indices.{AreIndices, AreKeys}
-use Rattle.sgt_records.proofs.TableIndices.{added_indices, added_keys, added_told, indices_stay, others_told}
+use Rattle.sgt_records.proofs.TableIndices.{added_indices, added_keys, added_returned, indices_stay, others_returned}
 use Rattle.sgt_records.proofs.table.Table.add.Goals as goal
 
 pub invariant_of-self-2 : goal.invariant_of-self-2
@@ -13,7 +13,7 @@ invariant_of-self-2 c =
     let indices = c.args.self.now.indices in
     let records = c.args.self.now.records.items in
     let index : c.len-index.result ≡ length records = search rules in
-    let told : Updates key_cmp indices c.insert.new.self c.args.key (Some (length records)) =
+    let returned : Updates key_cmp indices c.insert.new.self c.args.key (Some (length records)) =
     subst (λ n. Updates key_cmp indices c.insert.new.self c.args.key (Some n)) index c.in_ok-insert.ensures.updates in
     let given : Record = record { committed = c.args.committed; written = Nothing } in
     let more : c.push_reserved.new.self.items ≡ records ++ given ∷ [] = c.push_reserved.ensures.items
@@ -21,9 +21,9 @@ invariant_of-self-2 c =
     let keys : c.push_reserved-2.new.self.items ≡ c.args.self.now.keys.items ++ c.args.key ∷ [] = search rules in
     record {
       are_indices = subst (AreIndices c.insert.new.self) (sym more)
-          (added_indices indices c.insert.new.self records c.args.self.now.are_indices c.args.key given told);
+          (added_indices indices c.insert.new.self records c.args.self.now.are_indices c.args.key given returned);
       are_keys = subst₂ (λ ks rs. AreKeys c.insert.new.self ks (length rs)) (sym keys) (sym more)
-          (added_keys indices c.insert.new.self records c.args.self.now.are_indices c.args.key given told c.args.self.now.keys.items
+          (added_keys indices c.insert.new.self records c.args.self.now.are_indices c.args.key given returned c.args.self.now.keys.items
           (length records) refl c.args.self.now.are_keys c.requires.absent);
     }
 
@@ -32,30 +32,30 @@ returns-clause-added c k =
     let indices = c.args.self.now.indices in
     let records = c.args.self.now.records.items in
     let index : c.len-index.result ≡ length records = search rules in
-    let told : Updates key_cmp indices c.insert.new.self c.args.key (Some (length records)) =
+    let returned : Updates key_cmp indices c.insert.new.self c.args.key (Some (length records)) =
     subst (λ n. Updates key_cmp indices c.insert.new.self c.args.key (Some n)) index c.in_ok-insert.ensures.updates in
     let given : Record = record { committed = c.args.committed; written = Nothing } in
     let more : c.push_reserved.new.self.items ≡ records ++ given ∷ [] = c.push_reserved.ensures.items
     ∙ ap (λ l. l ++ given ∷ []) c.reserve.ensures.items in
     ap (λ l. option_and_then (slice_get l) (get key_cmp c.insert.new.self k)) more
-    ∙ added_told indices c.insert.new.self records c.args.self.now.are_indices c.args.key given told k
+    ∙ added_returned indices c.insert.new.self records c.args.self.now.are_indices c.args.key given returned k
 
 pub returns-clause-stay : goal.returns-clause-stay
 returns-clause-stay c =
     let indices = c.args.self.now.indices in
     let records = c.args.self.now.records.items in
     let index : c.len-index.result ≡ length records = search rules in
-    let told : Updates key_cmp indices c.insert.new.self c.args.key (Some (length records)) =
+    let returned : Updates key_cmp indices c.insert.new.self c.args.key (Some (length records)) =
     subst (λ n. Updates key_cmp indices c.insert.new.self c.args.key (Some n)) index c.in_ok-insert.ensures.updates in
     let given : Record = record { committed = c.args.committed; written = Nothing } in
-    indices_stay indices c.insert.new.self records c.args.self.now.are_indices c.args.key given told c.requires.absent
+    indices_stay indices c.insert.new.self records c.args.self.now.are_indices c.args.key given returned c.requires.absent
 
 pub returns-clause-others : goal.returns-clause-others
 returns-clause-others c =
     let indices = c.args.self.now.indices in
     let records = c.args.self.now.records.items in
     let index : c.len-index.result ≡ length records = search rules in
-    let told : Updates key_cmp indices c.insert.new.self c.args.key (Some (length records)) =
+    let returned : Updates key_cmp indices c.insert.new.self c.args.key (Some (length records)) =
     subst (λ n. Updates key_cmp indices c.insert.new.self c.args.key (Some n)) index c.in_ok-insert.ensures.updates in
     let given : Record = record { committed = c.args.committed; written = Nothing } in
-    others_told indices c.insert.new.self records c.args.self.now.are_indices c.args.key given told
+    others_returned indices c.insert.new.self records c.args.self.now.are_indices c.args.key given returned

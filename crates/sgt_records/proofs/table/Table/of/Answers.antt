@@ -29,9 +29,9 @@ loop-index-preserved c =
           ∙ sym (map_next row_key rows i row row.0 c.loop-index-test.true is refl);
       listed = c.push_reserved-in-loop-index-2.ensures.items ∙ ap (λ l. l ++ (row.0, i) ∷ []) c.loop-index.invariant.listed
           ∙ sym (places_next rows i row c.loop-index-test.true is);
-      room = search rules;
-      room_for_keys = search rules;
-      room_for_places = search rules;
+      capacity = search rules;
+      capacity_for_keys = search rules;
+      capacity_for_places = search rules;
       count = search rules;
       count_of_keys = search rules;
       count_of_places = search rules;
@@ -45,14 +45,14 @@ invariant_of-result c =
     let count : vec_len c.loop-index.places ≡ length c.loop-index.places.items = search rules in
     let drained : ran.1 ≡ c.loop-index.places.items = sym (map-id ran.1) ∙ items_from_drains ran.1 ran.3
     (YieldsList-from_vec c.loop-index.places.items ran.2.0 (ran.2.1 ∙ count)) in
-    let told : (k : Key) → get key_cmp c.in_ok-from_iter.field-0 k
+    let returned : (k : Key) → get key_cmp c.in_ok-from_iter.field-0 k
     ≡ update_all (eq_by_cmp key_cmp) (λ (_ : Key). None) (places 0 rows) k =
     λ k. ran.4.0 k ∙ ap (λ l. update_all (eq_by_cmp key_cmp) (λ (_ : Key). None) l k)
     (drained ∙ c.loop-index.invariant.listed ∙ ap (places 0) whole) in
     let records : c.loop-index.records.items ≡ map row_record rows = c.loop-index.invariant.records ∙ ap (map row_record) whole in
     record {
-      are_indices = rows_indices rows c.requires c.in_ok-from_iter.field-0 told c.loop-index.records.items records;
-      are_keys = rows_keys rows c.requires c.in_ok-from_iter.field-0 told c.loop-index.keys.items (length c.loop-index.records.items)
+      are_indices = rows_indices rows c.requires c.in_ok-from_iter.field-0 returned c.loop-index.records.items records;
+      are_keys = rows_keys rows c.requires c.in_ok-from_iter.field-0 returned c.loop-index.keys.items (length c.loop-index.records.items)
           (c.loop-index.invariant.keys ∙ ap (map row_key) whole) (ap length records ∙ length_map rows);
     }
   where
@@ -68,9 +68,9 @@ returns c k =
     let count : vec_len c.loop-index.places ≡ length c.loop-index.places.items = search rules in
     let drained : ran.1 ≡ c.loop-index.places.items = sym (map-id ran.1) ∙ items_from_drains ran.1 ran.3
     (YieldsList-from_vec c.loop-index.places.items ran.2.0 (ran.2.1 ∙ count)) in
-    let told : (k : Key) → get key_cmp c.in_ok-from_iter.field-0 k
+    let returned : (k : Key) → get key_cmp c.in_ok-from_iter.field-0 k
     ≡ update_all (eq_by_cmp key_cmp) (λ (_ : Key). None) (places 0 rows) k =
     λ k. ran.4.0 k ∙ ap (λ l. update_all (eq_by_cmp key_cmp) (λ (_ : Key). None) l k)
     (drained ∙ c.loop-index.invariant.listed ∙ ap (places 0) whole) in
-    rows_records rows c.requires c.in_ok-from_iter.field-0 told c.loop-index.records.items
+    rows_records rows c.requires c.in_ok-from_iter.field-0 returned c.loop-index.records.items
     (c.loop-index.invariant.records ∙ ap (map row_record) whole) k

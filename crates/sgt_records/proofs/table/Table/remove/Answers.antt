@@ -3,7 +3,7 @@ use Rattle.std.proofs.lemmas.Option.{slice_get_read}
 use Rattle.std.specs.BTreeMap.{get, Updates}
 use Rattle.std.specs.Vec.{vec_len}
 use Rattle.sgt_model.specs.Databases.{key_cmp}
-use Rattle.sgt_records.proofs.TableIndices.{TakesLast, takes_last, on_ok, on_err, removed_told, removed_indices, removed_keys}
+use Rattle.sgt_records.proofs.TableIndices.{TakesLast, takes_last, on_ok, on_err, removed_returned, removed_indices, removed_keys}
 use Rattle.sgt_records.proofs.table.Table.remove.Goals as goal
 
 pub unreachable-requires : goal.unreachable-requires
@@ -84,5 +84,5 @@ returns c k =
     (λ p x other lt. c.swap_remove.ensures.by_index.1 p x other (omega (arith, lt, records_len))) in
     let put : Updates key_cmp table.indices c.insert.new.self moved (Some c.args.index) =
     on_ok c.insert.result (sym c.is_err.ensures.value ∙ c.if-is_err.false) c.insert.ensures.updates in
-    removed_told table.indices c.insert.new.self c.remove.new.self records _ keys _ table.are_indices table.are_keys c.args.key moved
+    removed_returned table.indices c.insert.new.self c.remove.new.self records _ keys _ table.are_indices table.are_keys c.args.key moved
     c.args.index last c.requires records_moved keys_moved is_moved put c.remove.ensures.updates k

@@ -26,9 +26,9 @@ returns-in-Some-Cycle c =
     (c.in-Some-Cycle.ensures.lookup.1 ∙ ap (λ l. slice_index_or l c.t.inside.0 c.in-Some-Cycle.field-0.now) c.deref.ensures.value)
     ∙ ap Some c.in-Some-Cycle.field-0-is in
     let within = index_within _ c.self.inside.ends.items c.t.inside.0 c.in-Some-Cycle.index c.self.invariant.placed is in
-    let walk : c.copied.result ≡ slice_index_or c.self.inside.walks.items c.in-Some-Cycle.index c.index.result.now = search rules in
-    ap (λ w. Some (fate.Aborted (cause.Cycle w))) (walk
-    ∙ read-any c.self.inside.walks.items c.in-Some-Cycle.index c.index.result.now [] within)
-    ∙ sym (fate_at-found c.self.inside.walks.items c.self.inside.ends.items c.t.inside.0 (end.Cycle c.in-Some-Cycle.index) is)
-    ∙ ap (λ t. fate_at (fates_of_ends c.self.inside.walks.items c.self.inside.ends.items) t) c.t.view_is
+    let cycle : c.copied.result ≡ slice_index_or c.self.inside.cycles.items c.in-Some-Cycle.index c.index.result.now = search rules in
+    ap (λ w. Some (fate.Aborted (cause.Cycle w))) (cycle
+    ∙ read-any c.self.inside.cycles.items c.in-Some-Cycle.index c.index.result.now [] within)
+    ∙ sym (fate_at-found c.self.inside.cycles.items c.self.inside.ends.items c.t.inside.0 (end.Cycle c.in-Some-Cycle.index) is)
+    ∙ ap (λ t. fate_at (fates_of_ends c.self.inside.cycles.items c.self.inside.ends.items) t) c.t.view_is
     ∙ ap (λ l. fate_at l.fates c.args.t) c.self.view_is

@@ -1,5 +1,5 @@
 use Rattle.std.proofs.Common.{rules, refl, sym, ap, ◌∙◌, ◌+◌, ◌-◌, ◌<◌, ◌≤◌, ◌++◌, [], ◌∷◌, take}
-use Rattle.sgt_sched.proofs.Lives.{index_within, below_places, removed, none_removed, moved_behind, left_last}
+use Rattle.sgt_sched.proofs.Lives.{index_within, below_places, removed, none_removed, moved_after, left_last}
 use Rattle.sgt_sched.proofs.live.Live.remove.Goals as goal
 use Rattle.sgt_sched.proofs.live.Live.remove.Goals.{then-index-self, else-index-self}
 
@@ -14,7 +14,7 @@ returns c =
     elim c.if-index-self.branch [
       | then-index-self w ↦ rw w.self-inside-is (
           ap (take (n - 1)) (w.push_reserved.ensures.items ∙ ap (λ l. l ++ w.remove-ended.result ∷ []) w.remove-ended.ensures.items)
-          ∙ (moved_behind n i rows w.remove-ended.result below c.self.invariant ∙ without)
+          ∙ (moved_after n i rows w.remove-ended.result below c.self.invariant ∙ without)
           )
       | else-index-self w ↦
           let last : n ≤ i + 1 = search rules in

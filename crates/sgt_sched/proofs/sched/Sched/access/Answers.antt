@@ -2,11 +2,11 @@ use Rattle.std.proofs.Common.{◌≡◌, true, refl, sym, subst}
 use Rattle.std.proofs.lemmas.Bool.{true≢false}
 use Rattle.sgt_model.specs.AccessList.{lists_conflicting}
 use Rattle.sgt_model.specs.CallEffects.{StepOn}
-use Rattle.sgt_model.specs.Walks.{last_of}
+use Rattle.sgt_model.specs.Paths.{last_of}
 use Rattle.sgt_sched.specs.Operations.{kind_of, next_of}
 use Rattle.sgt_sched.specs.Replies.{with_reply}
 use Rattle.sgt_sched.specs.Scheduler.{asks_of}
-use Rattle.sgt_sched.proofs.Accessed.{no_rivals, no_walk}
+use Rattle.sgt_sched.proofs.Accessed.{no_rivals, no_path}
 use Rattle.sgt_sched.proofs.Stepped.{made_with, whatever}
 use Rattle.sgt_sched.proofs.sched.Sched.access.Goals as goal
 
@@ -21,7 +21,7 @@ make_access-requires-clause-rivals g c κs lives = no_rivals
     ))))
 
 pub make_access-requires-clause-free : goal.make_access-requires-clause-free
-make_access-requires-clause-free g c κs lives = no_walk (g.G.Graph.pairs c.args.self.now.graph) c.args.t c.new.result
+make_access-requires-clause-free g c κs lives = no_path (g.G.Graph.pairs c.args.self.now.graph) c.args.t c.new.result
     c.new.ensures
 
 pub make_access-requires-clause-planned : goal.make_access-requires-clause-planned

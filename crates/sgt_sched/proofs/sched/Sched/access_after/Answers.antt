@@ -1,13 +1,13 @@
 use Rattle.std.proofs.Common.{◌≡◌, ◌≢◌, true, [], position, Some, refl, ap, sym, subst}
 use Rattle.sgt_model.specs.CallEffects.{StepOn}
-use Rattle.sgt_cycle.specs.Walk.{NoWalk}
+use Rattle.sgt_cycle.specs.Path.{NoPath}
 use Rattle.sgt_sched.specs.LiveList.{has_number}
 use Rattle.sgt_sched.proofs.Stepped.{made_with, whatever, rejected}
 use Rattle.sgt_sched.specs.Replies.{WithLists, with_reply}
 use Rattle.sgt_sched.specs.Operations.{kind_of, next_of}
 use Rattle.sgt_sched.specs.Scheduler.{parts, state, asks_of, Tries}
 use Rattle.sgt_sched.specs.Steps.{AreRivals}
-use Rattle.sgt_sched.proofs.Accessed.{rivals_few, rivals_are_nodes, rivals_seen, blocks_from_walk, free_seen}
+use Rattle.sgt_sched.proofs.Accessed.{rivals_few, rivals_are_nodes, rivals_seen, blocks_from_cycle, free_seen}
 use Rattle.sgt_sched.proofs.Aborted.{refuses}
 use Rattle.sgt_sched.proofs.sched.Sched.access_after.Goals as goal
 
@@ -27,7 +27,7 @@ returns-in_default-clause-done g c =
     record {
       done = rejected (asks_of c.args.self.now) c.args.t c.args.key c.args.operation (state c.args.self.now) _ _
           (refuses c.args.t c.args.key kind closes.1.0 closes.0 (state c.args.self.now) _ _ closes.1.1
-          (blocks_from_walk c.args.self.now.kept c.args.t c.requires.live c.args.key kind c.rivals-rivals.result
+          (blocks_from_cycle c.args.self.now.kept c.args.t c.requires.live c.args.key kind c.rivals-rivals.result
           exact closes.1.0 closes.1.2) closes.2);
       refused = tt;
       kept = c.in_default.ensures.kept;
@@ -49,7 +49,7 @@ make_access-requires-clause-at g c κs lives = subst (λ s. position (has_number
     (sym c.in-Some.ensures.free.0) c.requires.at
 
 pub make_access-requires-clause-free : goal.make_access-requires-clause-free
-make_access-requires-clause-free g c κs lives = subst (λ s. NoWalk (g.G.Graph.pairs s.graph) c.args.t c.rivals-rivals.result)
+make_access-requires-clause-free g c κs lives = subst (λ s. NoPath (g.G.Graph.pairs s.graph) c.args.t c.rivals-rivals.result)
     (sym c.in-Some.ensures.free.0) c.in-Some.ensures.free.2
 
 pub make_access-requires-clause-planned : goal.make_access-requires-clause-planned

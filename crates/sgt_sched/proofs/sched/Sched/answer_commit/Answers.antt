@@ -11,10 +11,10 @@ use Rattle.sgt_sched.proofs.sched.Sched.answer_commit.Goals as goal
 pub returns-in-Asks : goal.returns-in-Asks
 returns-in-Asks g c = record {
   turn = commits_on c.args.self.now.limits.asks c.args.t (state c.args.self.now)
-      (reply_with c.commit_asked.result c.commit_asked.new.lists) _
+      (reply_with c.commit_raised.result c.commit_raised.new.lists) _
       (Raises c.in-Asks.code) (c.in-Some.ensures.unended.0 refl).begun (c.in-Some.ensures.unended.0 refl).unended
-      (ap (next_by (state c.args.self.now) c.args.t) (sym c.in-Asks.is) ∙ c.ahead_at.ensures.next) c.commit_asked.ensures.turn;
-  kept = c.commit_asked.ensures.kept;
+      (ap (next_by (state c.args.self.now) c.args.t) (sym c.in-Asks.is) ∙ c.ahead_at.ensures.next) c.commit_raised.ensures.turn;
+  kept = c.commit_raised.ensures.kept;
 }
 
 pub returns-in-None : goal.returns-in-None

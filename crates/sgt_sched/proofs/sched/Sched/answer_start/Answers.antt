@@ -1,5 +1,5 @@
 use Rattle.std.proofs.Common.{refl, None, ap, ◌∙◌, ◌++◌, ◌∷◌, []}
-use Rattle.sgt_sched.proofs.Started.{start_new, is_named, start_room, start_done}
+use Rattle.sgt_sched.proofs.Started.{start_new, is_named, start_capacity, start_done}
 use Rattle.sgt_sched.specs.Scheduler.{parts, state}
 use Rattle.sgt_sched.proofs.sched.Sched.answer_start.Goals as goal
 
@@ -15,10 +15,10 @@ add-requires-clause-new g c =
     let admitted = c.in-Ok.ensures.1 in
     start_new c.args.self.now.kept c.args.procedure c.at-checked.result.now c.args.args.now c.in-Ok.t admitted.next
 
-pub add-requires-clause-room : goal.add-requires-clause-room
-add-requires-clause-room g c =
+pub add-requires-clause-capacity : goal.add-requires-clause-capacity
+add-requires-clause-capacity g c =
     let admitted = c.in-Ok.ensures.1 in
-    start_room c.args.self.now.kept c.args.procedure c.at-checked.result.now c.args.args.now c.in-Ok.t admitted.next admitted.live
+    start_capacity c.args.self.now.kept c.args.procedure c.at-checked.result.now c.args.args.now c.in-Ok.t admitted.next admitted.live
 
 pub invariant_of-self-2 : goal.invariant_of-self-2
 invariant_of-self-2 g c =

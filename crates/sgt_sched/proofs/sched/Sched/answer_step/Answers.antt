@@ -48,12 +48,12 @@ returns-in-Ends-clause-done g c = record {
 
 pub returns-in-Asks-clause-done : goal.returns-in-Asks-clause-done
 returns-in-Asks-clause-done g c = record {
-  done = (steps_on c.args.self.now.limits.asks c.args.t (state c.args.self.now) (reply_with c.step_asked.result c.step_asked.new.lists) _
+  done = (steps_on c.args.self.now.limits.asks c.args.t (state c.args.self.now) (reply_with c.step_raised.result c.step_raised.new.lists) _
       (Raises c.in-Asks.code)
       (c.in-Some.ensures.unended.0 refl).begun (c.in-Some.ensures.unended.0 refl).unended
-      (ap (next_by (state c.args.self.now) c.args.t) (sym c.in-Asks.is) ∙ c.ahead_at.ensures.next)) c.step_asked.ensures.turn;
+      (ap (next_by (state c.args.self.now) c.args.t) (sym c.in-Asks.is) ∙ c.ahead_at.ensures.next)) c.step_raised.ensures.turn;
   refused = tt;
-  kept = c.step_asked.ensures.kept;
+  kept = c.step_raised.ensures.kept;
 }
 
 pub returns-in-Look-clause-lists : goal.returns-in-Look-clause-lists

@@ -13,7 +13,7 @@ pub invariant_of-self : goal.invariant_of-self
 invariant_of-self g c =
     record {
       kept = kept_after c.args.self.now.kept c.args.t c.requires.live
-          (full_fate c.args.fate c.args.walk.now) c.unwind.new.records c.unwind.new.accesses
+          (full_fate c.args.fate c.args.cycle.now) c.unwind.new.records c.unwind.new.accesses
           c.unwind.new.graph c.unwind.ensures.chain c.unwind.ensures.accesses c.unwind.ensures.nodes c.unwind.ensures.pairs
           c.leave.new.live c.leave.new.read_from.items _ c.leave.ensures.live c.leave.ensures.read_from c.end.ensures;
     }
@@ -24,12 +24,12 @@ returns-clause-ends g c =
     let fates_are = c.end.ensures in
     record {
       removes = removes_after c.args.self.now.kept c.args.t node
-          (full_fate c.args.fate c.args.walk.now) c.unwind.new.records c.unwind.new.accesses c.unwind.new.graph
+          (full_fate c.args.fate c.args.cycle.now) c.unwind.new.records c.unwind.new.accesses c.unwind.new.graph
           c.unwind.ensures.chain c.unwind.ensures.accesses c.unwind.ensures.nodes c.unwind.ensures.pairs c.leave.new.live
           c.leave.new.read_from.items _ c.leave.ensures.live c.leave.ensures.read_from fates_are;
       settled = λ k. c.unwind.ensures.settled k;
       fates = fates_after c.args.self.now.kept c.args.t node
-          (full_fate c.args.fate c.args.walk.now) c.unwind.new.records c.unwind.new.accesses c.unwind.new.graph
+          (full_fate c.args.fate c.args.cycle.now) c.unwind.new.records c.unwind.new.accesses c.unwind.new.graph
           c.unwind.ensures.chain c.unwind.ensures.accesses c.unwind.ensures.nodes c.unwind.ensures.pairs c.leave.new.live
           c.leave.new.read_from.items _ c.leave.ensures.live c.leave.ensures.read_from fates_are;
     }

@@ -1,6 +1,6 @@
 use Rattle.std.proofs.Common.{sym, refl}
 use Rattle.std.proofs.lemmas.Bool.{true≢false}
-use Rattle.sgt_sched.proofs.Accessed.{rivals_few, rivals_are_nodes, blocks_from_walk, free_seen}
+use Rattle.sgt_sched.proofs.Accessed.{rivals_few, rivals_are_nodes, blocks_from_cycle, free_seen}
 use Rattle.sgt_sched.specs.Scheduler.{parts}
 use Rattle.sgt_sched.proofs.sched.Sched.is_blocked.Goals as goal
 
@@ -22,7 +22,7 @@ pub returns-in-Closes : goal.returns-in-Closes
 returns-in-Closes g c = (
   (λ e. (
     c.in-Closes.ensures.verdict.0,
-    blocks_from_walk c.args.self.now.kept c.args.t c.requires.live c.args.key
+    blocks_from_cycle c.args.self.now.kept c.args.t c.requires.live c.args.key
         c.args.kind c.rivals-rivals.result c.rivals-rivals.ensures.exact c.in-Closes.ensures.verdict.0 c.in-Closes.ensures.verdict.2,
   )),
   (λ b. refl),

@@ -4,7 +4,7 @@ use Rattle.sgt_model.specs.Contents.{key_eq}
 use Rattle.sgt_model.specs.Chains.{write_last, writes_in}
 use Rattle.sgt_model.specs.ChainOrder.{IsLastIn}
 use Rattle.sgt_sched.proofs.Accessed.{rivals_are_nodes}
-use Rattle.sgt_sched.proofs.Looks.{store_last, store_room, kept_store, makes_store}
+use Rattle.sgt_sched.proofs.Looks.{store_last, store_capacity, kept_store, makes_store}
 use Rattle.sgt_sched.proofs.Reserved.{kept_reserved}
 use Rattle.sgt_sched.proofs.sched.Sched.make_store.Goals as goal
 
@@ -16,9 +16,9 @@ pub write-requires-clause-last : goal.write-requires-clause-last
 write-requires-clause-last g c = subst (λ l. IsLastIn c.args.t l) (sym (c.reserve.ensures.chain c.args.key))
     (store_last refl c.args.self.now.kept c.args.t c.requires.live c.args.key c.args.rivals.now c.requires.free c.requires.rivals)
 
-pub write-requires-clause-room : goal.write-requires-clause-room
-write-requires-clause-room g c = subst (λ l. writes_in c.args.t l ≡ false → length l < 32) (sym (c.reserve.ensures.chain c.args.key))
-    (store_room refl c.args.self.now.kept c.args.t c.requires.live c.args.key c.args.rivals.now c.requires.free c.requires.rivals)
+pub write-requires-clause-capacity : goal.write-requires-clause-capacity
+write-requires-clause-capacity g c = subst (λ l. writes_in c.args.t l ≡ false → length l < 32) (sym (c.reserve.ensures.chain c.args.key))
+    (store_capacity refl c.args.self.now.kept c.args.t c.requires.live c.args.key c.args.rivals.now c.requires.free c.requires.rivals)
 
 pub invariant_of-self-2 : goal.invariant_of-self-2
 invariant_of-self-2 g c = record {

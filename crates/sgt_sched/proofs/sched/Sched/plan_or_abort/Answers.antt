@@ -12,7 +12,7 @@ returns-in-Free g c = record {
 pub returns-in-Closes : goal.returns-in-Closes
 returns-in-Closes g c = record {
   closes = λ h. (
-    c.in-Closes.walk,
+    c.in-Closes.cycle,
     c.in-Closes.ensures.plan,
     c.abort.ensures.turn,
   );

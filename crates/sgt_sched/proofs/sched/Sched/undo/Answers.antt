@@ -9,21 +9,21 @@ pub loop-reader-init : goal.loop-reader-init
 loop-reader-init g c =
     record {
       falls = subst (λ l. FallsIn (state c.args.self.now) c.args.t l) (sym c.as_slice-reader-items.ensures) c.falling_with-fell.ensures;
-      drops = drops_first c.args.t (full_cause c.args.cause c.args.walk.now) (state c.args.self.now) (state c.end_aborted.new.self)
+      drops = drops_first c.args.t (full_cause c.args.cause c.args.cycle.now) (state c.args.self.now) (state c.end_aborted.new.self)
           c.end_aborted.ensures.ends;
       kept = c.end_aborted.ensures.kept;
     }
 
 pub end_aborted-requires-in-loop-reader-clause-live : goal.end_aborted-requires-in-loop-reader-clause-live
 end_aborted-requires-in-loop-reader-clause-live g c = λ κs lives. next_node c.args.t
-    (full_cause c.args.cause c.args.walk.now) c.as_slice-reader-items.result.now _ _
+    (full_cause c.args.cause c.args.cycle.now) c.as_slice-reader-items.result.now _ _
     c.loop-reader.invariant.falls c.loop-reader.reader-index c.reader-item.result c.loop-reader-test.true c.reader-item.is
     c.loop-reader.invariant.drops
 
 pub loop-reader-preserved : goal.loop-reader-preserved
 loop-reader-preserved g c = record {
   falls = c.loop-reader.invariant.falls;
-  drops = next_falls c.args.t (full_cause c.args.cause c.args.walk.now) c.as_slice-reader-items.result.now _ _ c.loop-reader.invariant.falls
+  drops = next_falls c.args.t (full_cause c.args.cause c.args.cycle.now) c.as_slice-reader-items.result.now _ _ c.loop-reader.invariant.falls
       c.loop-reader.reader-index
       c.reader-item.result c.loop-reader-test.true c.reader-item.is c.loop-reader.invariant.drops _
       c.end_aborted-in-loop-reader.ensures.ends;
@@ -36,7 +36,7 @@ loop-reader-preserved g c = record {
 
 pub returns-clause-undone : goal.returns-clause-undone
 returns-clause-undone g c = undone c.args.t
-    (full_cause c.args.cause c.args.walk.now) c.falling_with-fell.result c.as_slice-reader-items.result.now
+    (full_cause c.args.cause c.args.cycle.now) c.falling_with-fell.result c.as_slice-reader-items.result.now
     c.loop-reader.reader-index _ _ c.as_slice-reader-items.ensures c.loop-reader-test.false c.falling_with-fell.ensures
     c.loop-reader.invariant.drops
 

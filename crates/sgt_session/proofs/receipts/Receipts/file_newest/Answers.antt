@@ -9,10 +9,10 @@ invariant_of-self c =
     let one = there_is c.args.history.now.entries (c.len-place.result - 1) (omega (arith, c.len-place.ensures, c.requires.some)) in
     let more = ap length (c.push_copy.ensures.entries one.0 one.1) ∙ length-append c.self.inside.calls.entries (one.0 ∷ []) in
     let longer = ap length c.push_reserved.ensures.items ∙ length-append c.self.inside.numbers.items ((c.len-place.result - 1) ∷ []) in
-    let used = ap (λ r. r.room) c.self.view_is in (
+    let used = ap (λ r. r.spare) c.self.view_is in (
       omega (arith, c.self.invariant.0, more, longer),
-      omega (arith, used, c.requires.room, c.self.invariant.1, c.push_reserved.ensures.len, c.push_reserved.ensures.capacity),
-      omega (arith, used, c.requires.room, c.self.invariant.2, c.push_copy.ensures.room),
+      omega (arith, used, c.requires.spare, c.self.invariant.1, c.push_reserved.ensures.len, c.push_reserved.ensures.capacity),
+      omega (arith, used, c.requires.spare, c.self.invariant.2, c.push_copy.ensures.spare),
     )
 
 pub returns-clause-filed : goal.returns-clause-filed

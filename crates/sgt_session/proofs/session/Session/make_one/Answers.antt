@@ -13,21 +13,21 @@ invariant_of-self-then-is_last_step g c =
     let filed = c.in_ok-apply.ensures.filed in
     let quiet : IsQuiet (entry_of filed.0) = c.is_last_step.ensures c.if-is_last_step.true _ filed.0 filed.5 in
     let longer = ap length filed.5 in
-    let one = length-append c.make_receipt_room.new.receipts.receipts (filed.0 ∷ []) in
-    let kept = ap length c.in_ok-room.ensures.receipts in
-    let own = quiet_own c.make_receipt_room.new.own.items filed.0.event filed.0.reply quiet.0 quiet.1 in (
+    let one = length-append c.ensure_receipt_capacity.new.receipts.receipts (filed.0 ∷ []) in
+    let kept = ap length c.in_ok-spare.ensures.receipts in
+    let own = quiet_own c.ensure_receipt_capacity.new.own.items filed.0.event filed.0.reply quiet.0 quiet.1 in (
       search rules,
       omega (arith, c.in_ok-apply.ensures.counted, longer, one, kept, c.self.invariant.1),
-      noted c.self.inside.receipts.receipts c.apply.new.receipts.receipts c.make_receipt_room.new.own.items _ filed.0
-          (c.in_ok-room.ensures.own ∙ c.self.invariant.2)
-          (rw c.in_ok-room.ensures.receipts at filed.5)
+      noted c.self.inside.receipts.receipts c.apply.new.receipts.receipts c.ensure_receipt_capacity.new.own.items _ filed.0
+          (c.in_ok-spare.ensures.own ∙ c.self.invariant.2)
+          (rw c.in_ok-spare.ensures.receipts at filed.5)
           own,
-      fits c.self.inside.own.items c.make_receipt_room.new.own.items _ filed.0 _ _ _
-          c.in_ok-room.ensures.own
+      fits c.self.inside.own.items c.ensure_receipt_capacity.new.own.items _ filed.0 _ _ _
+          c.in_ok-spare.ensures.own
           filed.1
-          c.in_ok-room.ensures.room
-          (c.make_receipt_room.new.own.ok.0 ∙ ap length own)
-          c.in_ok-apply.ensures.room,
+          c.in_ok-spare.ensures.spare
+          (c.ensure_receipt_capacity.new.own.ok.0 ∙ ap length own)
+          c.in_ok-apply.ensures.spare,
     )
 
 pub returns-then-is_last_step-clause-receipt : goal.returns-then-is_last_step-clause-receipt
@@ -36,7 +36,7 @@ returns-then-is_last_step-clause-receipt g c =
     let quiet : IsQuiet (entry_of filed.0) = c.is_last_step.ensures c.if-is_last_step.true _ filed.0 filed.5 in (
       filed.0,
       filed.1,
-      filed.5 ∙ ap (λ l. l ++ filed.0 ∷ []) (c.in_ok-room.ensures.receipts ∙ c.self.view_is),
+      filed.5 ∙ ap (λ l. l ++ filed.0 ∷ []) (c.in_ok-spare.ensures.receipts ∙ c.self.view_is),
       no_wait c.args.may_wait _ quiet.3,
     )
 
@@ -45,20 +45,20 @@ invariant_of-self-2 g c =
     let filed = c.in_ok-apply.ensures.filed in
     let same : c.last_entry-entry.result ≡ entry_of filed.0 = c.last_entry-entry.ensures _ filed.0 filed.5 in
     let longer = ap length filed.5 in
-    let one = length-append c.make_receipt_room.new.receipts.receipts (filed.0 ∷ []) in
-    let kept = ap length c.in_ok-room.ensures.receipts in (
+    let one = length-append c.ensure_receipt_capacity.new.receipts.receipts (filed.0 ∷ []) in
+    let kept = ap length c.in_ok-spare.ensures.receipts in (
       search rules,
       omega (arith, c.in_ok-apply.ensures.counted, longer, one, kept, c.self.invariant.1),
-      noted c.self.inside.receipts.receipts c.apply.new.receipts.receipts c.make_receipt_room.new.own.items _ filed.0
-          (c.in_ok-room.ensures.own ∙ c.self.invariant.2)
-          (rw c.in_ok-room.ensures.receipts at filed.5)
+      noted c.self.inside.receipts.receipts c.apply.new.receipts.receipts c.ensure_receipt_capacity.new.own.items _ filed.0
+          (c.in_ok-spare.ensures.own ∙ c.self.invariant.2)
+          (rw c.in_ok-spare.ensures.receipts at filed.5)
           (rw same at c.note_and_wake.ensures.own),
-      fits c.self.inside.own.items c.make_receipt_room.new.own.items _ filed.0 _ _ _
-          c.in_ok-room.ensures.own
+      fits c.self.inside.own.items c.ensure_receipt_capacity.new.own.items _ filed.0 _ _ _
+          c.in_ok-spare.ensures.own
           filed.1
-          c.in_ok-room.ensures.room
+          c.in_ok-spare.ensures.spare
           (rw same at c.note_and_wake.ensures.count)
-          c.in_ok-apply.ensures.room,
+          c.in_ok-apply.ensures.spare,
     )
 
 pub end_hold-waited-requires-clause-newest : goal.end_hold-waited-requires-clause-newest
@@ -73,6 +73,6 @@ returns-clause-receipt g c =
     let same : c.last_entry-entry.result ≡ entry_of filed.0 = c.last_entry-entry.ensures _ filed.0 filed.5 in (
       filed.0,
       filed.1,
-      filed.5 ∙ ap (λ l. l ++ filed.0 ∷ []) (c.in_ok-room.ensures.receipts ∙ c.self.view_is),
+      filed.5 ∙ ap (λ l. l ++ filed.0 ∷ []) (c.in_ok-spare.ensures.receipts ∙ c.self.view_is),
       c.end_hold-waited.ensures.waits ∙ ap (λ (e : Entry). c.args.may_wait && is_wait e.reply) same,
     )

@@ -1,7 +1,0 @@
-use Rattle.std.proofs.Common.{take}
-use Rattle.std.specs.List.{All}
-use Rattle.sgt_c.specs.ManyRuns.{IsAsked}
-use Rattle.sgt_c.proofs.run_many.are_asked.Given as goal
-
-abbrev pub invariant-loop-call : goal.invariant-loop-call
-invariant-loop-call l = All IsAsked (take l.call-index l.calls)

@@ -1,9 +1,0 @@
-use Rattle.sgt_classes.specs.Tables.{entry_of, table_len}
-use Rattle.sgt_classes.proofs.ClosedWalks.{GoesBack}
-use Rattle.sgt_classes.proofs.cycles.walk_back.Given as goal
-
-abbrev pub invariant-loop-place : goal.invariant-loop-place
-invariant-loop-place l = GoesBack l.edges l.walk.items (entry_of l.fn.incoming.tops) (entry_of l.incoming.tops) l.transaction
-
-abbrev pub decreases-loop-place : goal.decreases-loop-place
-decreases-loop-place l = table_len l.incoming.tops
