@@ -23,7 +23,7 @@ loop-here-init c = rw (c.push.ensures.items, c.new-path.ensures)
     (search_starts c.args.rows.now c.args.source c.args.targets c.complement-fresh.result c.requires.index
     (λ i low. c.complement-fresh.ensures i low ∙ ap not (c.only.ensures i))
     (λ i high. none_above c.args.targets i c.ranges.targets.fits high)
-    (λ i j high. no_row c.args.rows.now i j (omega (arith, c.reported-rows)) high))
+    (λ i j high. no_row c.args.rows.now i j (omega (arith, c.told-rows)) high))
 
 pub has-requires : goal.has-requires
 has-requires c =

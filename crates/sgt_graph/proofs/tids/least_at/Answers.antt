@@ -19,7 +19,7 @@ loop-index-preserved c =
           (least_more c.args.tids.now c.args.set c.loop-index.left c.minus-left.result k _
           (c.loop-index.invariant.within k c.in-Some.ensures.some.1) less
           (ap (λ i. slice_index c.args.tids.now i) (sym c.from.ensures)
-          ∙ any_default c.args.tids.now c.from.result c.index-tids-from.result (omega (arith, c.reported-tids, c.from.ensures, c.in-Some.ensures.some.0)))
+          ∙ any_default c.args.tids.now c.from.result c.index-tids-from.result (omega (arith, c.told-tids, c.from.ensures, c.in-Some.ensures.some.0)))
           c.loop-index.found c.loop-index.invariant.least);
     }
 
