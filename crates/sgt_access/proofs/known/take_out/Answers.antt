@@ -38,7 +38,7 @@ loop-index-preserved-then-eq c =
     same = same_read old at c.index.result.now x short c.index.ensures c.swap_remove-access.ensures.value
 
     test : nat_eq x.by c.args.t ≡ true
-    test = ap (λ (a : ListedAccess). nat_eq a.by c.args.t) (sym same) ∙ ap (λ (a : ListedAccess). nat_eq a.by c.args.t) (sym c.following-accesses.view_is)
+    test = ap (λ (a : ListedAccess). nat_eq a.by c.args.t) (sym same) ∙ ap (λ (a : ListedAccess). nat_eq a.by c.args.t) (sym c.behind-accesses.view_is)
         ∙ sym c.eq.ensures ∙ c.if-eq.true
 
     less : IsOneLess x old new
@@ -68,7 +68,7 @@ loop-index-preserved c =
       none = λ k d low high. ⊎_elim
           (λ e. subst (λ n. nat_eq (get_or old n d).by c.args.t ≡ false) (sym e)
           (ap (λ (a : ListedAccess). nat_eq a.by c.args.t) (get_or_default old at d c.index.result.now short ∙ sym c.index.ensures)
-          ∙ ap (λ (a : ListedAccess). nat_eq a.by c.args.t) (sym c.following-accesses.view_is) ∙ sym c.eq.ensures ∙ c.if-eq.false))
+          ∙ ap (λ (a : ListedAccess). nat_eq a.by c.args.t) (sym c.behind-accesses.view_is) ∙ sym c.eq.ensures ∙ c.if-eq.false))
           (λ ne. c.loop-index.invariant.none k d (omega (arith, low, ne, some)) high)
           (cases_eq k at);
       others = c.loop-index.invariant.others;
