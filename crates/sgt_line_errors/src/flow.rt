@@ -41,7 +41,7 @@ impl Flow {
     }
 
     /// After a statement that sets the register.
-    pub(crate) fn configuration(self, register: i64) -> Self {
+    pub(crate) fn with_register(self, register: i64) -> Self {
         Flow {
             registers: self.registers | bit(register),
             ..self

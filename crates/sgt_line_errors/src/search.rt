@@ -182,7 +182,7 @@ fn following(flow: Flow, blocks: Flow, items: &[Value]) -> Flow {
         Some("if") => blocks,
         Some("answer") => flow.answering(),
         _ => match register_of(items) {
-            Some(register) => flow.configuration(register),
+            Some(register) => flow.with_register(register),
             None => flow,
         },
     }
