@@ -12,9 +12,9 @@ use types.ByLocal.{alloc_all, pass_all, free_all, look_at, get, get_in, sets}
 use denote.Exit.{yes}
 use denote.Signature.{Slot, plain}
 use denote.Steps.{nothing}
-use denote.Triple.Walked.{says, Stays, stay_dropped, cycle_of, ends_at, Goes-dropped}
+use denote.Triple.Walked.{says, Stays, stay_dropped, walk_of, ends_at, Goes-dropped}
 use Rattle.std.specs.Prelude.{Some}
-use Rattle.std.proofs.raw_atomic.Paths.{proved_at}
+use Rattle.std.proofs.raw_atomic.Walks.{proved_at}
 use Rattle.sgt_c.proofs.OfGlobal.{heap}
 use Rattle.sgt_c.proofs.Pointed.{laid, ptr_fits, laid_fits, fields_out, fields_in}
 use Rattle.sgt_c.specs.contracts.held.Held.{the_row}
@@ -36,7 +36,7 @@ cast_spec 𝓤 𝓛 𝓜 𝓡 wired =
     let c = clauses 𝓛 𝓜.mem 𝓡.returns in let 𝓣 = tables 𝓤 𝓛.H 𝓜 𝓡 𝓡.env in
     proved_at 𝓛 ended stayed c 𝓜 𝓡 (Goes-dropped 𝓛 0 from yes (λ κs x f. refl), tt) name code.function (code.unfolded 𝓤 𝓛.H 𝓜 𝓡 wired)
     (λ y are.
-    let u = y.0.3.0 in let vs = y.0.4.0 in let Post = (cycle_of 𝓛 ended stayed c).post y in
+    let u = y.0.3.0 in let vs = y.0.4.0 in let Post = (walk_of 𝓛 ended stayed c).post y in
     let made : slot.the_row.Denot = record { at = u.at; alloc = u.alloc; held = Some u.value } in
     qed 𝓛 ((‵ ftrue ⊛ ‵ (fsep ((unboxed.the_row the_row heap.row heap.g).own_val u vs) ftrue)) ∷ raw (emp 𝓤) ∷ []) ∵ split ! $ drop ! $
     fsplit ! $ fsplit ! $ move ! (2 ∷ 3 ∷ []) $ drop ! $ drop ! $

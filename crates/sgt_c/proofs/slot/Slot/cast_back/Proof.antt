@@ -19,13 +19,13 @@ use denote.Signature.{Slot, plain}
 use denote.RattleType.{owns}
 use denote.RawPtr.{Ptr}
 use denote.Steps.{heard, nothing}
-use denote.Triple.Walked.{says, Stays, stay_dropped, cycle_of, ends_at, Goes-dropped}
+use denote.Triple.Walked.{says, Stays, stay_dropped, walk_of, ends_at, Goes-dropped}
 use denote.Triple.Statement.{Contract}
 use types.Logic.{Logic}
 use Rattle.std.specs.Global.{Global}
 use Rattle.std.specs.Prelude.{Option, Some, None, IsSome}
 use Rattle.std.proofs.lemmas.Bool.{false≢true}
-use Rattle.std.proofs.raw_atomic.Paths.{proved_at}
+use Rattle.std.proofs.raw_atomic.Walks.{proved_at}
 use Rattle.sgt_c.proofs.OfGlobal.{heap}
 use Rattle.sgt_c.proofs.Pointed.{laid, ptr_fits, laid_fits, fields_out, fields_in}
 use Rattle.sgt_c.specs.declared.held.Held.{Held}
@@ -45,7 +45,7 @@ stayed = (stay_dropped from yes, tt)
 
 module _ {M : Type 1} {𝓤 : Ura M} (𝓛 : Logic 𝓤) (at_mem : Memory → SProp 𝓤) (run : Routine → Fun 𝓤) (𝓣 : Tables 𝓤 𝓛.H) where
   abbrev W : Contract 𝓤
-  W = cycle_of 𝓛 ended stayed (clauses 𝓛 at_mem run)
+  W = walk_of 𝓛 ended stayed (clauses 𝓛 at_mem run)
 
   abbrev taken : Ptr → Global → Option Held → List Val → W.Ghost
   taken at alloc held vs = ((tt, tt, tt, (record { at = at; alloc = alloc; held = held }, tt), (vs, tt)), tt)

@@ -13,10 +13,10 @@ use denote.Exit.{yes}
 use denote.RawPtr.{null_ptr}
 use denote.Signature.{Slot, plain}
 use denote.Steps.{nothing}
-use denote.Triple.Walked.{says, Stays, stay_dropped, cycle_of, ends_at, Goes-dropped}
+use denote.Triple.Walked.{says, Stays, stay_dropped, walk_of, ends_at, Goes-dropped}
 use Rattle.std.specs.Prelude.{None}
 use Rattle.std.proofs.alloc.Calls.{handle_tells}
-use Rattle.std.proofs.raw_atomic.Paths.{proved_at}
+use Rattle.std.proofs.raw_atomic.Walks.{proved_at}
 use Rattle.sgt_c.proofs.OfGlobal.{heap}
 use Rattle.sgt_c.proofs.Pointed.{laid, laid_fits, fields_in}
 use Rattle.sgt_c.specs.contracts.slot.Slot as slot
@@ -36,7 +36,7 @@ empty_spec 𝓤 𝓛 𝓜 𝓡 wired =
     let c = clauses 𝓛 𝓜.mem 𝓡.returns in let 𝓣 = tables 𝓤 𝓛.H 𝓜 𝓡 𝓡.env in
     proved_at 𝓛 ended stayed c 𝓜 𝓡 (Goes-dropped 𝓛 0 from yes (λ κs x f. refl), tt) name code.function (code.unfolded 𝓤 𝓛.H 𝓜 𝓡 wired)
     (λ y are.
-    let alloc = y.0.3.0 in let vs = y.0.4.0 in let Post = (cycle_of 𝓛 ended stayed c).post y in
+    let alloc = y.0.3.0 in let vs = y.0.4.0 in let Post = (walk_of 𝓛 ended stayed c).post y in
     let made : slot.the_row.Denot = record { at = null_ptr; alloc = alloc; held = None } in
     qed 𝓛 ((‵ ftrue ⊛ ‵ (fsep (heap.row.own_val alloc vs) ftrue)) ∷ raw (emp 𝓤) ∷ []) ∵ split ! $ drop ! $ fsplit ! $ move ! (1 ∷ 2 ∷ []) $
     drop ! $ drop ! $

@@ -23,13 +23,13 @@ use denote.Triple.Call.{calls_at}
 use denote.Triple.Clauses.{Lasts, lasts}
 use denote.Triple.Spec.{triple_of}
 use denote.Triple.Table.{framed}
-use denote.Triple.Walked.{says, Stays, stay_dropped, cycle_of, ends_at}
+use denote.Triple.Walked.{says, Stays, stay_dropped, walk_of, ends_at}
 use Rattle.std.specs.Box.Ownership.{box_owns}
 use Rattle.std.specs.contracts.boxed.Box as boxed
 use Rattle.std.specs.contracts.boxed.Box.into_raw_with_allocator as opens
 use Rattle.std.proofs.boxed.Box.into_raw_with_allocator.Met.{met}
 use Rattle.std.proofs.alloc.Calls.{Al, Goes-blank}
-use Rattle.std.proofs.raw_atomic.Paths.{proved_at}
+use Rattle.std.proofs.raw_atomic.Walks.{proved_at}
 use Rattle.sgt_c.proofs.Pointed.{laid, ptr_fits, laid_fits, fields_out, fields_in}
 use Rattle.sgt_c.specs.contracts.slot.unboxed.Unboxed as unboxed
 use Rattle.sgt_c.specs.contracts.slot.unboxed.Unboxed.of as F
@@ -47,7 +47,7 @@ of_spec 𝓤 𝓛 𝓜 𝓡 wired X Z LX LZ g d dd dx allocator md mx =
     let Opens = triple_of 𝓛 (opens.signature X Z g d dd dx) (opens.spec X Z g d dd dx 𝓛 𝓜.mem 𝓡.returns) in
     proved_at 𝓛 ended stayed c 𝓜 𝓡 (Goes-blank 𝓛 2 from no (λ κs x f. tt), tt) (name inst) fn
     (code.unfolded 𝓤 𝓛.H 𝓜 𝓡 wired (X, (Z, tt)) d dd dx) (λ y are.
-    let κs = y.0.0 in let qs = y.0.1 in let b = y.0.3.0 in let vs = y.0.4.0 in let Post = (cycle_of 𝓛 ended stayed c).post y in
+    let κs = y.0.0 in let qs = y.0.1 in let b = y.0.3.0 in let vs = y.0.4.0 in let Post = (walk_of 𝓛 ended stayed c).post y in
     let lent : Item 𝓤 = ‵ (flft κs.0 qs.0) ⊛ ‵ (flft κs.1.0 qs.1.0) ⊛ ‵ ftrue in
     let alive : Item 𝓤 = raw (fact 𝓤 (κs.0 ⊑ X.lives)) ⊛ raw (fact 𝓤 (κs.1.0 ⊑ Z.lives)) ⊛ ‵ ftrue in
     qed 𝓛 ((lent ⊛ ‵ (fsep (Box.own_val b vs) ftrue)) ∷ alive ∷ []) ∵ split ! $ move ! (1 ∷ []) $ fsplit ! $ fsplit ! $
