@@ -25,13 +25,15 @@ IsOneLess access accesses rest = (p : ListedAccess → Bool) → count_by p rest
 abbrev pub spot_at : Key → ℕ
 spot_at key = ((unsigned_abs key.1 * 8 + key.0) * 15485907386658061715) % 2 ^ 64 / 2 ^ 54
 
--- an access is a read, or a write, at this spot, or it is there with another key
+-- an access is a read at this spot
 abbrev pub reads_at : ℕ → ListedAccess → Bool
 reads_at index a = nat_eq (spot_at a.key) index && not (is_store a.kind)
 
+-- an access is a write at this spot
 abbrev pub writes_at : ℕ → ListedAccess → Bool
 writes_at index a = nat_eq (spot_at a.key) index && is_store a.kind
 
+-- an access is at this spot, and of another key
 abbrev pub has_other_key : ℕ → Key → ListedAccess → Bool
 has_other_key index key a = nat_eq (spot_at a.key) index && not (key_eq a.key key)
 
@@ -89,11 +91,13 @@ pub record IsMaskBut (taken : ℕ) (tids : List ℕ) (t : ℕ) (accesses : List 
   pub sound : (i : ℕ) → is_set set i ≡ true → HasAt taken tids accesses test i
   pub whole : (i : ℕ) → is_at taken tids t i ≡ false → HasAt taken tids accesses test i → is_set set i ≡ true
 
+-- a spot, likewise
 pub record IsSpotBut (taken : ℕ) (tids : List ℕ) (t : ℕ) (accesses : List ListedAccess) (index : ℕ) (spot : Spot) : Type 0 where
   pub readers : IsMaskBut taken tids t accesses (reads_at index) spot.readers
   pub writers : IsMaskBut taken tids t accesses (writes_at index) spot.writers
   pub one_key : spot.is_mixed ≡ false → list_any (has_other_key index spot.key) accesses ≡ false
 
+-- places and spots, likewise: the transaction is at the places of this set
 pub record AreMasksBut (taken : ℕ) (tids : List ℕ) (spots : List Spot) (t set : ℕ) (accesses : List ListedAccess) : Type 0 where
   pub place : (i : ℕ) → is_set set i ≡ is_at taken tids t i
   pub places : ArePlaces taken tids accesses

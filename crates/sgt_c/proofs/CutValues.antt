@@ -5,7 +5,7 @@ use Rattle.sgt_model.specs.Configurations.{Configuration}
 use Rattle.sgt_model.specs.Values.{settled}
 use Rattle.sgt_engine.specs.Cuts.{GoesOn, configuration_after}
 use Rattle.sgt_engine.specs.EngineView.{EngineView, configuration_of}
-use Rattle.sgt_c.specs.Calls.{Headline}
+use Rattle.sgt_engine.specs.Guarantees.{Guarantees}
 use Rattle.sgt_c.specs.Cuts.{CommitsAreKept, IsCut}
 
 -- with an empty history the committed values are the initial ones
@@ -14,13 +14,13 @@ commits_kept before after on k =
     ap (λ past. settled (contents_of after.opening) past k) on.past ∙ ap (λ (s : Configuration). s.opening k) on.configuration
 
 -- an engine with an empty history is as after a cut
-pub nothing_cut : (e : EngineView) → e.past ≡ [] → IsByKey e.opening → Headline e → IsCut e e
-nothing_cut e none by_key headline = (
+pub nothing_cut : (e : EngineView) → e.past ≡ [] → IsByKey e.opening → Guarantees e → IsCut e e
+nothing_cut e none by_key guarantees = (
   record { configuration = ap (configuration_after (configuration_of e)) (sym none); procedures = refl; limits = refl; past = none },
   λ k. refl,
   by_key,
-  λ k. ap (λ past. settled (contents_of e.opening) past k) (sym none) ∙ sym (headline.1.database k),
-  headline,
+  λ k. ap (λ past. settled (contents_of e.opening) past k) (sym none) ∙ sym (guarantees.headline.replay.database k),
+  guarantees,
 )
 
 -- a list of no length

@@ -3,35 +3,19 @@ use Rattle.std.specs.Prelude.{◌≡◌, ℕ, true, Option, Some, None, IfSome}
 use Rattle.sgt_model.specs.declared.event.Event.{Event}
 use Rattle.sgt_model.specs.declared.event.Event.TheVariants.{Quit}
 use Rattle.sgt_model.specs.declared.reply.Reply.{Reply}
-use Rattle.sgt_model.specs.Aborts.{AbortsHaveCause}
-use Rattle.sgt_model.specs.CommitOrder.{CommitsInOrder}
 use Rattle.sgt_model.specs.Fates.{live}
-use Rattle.sgt_model.specs.Legality.{Legal, LegalReply}
-use Rattle.sgt_model.specs.Pairs.{Pair}
+use Rattle.sgt_model.specs.Legality.{LegalReply}
 use Rattle.sgt_model.specs.Questions.{is_ending}
-use Rattle.sgt_model.specs.Replay.{ReplayAgrees}
-use Rattle.sgt_model.specs.Paths.{Acyclic}
-use Rattle.sgt_progress.specs.Progress.{MakesProgress}
-use Rattle.sgt_progress.specs.RealTime.{KeepsRealTime}
 use Rattle.sgt_engine.specs.EngineView.{EngineView, configuration_of, with_entry}
+use Rattle.sgt_engine.specs.Guarantees.{Guarantees}
 use Rattle.sgt_c.specs.declared.held.Held.{Held}
 use Rattle.sgt_c.specs.declared.reply_struct.SgtReply.{SgtReply}
 use Rattle.sgt_c.specs.ReplyStructs.{HoldsReply}
 
--- the history is legal, each part of the headline holds, commit order keeps real time, and the history makes progress
-abbrev pub Headline : EngineView → Type 0
-Headline e = Legal (configuration_of e) e.past
-    × ReplayAgrees (configuration_of e) e.past
-    × Acyclic (Pair e.past)
-    × AbortsHaveCause (configuration_of e) e.past
-    × CommitsInOrder e.past
-    × KeepsRealTime (configuration_of e) e.past
-    × MakesProgress (configuration_of e) e.past
-
 -- the reply to the event is legal and is returned; history and replies each grow by one entry
 abbrev pub AnsweredBy : Event → Held → Option Held → SgtReply → Reply → Type 0
 AnsweredBy event h new reported r = (new ≡ Some (record { engine = with_entry event r h.engine; part = h.part }))
-    × LegalReply (configuration_of h.engine) h.engine.past event r × HoldsReply reported r × Headline (with_entry event r h.engine)
+    × LegalReply (configuration_of h.engine) h.engine.past event r × HoldsReply reported r × Guarantees (with_entry event r h.engine)
 
 -- the same for some reply
 abbrev pub Answered : Event → Option Held → Option Held → SgtReply → Type 0

@@ -10,7 +10,7 @@ use Rattle.sgt_engine.specs.EngineView.{EngineView, configuration_of}
 use Rattle.sgt_c.specs.declared.cutting.Uncut.{Uncut}
 use Rattle.sgt_c.specs.declared.cutting.Uncut.TheVariants.{StillLive, LastPart, NoMemory}
 use Rattle.sgt_c.specs.declared.held.Held.{Held}
-use Rattle.sgt_c.specs.Calls.{Headline}
+use Rattle.sgt_engine.specs.Guarantees.{Guarantees}
 
 -- no committed value changes
 abbrev pub CommitsAreKept : EngineView → EngineView → Type 0
@@ -21,7 +21,7 @@ CommitsAreKept before after = (k : Key) → settled (contents_of after.opening) 
 abbrev pub IsCut : EngineView → EngineView → Type 0
 IsCut before after = GoesOn before after × CommitsAreKept before after × IsByKey after.opening
     × ((k : Key) → contents_of after.opening k ≡ (folded (configuration_of before) before.past).last k)
-    × Headline before
+    × Guarantees before
 
 -- the same for the content of a handle
 abbrev pub Cut : Option Held → Option Held → Type 0

@@ -6,7 +6,7 @@ use Rattle.sgt_engine.specs.EngineView.{EngineView}
 use Rattle.sgt_c.specs.declared.call_struct.SgtCall.{SgtCall}
 use Rattle.sgt_c.specs.declared.held.Held.{Held}
 use Rattle.sgt_c.specs.declared.outcome_struct.SgtOutcome.{SgtOutcome}
-use Rattle.sgt_c.specs.Calls.{Headline}
+use Rattle.sgt_engine.specs.Guarantees.{Guarantees}
 use Rattle.sgt_c.specs.ReplyStructs.{HoldsReply}
 use Rattle.sgt_c.specs.Runs.{Runs, GivesUp, IsNumberReported}
 
@@ -45,10 +45,10 @@ StoppedAt at calls outcomes e after = (c : SgtCall) × (between : EngineView) ×
 abbrev pub RanMany : Option Held → List SgtCall → List SgtOutcome → Option Held → Type 0
 RanMany None calls outcomes new = ⊥
 RanMany (Some h) calls outcomes None = ⊥
-RanMany (Some h) calls outcomes (Some h') = RanAll calls outcomes h.engine h'.engine × Headline h'.engine × (h'.part ≡ h.part)
+RanMany (Some h) calls outcomes (Some h') = RanAll calls outcomes h.engine h'.engine × Guarantees h'.engine × (h'.part ≡ h.part)
 
 -- the same where a call gave up: those before this index ran
 abbrev pub GaveUpAt : ℕ → Option Held → List SgtCall → List SgtOutcome → Option Held → Type 0
 GaveUpAt at None calls outcomes new = ⊥
 GaveUpAt at (Some h) calls outcomes None = ⊥
-GaveUpAt at (Some h) calls outcomes (Some h') = StoppedAt at calls outcomes h.engine h'.engine × Headline h'.engine × (h'.part ≡ h.part)
+GaveUpAt at (Some h) calls outcomes (Some h') = StoppedAt at calls outcomes h.engine h'.engine × Guarantees h'.engine × (h'.part ≡ h.part)

@@ -13,7 +13,7 @@ use Rattle.sgt_model.specs.ShortReplies.{short_reply}
 use Rattle.sgt_engine.specs.EngineView.{EngineView, with_entry}
 use Rattle.sgt_c.specs.declared.held.Held.{Held}
 use Rattle.sgt_c.specs.declared.reply_struct.SgtReply.{SgtReply}
-use Rattle.sgt_c.specs.Calls.{Headline}
+use Rattle.sgt_engine.specs.Guarantees.{Guarantees}
 use Rattle.sgt_c.specs.ReplyStructs.{HoldsReply}
 
 -- the engine with these entries added, newest first
@@ -92,7 +92,7 @@ Ran start None new before tid reported = ⊥
 Ran start (Some h) None before tid reported = ⊥
 Ran start (Some h) (Some h') before tid reported = (started : Option ℕ) × (wrote : Bool) × (last : Reply)
     × Runs start started wrote last h.engine h'.engine × IsNumberReported started before tid × HoldsReply reported last
-    × Headline h'.engine × (h'.part ≡ h.part)
+    × Guarantees h'.engine × (h'.part ≡ h.part)
 
 -- the transaction made some steps, and is live
 abbrev pub StopsLive : ℕ → EngineView → EngineView → Type 0
@@ -112,5 +112,5 @@ GivesUp start (Some t) e after = QuitsAfter t (with_entry start (reply.Started t
 abbrev pub GaveUp : Event → Option Held → Option Held → Type 0
 GaveUp start None new = ⊥
 GaveUp start (Some h) None = ⊥
-GaveUp start (Some h) (Some h') = (started : Option ℕ) × GivesUp start started h.engine h'.engine × Headline h'.engine
+GaveUp start (Some h) (Some h') = (started : Option ℕ) × GivesUp start started h.engine h'.engine × Guarantees h'.engine
     × (h'.part ≡ h.part)

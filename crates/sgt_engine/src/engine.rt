@@ -3,25 +3,20 @@ ghost use Rattle.std.specs.Prelude.{◌≡◌, ℕ, true, false, [], Result, Ok,
 ghost use Rattle.std.specs.Result.{IsOk};
 ghost use Rattle.sgt_model.specs.declared.event.Event.TheVariants.{Quit};
 ghost use Rattle.sgt_model.specs.declared.reply.Reply.{Reply};
-ghost use Rattle.sgt_model.specs.Aborts.{AbortsHaveCause};
 ghost use Rattle.sgt_model.specs.Bounds.{AreInRange};
-ghost use Rattle.sgt_model.specs.CommitOrder.{CommitsInOrder};
 ghost use Rattle.sgt_model.specs.Contents.{Key};
 ghost use Rattle.sgt_model.specs.Databases.{contents_of, IsByKey};
 ghost use Rattle.sgt_model.specs.Fates.{live};
-ghost use Rattle.sgt_model.specs.Legality.{Legal, LegalReply};
-ghost use Rattle.sgt_model.specs.Pairs.{Pair};
-ghost use Rattle.sgt_model.specs.Replay.{folded, ReplayAgrees};
+ghost use Rattle.sgt_model.specs.Legality.{LegalReply};
+ghost use Rattle.sgt_model.specs.Replay.{folded};
 ghost use Rattle.sgt_model.specs.ShortReplies.{short_reply};
 ghost use Rattle.sgt_model.specs.StateAfter.{IsStateAfter};
 ghost use Rattle.sgt_model.specs.Values.{settled};
-ghost use Rattle.sgt_model.specs.Paths.{Acyclic};
 ghost use Rattle.sgt_model.specs.Questions.{is_ending};
 ghost use Rattle.sgt_progress.specs.Alone.{IsAlone, IsNoQuitOf, is_hindered};
-ghost use Rattle.sgt_progress.specs.Progress.{MakesProgress};
-ghost use Rattle.sgt_progress.specs.RealTime.{KeepsRealTime};
 ghost use Rattle.sgt_sched.specs.Scheduler.{parts, state};
 ghost use Rattle.sgt_engine.specs.EngineView.{configuration_of, made_of, with_entry, newest_reply, Answers, HasLists};
+ghost use Rattle.sgt_engine.specs.Guarantees.{Guarantees};
 
 mod cut;
 mod procedures;
@@ -43,7 +38,6 @@ use sgt_model::{
     verdicts_agree,
 };
 use sgt_proc::Checked;
-use sgt_progress::{histories_make_progress, replay_keeps_real_time};
 use sgt_records::Records;
 use sgt_sched::{Sched, endings_agree};
 use snapshot::Snapshot;
@@ -165,13 +159,7 @@ impl<R: Records, A: Accesses, G: Graph> Engine<R, A, G> {
     pub fn apply(&mut self, event: Event) -> Result<Reply, NoMemory>
         ensures adds { IfOk result (λ r. self.new ≡ with_entry event r self.old) }
         ensures reply { IfOk result (LegalReply (configuration_of self.old) self.old.past event) }
-        ensures legal { Legal (configuration_of self.new) self.new.past }
-        ensures replay { ReplayAgrees (configuration_of self.new) self.new.past }
-        ensures no_cycle { Acyclic (Pair self.new.past) }
-        ensures causes { AbortsHaveCause (configuration_of self.new) self.new.past }
-        ensures order { CommitsInOrder self.new.past }
-        ensures real_time { KeepsRealTime (configuration_of self.new) self.new.past }
-        ensures progress { MakesProgress (configuration_of self.new) self.new.past }
+        ensures guarantees { Guarantees self.new }
         ensures alone { IfOk result (λ r. (t : ℕ) → IsAlone self.old.past t → IsNoQuitOf event t → is_hindered r ≡ false) }
         ensures unchanged { OnErr result (self.new ≡ self.old) }
         ensures no_memory { (r : Reply) → LegalReply (configuration_of self.old) self.old.past event r
@@ -188,13 +176,7 @@ impl<R: Records, A: Accesses, G: Graph> Engine<R, A, G> {
     /// event.
     pub fn answer(&mut self, event: &Event, reply: &mut ShortReply) -> Result<(), NoMemory>
         ensures adds { OnOk result (Answers event.now self.old reply.new self.new) }
-        ensures legal { Legal (configuration_of self.new) self.new.past }
-        ensures replay { ReplayAgrees (configuration_of self.new) self.new.past }
-        ensures no_cycle { Acyclic (Pair self.new.past) }
-        ensures causes { AbortsHaveCause (configuration_of self.new) self.new.past }
-        ensures order { CommitsInOrder self.new.past }
-        ensures real_time { KeepsRealTime (configuration_of self.new) self.new.past }
-        ensures progress { MakesProgress (configuration_of self.new) self.new.past }
+        ensures guarantees { Guarantees self.new }
         ensures alone { OnOk result ((t : ℕ) → IsAlone self.old.past t → IsNoQuitOf event.now t → (r : Reply)
             → short_reply r ≡ reply.new → is_hindered r ≡ false) }
         ensures unchanged { OnErr result (self.new ≡ self.old) }
@@ -210,13 +192,7 @@ impl<R: Records, A: Accesses, G: Graph> Engine<R, A, G> {
     #[inline(always)]
     pub fn answer_inline(&mut self, event: &Event, reply: &mut ShortReply) -> Result<(), NoMemory>
         ensures adds { OnOk result (Answers event.now self.old reply.new self.new) }
-        ensures legal { Legal (configuration_of self.new) self.new.past }
-        ensures replay { ReplayAgrees (configuration_of self.new) self.new.past }
-        ensures no_cycle { Acyclic (Pair self.new.past) }
-        ensures causes { AbortsHaveCause (configuration_of self.new) self.new.past }
-        ensures order { CommitsInOrder self.new.past }
-        ensures real_time { KeepsRealTime (configuration_of self.new) self.new.past }
-        ensures progress { MakesProgress (configuration_of self.new) self.new.past }
+        ensures guarantees { Guarantees self.new }
         ensures alone { OnOk result ((t : ℕ) → IsAlone self.old.past t → IsNoQuitOf event.now t → (r : Reply)
             → short_reply r ≡ reply.new → is_hindered r ≡ false) }
         ensures unchanged { OnErr result (self.new ≡ self.old) }
@@ -283,17 +259,9 @@ impl<R: Records, A: Accesses, G: Graph> Engine<R, A, G> {
     /// The history, oldest entry first. No entry is ever removed from it.
     pub fn history(&self) -> &History
         ensures entries { reverse result.now.entries ≡ self.now.past }
-        ensures legal { Legal (configuration_of self.now) self.now.past }
-        ensures replay { ReplayAgrees (configuration_of self.now) self.now.past }
-        ensures no_cycle { Acyclic (Pair self.now.past) }
-        ensures causes { AbortsHaveCause (configuration_of self.now) self.now.past }
-        ensures order { CommitsInOrder self.now.past }
-        ensures real_time { KeepsRealTime (configuration_of self.now) self.now.past }
-        ensures progress { MakesProgress (configuration_of self.now) self.now.past }
+        ensures guarantees { Guarantees self.now }
     {
         headline_holds();
-        replay_keeps_real_time();
-        histories_make_progress();
         &self.history
     }
 
@@ -349,17 +317,9 @@ impl<R: Records, A: Accesses, G: Graph> Engine<R, A, G> {
     pub fn into_past(self) -> Past
         ensures opening { result.opening ≡ self.opening }
         ensures entries { reverse result.history.entries ≡ self.past }
-        ensures legal { Legal (configuration_of self) self.past }
-        ensures replay { ReplayAgrees (configuration_of self) self.past }
-        ensures no_cycle { Acyclic (Pair self.past) }
-        ensures causes { AbortsHaveCause (configuration_of self) self.past }
-        ensures order { CommitsInOrder self.past }
-        ensures real_time { KeepsRealTime (configuration_of self) self.past }
-        ensures progress { MakesProgress (configuration_of self) self.past }
+        ensures guarantees { Guarantees self }
     {
         headline_holds();
-        replay_keeps_real_time();
-        histories_make_progress();
         let Engine {
             opening,
             sched: _,

@@ -1,17 +1,10 @@
 //! A list of events, run on a new engine.
 ghost use Rattle.std.specs.Prelude.{◌≡◌, ◌≤◌, Result, Ok, Err, IfOk, ◌↔◌, length, take};
-ghost use Rattle.sgt_model.specs.Aborts.{AbortsHaveCause};
 ghost use Rattle.sgt_model.specs.Bounds.{AreInRange};
-ghost use Rattle.sgt_model.specs.CommitOrder.{CommitsInOrder};
-ghost use Rattle.sgt_model.specs.Legality.{Legal};
-ghost use Rattle.sgt_model.specs.Pairs.{Pair};
-ghost use Rattle.sgt_model.specs.Replay.{ReplayAgrees};
-ghost use Rattle.sgt_model.specs.Paths.{Acyclic};
-ghost use Rattle.sgt_progress.specs.Progress.{MakesProgress};
-ghost use Rattle.sgt_progress.specs.RealTime.{KeepsRealTime};
 ghost use Rattle.sgt_model.specs.Databases.{contents_of};
 ghost use Rattle.sgt_model.specs.Configurations.{configuration};
 ghost use Rattle.sgt_engine.specs.EngineView.{configuration_of};
+ghost use Rattle.sgt_engine.specs.Guarantees.{Guarantees};
 ghost use Rattle.sgt_engine.specs.Stops.{StopsAtNoEnd};
 ghost use Rattle.sgt_model.specs.Histories.{events_of};
 
@@ -20,7 +13,6 @@ use sgt_access::Accesses;
 use sgt_graph::Graph;
 use sgt_model::{Database, Event, Limits, MakeError, headline_holds};
 use sgt_proc::Checked;
-use sgt_progress::{histories_make_progress, replay_keeps_real_time};
 use sgt_records::Records;
 use std::alloc::Global;
 
@@ -50,13 +42,7 @@ pub fn run_list<R: Records, A: Accesses, G: Graph>(
     ensures events { IfOk result (λ ran. events_of ran.engine.past ≡ take ran.done events.now) }
     ensures done { IfOk result (λ ran. ran.done ≤ length events.now) }
     ensures stops { IfOk result (λ ran. StopsAtNoEnd ran.engine ran.done events.now) }
-    ensures legal { IfOk result (λ ran. Legal (configuration_of ran.engine) ran.engine.past) }
-    ensures replay { IfOk result (λ ran. ReplayAgrees (configuration_of ran.engine) ran.engine.past) }
-    ensures no_cycle { IfOk result (λ ran. Acyclic (Pair ran.engine.past)) }
-    ensures causes { IfOk result (λ ran. AbortsHaveCause (configuration_of ran.engine) ran.engine.past) }
-    ensures order { IfOk result (λ ran. CommitsInOrder ran.engine.past) }
-    ensures real_time { IfOk result (λ ran. KeepsRealTime (configuration_of ran.engine) ran.engine.past) }
-    ensures progress { IfOk result (λ ran. MakesProgress (configuration_of ran.engine) ran.engine.past) }
+    ensures guarantees { IfOk result (λ ran. Guarantees ran.engine) }
     ensures bad_limits { (result ≡ Err MakeError.BadLimits) ↔ (¬ AreInRange limits) }
 {
     let mut engine = Engine::new(alloc, opening, procedures, limits)?;
@@ -68,7 +54,5 @@ pub fn run_list<R: Records, A: Accesses, G: Graph>(
         }
     }
     headline_holds();
-    replay_keeps_real_time();
-    histories_make_progress();
     Ok(Ran { engine, done })
 }

@@ -10,3 +10,4 @@ pub mod RecordSlots
 pub mod ChainsKept
 pub mod EntriesRead
 pub mod LiveWritesLeft
+pub mod LiveWritesTaken

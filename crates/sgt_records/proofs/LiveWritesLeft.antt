@@ -135,28 +135,6 @@ module _ (t : ℕ) (writes : List LiveWrite) (i : ℕ) (w : LiveWrite) (short : 
       go false true = refl
       go false false = refl
 
-  -- and makes its value the committed one
-  pub settle_more : w.by ≡ t → (k : Key) (chain opening : List (ℕ × Option ℤ)) (committed before after : Option ℤ)
-      → after ≡ cond (key_eq w.key k) (unwrap_or (value_in t chain) before) before
-      → chain ≡ cond (is_live t k (take i writes)) (chain_without t opening) opening
-      → before ≡ cond (is_live t k (take i writes)) (unwrap_or (value_in t opening) committed) committed
-      → after ≡ cond (is_live t k (take (i + 1) writes)) (unwrap_or (value_in t opening) committed) committed
-  settle_more own k chain opening committed before after one left so_far = one
-      ∙ (ap (λ c. cond (key_eq w.key k) (unwrap_or (value_in t c) before) before) left
-      ∙ (ap (λ s. cond (key_eq w.key k) (unwrap_or (value_in t (cond (is_live t k (take i writes)) (chain_without t opening) opening)) s) s)
-      so_far ∙ (go (key_eq w.key k) (is_live t k (take i writes))
-      ∙ sym (ap (λ b. cond b (unwrap_or (value_in t opening) committed) committed) (live_own own k)))))
-    where
-      final : Option ℤ
-      final = unwrap_or (value_in t opening) committed
-
-      go : (e d : Bool) → cond e (unwrap_or (value_in t (cond d (chain_without t opening) opening)) (cond d final committed))
-          (cond d final committed) ≡ cond (d || e) final committed
-      go true true = ap (λ o. unwrap_or o final) (no_value t (chain_without t opening) (not_left t opening))
-      go true false = refl
-      go false true = refl
-      go false false = refl
-
 -- on what an end leaves
 
 -- who doesn't write in the chain leaves it as it is

@@ -1,5 +1,5 @@
 //! The records by key, with the chains of the keys that several live transactions have written.
-ghost use Rattle.std.specs.Prelude.{◌≡◌, ℕ, ◌<◌, Some, false, cond, length, [], IfSome, IfOk, OnOk};
+ghost use Rattle.std.specs.Prelude.{◌≡◌, ℕ, ◌<◌, Some, false, not, ◌&&◌, nat_eq, cond, length, [], IfSome, IfOk, OnOk};
 ghost use Rattle.std.specs.Option.{unwrap_or};
 ghost use Rattle.slab.specs.Slab.{HasRoomFor};
 ghost use Rattle.std.proofs.Props.{props};
@@ -155,20 +155,26 @@ impl Index {
         }
     }
 
-    /// Removes t's values from the chains of the keys that it has written, and makes them the committed ones.
-    pub fn settle_all(&mut self, writes: &[LiveWrite], t: Tid)
-        requires indices { IndicesAgree (index_in self.old.table) writes.now }
+    /// Removes t's writes from the live ones and from the chains of their keys, and makes their values the committed ones. The
+    /// last live write takes the place of each that leaves.
+    pub fn settle_all(&mut self, live: &mut Vec<LiveWrite>, t: Tid)
+        requires indices { IndicesAgree (index_in self.old.table) live.old.items }
         ensures chain { (k : Key) → key_chain (record_in self.new.table) self.new.chains k
-            ≡ cond (is_live t k writes.now) (chain_without t (key_chain (record_in self.old.table) self.old.chains k))
+            ≡ cond (is_live t k live.old.items) (chain_without t (key_chain (record_in self.old.table) self.old.chains k))
             (key_chain (record_in self.old.table) self.old.chains k) }
         ensures settled { (k : Key) → committed_of (record_in self.new.table) k
-            ≡ cond (is_live t k writes.now)
+            ≡ cond (is_live t k live.old.items)
             (unwrap_or (value_in t (key_chain (record_in self.old.table) self.old.chains k)) (committed_of (record_in self.old.table) k))
             (committed_of (record_in self.old.table) k) }
         ensures indices { self.new.table.indices ≡ self.old.table.indices }
+        ensures left { (u : ℕ) (k : Key) → is_live u k live.new.items ≡ (not (nat_eq u t) && is_live u k live.old.items) }
+        ensures returned { IndicesAgree (index_in self.old.table) live.new.items }
     {
-        for write in writes {
-            if write.by == t {
+        let mut at = live.len();
+        while 0 < at {
+            at -= 1;
+            if live[at].by == t {
+                let write = live.swap_remove(at);
                 self.settle(t, write.key, write.index);
             }
         }

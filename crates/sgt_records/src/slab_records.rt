@@ -85,8 +85,7 @@ impl Records for SlabRecords {
     }
 
     fn settle(&mut self, t: Tid) {
-        self.index.settle_all(self.live.as_slice(), t);
-        self.live.retain(|write| write.by != t);
+        self.index.settle_all(&mut self.live, t);
     }
 
     fn undo(&mut self, t: Tid) {

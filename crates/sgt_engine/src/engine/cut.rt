@@ -1,14 +1,11 @@
 //! Cutting the history off, so that the engine continues with an empty one.
 ghost use Rattle.std.specs.Prelude.{◌≡◌, [], Err, IfOk, OnOk, OnErr, ◌↔◌, reverse};
-ghost use Rattle.sgt_model.specs.Aborts.{AbortsHaveCause};
-ghost use Rattle.sgt_model.specs.CommitOrder.{CommitsInOrder};
 ghost use Rattle.sgt_model.specs.Contents.{Key};
 ghost use Rattle.sgt_model.specs.Databases.{contents_of, IsByKey};
+ghost use Rattle.sgt_model.specs.Headline.{Headline};
 ghost use Rattle.sgt_model.specs.Legality.{Legal};
 ghost use Rattle.sgt_model.specs.NewState.{IsNew};
-ghost use Rattle.sgt_model.specs.Pairs.{Pair};
-ghost use Rattle.sgt_model.specs.Replay.{folded, ReplayAgrees};
-ghost use Rattle.sgt_model.specs.Paths.{Acyclic};
+ghost use Rattle.sgt_model.specs.Replay.{folded};
 ghost use Rattle.sgt_sched.specs.Scheduler.{state, Keeps};
 ghost use Rattle.sgt_engine.specs.Cuts.{GoesOn, NobodyLive};
 ghost use Rattle.sgt_engine.specs.EngineView.{configuration_of};
@@ -66,10 +63,7 @@ impl<R: Records, A: Accesses, G: Graph> Engine<R, A, G> {
             contents_of self.new.opening k ≡ (folded (configuration_of self.old) self.old.past).last k) }
         ensures by_key { OnOk result (IsByKey self.new.opening) }
         ensures legal { IfOk result (λ p. Legal (configuration_of self.old) (reverse p.history.entries)) }
-        ensures replay { IfOk result (λ p. ReplayAgrees (configuration_of self.old) (reverse p.history.entries)) }
-        ensures no_cycle { IfOk result (λ p. Acyclic (Pair (reverse p.history.entries))) }
-        ensures causes { IfOk result (λ p. AbortsHaveCause (configuration_of self.old) (reverse p.history.entries)) }
-        ensures order { IfOk result (λ p. CommitsInOrder (reverse p.history.entries)) }
+        ensures headline { IfOk result (λ p. Headline (configuration_of self.old) (reverse p.history.entries)) }
         ensures still_live { (result ≡ Err CutError.StillLive) ↔ (¬ NobodyLive self.old.past) }
         ensures unchanged { OnErr result (self.new ≡ self.old) }
     {

@@ -5,4 +5,4 @@ use Rattle.sgt_c.proofs.access_list.sgt_accesses.Goals as goal
 
 pub write_accesses-written-requires : goal.write_accesses-written-requires
 write_accesses-written-requires c =
-    (configuration_of c.deref.result.now.engine, subst (Legal (configuration_of c.deref.result.now.engine)) (sym c.history.ensures.entries) c.history.ensures.legal)
+    (configuration_of c.deref.result.now.engine, subst (Legal (configuration_of c.deref.result.now.engine)) (sym c.history.ensures.entries) c.history.ensures.guarantees.legal)

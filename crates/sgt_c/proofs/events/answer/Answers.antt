@@ -1,7 +1,7 @@
 use Rattle.std.proofs.Common.{Some, ap, subst, sym}
 use Rattle.sgt_engine.specs.EngineView.{EngineView}
 use Rattle.sgt_engine.proofs.Entries.{answered_with}
-use Rattle.sgt_c.specs.Calls.{Headline}
+use Rattle.sgt_engine.specs.Guarantees.{Guarantees}
 use Rattle.sgt_c.specs.ReplyStructs.{HoldsReply}
 use Rattle.sgt_c.proofs.events.answer.Goals as goal
 
@@ -13,14 +13,6 @@ returns-in-Ok-clause-ok c =
         ap (λ (e : EngineView). Some (record { engine = e; part = c.args.held.now.part })) done.adds,
         done.legal,
         subst (HoldsReply c.write_reply.new.into) (sym (answered_with _ _ _ _ _ done c.reply_lists.ensures)) c.write_reply.ensures.reply,
-        subst Headline done.adds (
-          c.answer_inline.ensures.legal,
-          c.answer_inline.ensures.replay,
-          c.answer_inline.ensures.no_cycle,
-          c.answer_inline.ensures.causes,
-          c.answer_inline.ensures.order,
-          c.answer_inline.ensures.real_time,
-          c.answer_inline.ensures.progress,
-        ),
+        subst Guarantees done.adds c.answer_inline.ensures.guarantees,
       ),
     )

@@ -9,7 +9,7 @@ run_on-requires c =
     run_live c.args.engine.now c.answer_inline.new.self c.args.procedure c.args.args c.in-Started.t
     (subst (λ s. Answers (Start c.args.procedure c.args.args) c.args.engine.now s c.answer_inline.new.self) c.in-Started.is
     c.in_ok-answer_inline.ensures.adds)
-    c.answer_inline.ensures.legal
+    c.answer_inline.ensures.guarantees.legal
 
 pub returns-in-Err-clause-gave_up : goal.returns-in-Err-clause-gave_up
 returns-in-Err-clause-gave_up c =

@@ -6,6 +6,7 @@ use Rattle.sgt_engine.specs.EngineView.{EngineView, configuration_of}
 use Rattle.sgt_model.specs.Histories.{events_of}
 use Rattle.sgt_model.specs.Legality.{Legal}
 use Rattle.sgt_engine.proofs.Entries.{legal_new, events_taken}
+use Rattle.sgt_engine.proofs.Guaranteed.{guaranteed}
 use Rattle.sgt_engine.proofs.Stops.{stops_at_end, stops_refused}
 use Rattle.sgt_engine.proofs.run.run_list.Goals.{else-loop-event-test, then-loop-event-test+in-Err}
 use Rattle.sgt_engine.proofs.run.run_list.Goals as goal
@@ -26,7 +27,7 @@ loop-event-preserved g c = record {
   events = ap (λ (e : EngineView). events_of e.past) c.in-Ok.ensures.adds
       ∙ events_taken _ c.loop-event.engine.past c.args.events.now c.loop-event.done c.loop-event.event-index c.event-item.result
       c.loop-event.invariant.done (search rules) c.loop-event.invariant.events c.event-item.is c.copied.ensures;
-  legal = c.in-Ok.ensures.legal;
+  legal = c.in-Ok.ensures.guarantees.legal;
 }
 
 pub returns-clause-stops : goal.returns-clause-stops
@@ -42,17 +43,11 @@ returns-clause-stops g c =
           (ap is_ok w.in-Err.is) w.apply.ensures.no_memory)
     ]
 
-pub returns-clause-legal : goal.returns-clause-legal
-returns-clause-legal g c =
+pub returns-clause-guarantees : goal.returns-clause-guarantees
+returns-clause-guarantees g c =
     let legal_at : EngineView → Type 0 = λ e. Legal (configuration_of e) e.past in
-    elim c.loop-event-test.branch [
+    guaranteed c.headline_holds.ensures _ (elim c.loop-event-test.branch [
       | else-loop-event-test w ↦ subst legal_at (sym w.engine-is) c.loop-event.invariant.legal
       | then-loop-event-test+in-Err w
           ↦ subst legal_at (sym (w.engine-is ∙ w.in-Err.ensures.unchanged)) c.loop-event.invariant.legal
-    ]
-
-pub returns-clause-replay : goal.returns-clause-replay
-returns-clause-replay g c = (c.headline_holds.ensures _ _ (returns-clause-legal g c)).replay
-
-pub returns-clause-causes : goal.returns-clause-causes
-returns-clause-causes g c = (c.headline_holds.ensures _ _ (returns-clause-legal g c)).causes
+    ])

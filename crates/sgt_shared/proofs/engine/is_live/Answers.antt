@@ -6,6 +6,6 @@ use Rattle.sgt_shared.proofs.engine.is_live.Goals as goal
 pub returns : goal.returns
 returns c =
     let i = c.sched.ensures.state in
-    let sound = c.states_are_sound.ensures _ _ c.history.ensures.legal _ i in
+    let sound = c.states_are_sound.ensures _ _ c.history.ensures.guarantees.legal _ i in
     c.contains.ensures.value ∙ rw (c.as_slice.ensures, c.live.ensures.live) (any_is c.args.t _ (live c.args.engine.now.past c.args.t)
     (λ e. (sound.listed c.args.t).0 (i.nodes c.args.t ∙ e), λ m. sym (i.nodes c.args.t) ∙ (sound.listed c.args.t).1 m))

@@ -5,4 +5,4 @@ use Rattle.sgt_thread_tests.proofs.outcomes.stands.Goals as goal
 
 pub audit-requires : goal.audit-requires
 audit-requires c =
-    (configuration_of c.deref.result.now, subst (Legal (configuration_of c.deref.result.now)) (sym c.history.ensures.entries) c.history.ensures.legal)
+    (configuration_of c.deref.result.now, subst (Legal (configuration_of c.deref.result.now)) (sym c.history.ensures.entries) c.history.ensures.guarantees.legal)

@@ -9,7 +9,7 @@ use Rattle.sgt_workers.proofs.report.test_outcomes.Goals as goal
 pub audit-requires : goal.audit-requires
 audit-requires g c =
     let s = configuration_of c.args.engine.now in
-    (s, subst (λ past. Legal s past) (sym c.history.ensures.entries) c.history.ensures.legal)
+    (s, subst (λ past. Legal s past) (sym c.history.ensures.entries) c.history.ensures.guarantees.legal)
 
 pub returns-clause-stand : goal.returns-clause-stand
 returns-clause-stand g c =

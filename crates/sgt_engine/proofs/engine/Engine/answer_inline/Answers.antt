@@ -6,11 +6,10 @@ use Rattle.sgt_model.specs.Configurations.{configuration}
 use Rattle.sgt_model.specs.ShortReplies.{reply_with}
 use Rattle.sgt_sched.specs.Scheduler.{state}
 use Rattle.sgt_engine.specs.EngineView.{configuration_of}
-use Rattle.sgt_progress.proofs.RealTime.{replay_keeps_real_time}
-use Rattle.sgt_progress.proofs.Progress.{histories_make_progress}
 use Rattle.sgt_engine.proofs.Alone.{undisturbed, legal_before}
 use Rattle.sgt_engine.proofs.Ends.{spare_left, ends_seen}
 use Rattle.sgt_engine.proofs.Entries.{added, same_configuration, short_with, kept_entry, entry_added, newest_added, too_old, legal_reply}
+use Rattle.sgt_engine.proofs.Guaranteed.{guaranteed}
 use Rattle.sgt_engine.proofs.engine.Engine.answer_inline.Goals as goal
 
 pub invariant_of-self-2 : goal.invariant_of-self-2
@@ -41,14 +40,8 @@ invariant_of-self-2 g c =
           (added _ _ _ _ _ c.push.ensures.entries c.ensure_capacity.ensures.entries) c.self.invariant.4,
     )
 
-pub returns-clause-legal : goal.returns-clause-legal
-returns-clause-legal g c = (invariant_of-self-2 g c).0
-
-pub returns-clause-no_cycle : goal.returns-clause-no_cycle
-returns-clause-no_cycle g c = (c.headline_holds.ensures _ _ (invariant_of-self-2 g c).0).no_cycle
-
-pub returns-clause-order : goal.returns-clause-order
-returns-clause-order g c = (c.headline_holds.ensures _ _ (invariant_of-self-2 g c).0).order
+pub returns-clause-guarantees : goal.returns-clause-guarantees
+returns-clause-guarantees g c = guaranteed c.headline_holds.ensures _ (invariant_of-self-2 g c).0
 
 pub returns-clause-adds : goal.returns-clause-adds
 returns-clause-adds g c =
@@ -103,38 +96,14 @@ push-requires g c =
     c.in_ok-ensure_capacity.ensures.spare in
     omega (arith, left)
 
-pub returns-clause-replay : goal.returns-clause-replay
-returns-clause-replay g c = (c.headline_holds.ensures _ _ (invariant_of-self-2 g c).0).replay
-
-pub returns-clause-causes : goal.returns-clause-causes
-returns-clause-causes g c = (c.headline_holds.ensures _ _ (invariant_of-self-2 g c).0).causes
-
-pub returns-clause-real_time : goal.returns-clause-real_time
-returns-clause-real_time g c = replay_keeps_real_time _ _ (invariant_of-self-2 g c).0
-
-pub returns-clause-progress : goal.returns-clause-progress
-returns-clause-progress g c = histories_make_progress _ _ (invariant_of-self-2 g c).0
-
 pub returns-clause-alone : goal.returns-clause-alone
 returns-clause-alone g c = λ t alone of_t r same. let done = returns-clause-adds g c in
     undisturbed (configuration_of c.args.self.now) c.args.self.now.past (legal_before c.self.view_is c.self.invariant.0) t alone
     c.args.event.now of_t done.reply r
     (done.is_short ∙ sym same) done.legal
 
-pub returns-in_err-ensure_capacity-clause-legal : goal.returns-in_err-ensure_capacity-clause-legal
-returns-in_err-ensure_capacity-clause-legal g c = search rules
+pub returns-in_err-ensure_capacity-clause-guarantees : goal.returns-in_err-ensure_capacity-clause-guarantees
+returns-in_err-ensure_capacity-clause-guarantees g c = guaranteed c.headline_holds.ensures _ (search rules)
 
-pub returns-in_err-ensure_capacity-clause-real_time : goal.returns-in_err-ensure_capacity-clause-real_time
-returns-in_err-ensure_capacity-clause-real_time g c = replay_keeps_real_time _ _ (returns-in_err-ensure_capacity-clause-legal g c)
-
-pub returns-in_err-ensure_capacity-clause-progress : goal.returns-in_err-ensure_capacity-clause-progress
-returns-in_err-ensure_capacity-clause-progress g c = histories_make_progress _ _ (returns-in_err-ensure_capacity-clause-legal g c)
-
-pub returns-in_err-answer-clause-legal : goal.returns-in_err-answer-clause-legal
-returns-in_err-answer-clause-legal g c = search rules
-
-pub returns-in_err-answer-clause-real_time : goal.returns-in_err-answer-clause-real_time
-returns-in_err-answer-clause-real_time g c = replay_keeps_real_time _ _ (returns-in_err-answer-clause-legal g c)
-
-pub returns-in_err-answer-clause-progress : goal.returns-in_err-answer-clause-progress
-returns-in_err-answer-clause-progress g c = histories_make_progress _ _ (returns-in_err-answer-clause-legal g c)
+pub returns-in_err-answer-clause-guarantees : goal.returns-in_err-answer-clause-guarantees
+returns-in_err-answer-clause-guarantees g c = guaranteed c.headline_holds.ensures _ (search rules)

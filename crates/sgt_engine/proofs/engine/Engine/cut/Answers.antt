@@ -11,12 +11,7 @@ returns-clause-goes_on g c =
     (λ k. ap (λ d. contents_of d k) c.replace-opening.ensures.after ∙ c.in_ok-database.ensures.values k)
     (search rules) (search rules) (ap reverse (ap (λ h. h.entries) c.replace-history.ensures.after ∙ c.new.ensures.entries))
 
-pub returns-clause-replay : goal.returns-clause-replay
-returns-clause-replay g c =
+pub returns-clause-headline : goal.returns-clause-headline
+returns-clause-headline g c =
     let legal : Legal (configuration_of c.args.self.now) (reverse c.replace-history.result.entries) = search rules in
-    (c.headline_holds.ensures _ _ legal).replay
-
-pub returns-clause-causes : goal.returns-clause-causes
-returns-clause-causes g c =
-    let legal : Legal (configuration_of c.args.self.now) (reverse c.replace-history.result.entries) = search rules in
-    (c.headline_holds.ensures _ _ legal).causes
+    c.headline_holds.ensures _ _ legal
