@@ -85,8 +85,22 @@ enum sgt_status {
     SGT_BAD_LINE = 17,   /* the opening is JSON, but not of the shape of an opening */
     SGT_BAD_LIMITS = 18, /* a limit is out of its range */
     SGT_BAD_OPENING = 19, /* an account has the fault `number`: 1 a name twice, 2 a customer twice, 3 a number out of range */
-    SGT_PROC_SHAPE = 20, /* the procedure `procedure` has its first shape error (misfit) at `place` */
-    SGT_PROC_FLAW = 21   /* the procedure `procedure` has the flaw `number`, from 1 to 10: see docs/FORMATS.md */
+    SGT_PROC_SHAPE = 20, /* the procedure `procedure` has its first shape error at `place` */
+    SGT_PROC_FLAW = 21   /* the procedure `procedure` has the flaw `number`, one of enum sgt_flaw */
+};
+
+/* The flaws of a procedure, as `number` of an SGT_PROC_FLAW names them: of several, the first of this list. */
+enum sgt_flaw {
+    SGT_HIGH_REGISTER = 1,  /* a register is over 15 */
+    SGT_UNSET_REGISTER = 2, /* on some path, an expression uses a register that nothing before it sets */
+    SGT_NO_ARGUMENT = 3,    /* an argument is not below the number of arguments */
+    SGT_HIGH_TABLE = 4,     /* a table is over 7 */
+    SGT_TOO_LONG = 5,       /* there are more than 64 statements */
+    SGT_TOO_DEEP = 6,       /* a statement or an expression is more than 16 deep */
+    SGT_MANY_ANSWERS = 7,   /* some path has more than 8 answers */
+    SGT_BAD_CODE = 8,       /* a code is 0 or over 999 */
+    SGT_MANY_ARGUMENTS = 9, /* the procedure takes more than 4 arguments */
+    SGT_BAD_LITERAL = 10    /* a literal has more than fifteen digits */
 };
 
 /* Why an opening or a procedure was refused. `kind` is the status, and says which other fields count. The others keep their values. */
@@ -154,7 +168,7 @@ enum sgt_asked {
     SGT_START = 1,  /* a start of the procedure `procedure` with the first `args` of `arg` */
     SGT_STEP = 2,   /* a step of the transaction `tid` */
     SGT_COMMIT = 3, /* a commit of the transaction `tid` */
-    SGT_QUIT = 4,   /* a quit of the transaction `tid` */
+    SGT_QUIT = 4,   /* an abort of the transaction `tid` */
     SGT_READ = 5,   /* an sgt_read by the transaction `tid`, of the record `table`, `number` */
     SGT_WRITE = 6,  /* an sgt_write of `value`, which need not be a value, to that record */
     SGT_REMOVE = 7  /* an sgt_remove of that record */

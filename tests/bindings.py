@@ -12,6 +12,7 @@ its output is compared. Each case is reported, also what was left out since a pr
 import copy
 import os
 import pathlib
+import re
 import pickle
 import random
 import shutil
@@ -117,6 +118,14 @@ def has_one_version(_):
     for source, line in (("rust/sgt-sys/src/lib.rs", 'pub const VERSION: &str = "{}";'), ("python/sgt/_library.py", 'VERSION = "{}"')):
         lines = (BINDINGS / source).read_text().splitlines()
         same(f"the version of {source}", True, line.format(declared_version()) in lines)
+
+
+def names_each_flaw(_):
+    source = (TOP / "crates/sgt_proc/src/flaw.rt").read_text()
+    wanted = {(re.sub(r"(?<!^)(?=[A-Z])", "_", name).upper(), number) for name, number in re.findall(r"Flaw::(\w+) => (\d+),", source)}
+    flaws = (BINDINGS / "sgt.h").read_text().split("enum sgt_flaw {")[1].split("};")[0]
+    same("the flaws of sgt.h", sorted(wanted), sorted(re.findall(r"SGT_(\w+) = (\d+)", flaws)))
+    return f"{len(wanted)} flaws"
 
 
 def reports_the_story_in_c(scratch):
@@ -728,6 +737,7 @@ def refuses_a_forked_child(_):
 CASES = [
     makes_the_library,
     has_one_version,
+    names_each_flaw,
     installs,
     is_found_by_pkg_config,
     is_found_by_cmake,

@@ -47,54 +47,6 @@ ALL_LINES = 2800
 LINE = 120
 HELP_LINE = 100
 
-# Words of this project's past, and the field's word for each. A page uses the right one in its prose.
-WORDS = {
-    r"asks (a|its|the) code": "aborts with a code",
-    r"\bquits?\b|\bquitted\b": "abort, roll back",
-    r"\bfell\b|\bfalls?\b|\bfallen\b|\bfallers\b": "aborted in cascade",
-    r"\bsettles?\b|\bsettled\b": "commit; the committed value",
-    r"\blooks? (at|up) (a|the) (record|key)\b|\ba look\b": "read",
-    r"\bstores? (a|the) (value|record)\b": "write",
-    r"\bconflict pairs?\b": "edge of the serialization graph",
-    r"\bwalks?\b": "path",
-    r"\bthe top of\b": "the newest version",
-    r"\broom\b": "capacity",
-    r"\btouch(es)? (pages|memory)\b": "prefault",
-    r"\bfiles (a|an|the|as)\b": "append",
-    r"\bsettings?\b": "configuration",
-    r"\bbegins\b(?= from)": "the most starts",
-    r"\bthe (feed|putter|takers?)\b|\bputter\b": "queue, producer, consumer",
-    r"\bcrews?\b": "pool",
-    r"\bastray\b": "unexpected reply",
-    r"\bbehind (it|them|the|a|each|line|that)\b": "after",
-    r"\bgrowths? (was|is|were) refused\b|\brefused (memory|a growth)\b|\bwant of memory\b": "an allocation failed",
-    r"\bbodies of (a|the) trait\b": "implementations",
-    r"\bwrong bod(y|ies)\b": "mutant",
-    r"\bbyte 10\b": "newline",
-    r"\bparted by\b|\bblanks?\b": "separated by spaces",
-    r"\bmisfits?\b": "shape error, with its position",
-    r"\btold\b|\btells\b": "reported, returned, says",
-    r"\bwaits? for nobody\b": "non-blocking",
-    r"\bgiven back\b": "freed",
-}
-
-# Where such a word is meant as it stands: the page, what it says, and the reason.
-EXCEPTIONS = [
-    ("", "it was told", "the headline's own words"),
-    ("docs/DEFINITIONS.md", "falls", "the name of the definition; the book's term stands beside it"),
-    ("docs/DEFINITIONS.md", "fall", "the name of the definition; the book's term stands beside it"),
-    ("docs/DEFINITIONS.md", "settled", "the name of the definition; the book's term stands beside it"),
-    ("docs/DEFINITIONS.md", "setting", "the name of the definition; the book's term stands beside it"),
-    ("docs/DEFINITIONS.md", "closing walk", "the name of the definition; the book's term stands beside it"),
-    ("docs/HEADLINE.md", "closing walk", "the name of the definition"),
-    ("docs/HEADLINE.md", "event is a quit", "the name of the event"),
-    ("docs/PROOFS.md", "fall", "the name of the definition `Falls`"),
-    ("docs/PROOFS.md", "quit", "the name of the event"),
-    ("docs/LIBRARY.md", "quit", "the name of the call"),
-    ("docs/DECISIONS.md", "for want of memory", "the promise's own words"),
-    ("tools/README.md", "falls to", "what is measured falls to a row of a table"),
-]
-
 
 def text_of(page):
     return (TOP / page).read_text(encoding="utf-8")
@@ -644,24 +596,6 @@ def have_the_positions_that_the_program_gives(sgt):
     return f"{len(rows)} trees"
 
 
-# Words
-
-
-def use_the_words_of_the_field(_sgt):
-    found = []
-    for page in PAGES:
-        for number, line in parts_of(page)[0]:
-            if line.startswith(("|---", "<!--", "![")):
-                continue
-            plain = re.sub(r"`[^`]*`|\]\([^)]*\)", " ", line)
-            for wrong, right in WORDS.items():
-                for match in re.finditer(wrong, plain, re.IGNORECASE):
-                    excused = any(page.startswith(where) and says in plain for where, says, _ in EXCEPTIONS)
-                    if not excused:
-                        found.append(f"{page}:{number} {match.group(0)!r}, say {right}")
-    fail_if(found)
-
-
 def main(path):
     cases = [
         are_short,
@@ -685,7 +619,6 @@ def main(path):
         have_the_five_procedures,
         have_the_procedures_of_the_cookbook,
     have_the_positions_that_the_program_gives,
-        use_the_words_of_the_field,
     ]
     return run_cases(cases, os.path.abspath(path), of="pages")
 

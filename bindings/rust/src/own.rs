@@ -27,7 +27,7 @@ impl Default for TransactLimits {
 /// Each call is `Aborted` if the transaction has been aborted, `NoMemory`, or `BadCall` if a number is out of range. What it reads may be
 /// uncommitted, and be undone afterwards. So act on it only after the commit.
 #[derive(Debug)]
-#[must_use = "a transaction that is dropped is quit"]
+#[must_use = "a transaction that is dropped is aborted"]
 pub struct OwnTransaction {
     engine: SharedEngine,
     reported: c::Transaction,

@@ -243,7 +243,7 @@ impl SharedEngine {
 
 /// A transaction of a shared engine. Dropping it aborts it, unless it has ended before.
 #[derive(Debug)]
-#[must_use = "a transaction that is dropped is quit"]
+#[must_use = "a transaction that is dropped is aborted"]
 pub struct Transaction {
     engine: SharedEngine,
     ticket: Ticket,
