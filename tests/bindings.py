@@ -12,9 +12,9 @@ its output is compared. Each case is reported, also what was left out since a pr
 import copy
 import os
 import pathlib
-import re
 import pickle
 import random
+import re
 import shutil
 import signal
 import sys
