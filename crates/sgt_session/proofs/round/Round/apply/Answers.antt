@@ -1,4 +1,6 @@
-use Rattle.std.proofs.Common.{rules, refl}
+use Rattle.std.proofs.Common.{rules, refl, ap, sym, ◌∙◌}
+use Rattle.std.proofs.lemmas.Bool.{true≢false}
+use Rattle.std.specs.Result.{is_ok}
 use Rattle.sgt_session.specs.Receipts.{receipt_of}
 use Rattle.sgt_session.proofs.round.Round.apply.Goals as goal
 
@@ -15,3 +17,7 @@ returns-clause-filed g c =
 
 pub returns-clause-counted : goal.returns-clause-counted
 returns-clause-counted g c = c.add.ensures.amount
+
+pub returns-in_err-answer-clause-quits : goal.returns-in_err-answer-clause-quits
+returns-in_err-answer-clause-quits g c = λ t quits live.
+    absurd (true≢false (sym (c.answer.ensures.quits t quits (search (rules, live))) ∙ ap is_ok c.in_err-answer.was))
