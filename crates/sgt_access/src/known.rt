@@ -1,5 +1,6 @@
 //! What is known of the accesses by key.
-ghost use Rattle.std.specs.Prelude.{◌≡◌, ◌<◌, false, List, [], ◌∷◌, ◌++◌, OnOk};
+ghost use Rattle.std.specs.Prelude.{◌≡◌, ◌<◌, ◌≤◌, ◌+◌, false, nat_eq, length, List, [], ◌∷◌, ◌++◌, OnOk};
+ghost use Rattle.std.specs.List.{AllWithin};
 ghost use Rattle.std.specs.Vec.{vec_len, vec_capacity};
 ghost use Rattle.sgt_model.specs.AccessList.{ListedAccess, is_listed, forgotten};
 ghost use Rattle.sgt_access.specs.Masks.{StandsFor, Covers, Knows, IsLeaving, IsSaid};
@@ -130,12 +131,42 @@ fn take_out(accesses: &mut Vec<Access>, masks: &mut Masks, t: Tid, places: u32)
     ensures none { is_listed accesses.new.items t ≡ false }
     ensures leaving { IsLeaving masks.old t places accesses.old.items → IsLeaving masks.new t places accesses.new.items }
 {
-    let mut index = accesses.len();
+    let mut index = pass_others(accesses.as_slice(), accesses.len(), t);
     while 0 < index {
         index -= 1;
         if accesses[index].by == t {
             let access = accesses.swap_remove(index);
             masks.remove(places, access);
+            let left = accesses.as_slice();
+            index = pass_others(left, index, t);
         }
     }
+}
+
+// Passes over accesses that are not of t, four at once, from this index towards the front. It returns the index it reached.
+fn pass_others(accesses: &[Access], from: usize, t: Tid) -> usize
+    requires { from ≤ length accesses.now }
+    ensures within { result ≤ from }
+    ensures others { AllWithin (λ (a : ListedAccess). nat_eq a.by t ≡ false) accesses.now result from }
+{
+    let mut index = from;
+    while 4 <= index {
+        if is_among_four(accesses, index - 4, t) {
+            return index;
+        }
+        index -= 4;
+    }
+    index
+}
+
+// Whether one of the four accesses from this index on is of t.
+#[inline(always)]
+fn is_among_four(accesses: &[Access], index: usize, t: Tid) -> bool
+    requires { index + 4 ≤ length accesses.now }
+    ensures { result ≡ false → AllWithin (λ (a : ListedAccess). nat_eq a.by t ≡ false) accesses.now index (index + 4) }
+{
+    accesses[index].is_of(t)
+        || accesses[index + 1].is_of(t)
+        || accesses[index + 2].is_of(t)
+        || accesses[index + 3].is_of(t)
 }

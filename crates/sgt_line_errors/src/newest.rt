@@ -4,6 +4,7 @@ ghost use Rattle.sgt_input.specs.Lines.{has_break};
 
 use memchr::memchr;
 use std::alloc::{AllocError, Global};
+use std::simd::prelude::*;
 
 /// How many bytes are stored before the oldest lines are dropped.
 const MOST_STORED: usize = 1_048_576;
@@ -13,13 +14,7 @@ const MOST_STORED: usize = 1_048_576;
 const LEAST_STORED: usize = 262_144;
 
 /// How many bytes are tested for newlines at once.
-const AT_ONCE: usize = 8;
-
-/// A newline in each byte.
-const NEWLINES: u64 = 0x0a0a_0a0a_0a0a_0a0a;
-
-/// All bits of each byte but the highest.
-const LOW_BITS: u64 = 0x7f7f_7f7f_7f7f_7f7f;
+const AT_ONCE: usize = 64;
 
 /// The newest lines of an input, as many as fit about a mebibyte.
 #[derive(Drop)]
@@ -110,21 +105,22 @@ fn count_breaks(bytes: &[u8]) -> usize
 {
     let mut rest = bytes;
     let mut count = 0;
-    while let Some(word) = rest.first_chunk::<AT_ONCE>() {
-        count += breaks_in(*word);
+    while let Some(block) = rest.first_chunk::<AT_ONCE>() {
+        count += breaks_in(*block);
         rest = &rest[AT_ONCE..];
     }
     count + count_each(rest)
 }
 
-// The number of newlines among eight bytes.
-fn breaks_in(word: [u8; AT_ONCE]) -> usize
-    ensures { result ≤ 8 }
+// The number of newlines in a block of bytes.
+#[inline(always)]
+fn breaks_in(block: [u8; AT_ONCE]) -> usize
+    ensures { result ≤ 64 }
 {
-    // A newline becomes zero. Then the high bit of each byte that is not zero is set.
-    let word = u64::from_le_bytes(word) ^ NEWLINES;
-    let others = ((word & LOW_BITS).wrapping_add(LOW_BITS) | word) & !LOW_BITS;
-    AT_ONCE.saturating_sub(others.count_ones() as usize)
+    let marks = u8x64::from_array(block)
+        .simd_eq(u8x64::splat(b'\n'))
+        .to_bitmask();
+    (marks.count_ones() as usize).min(AT_ONCE)
 }
 
 // The number of newlines, byte by byte.
