@@ -12,6 +12,12 @@
 
 enum { SET_ASIDE = 64 }; /* engines that have to be closed after one before its memory serves another: a late call has long returned */
 
+/* Of a cut that nobody has asked for. */
+enum {
+    LEAST_PART = 1000000,  /* entries before it, at least: some 24 megabytes, and a second of work */
+    ENTRIES_OF_RECORD = 4  /* entries for each record: a cut goes through all records, and should cost less than what is between two */
+};
+
 static atomic_uint_fast64_t opened; /* engines so far */
 
 /* Copies as much of the caller's configuration as it has. */
@@ -66,6 +72,15 @@ static void set_aside(sgt_shared *s)
     release_closed();
 }
 
+/* After how many entries the history is cut, if the configuration does not say: not where somebody may want to read it. */
+static uint64_t default_cut(const sgt_shared_config *config, const sgt_engine *engine)
+{
+    uint64_t records = 0;
+    if (config->ended || config->cutting || config->keeps_ended) return 0;
+    sgt_records(engine, &records);
+    return records > LEAST_PART / ENTRIES_OF_RECORD ? ENTRIES_OF_RECORD * records : LEAST_PART;
+}
+
 /* Opens a shared engine on this one, which has no history. */
 static sgt_shared *made(const sgt_shared_config *config, const sgt_engine *engine)
 {
@@ -79,7 +94,9 @@ static sgt_shared *made(const sgt_shared_config *config, const sgt_engine *engin
     s->engine = *engine;
     sgt_part(&s->engine, &s->part);
     s->config = *config;
-    s->cut_at = config->cut_after;
+    if (config->cut_after == 0) s->config.cut_after = default_cut(config, engine);
+    if (config->cut_after == SGT_NEVER) s->config.cut_after = 0;
+    s->cut_at = s->config.cut_after;
     s->number = atomic_fetch_add(&opened, 1) + 1;
     atomic_store(&s->forks, atomic_load(&forks));
     s->is_open = true;

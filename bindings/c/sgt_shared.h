@@ -52,6 +52,7 @@ extern "C" {
 typedef struct sgt_shared sgt_shared;
 
 #define SGT_FOREVER INT64_MAX
+#define SGT_NEVER UINT64_MAX
 
 /*
  * The name of a transaction. `part` counts the cuts before its start, and `tid` is its number in that part, so a ticket never names another
@@ -111,10 +112,12 @@ typedef struct sgt_shared_config {
     uint32_t spare;
 
     /*
-     * Cuts by itself: as soon as the history has `cut_after` entries and no transaction is live. 0: never. Choose no more than twice the
-     * starts that the limits allow, as each transaction has at least two entries. A cut takes time in proportion to the records, in the
-     * call that happens to make it. If some transaction is always live, set `cut_wait_ns`: when a cut is due, new transactions wait so long
-     * for the live ones to end. If they do not, the cut is put off until as many entries have come again.
+     * Cuts by itself: as soon as the history has `cut_after` entries and no transaction is live. SGT_NEVER: never. 0: if there is a hook
+     * or calls are stored, never, since they are there for the history; else after 1,000,000 entries, or after four for each record that
+     * the engine is opened with if these are more. Choose no more than twice the starts that the limits allow, as each transaction has at
+     * least two entries. A cut takes time in proportion to the records, in the call that happens to make it. If some transaction is always
+     * live, set `cut_wait_ns`: when a cut is due, new transactions wait so long for the live ones to end. If they do not, the cut is put
+     * off until as many entries have come again.
      */
     uint64_t cut_after;
     int64_t cut_wait_ns;
