@@ -597,11 +597,14 @@ uint32_t sgt_explain_procedure(uint64_t number, const char *procedure, size_t le
 /*
  * The rest takes no engine and is not proved. The version is that of this header. sgt_version returns that of the linked
  * library, so that a program can compare the two. sgt_status_text returns a sentence for a status. Do not free either text.
+ *
+ * Since 0.1.0, sgt_shared_outcome and sgt_transaction have one member more, and a shared engine cuts its history by itself
+ * unless its configuration says otherwise: compile your program anew.
  */
 #define SGT_VERSION_MAJOR 0
-#define SGT_VERSION_MINOR 1
+#define SGT_VERSION_MINOR 2
 #define SGT_VERSION_PATCH 0
-#define SGT_VERSION "0.1.0"
+#define SGT_VERSION "0.2.0"
 
 const char *sgt_version(void);
 const char *sgt_status_text(uint32_t status);

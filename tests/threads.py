@@ -189,6 +189,7 @@ def sanitized(scratch, flags):
         return f"left out: no compiler here has {flags[1]}"
     run([built(scratch, compiler, C_FLAGS, C_SOURCES / "shared_calls.c", flags, [SHARED])])
     run([built(scratch, compiler, C_FLAGS, C_SOURCES / "shared_hazards.c", [*flags, *WRAPS_LOCK], [SHARED])])
+    all_held(run([built(scratch, compiler, C_FLAGS, C_SOURCES / "shared_waits.c", flags, [SHARED]), 2]))
     if compiler == "cc" and shutil.which("c++"):
         shared = compiled(scratch, "cc", C_FLAGS, SHARED, flags)
         run([built(scratch, "c++", CPP_FLAGS, C_SOURCES / "shared_hazards.cpp", flags, [shared])])
@@ -221,6 +222,11 @@ def all_held(reported):
     """How many checks a program made, all of which held."""
     same("what is told", f"{reported.split()[0]} checks, 0 failed\n", reported)
     return f"{reported.split()[0]} checks"
+
+
+def reports_who_would_wait_for_itself(scratch):
+    """Threads that wait for each other, whatever for: an alarm ends the program if one waits for ever."""
+    return all_held(run([built(scratch, "cc", C_FLAGS, C_SOURCES / "shared_waits.c"), 1]))
 
 
 def goes_on_whatever_a_thread_does(scratch):
@@ -262,6 +268,7 @@ def keeps_its_word_whatever_is_called(scratch):
 
 CASES = [
     reports_the_status_of_each_call,
+    reports_who_would_wait_for_itself,
     goes_on_whatever_a_thread_does,
     goes_on_whatever_a_hook_throws,
     threads_get_the_replies_of_the_history,

@@ -1,8 +1,9 @@
 /*
  * sgt_shared: one engine for many threads.
  *
- * Any thread may make any call at any time. Each call holds one lock, and releases it while it waits. This layer is C over the
- * proved calls of sgt.h. It is not proved itself, but tested: docs/LIBRARY.md, section Threads, says how.
+ * Any thread may make any call at any time. Each call holds one lock, and releases it while it waits. Who waits for what, who is woken,
+ * what is tried again, what a ticket names and when the history may be cut is proved, as the calls of sgt.h are. The lock, sleeping, hooks,
+ * forks, and what the header says of threads are C, and tested: docs/PROOFS.md lists both, under sgt_desk and Only tested.
  *
  *     sgt_shared *bank;
  *     if (sgt_shared_open(&bank, opening, length, 0, 0, 0, &fault) != SGT_OK) return 1;
@@ -17,7 +18,8 @@
  * STATUSES are those of sgt.h, and these:
  *
  *   SGT_BUSY       another thread waits for a transaction or a cut, or is in a hook, so the engine can't be closed
- *   SGT_SELF_WAIT  the call would wait, without a deadline, for a transaction that its own thread has to end
+ *   SGT_SELF_WAIT  the call would wait, without a deadline, for a transaction that its own thread has to end, or for threads that wait for
+ *                  the call, without a deadline too
  *   SGT_TIMED_OUT  the deadline came
  *   SGT_STALE      the ticket is of a part of the history that was cut off: its transaction has ended
  *   SGT_MISUSE     a call from inside a hook of the same engine, a ticket of another engine, a call in a forked child, an access of an
@@ -30,9 +32,9 @@
  * DEADLINES are nanoseconds from the begin of a call, by a clock that never jumps. 0 never waits for another transaction, and SGT_FOREVER
  * waits as long as it takes. A call waits for the lock itself without a deadline, as no thread holds it for long unless a hook does. A
  * thread that has a live transaction and waits for ever in another call may wait for itself, also through other threads: give such a call a
- * deadline. SGT_SELF_WAIT reports it where it can be detected. A transaction counts as that of the thread that made the last call for it.
- * So give the call a deadline, too, if another thread is to end that transaction. A commit sees also those for which it waits through
- * others.
+ * deadline. If all that could end such a wait wait for ever themselves, the call that came last is SGT_SELF_WAIT: end what its thread has
+ * live. A transaction counts as that of the thread that made the last call for it. So give the call a deadline, too, if another thread is to
+ * end that transaction.
  *
  * CANCELLATION. No call is a cancellation point: a thread that is cancelled in a call goes on until it has returned. No call may be made
  * from a thread whose cancellation is asynchronous, from a signal handler, or by a hook that longjmp leaves.
@@ -50,6 +52,7 @@ extern "C" {
 typedef struct sgt_shared sgt_shared;
 
 #define SGT_FOREVER INT64_MAX
+#define SGT_NEVER UINT64_MAX
 
 /*
  * The name of a transaction. `part` counts the cuts before its start, and `tid` is its number in that part, so a ticket never names another
@@ -109,10 +112,12 @@ typedef struct sgt_shared_config {
     uint32_t spare;
 
     /*
-     * Cuts by itself: as soon as the history has `cut_after` entries and no transaction is live. 0: never. Choose no more than twice the
-     * starts that the limits allow, as each transaction has at least two entries. A cut takes time in proportion to the records, in the
-     * call that happens to make it. If some transaction is always live, set `cut_wait_ns`: when a cut is due, new transactions wait so long
-     * for the live ones to end. If they do not, the cut is put off until as many entries have come again.
+     * Cuts by itself: as soon as the history has `cut_after` entries and no transaction is live. SGT_NEVER: never. 0: if there is a hook
+     * or calls are stored, never, since they are there for the history; else after 1,000,000 entries, or after four for each record that
+     * the engine is opened with if these are more. Choose no more than twice the starts that the limits allow, as each transaction has at
+     * least two entries. A cut takes time in proportion to the records, in the call that happens to make it. If some transaction is always
+     * live, set `cut_wait_ns`: when a cut is due, new transactions wait so long for the live ones to end. If they do not, the cut is put
+     * off until as many entries have come again.
      */
     uint64_t cut_after;
     int64_t cut_wait_ns;

@@ -727,6 +727,42 @@ static void cuts_come_by_themselves(void)
     closes(shared);
 }
 
+/* Runs until the history was cut off, or this often. The number of the part. */
+static uint64_t part_after_runs(sgt_shared *shared, int most)
+{
+    uint64_t part = 0, entries = 0;
+    for (int made = 0; made < most && part == 0; made++) {
+        sgt_shared_outcome outcome = SGT_SHARED_OUTCOME;
+        CHECK(sgt_shared_run(shared, 1, deposit, 2, 0, &outcome) == SGT_OK && outcome.reply.kind == SGT_COMMITTED);
+        if (made % 1000 == 999) CHECK(sgt_shared_entries(shared, &entries, &part) == SGT_OK);
+    }
+    CHECK(entries < 1000000);
+    return part;
+}
+
+static void hears_nothing(void *context, const sgt_ended *call) { (void)context, (void)call; }
+
+/* A history that nobody reads does not grow for ever. Of one account, each run has five entries. */
+static void a_history_is_cut_unless_somebody_reads_it(void)
+{
+    sgt_shared_config never = SGT_SHARED_CONFIG, heard = SGT_SHARED_CONFIG;
+    sgt_shared *shared[3] = {0};
+    sgt_fault fault = {0};
+    never.cut_after = SGT_NEVER, heard.ended = hears_nothing;
+    CHECK(opens(&shared[0], roomy, 0, &fault) == SGT_OK && opens(&shared[1], roomy, &never, &fault) == SGT_OK);
+    CHECK(opens(&shared[2], roomy, &heard, &fault) == SGT_OK);
+    CHECK(part_after_runs(shared[0], 300000) == 1);
+    for (int i = 1; i < 3; i++) {
+        uint64_t entries = 0, part = 77;
+        sgt_shared_outcome outcome = SGT_SHARED_OUTCOME;
+        do {
+            CHECK(sgt_shared_run(shared[i], 1, deposit, 2, 0, &outcome) == SGT_OK);
+            CHECK(sgt_shared_entries(shared[i], &entries, &part) == SGT_OK && part == 0);
+        } while (entries < 1000010 && part == 0);
+    }
+    for (int i = 0; i < 3; i++) closes(shared[i]);
+}
+
 static void a_forked_child_is_refused(void)
 {
     sgt_shared *shared = bank(0);
@@ -777,6 +813,7 @@ int main(void)
     a_close_ends_drains();
     many_ends_are_stored();
     cuts_come_by_themselves();
+    a_history_is_cut_unless_somebody_reads_it();
     a_forked_child_is_refused();
     numbers_and_texts_are_reported();
     printf("%d checks, %d failed\n", checks, failed);

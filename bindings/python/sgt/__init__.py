@@ -42,7 +42,7 @@ from ._errors import (
     TimedOut,
     TooMany,
 )
-from ._library import EMPTY_PROCEDURE, LEAST, MOST, Row, pack_calls, unpack_calls, version
+from ._library import EMPTY_PROCEDURE, LEAST, MOST, NEVER, Row, pack_calls, unpack_calls, version
 from ._own import OwnTransaction
 from ._replies import Access, Asked, BatchOutcome, Call, Cause, Event, Kind, Reply, unpack_outcomes, wrote
 from ._shared import Live, Outcome, SharedEngine, Transaction
@@ -53,6 +53,7 @@ __all__ = [
     "EMPTY_PROCEDURE",
     "LEAST",
     "MOST",
+    "NEVER",
     "Aborted",
     "Access",
     "Asked",

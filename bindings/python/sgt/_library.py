@@ -31,7 +31,7 @@ from ._errors import (
 )
 
 # The version of the headers that this package is for.
-VERSION = "0.1.0"
+VERSION = "0.2.0"
 
 # The least and the greatest value, argument and record number.
 LEAST, MOST = -999_999_999_999_999, 999_999_999_999_999
@@ -41,6 +41,7 @@ OK, NO_MEMORY, CLOSED, NONE, BAD_CALL, STILL_LIVE, BEGUN, TAKEN, TOO_MANY = 0, 1
 BUSY, SELF_WAIT, TIMED_OUT, STALE, MISUSE, UNDONE, FIRST_FAULT, PROC_SHAPE = 10, 11, 12, 13, 14, 15, 16, 20
 NO_TID = 2**32 - 1  # no transaction ever has this number
 FOREVER = 2**63 - 1  # a deadline that never comes
+NEVER = 2**64 - 1  # as `cut_after`: a history that is never cut off by itself
 
 
 class Row(NamedTuple):

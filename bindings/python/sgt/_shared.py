@@ -98,7 +98,8 @@ class SharedEngine(Uncopied):
         a KeyboardInterrupt or the like, that is raised at once, and the next call calls it again for the same `sequence`.
 
         With `keeps_ended` such calls are stored until `drain` takes them. Once the history has `cut_after` entries and no transaction
-        is live, it is cut off (0: never); new transactions wait at most `cut_wait` seconds for that.
+        is live, it is cut off; new transactions wait at most `cut_wait` seconds for that. NEVER: it never is. 0: never with `ended` or
+        `keeps_ended`, and else after a million entries, or after four for each record of the opening if these are more.
 
         If there are two limits, the third one is 1: codes are reported at the commit, so that they are true in the serial order.
         """

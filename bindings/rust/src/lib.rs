@@ -139,6 +139,9 @@ pub const LEAST: i64 = -999_999_999_999_999;
 /// The greatest value, argument and record number.
 pub const MOST: i64 = 999_999_999_999_999;
 
+/// As [`Configuration::cut_after`]: a history that is never cut off by itself.
+pub const NEVER: u64 = u64::MAX;
+
 /// The procedure of a call whose caller decided all its accesses.
 pub const EMPTY_PROCEDURE: u16 = 65_535;
 

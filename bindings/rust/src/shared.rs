@@ -37,7 +37,8 @@ pub struct Configuration {
     pub ended: Option<Box<dyn FnMut(Ended) + Send>>,
     /// Whether these calls are stored until [`SharedEngine::drain`] takes them.
     pub keeps_ended: bool,
-    /// The history is cut off once it has this many entries and no transaction is live. 0: never.
+    /// The history is cut off once it has this many entries and no transaction is live. [`NEVER`](crate::NEVER): never. 0: never with
+    /// `ended` or `keeps_ended`, and else after a million entries, or after four for each record of the opening if these are more.
     pub cut_after: u64,
     /// How long new transactions wait for the live ones to end when such a cut is due.
     pub cut_wait: Duration,

@@ -1,0 +1,189 @@
+/*
+ * Transaction functions: the tries of an sgt_transaction, and the body that is called with it. See sgt_shared.c.
+ */
+#ifndef SGT_BODIES_H
+#define SGT_BODIES_H
+
+#include "sgt_starts.h"
+
+enum { IN_BODY = 2 }; /* `is_live` of a transaction whose body is under way */
+
+/* Tries */
+
+/* Whether the reply is of a conflict, so that the try is made anew. */
+static bool is_conflict(const sgt_reply *reply)
+{
+    return (reply->kind == SGT_ABORTED && reply->cause == SGT_BY_CYCLE) || (reply->kind == SGT_OVER && reply->cause == SGT_BY_FALL);
+}
+
+/* Whether the transaction is there, as far as its size and its engine say. */
+static bool is_made(const sgt_transaction *t) { return t && t->size >= sizeof *t && t->shared; }
+
+/* Notes that the last try has ended, by its reply. The status is SGT_UNDONE if that was by a conflict. */
+static uint32_t end_try(sgt_transaction *t)
+{
+    t->is_live = 0;
+    t->status = is_conflict(&t->reply) ? SGT_UNDONE : SGT_OK;
+    return t->status;
+}
+
+/* The same of one that was aborted in cascade, and whose part of the history was cut off, so that nothing is known of it any more. */
+static uint32_t end_cut_off(sgt_transaction *t)
+{
+    t->is_live = 0, t->reply.kind = SGT_UNKNOWN;
+    return t->status = SGT_UNDONE;
+}
+
+/* The status of an access after the end: SGT_UNDONE if a conflict or another caller ended it, SGT_MISUSE if its own caller did. */
+static uint32_t has_ended(const sgt_transaction *t)
+{
+    return t->status == SGT_UNDONE || (t->reply.kind == SGT_OVER && t->reply.cause == SGT_BY_QUIT) ? SGT_UNDONE : SGT_MISUSE;
+}
+
+/* Makes an access of a transaction, and notes what came of it. */
+static uint32_t access_in(sgt_transaction *t, const struct asked *it)
+{
+    if (!is_made(t) || t->tries == 0) return SGT_BAD_CALL;
+    if (!t->is_live) return has_ended(t);
+    sgt_reply reply = {0};
+    uint32_t status = enter_for(t->shared, &t->ticket);
+    if (status == SGT_OK) {
+        status = make(t->shared, &t->ticket, it, &reply);
+        if (status == SGT_OK) t->reply = reply, t->ends = t->shared->desk.ended;
+        leave(t->shared, status);
+    }
+    if (status == SGT_STALE) return end_cut_off(t);
+    if (status == SGT_OK && (reply.kind == SGT_ABORTED || reply.kind == SGT_OVER)) return end_try(t), has_ended(t);
+    if (status == SGT_OK && reply.kind == SGT_BAD_ARGS) status = SGT_BAD_CALL;
+    if (status != SGT_OK && t->status == SGT_OK) t->status = status;
+    return status;
+}
+
+/* Starts the next try, alone or not: after a cycle, not before one of those that were in the way may have ended. */
+static uint32_t start_try(sgt_shared *s, sgt_transaction *t, bool alone, struct deadline *until)
+{
+    const struct call call = {.procedure = SGT_EMPTY};
+    sgt_reply reply = {0};
+    sgt_ask ask = asked_until(until);
+    if (!alone && t->status == SGT_UNDONE && t->reply.kind == SGT_ABORTED) ask.reason = SGT_WAITS_END, ask.number = t->ends;
+    const uint32_t status = start(s, &call, alone, until, &ask, &t->ticket, &reply, &t->waits);
+    if (status != SGT_OK) return status;
+    t->reply = reply, t->status = SGT_OK, t->sequence = UINT64_MAX;
+    t->is_live = reply.kind == SGT_STARTED;
+    t->tries += t->is_live;
+    return SGT_OK;
+}
+
+/* Makes the next try: alone after `tries` tries. */
+static uint32_t next_try(sgt_shared *shared, sgt_transaction *t, uint32_t tries, struct deadline *until)
+{
+    if (t->is_live) sgt_transaction_quit(t);
+    t->shared = shared;
+    uint32_t status = enter(shared);
+    if (status != SGT_OK) return status;
+    return leave(shared, start_try(shared, t, is_due_alone(shared, t->tries, tries), until));
+}
+
+/* Refuses a call that only the caller of a body may make. So the try can't be committed. */
+static uint32_t refuse_in_body(sgt_transaction *t)
+{
+    if (t->status == SGT_OK) t->status = SGT_MISUSE;
+    return SGT_MISUSE;
+}
+
+/* Commits the last try, or aborts it if an access of it failed, or the commit does. */
+static uint32_t commit_try(sgt_shared *s, sgt_transaction *t, struct deadline *until)
+{
+    uint32_t status = t->status;
+    sgt_reply reply = {0};
+    if (status == SGT_OK) status = commit(s, &t->ticket, until, &reply, &t->waits);
+    if (status != SGT_OK) abandon(s, &t->ticket);
+    else t->reply = reply, t->sequence = sequence_of(s, &reply);
+    t->ends = s->desk.ended;
+    return status;
+}
+
+static uint32_t commit_until(sgt_transaction *t, struct deadline *until)
+{
+    if (!is_made(t) || t->tries == 0) return SGT_BAD_CALL;
+    if (!t->is_live) return t->status;
+    uint32_t status = enter_for(t->shared, &t->ticket);
+    if (status == SGT_OK) status = leave(t->shared, commit_try(t->shared, t, until));
+    if (status == SGT_STALE) return end_cut_off(t);
+    if (status == SGT_OK) return end_try(t);
+    t->is_live = 0;
+    return t->status = status;
+}
+
+/* Bodies */
+
+/* What is to be done where a body does not return: glibc's longjmp, too, calls what is noted in `jump`. */
+struct guard {
+    sgt_transaction *transaction;
+#ifdef __GLIBC__
+    struct _pthread_cleanup_buffer jump;
+#endif
+};
+
+#ifdef __GLIBC__
+void _pthread_cleanup_push(struct _pthread_cleanup_buffer *buffer, void (*routine)(void *), void *argument);
+void _pthread_cleanup_pop(struct _pthread_cleanup_buffer *buffer, int executes);
+#endif
+
+/* Aborts the transaction of a body that does not return. */
+static void break_body_off(void *transaction)
+{
+    const sgt_transaction *t = transaction;
+    sgt_shared_abandon(t->shared, &t->ticket);
+}
+
+static void begin_guard(struct guard *guard)
+{
+#ifdef __GLIBC__
+    _pthread_cleanup_push(&guard->jump, break_body_off, guard->transaction);
+#else
+    (void)guard;
+#endif
+}
+
+static void end_guard(struct guard *guard)
+{
+#ifdef __GLIBC__
+    _pthread_cleanup_pop(&guard->jump, 0);
+#else
+    (void)guard;
+#endif
+}
+
+/* Ends the guard of a body that threw an exception, or ended its thread. */
+static void break_guard(void *guard)
+{
+    end_guard(guard);
+    break_body_off(((struct guard *)guard)->transaction);
+}
+
+/* Calls the body. What it returns. */
+static uint32_t call(sgt_body body, void *context, sgt_transaction *t)
+{
+    struct guard guard = {.transaction = t};
+    uint32_t reported = 0;
+    t->is_live = IN_BODY;
+    begin_guard(&guard);
+    pthread_cleanup_push(break_guard, &guard);
+    reported = body(context, t);
+    pthread_cleanup_pop(0);
+    end_guard(&guard);
+    if (t->is_live) t->is_live = 1;
+    return reported;
+}
+
+/* Ends a try as its body says. It is aborted if an access of it failed. */
+static uint32_t end_as_reported(sgt_transaction *t, uint32_t reported, struct deadline *until)
+{
+    if (reported == SGT_BODY_COMMIT) return commit_until(t, until);
+    const uint32_t failed = reported == SGT_BODY_QUIT ? t->status : (uint32_t)SGT_BAD_CALL;
+    const uint32_t status = sgt_transaction_quit(t);
+    return status == SGT_OK ? failed : status;
+}
+
+#endif

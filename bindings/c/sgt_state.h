@@ -1,0 +1,142 @@
+/*
+ * What a shared engine holds in C, and how its threads rest. See sgt_shared.c, the only user of this file and of those below it.
+ */
+#ifndef SGT_STATE_H
+#define SGT_STATE_H
+
+#include "sgt_desk.h"
+#include "sgt_lock.h"
+#include "sgt_shared.h"
+
+enum { MOST_LIVE = 32, MOST_ARGS = 4, MOST_PROCEDURE = 65535 }; /* as crates/sgt_c has them */
+
+enum {
+    WATCH = 100000000 /* nanoseconds between two questions to a thread that waits, whether it is interrupted: as often as a person notices */
+};
+
+struct deadline {
+    bool never, at_once;
+    bool is_over; /* whether the call ends now, since its thread was interrupted */
+    int64_t at;
+};
+
+/* What is noted of a transaction that was live between two calls, and may have ended since. The engine knows who is live. */
+struct note {
+    uint32_t tid;
+    uint32_t procedure;
+    bool waits;        /* whether a thread waits in its commit */
+    bool is_abandoned; /* it is aborted as soon as the hook that abandoned it has returned */
+    uint32_t rests;    /* why its thread rests without a deadline: the reason of an sgt_ask. 0: it does not */
+    uint32_t first;    /* the transaction that its thread waits for, if that is SGT_WAITS_TURN */
+    uint64_t thread;   /* that made the last call for it */
+    int64_t since;
+};
+
+/* The calls that ended and were not drained yet: `count` of them, from `first` on. */
+struct queue {
+    sgt_ended *at;
+    size_t first, count, capacity;
+};
+
+struct sgt_shared {
+    struct lock lock;            /* of all that follows */
+    atomic_uint forks;           /* how many forks this process comes from, as of the opening */
+    atomic_uint draining;        /* threads that wait for a call to drain */
+    bool is_open;
+    bool reports;                /* whether the hook has to be called for `ended` */
+    struct event changed;        /* a reason to rest may have ceased */
+    struct event queued;         /* a call can be drained */
+    atomic_uint_fast64_t number; /* of this engine, in its tickets: looked at before the lock is taken */
+    sgt_engine engine;           /* this and what follows is zero at first, up to `next` */
+    sgt_desk desk;
+    sgt_shared_config config;
+    uint64_t part;               /* cuts so far: that of sgt_part */
+    uint64_t read;               /* the place of the history up to which calls that ended were handed on */
+    struct note note[MOST_LIVE]; /* by rising numbers: of all live ones but a run's that does not rest, and of some that have ended */
+    uint32_t notes;
+    uint32_t cuts;               /* cuts that rest without a deadline */
+    uint32_t loners;             /* threads that wait until nobody is live, to start one alone */
+    bool is_alone;               /* whether the live one is to stay alone */
+    uint32_t asked;              /* threads that are asked whether they are interrupted */
+    bool abandons;               /* whether a live transaction is abandoned */
+    uint64_t cut_at;             /* so many entries make a cut due */
+    bool pauses;                 /* starts wait for a cut that is due, until `pause` */
+    int64_t pause;
+    struct queue queue;
+    sgt_ended ended;
+    sgt_shared *next;            /* of those that are closed */
+    sgt_shared *called;          /* the engine that a hook of this one calls, or null. `calling` is its lock */
+};
+
+/* What asks this thread while it waits, whether it is interrupted. */
+struct watch {
+    uint32_t (*interrupted)(void *context);
+    void *context;
+    bool is_asking;
+};
+
+static _Thread_local struct watch watch;
+static _Thread_local uint64_t own_number;
+static atomic_uint_fast64_t threads;
+
+/* The number of this thread. No other thread ever has it. */
+static uint64_t this_thread(void)
+{
+    if (own_number == 0) own_number = atomic_fetch_add(&threads, 1) + 1;
+    return own_number;
+}
+
+static sgt_ticket ticket_of(const sgt_shared *s, uint32_t tid) { return (sgt_ticket){s->number, s->part, tid, 0}; }
+
+static inline void lock(sgt_shared *s) { take_lock(&s->lock); }
+
+static inline void unlock(sgt_shared *s) { release_lock(&s->lock); }
+
+/* Deadlines */
+
+static inline struct deadline deadline_in(int64_t ns)
+{
+    struct deadline until = {.never = ns == SGT_FOREVER, .at_once = ns <= 0, .at = INT64_MAX};
+    if (!until.never) until.at = in_ns(ns);
+    return until;
+}
+
+/* A call of the desk with this deadline, before its first turn. */
+static inline sgt_ask asked_until(const struct deadline *until)
+{
+    return (sgt_ask){.until = until->never ? SGT_FOR_EVER : until->at_once ? SGT_AT_ONCE : SGT_UNTIL, .deadline = (uint64_t)until->at};
+}
+
+/* The time for a turn, if the call has a deadline. */
+static inline uint64_t time_for(const sgt_ask *ask) { return ask->until == SGT_UNTIL ? (uint64_t)now() : 0; }
+
+/* Resting */
+
+/* Asks this thread without the lock, whether it is interrupted. */
+static bool is_interrupted(sgt_shared *s)
+{
+    s->asked++;
+    unlock(s);
+    watch.is_asking = true;
+    const bool is_over = watch.interrupted(watch.context) != 0;
+    watch.is_asking = false;
+    lock(s);
+    s->asked--;
+    return is_over;
+}
+
+/* Releases the lock until the event is announced. Whether the deadline has not come, and the thread is not interrupted. */
+static bool rest(sgt_shared *s, struct event *event, struct deadline *until)
+{
+    const uint64_t count = event->count;
+    while (!until->is_over && watch.interrupted && !watch.is_asking) {
+        const int64_t look = in_ns(WATCH);
+        if (until->at < look) break;
+        if (doze(&s->lock, event, look)) return true;
+        until->is_over = is_interrupted(s);
+        if (event->count != count) return true;
+    }
+    return !until->is_over && doze(&s->lock, event, until->at);
+}
+
+#endif

@@ -1,0 +1,166 @@
+/*
+ * The turns of a call, as the desk decides them: what it hands on, whom it wakes, and how its thread rests. See sgt_shared.c.
+ */
+#ifndef SGT_TURNS_H
+#define SGT_TURNS_H
+
+#include <stdlib.h>
+#include <string.h>
+
+#include "sgt_owners.h"
+
+/* Calls that ended */
+
+/* Allocates memory for this many more calls, so that an end never allocates. */
+static bool reserve(struct queue *queue, size_t more)
+{
+    if (queue->first + queue->count + more <= queue->capacity) return true;
+    if (queue->first > 0 && queue->first >= queue->count) {
+        memmove(queue->at, queue->at + queue->first, queue->count * sizeof *queue->at);
+        queue->first = 0;
+        return reserve(queue, more);
+    }
+    const size_t capacity = 2 * (queue->first + queue->count + more);
+    sgt_ended *at = realloc(queue->at, capacity * sizeof *at);
+    if (!at) return false;
+    queue->at = at, queue->capacity = capacity;
+    return true;
+}
+
+/*
+ * Hands on the call that a turn has just committed or refused: the next one of the list of sgt_calls. The hook is called when the thread
+ * leaves, which it does in the same hold of the lock.
+ */
+static void deliver(sgt_shared *s, uint64_t sequence)
+{
+    sgt_ended ended = {.sequence = sequence};
+    uint64_t count = 0;
+    sgt_calls(&s->engine, s->read, &ended.call, 1, &count, &s->read);
+    ended.ticket = ticket_of(s, ended.call.tid);
+    if (s->config.keeps_ended) {
+        s->queue.at[s->queue.first + s->queue.count++] = ended;
+        announce(&s->lock, &s->queued);
+    }
+    if (s->config.ended) s->ended = ended, s->reports = true;
+}
+
+/* The number of the call that this reply has just committed or refused, or UINT64_MAX. */
+static uint64_t sequence_of(const sgt_shared *s, const sgt_reply *reply)
+{
+    return reply->kind == SGT_COMMITTED || reply->kind == SGT_REFUSED ? s->desk.reported - 1 : UINT64_MAX;
+}
+
+/* Does what a turn asks for: hands on the call that it has committed or refused, if it has and somebody wants it, and wakes all. */
+static inline void after_turn(sgt_shared *s, uint64_t reported, uint32_t wakes)
+{
+    if (s->desk.reported != reported && (s->config.ended || s->config.keeps_ended)) deliver(s, reported);
+    if (wakes) wake_all(s);
+}
+
+/* Calls that never rest */
+
+/* What is asked of a transaction that was started, as by sgt_step, sgt_quit, sgt_read, sgt_write and sgt_remove. */
+struct asked {
+    uint32_t kind;
+    uint64_t table;
+    int64_t number, value;
+};
+
+static uint32_t make(sgt_shared *s, const sgt_ticket *ticket, const struct asked *it, sgt_reply *reply)
+{
+    uint32_t wakes = 0;
+    const uint64_t reported = s->desk.reported;
+    claim(s, ticket->tid);
+    const uint32_t turn =
+        sgt_desk_make(&s->engine, &s->desk, ticket->part, ticket->tid, it->kind, it->table, it->number, it->value, reply, &wakes);
+    after_turn(s, reported, wakes);
+    if (turn == SGT_OK) drop_ended(s, ticket->tid, reply);
+    return turn;
+}
+
+/* Aborts a transaction. This needs no memory if it is live. */
+static uint32_t quit(sgt_shared *s, const sgt_ticket *ticket)
+{
+    sgt_reply reply = {0};
+    return make(s, ticket, &(struct asked){.kind = SGT_QUIT}, &reply);
+}
+
+/* Aborts a transaction, if it is live. */
+static uint32_t abandon(sgt_shared *s, const sgt_ticket *ticket)
+{
+    refresh(s);
+    if (ticket->part != s->part) return SGT_STALE;
+    if (find(s, ticket->tid)) quit(s, ticket);
+    return SGT_OK;
+}
+
+/* Aborts the live transactions that a hook has abandoned. */
+static void quit_abandoned(sgt_shared *s)
+{
+    uint32_t i = 0;
+    s->abandons = false;
+    refresh(s);
+    while (i < s->notes) {
+        const sgt_ticket ticket = ticket_of(s, s->note[i].tid);
+        const bool is_abandoned = s->note[i].is_abandoned;
+        s->note[i].is_abandoned = false;
+        if (is_abandoned) quit(s, &ticket), refresh(s);
+        i = is_abandoned ? 0 : i + 1;
+    }
+}
+
+/* Calls that may rest */
+
+/*
+ * Has the thread sleep for the reason for which its call rests. If it is interrupted, or would wait for itself, the next turn is the last
+ * one, and the status says why.
+ */
+static uint32_t sleep_for(sgt_shared *s, sgt_ask *ask, struct deadline *until)
+{
+    if (until->never && waits_for_itself(s, ask)) {
+        ask->until = SGT_AT_ONCE;
+        return SGT_SELF_WAIT;
+    }
+    const bool is_cut = until->never && ask->reason == SGT_IS_BUSY, commits = ask->reason == SGT_WAITS_TURN;
+    struct note *it = commits ? find(s, ask->turn) : 0;
+    if (it) it->waits = true;
+    s->cuts += is_cut;
+    rest(s, &s->changed, until);
+    s->cuts -= is_cut;
+    it = commits ? find(s, ask->turn) : 0;
+    if (it) it->waits = false;
+    if (until->never) note_rest(s, 0, 0);
+    if (until->is_over) ask->until = SGT_AT_ONCE;
+    return SGT_TIMED_OUT;
+}
+
+/* Whether a call rests for another reason than when it rested before, which is noted. */
+static bool rests_anew(const sgt_ask *ask, sgt_ask *before)
+{
+    const bool is_new =
+        ask->reason != before->reason || ask->number != before->number || ask->turn != before->turn || ask->first != before->first;
+    *before = *ask;
+    return is_new;
+}
+
+/* Commits a transaction. The status is that of the last turn, or SGT_SELF_WAIT. */
+static uint32_t commit(sgt_shared *s, const sgt_ticket *ticket, struct deadline *until, sgt_reply *reply, uint32_t *waits)
+{
+    uint32_t late = SGT_TIMED_OUT;
+    sgt_ask ask = asked_until(until), before = {0};
+    claim(s, ticket->tid);
+    for (;;) {
+        uint32_t wakes = 0;
+        const uint64_t reported = s->desk.reported;
+        const uint32_t turn =
+            sgt_desk_commit(&s->engine, &s->desk, &ask, ticket->part, ticket->tid, time_for(&ask), reply, &wakes);
+        after_turn(s, reported, wakes);
+        if (turn == SGT_OK) drop_ended(s, ticket->tid, reply);
+        if (turn == SGT_TIMED_OUT) reply->kind = SGT_WAITS, reply->tid = ask.first;
+        if (turn != SGT_REST) return turn == SGT_TIMED_OUT ? late : turn;
+        if (rests_anew(&ask, &before)) ++*waits;
+        late = sleep_for(s, &ask, until);
+    }
+}
+
+#endif
