@@ -704,9 +704,13 @@ def takes_spaces_and_escapes(sgt):
 
 # A first line, its error, and the explanation.
 EXPLAINED_OPENINGS = (
-    ("", "not JSON", "column 1: the line ends where its JSON has to go on"),
+    ("", "not JSON", "column 1: the line is empty"),
     ('{"limits":[1,1]', "not JSON", "column 16: the line ends where its JSON has to go on"),
     ('{"limits":[1,1],}', "not JSON", "column 17: not JSON from here"),
+    ('{"limits":[1,1],"accounts":[],"procedures":[[0,[["answer",1]],[0,[]]]}', "not JSON",
+     "column 70: not JSON from here: a bracket is missing in procedure 5, which begins at column 45"),
+    ('{"limits":[1,1],"accounts":[],"procedures":[[0,[["ask",1]]],[ 12 , [["answer",["sum",1,2]]]}', "not JSON",
+     "column 92: not JSON from here: a bracket is missing in procedure 6, which begins at column 61"),
     ('{"limits":[1,1e999],"accounts":[]}', "not JSON", "column 19: the number before it is too large"),
     ("[]", "bad line", 'expected an opening, as {"limits":[1,10],"accounts":[],"procedures":[]}, found []'),
     ('{"limits":[1,1],"accounts":[]}', "bad line", 'the member "procedures" is missing'),
@@ -733,7 +737,7 @@ EXPLAINED_OPENINGS = (
 EXPLAINED_PROCEDURES = (
     ("7", "shape top", "at top: expected [arguments,[statement,..]], found 7"),
     ("[0,[],[]]", "shape top", "at top: expected [arguments,[statement,..]], found [0,[],[]]"),
-    ("[300,[]]", "shape 0", "at 0: expected a number of arguments from 0 to 255, found 300"),
+    ("[300,[]]", "shape 0", "at 0: expected a number of arguments from 0 to 4, found 300"),
     ("[0,5]", "shape 1", "at 1: expected a list of statements, found 5"),
     ('[0,[["jump"]]]', "shape 1 0", 'at 1 0: unknown word "jump"'),
     ('[0,[["sum",1,2]]]', "shape 1 0", 'at 1 0: "sum" does not begin a statement'),
@@ -745,14 +749,14 @@ EXPLAINED_PROCEDURES = (
     ('[0,[["answer",["sum",1]]]]', "shape 1 0 1", 'at 1 0 1: expected ["sum",expression,expression], found ["sum",1]'),
     ('[0,[["if",true,[],[]]]]', "shape 1 0 1", "at 1 0 1: expected a condition, found true"),
     ('[0,[["if",["sum",1,2],[],[]]]]', "shape 1 0 1", 'at 1 0 1: "sum" does not begin a condition'),
-    ('[0,[["let",256,0]]]', "shape 1 0 1", "at 1 0 1: expected a register from 0 to 255, found 256"),
+    ('[0,[["let",256,0]]]', "shape 1 0 1", "at 1 0 1: expected a register from 0 to 15, found 256"),
     ('[0,[["remove",0,1,2]]]', "shape 1 0", 'at 1 0: expected ["remove",table,expression], found ["remove",0,1,2]'),
-    ('[0,[["remove",256,0]]]', "shape 1 0 1", "at 1 0 1: expected a table from 0 to 255, found 256"),
+    ('[0,[["remove",256,0]]]', "shape 1 0 1", "at 1 0 1: expected a table from 0 to 7, found 256"),
     ('[0,[["remove",0,["reg",0]]]]', "flaw 2", "at 1 0 2: register 0 is not set on every path that leads here"),
     ('[0,[["remove",8,0]]]', "flaw 4", "at 1 0 1: table 8 is over 7"),
-    ('[0,[["put",-1,0,0]]]', "shape 1 0 1", "at 1 0 1: expected a table from 0 to 255, found -1"),
-    ('[0,[["look",0,0,0,65536]]]', "shape 1 0 4", "at 1 0 4: expected a code from 0 to 65535, found 65536"),
-    ('[0,[["answer",["arg",256]]]]', "shape 1 0 1 1", "at 1 0 1 1: expected an argument from 0 to 255, found 256"),
+    ('[0,[["put",-1,0,0]]]', "shape 1 0 1", "at 1 0 1: expected a table from 0 to 7, found -1"),
+    ('[0,[["look",0,0,0,65536]]]', "shape 1 0 4", "at 1 0 4: expected a code from 1 to 999, found 65536"),
+    ('[0,[["answer",["arg",256]]]]', "shape 1 0 1 1", "at 1 0 1 1: expected an argument from 0 to 3, found 256"),
     ('[0,[["let",0,1],["let",1,["sum",["reg",0],["reg",16]]]]]', "flaw 1", "at 1 1 2 2 1: register 16 is over 15"),
     ('[0,[["look",16,0,0,1]]]', "flaw 1", "at 1 0 1: register 16 is over 15"),
     ('[0,[["let",0,["product",["reg",0],1]]]]', "flaw 2", "at 1 0 2 1: register 0 is not set on every path that leads here"),
@@ -775,8 +779,8 @@ EXPLAINED_EVENTS = (
     ('[["step",0]]', 'expected an event, as ["step",0], found [["step",0]]'),
     ('{"step" : 0, "at" : [ ], "b" : 1}', 'expected an event, as ["step",0], found {"step":0,"at":[],"b":1}'),
     ('["step",100000000000000000000]', "expected a transaction from 0 to 4294967295, found 100000000000000000000"),
-    ('["start",1,[1, 123456789012345678901 ]]', "expected a whole number as argument 1, found 123456789012345678901"),
-    ('["write",0,3,1,1E5]', "expected a whole number as the value, found 1E5"),
+    ('["start",1,[1, 123456789012345678901 ]]', "expected a whole number of at most 15 digits as argument 1, found 123456789012345678901"),
+    ('["write",0,3,1,1E5]', "expected a whole number of at most 15 digits as the value, found 1E5"),
     ('["step",0,"]",{"z":"\\\\","a":1}]', 'expected ["step",transaction], found ["step",0,"]",{"z":"\\\\","a":1}]'),
     ('["stop",0]', 'unknown word "stop"'),
     ('["job",0,[]]', 'a job stands in the input of "sgt script", which takes events: ["start",procedure,[argument,..]]'),
@@ -792,12 +796,12 @@ EXPLAINED_EVENTS = (
     ('["read",-1,3,1]', "expected a transaction from 0 to 4294967295, found -1"),
     ('["write",0,8,1,1.5]', "expected a table from 0 to 7, found 8"),
     ('["remove",0,3,1000000000000000]', "expected a number of at most 15 digits, found 1000000000000000"),
-    ('["write",0,3,1,1.5]', "expected a whole number as the value, found 1.5"),
+    ('["write",0,3,1,1.5]', "expected a whole number of at most 15 digits as the value, found 1.5"),
     ('["start",0]', 'expected ["start",procedure,[argument,..]], found ["start",0]'),
     ('["start",65536,[]]', "expected a procedure from 0 to 65535, found 65536"),
     ('["start",0,1]', "expected a list of arguments, found 1"),
     ('["start",0,[1,2,3,4,5]]', "5 arguments are given, and at most 4 may be"),
-    ('["start",0,[1,2.5]]', "expected a whole number as argument 1, found 2.5"),
+    ('["start",0,[1,2.5]]', "expected a whole number of at most 15 digits as argument 1, found 2.5"),
 )
 
 EXPLAINED_JOBS = (
@@ -809,7 +813,7 @@ EXPLAINED_JOBS = (
     ('["cut"]', 'an event stands in the input of "sgt bank", which takes jobs: ["job",procedure,[argument,..]]'),
     ('["job",0]', 'expected ["job",procedure,[argument,..]], found ["job",0]'),
     ('["job",-1,[]]', "expected a procedure from 0 to 65535, found -1"),
-    ('["job",0,[null]]', "expected a whole number as argument 0, found null"),
+    ('["job",0,[null]]', "expected a whole number of at most 15 digits as argument 0, found null"),
 )
 
 # Record lines that put no record behind an opening of the account [1,101,500,1000] and ["record",4,7,8].
@@ -929,7 +933,8 @@ def explains_records_after_others(sgt):
 def explains_lines_of_no_json(sgt):
     deep = b"[" * 130
     for line, more in (
-        (b"", "column 1: the line ends where its JSON has to go on"),
+        (b"", "column 1: the line is empty"),
+        (b" \r", "column 1: the line is empty"),
         (b"\xef\xbb\xbf[]", "column 1: a byte order mark: save the input without it"),
         (b'["step",0', "column 10: the line ends where its JSON has to go on"),
         (b'["step",0]]', "column 11: not JSON from here"),

@@ -828,10 +828,10 @@ def says_more_of_each_other_error(sgt):
 def shows_what_was_typed(sgt):
     """Numbers digit by digit, members in their order; without the spaces."""
     for line, shown in (
-        ('["start",1,[100000000000000000000,1]]', "expected a whole number as argument 0, found 100000000000000000000"),
-        ('["start",1,[1, 123456789012345678901 ]]', "expected a whole number as argument 1, found 123456789012345678901"),
+        ('["start",1,[100000000000000000000,1]]', "expected a whole number of at most 15 digits as argument 0, found 100000000000000000000"),
+        ('["start",1,[1, 123456789012345678901 ]]', "expected a whole number of at most 15 digits as argument 1, found 123456789012345678901"),
         ('{"step" : 0, "at" : 1, "b" : [ ]}', 'expected an event, as ["step",0], found {"step":0,"at":1,"b":[]}'),
-        ('["write",0,3,1,1E5]', "expected a whole number as the value, found 1E5"),
+        ('["write",0,3,1,1E5]', "expected a whole number of at most 15 digits as the value, found 1E5"),
         ('["quit", "1e5"]', 'expected a transaction from 0 to 4294967295, found "1e5"'),
         ('["step",0,"]",{"z":"\\"","a":1}]', 'expected ["step",transaction], found ["step",0,"]",{"z":"\\"","a":1}]'),
     ):

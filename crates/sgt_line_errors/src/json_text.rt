@@ -1,6 +1,7 @@
 //! Where a line stops being JSON.
+use crate::brackets::{Place, unclosed_procedure};
 use crate::message::{Piece, reported};
-use crate::typed::Typed;
+use crate::typed::{Follower, Typed};
 use json::{Scratch, is_valid};
 use serde_json::Value;
 use sgt_model::NoMemory;
@@ -16,6 +17,9 @@ pub(crate) fn json_fault(typed: Typed<'_>) -> Result<Option<String>, NoMemory> {
     let line = typed.text;
     if line.starts_with(BYTE_ORDER_MARK) {
         return at_column(typed, 1, "a byte order mark: save the input without it");
+    }
+    if line.trim_ascii().is_empty() {
+        return at_column(typed, 1, "the line is empty");
     }
     let text = match str::from_utf8(line) {
         Ok(text) => text,
@@ -52,7 +56,29 @@ fn text_fault(typed: Typed<'_>, text: &str, column: usize) -> Result<Option<Stri
     if is_valid(text, &mut Scratch::new(typed.alloc))? {
         return at_column(typed, column, "the number before it is too large");
     }
-    at_column(typed, column, "not JSON from here")
+    match unclosed_procedure(before) {
+        Some(place) if before.ends_with(b"}") => unclosed_fault(typed, column, place),
+        _ => at_column(typed, column, "not JSON from here"),
+    }
+}
+
+// The error of line 1 whose object ends at this column although a list in it is open.
+fn unclosed_fault(
+    typed: Typed<'_>,
+    column: usize,
+    place: Place,
+) -> Result<Option<String>, NoMemory> {
+    reported(
+        typed,
+        &[
+            Piece::Words("column "),
+            Piece::Count(column as u64),
+            Piece::Words(": not JSON from here: a bracket is missing in procedure "),
+            Piece::Count(place.procedure),
+            Piece::Words(", which begins at column "),
+            Piece::Count(place.column as u64),
+        ],
+    )
 }
 
 fn at_column(typed: Typed<'_>, column: usize, words: &str) -> Result<Option<String>, NoMemory> {
@@ -69,21 +95,9 @@ fn at_column(typed: Typed<'_>, column: usize, words: &str) -> Result<Option<Stri
 
 // How many lists and objects are open at the end of a text, as far as it is JSON.
 fn depth(text: &[u8]) -> u64 {
-    let mut open = 0u64;
-    let mut in_string = false;
-    let mut is_escaped = false;
+    let mut follower = Follower::new();
     for byte in text {
-        if in_string {
-            in_string = is_escaped || *byte != b'"';
-            is_escaped = !is_escaped && *byte == b'\\';
-        } else {
-            match *byte {
-                b'"' => in_string = true,
-                b'[' | b'{' => open = open.saturating_add(1),
-                b']' | b'}' => open = open.saturating_sub(1),
-                _ => (),
-            }
-        }
+        follower.follow(*byte);
     }
-    open
+    follower.depth()
 }

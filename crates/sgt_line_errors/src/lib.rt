@@ -21,6 +21,7 @@
 #![tactic(auto)]
 
 mod account;
+mod brackets;
 mod command;
 mod diagnosis;
 mod excerpt;

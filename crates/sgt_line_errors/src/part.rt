@@ -80,15 +80,15 @@ impl Part {
     pub(crate) fn words(self) -> &'static str {
         match self {
             Part::Procedure => "[arguments,[statement,..]]",
-            Part::Arguments => "a number of arguments from 0 to 255",
+            Part::Arguments => "a number of arguments from 0 to 4",
             Part::Block => "a list of statements",
             Part::Statement => "a statement",
             Part::Expression => "an expression",
             Part::Condition => "a condition",
-            Part::Register => "a register from 0 to 255",
-            Part::Argument => "an argument from 0 to 255",
-            Part::Table => "a table from 0 to 255",
-            Part::Code => "a code from 0 to 65535",
+            Part::Register => "a register from 0 to 15",
+            Part::Argument => "an argument from 0 to 3",
+            Part::Table => "a table from 0 to 7",
+            Part::Code => "a code from 1 to 999",
         }
     }
 }

@@ -152,7 +152,11 @@ fn access_fault(
 fn value_fault(typed: Typed<'_>, value: &Value) -> Result<Option<String>, NoMemory> {
     match value.as_i64() {
         Some(_) => Ok(None),
-        None => unexpected(typed, "a whole number as the value", value),
+        None => unexpected(
+            typed,
+            "a whole number of at most 15 digits as the value",
+            value,
+        ),
     }
 }
 
@@ -217,7 +221,7 @@ fn arguments_fault(typed: Typed<'_>, tree: &Value) -> Result<Option<String>, NoM
         Some((number, argument)) => reported(
             typed,
             &[
-                Piece::Words("expected a whole number as argument "),
+                Piece::Words("expected a whole number of at most 15 digits as argument "),
                 Piece::Count(number as u64),
                 Piece::Words(", found "),
                 Piece::Tree(argument),

@@ -80,6 +80,11 @@ impl Follower {
         }
     }
 
+    /// How many lists and objects are open.
+    pub(crate) fn depth(&self) -> u64 {
+        self.depth
+    }
+
     /// Takes the next byte, and returns whether a list, an object or a number starts with it.
     pub(crate) fn follow(&mut self, byte: u8) -> bool {
         if self.is_in_string {
