@@ -70,7 +70,11 @@ static uint32_t cut_turn(sgt_shared *s, sgt_ask *ask)
 /* Makes the cut that the configuration asks for, or has starts wait for it. */
 static void cut_if_due(sgt_shared *s)
 {
-    if (entries(s) < s->cut_at) return;
+    const uint64_t count = entries(s);
+    if (count < s->cut_at) {
+        s->before_cut = (s->cut_at - count) / MOST_OF_TURN;
+        return;
+    }
     sgt_ask ask = {.until = SGT_AT_ONCE};
     const uint32_t turn = cut_turn(s, &ask);
     if (turn == SGT_TIMED_OUT && s->config.cut_wait_ns > 0 && !s->pauses) {

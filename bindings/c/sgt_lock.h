@@ -81,7 +81,7 @@ static int64_t in_ns(int64_t ns)
 
 /* The lock */
 
-static bool try_lock(struct lock *l)
+static inline bool try_lock(struct lock *l)
 {
     if (pthread_mutex_trylock(&l->mutex) != 0) return false;
     atomic_store_explicit(&l->is_held, true, memory_order_relaxed);
@@ -107,7 +107,7 @@ static void relax(void)
 }
 
 /* Whether the lock looks free for a thread that is owed it, or not. */
-static bool is_free(const struct lock *l, bool claims)
+static inline bool is_free(const struct lock *l, bool claims)
 {
     return !atomic_load_explicit(&l->is_held, memory_order_relaxed) && !atomic_load_explicit(&l->is_owed, memory_order_relaxed)
         && atomic_load_explicit(&l->closing, memory_order_relaxed) == 0

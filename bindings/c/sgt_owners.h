@@ -51,14 +51,20 @@ static void note(sgt_shared *s, uint32_t tid, uint32_t procedure)
     s->note[i] = (struct note){.tid = tid, .procedure = procedure, .thread = this_thread(), .since = now()};
 }
 
-/* Drops the note of a transaction, if its reply says that it has ended. Others may have ended with it: their notes stay for a while. */
-static void drop_ended(sgt_shared *s, uint32_t tid, const sgt_reply *reply)
+/* Drops the note of a transaction, if it has one. */
+static void drop(sgt_shared *s, uint32_t tid)
 {
-    if (reply->kind != SGT_COMMITTED && reply->kind != SGT_ABORTED && reply->kind != SGT_REFUSED && reply->kind != SGT_OVER) return;
     struct note *it = find(s, tid);
     if (!it) return;
     memmove(it, it + 1, (size_t)(&s->note[s->notes] - (it + 1)) * sizeof *it);
     s->notes--;
+}
+
+/* The same, if its reply says that it has ended. Others may have ended with it: their notes stay for a while. */
+static inline void drop_ended(sgt_shared *s, uint32_t tid, const sgt_reply *reply)
+{
+    const uint32_t kind = reply->kind;
+    if (kind == SGT_COMMITTED || kind == SGT_ABORTED || kind == SGT_REFUSED || kind == SGT_OVER) drop(s, tid);
 }
 
 /* Whether a live transaction is this thread's. */

@@ -9,6 +9,7 @@
 #include "sgt_shared.h"
 
 enum { MOST_LIVE = 32, MOST_ARGS = 4, MOST_PROCEDURE = 65535 }; /* as crates/sgt_c has them */
+enum { MOST_OF_TURN = 128 }; /* entries that a turn may add: those of an attempt, with 64 accesses at most, are fewer */
 
 enum {
     WATCH = 100000000 /* nanoseconds between two questions to a thread that waits, whether it is interrupted: as often as a person notices */
@@ -60,6 +61,7 @@ struct sgt_shared {
     uint32_t asked;              /* threads that are asked whether they are interrupted */
     bool abandons;               /* whether a live transaction is abandoned */
     uint64_t cut_at;             /* so many entries make a cut due */
+    uint64_t before_cut;         /* so many turns at least have to be made before it is */
     bool pauses;                 /* starts wait for a cut that is due, until `pause` */
     int64_t pause;
     struct queue queue;

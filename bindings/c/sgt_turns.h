@@ -53,6 +53,7 @@ static uint64_t sequence_of(const sgt_shared *s, const sgt_reply *reply)
 /* Does what a turn asks for: hands on the call that it has committed or refused, if it has and somebody wants it, and wakes all. */
 static inline void after_turn(sgt_shared *s, uint64_t reported, uint32_t wakes)
 {
+    if (s->before_cut > 0) s->before_cut--;
     if (s->desk.reported != reported && (s->config.ended || s->config.keeps_ended)) deliver(s, reported);
     if (wakes) wake_all(s);
 }

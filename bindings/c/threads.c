@@ -66,7 +66,7 @@ int main(void)
     sgt_shared_config config = SGT_SHARED_CONFIG;
     int64_t money = 0;
     int calls = 0;
-    config.cut_after = 100000; /* entries of the history, 40 bytes each and their lists */
+    config.cut_after = 100000; /* entries of the history, most of 24 bytes */
     uint32_t status = sgt_shared_open(&bank, opening, strlen(opening), 0, 0, &config, &fault);
     if (status != SGT_OK) {
         fprintf(stderr, "%s\n", sgt_status_text(status));

@@ -25,6 +25,7 @@ type Ask = unsafe extern "C" fn(*mut c::Engine, u32, *mut c::Reply) -> u32;
 
 /// An engine for one thread at a time, which closes itself. Threads share a [`SharedEngine`](crate::SharedEngine).
 #[derive(Debug)]
+#[repr(transparent)]
 pub struct Engine {
     // In a cell, since a read too marks the engine as busy.
     inner: UnsafeCell<c::Engine>,

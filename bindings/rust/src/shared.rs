@@ -35,10 +35,14 @@ pub struct Configuration {
     /// Called for each committed or refused call, in reply order, under the engine's lock, by the call that it is. If it panics, so does
     /// that call, which has been carried out; the engine goes on.
     pub ended: Option<Box<dyn FnMut(Ended) + Send>>,
+    /// Called before each cut with the engine, whose history and database it may read, and with the number of the part that is cut off.
+    /// The engine's lock is held, so it may not call the shared engine. If it panics, so does the call that cuts, and there is no cut. If
+    /// memory is short the cut fails, and it is called again for the same part later.
+    pub cutting: Option<Box<dyn FnMut(&Engine, u64) + Send>>,
     /// Whether these calls are stored until [`SharedEngine::drain`] takes them.
     pub keeps_ended: bool,
     /// The history is cut off once it has this many entries and no transaction is live. [`NEVER`](crate::NEVER): never. 0: never with
-    /// `ended` or `keeps_ended`, and else after a million entries, or after four for each record of the opening if these are more.
+    /// a hook or `keeps_ended`, and else after a million entries, or after four for each record of the opening if these are more.
     pub cut_after: u64,
     /// How long new transactions wait for the live ones to end when such a cut is due.
     pub cut_wait: Duration,
@@ -69,16 +73,20 @@ pub struct Outcome {
     pub reply: Reply,
 }
 
-type Hook = Box<dyn FnMut(Ended) + Send>;
+/// What the library calls, under its lock, so one thread at a time, and never one hook inside the other.
+struct Hooks {
+    ended: Option<Box<dyn FnMut(Ended) + Send>>,
+    cutting: Option<Box<dyn FnMut(&Engine, u64) + Send>>,
+}
 
 /// The part that all clones of an engine share.
 struct Inner {
     shared: *mut c::Shared,
-    /// The hook, to which its context points, or null. The library calls it under its lock, so one thread at a time.
-    hook: *mut Hook,
+    /// The hooks, to which their context points.
+    hooks: *mut Hooks,
 }
 
-// Each call of sgt_shared.h may be made by any thread at any time, and the hook is `Send`.
+// Each call of sgt_shared.h may be made by any thread at any time, and the hooks are `Send`.
 unsafe impl Send for Inner {}
 unsafe impl Sync for Inner {}
 
@@ -86,9 +94,9 @@ impl Drop for Inner {
     fn drop(&mut self) {
         // This is the last clone, so no thread is in a call. A close from inside the engine's own hook is a misuse: then both are leaked.
         let status = unsafe { c::sgt_shared_close(&mut self.shared) };
-        if !self.hook.is_null() && (status == c::OK || status == c::CLOSED) {
-            // It was made by `Box::into_raw`, and the library does not call it any more.
-            drop(unsafe { Box::from_raw(self.hook) });
+        if status == c::OK || status == c::CLOSED {
+            // They were made by `Box::into_raw`, and the library does not call them any more.
+            drop(unsafe { Box::from_raw(self.hooks) });
         }
     }
 }
@@ -306,27 +314,40 @@ impl Drop for Transaction {
     }
 }
 
-/// Returns what a shared engine keeps, and its configuration in the library's form, which points to the hook.
+/// Returns what a shared engine keeps, and its configuration in the library's form, which points to the hooks.
 fn configured(with: Configuration) -> (Inner, c::SharedConfig) {
-    let hook = with.ended.map_or(std::ptr::null_mut(), |hook| Box::into_raw(Box::new(hook)));
+    let hooks = Hooks { ended: with.ended, cutting: with.cutting };
+    let (ended, cutting) = (hooks.ended.is_some(), hooks.cutting.is_some());
+    let hooks = Box::into_raw(Box::new(hooks));
     let config = c::SharedConfig {
         size: size_of::<c::SharedConfig>(),
-        ended: (!hook.is_null()).then_some(report as c::EndedHook),
-        cutting: None,
-        context: hook.cast(),
+        ended: ended.then_some(report as c::EndedHook),
+        cutting: cutting.then_some(report_cut as c::CuttingHook),
+        context: hooks.cast(),
         keeps_ended: with.keeps_ended.into(),
         spare: 0,
         cut_after: with.cut_after,
         cut_wait_ns: nanoseconds(Some(with.cut_wait)),
     };
-    (Inner { shared: std::ptr::null_mut(), hook }, config)
+    (Inner { shared: std::ptr::null_mut(), hooks }, config)
 }
 
-/// The hook for C.
+/// The hook `ended`, for C.
 unsafe extern "C-unwind" fn report(context: *mut c_void, call: *const c::Ended) {
-    // The context is the hook in the engine's `Inner`, which lives as long as the engine. The call is a value of the library.
-    let (hook, call) = unsafe { (&mut *context.cast::<Hook>(), &*call) };
-    hook(ended_of(call));
+    // The context is that of the engine's `Inner`, which lives as long as the engine. The call is a value of the library.
+    let (hooks, call) = unsafe { (&mut *context.cast::<Hooks>(), &*call) };
+    if let Some(hook) = &mut hooks.ended {
+        hook(ended_of(call));
+    }
+}
+
+/// The hook `cutting`, for C.
+unsafe extern "C-unwind" fn report_cut(context: *mut c_void, engine: *mut c::Engine, part: u64) {
+    // The same context. The engine is the library's, an `Engine` has no other field, and a borrowed one is not closed.
+    let (hooks, engine) = unsafe { (&mut *context.cast::<Hooks>(), &*engine.cast::<Engine>()) };
+    if let Some(hook) = &mut hooks.cutting {
+        hook(engine, part);
+    }
 }
 
 /// Returns a deadline in the library's form. A duration that is too long for it has no limit.
