@@ -84,16 +84,19 @@ IsRun s r = run_in s ≡ run_replied bare.Unknown r
 
 -- ---- a call, written
 
+-- the number of each deadline, as `deadline_in` reads it
 abbrev pub until_of : Deadline → ℕ
 until_of Never = 0
 until_of AtOnce = 1
 until_of (At at) = 2
 
+-- its time, if it has one
 abbrev pub time_of : Deadline → ℕ
 time_of Never = 0
 time_of AtOnce = 0
 time_of (At at) = at
 
+-- the number of each reason, as `reason_in` reads it
 abbrev pub kind_of : Option Reason → ℕ
 kind_of None = 0
 kind_of (Some (Turn t u)) = 1
@@ -119,6 +122,7 @@ number_of (Some (End n)) = n
 number_of (Some (Busy n)) = n
 number_of _ = 0
 
+-- the struct of a call, which has no place for its reply
 abbrev pub ask_struct : Ask → SgtAsk
 ask_struct a = record {
   until = until_of a.deadline;
@@ -131,26 +135,32 @@ ask_struct a = record {
   spare = 0;
 }
 
+-- the part of the history that a ticket names, and 0 without a ticket
 abbrev pub part_of : Option Ticket → ℕ
 part_of None = 0
 part_of (Some k) = k.part
 
+-- its transaction, and 0 without a ticket
 abbrev pub tid_of : Option Ticket → ℕ
 tid_of None = 0
 tid_of (Some k) = k.tid
 
+-- 1 with a ticket
 abbrev pub has_ticket : Option Ticket → ℕ
 has_ticket None = 0
 has_ticket (Some k) = 1
 
+-- 1 with a transaction
 abbrev pub has_tid : Option ℕ → ℕ
 has_tid None = 0
 has_tid (Some t) = 1
 
+-- the transaction, and 0 without one
 abbrev pub tid_or_0 : Option ℕ → ℕ
 tid_or_0 None = 0
 tid_or_0 (Some t) = t
 
+-- the struct of a run, which has no place for its reply
 abbrev pub run_struct : Run → SgtRun
 run_struct r = record {
   ask = ask_struct r.ask;
