@@ -4,6 +4,7 @@ ghost use Rattle.sgt_clients.specs.declared.fault.ClientsFault.TheVariants as fa
 ghost use Rattle.sgt_clients.specs.declared.fault.ReadError.TheVariants as error;
 ghost use Rattle.sgt_check.specs.declared.fault.CheckFault.TheVariants as check_fault;
 
+use crate::hint::Hint;
 use sgt_check::CheckFault;
 use sgt_notation::Shown;
 use thiserror::Error;
@@ -78,9 +79,12 @@ impl From<sgt_model::NoMemory> for ReadError {
 /// Why a check of what clients saw ended without a report. Lines and entries are counted from 1.
 #[derive(Debug, Drop, PartialEq, Eq, Error)]
 pub enum ClientsFault {
-    /// The entry, which starts on the line, is wrong.
+    /// The entry, which starts on the line, is wrong. If it is not JSON, that is the line from which on it is not.
     #[error("line {0}, entry {1}: {2}")]
     Entry(u64, usize, Flaw),
+    /// The same, and what a second line says.
+    #[error("line {0}, entry {1}: {2}")]
+    Hinted(u64, usize, Flaw, Hint),
     /// The transaction that ended or began here appends the value to the key, after the one that ended or began there.
     #[error("{0} appends {1} to key {2} a second time, after {3}")]
     Twice(Position, u32, Shown, Position),

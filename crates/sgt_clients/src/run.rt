@@ -13,6 +13,7 @@ ghost use Rattle.sgt_clients.specs.GraphText.{graph_text};
 ghost use Rattle.sgt_clients.specs.LevelJson.{json_text};
 
 use crate::clients::{Clients, read_clients};
+use crate::explained::explained;
 use crate::fault::ClientsFault;
 use crate::finding::Finding;
 use crate::graph_text::append_graph;
@@ -71,7 +72,7 @@ pub fn run_clients<S: Source, T: Sink>(
     ensures write_failed { result ≡ Err (fault.Check check_fault.Writing) → T.failures sink.new ≡ T.failures sink.old + 1 }
 {
     let input = read_input(alloc, source)?;
-    let checked = check_text(alloc, input.as_slice(), output, question)?;
+    let checked = check_explained(alloc, input.as_slice(), output, question)?;
     let Ok(()) = write_all(sink, checked.text.as_slice()) else {
         return Err(ClientsFault::Check(CheckFault::Writing));
     };
@@ -83,6 +84,22 @@ pub fn run_clients<S: Source, T: Sink>(
 struct Checked {
     text: Vec<u8>,
     answer: Answer,
+}
+
+/// Checks the client history in the text, in JSON or in EDN, for this output. An error has its place in this text.
+fn check_explained(
+    alloc: Global,
+    text: &[u8],
+    output: ClientsOutput,
+    question: Question,
+) -> Result<Checked, ClientsFault>
+    ensures checked { IfOk result (λ c. IsChecked question output text.now c.text.items c.answer) }
+    ensures own { IfErr result IsOwn }
+{
+    match check_text(alloc, text, output, question) {
+        Ok(checked) => Ok(checked),
+        Err(fault) => Err(explained(alloc, text, fault)),
+    }
 }
 
 /// Checks the client history in the text, in JSON or in EDN, for this output.
@@ -155,6 +172,9 @@ fn own(error: ClientsFault) -> ClientsFault
 {
     match error {
         ClientsFault::Entry(line, entry, flaw) => ClientsFault::Entry(line, entry, flaw),
+        ClientsFault::Hinted(line, entry, flaw, hint) => {
+            ClientsFault::Hinted(line, entry, flaw, hint)
+        }
         ClientsFault::Twice(second, value, key, first) => {
             ClientsFault::Twice(second, value, key, first)
         }
