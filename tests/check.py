@@ -20,7 +20,7 @@ from itertools import chain, islice
 
 sys.dont_write_bytecode = True
 from helpers.cases import SECONDS, Differs, same, run_cases  # noqa: E402
-from helpers.textbook import ACCESSES, ENDS, History, LongHistory, Operation, equivalent_orders  # noqa: E402
+from helpers.textbook import ACCESSES, ENDS, History, LongHistory, Operation, equivalent_orders, unjudged  # noqa: E402
 
 # All histories of at most this many transactions, items, accesses of each transaction and operations.
 FEW = ((2, 2, 2, 6), (3, 2, 1, 6), (3, 2, 4, 4))
@@ -36,11 +36,12 @@ SHARES = 16
 
 
 def report_on(program, operations):
-    """Its status and report. It has nothing to tell on standard error."""
+    """Its status and report. On standard error it says only how many transactions are active."""
     given = " ".join(map(str, operations)).encode()
     ran = subprocess.run([program, "check"], input=given, capture_output=True, timeout=SECONDS, close_fds=False, check=False)
-    same("standard error", b"", ran.stderr)
-    return ran.returncode, ran.stdout.decode()
+    report = ran.stdout.decode()
+    same("standard error", unjudged(report), ran.stderr.decode())
+    return ran.returncode, report
 
 
 # Starts the program, and reports its status, its milliseconds and its most bytes. It is small itself: a process has at first

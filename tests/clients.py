@@ -371,14 +371,14 @@ STRONGEST = [
     ("read committed", "not snapshot isolation: lost-update",
      [one("ok", (R, 1, ()), (A, 1, 1)), one("ok", (R, 1, ()), (A, 1, 2)), one("ok", (R, 1, (1, 2)))]),
     ("read committed", "not snapshot isolation: lost-update", [one("ok", (R, 1, ()), (A, 1, 1)), one("ok", (R, 1, ()), (A, 1, 2))]),
-    ("read committed", "not snapshot isolation: G-single", NAMED["G-single"]),
-    ("read committed", "not snapshot isolation: G-nonadjacent", NAMED["G-nonadjacent"]),
-    ("none", "not read committed: G0", NAMED["G0"]),
-    ("none", "not read committed: G1a", NAMED["G1a"]),
+    ("read committed", "not snapshot isolation: by the lines above", NAMED["G-single"]),
+    ("read committed", "not snapshot isolation: by the lines above", NAMED["G-nonadjacent"]),
+    ("none", "not read committed: by the lines above", NAMED["G0"]),
+    ("none", "not read committed: by the lines above", NAMED["G1a"]),
     ("none", "not read committed: G1b", NAMED["G1b"]),
-    ("none", "not read committed: G1c", NAMED["G1c"]),
-    ("none", "not read committed: internal", NAMED["internal"]),
-    ("none", "not read committed: incompatible-order", NAMED["incompatible-order"]),
+    ("none", "not read committed: by the lines above", NAMED["G1c"]),
+    ("none", "not read committed: by the lines above", NAMED["internal"]),
+    ("none", "not read committed: by the lines above", NAMED["incompatible-order"]),
 ]
 
 
@@ -421,6 +421,36 @@ def keeps_the_order_of_begins(program):
         for it in (key, 20 + key):
             lists[it] = [*lists.get(it, ()), value]
     same("status", 0, check(program, in_turn(history), "--level", "snapshot-isolation")[0])
+
+
+def shortens_a_long_order(program):
+    """Of more than 100 transactions the line of a yes has the first 100, and the object of JSON all."""
+    for count in (1, 99, 100, 101, 5_000):
+        given = in_turn([one("ok", (A, it, 1)) for it in range(count)])
+        order = json.loads(check(program, given, "--json")[1])["order"]
+        same(f"transactions of {count}", list(range(1, count + 1)), sorted(order))
+        shown = " ".join(f"t{it}" for it in order[:100]) + f" .. of {count} (--json has the order)" * (count > 100)
+        same(f"line of {count}", f"serializable yes: {shown}", check(program, given)[1].splitlines()[1])
+
+
+def draws_the_level(program):
+    """The picture is of the level that is asked: the cycle that breaks it, or an order. It says how many operations it leaves out."""
+    update = [one("ok", (R, 1, ()), (A, 1, 1)), one("ok", (R, 1, ()), (A, 1, 2)), one("ok", (R, 1, (1, 2)))]
+    given = in_turn([*SKEW, *update])
+    marks = {}
+    for level in LEVELS[:3]:
+        drawing = Drawing(check(program, given, "--timeline", "--level", level)[1])
+        marks[level] = {int(re.match(r"[a-z]+(\d+)", it.title)[1]) for it in drawing.marks}
+        drawn_ones = re.search(r"drawn: (\d+) of (\d+) operations", drawing.description)
+        same(f"operations of {level}", (len(drawing.marks), 14) if len(drawing.marks) < 14 else None,
+             tuple(map(int, drawn_ones.groups())) if drawn_ones else None)
+    same("snapshot isolation", True, {3, 4} <= marks["snapshot-isolation"] <= {3, 4, 5})
+    same("read committed", {1, 2, 3, 4, 5}, marks["read-committed"])
+    skew = Drawing(check(program, in_turn(SKEW), "--timeline", "--level", "snapshot-isolation")[1])
+    same("an order", (6, False), (len(skew.marks), "drawn:" in skew.description))
+    long = in_turn([one("ok", (A, it, 1)) for it in range(1_000)])
+    drawing = Drawing(check(program, long, "--timeline")[1])
+    same("a long order", True, f"drawn: {len(drawing.marks)} of 2000 operations" in drawing.description)
 
 
 def names_anomalies(program):
@@ -544,7 +574,7 @@ def takes_processes_of_any_name(program):
         renamed = [it | {"process": name.format(*[it["process"]] * 100)} for it in entries]
         same(f"process {name}", wanted, check(program, lines_of(renamed)))
     began = entries[0] | {"process": 7}
-    reported = "line 2, entry 2: process 7 has invoked another transaction, and has not ended it\n"
+    reported = "line 2, entry 2: process 7 has invoked another transaction, line 1, entry 1, and has not ended it\n"
     same("7 and its text", (2, "", reported), check(program, lines_of([began, began | {"process": "7"}])))
 
 
@@ -573,7 +603,8 @@ def skips_what_is_no_transaction(program):
         same("report", (status, wanted, errors), check(program, lines_of(entries) + given))
         reported = json.loads(check(program, lines_of(entries) + given, "--json")[1])
         same("skipped", given.count("\n"), reported["skipped"])
-        same("alone", (2, "", "no operations\n"), check(program, given))
+        alone = f"no operations; entries skipped, since they are of no transaction: {given.count(chr(10))}\n"
+        same("alone", (2, "", alone), check(program, given))
     same("none", False, "skipped" in json.loads(check(program, lines_of(entries), "--json")[1]))
     entries[0].pop("f")
     same("no function", (status, text, errors), check(program, lines_of(entries)))
@@ -622,41 +653,71 @@ def keeps_time_only_with_invocations(program):
     same("with an invocation", 0, check(program, GOOD + began, "--strict")[0])
 
 
+BEGUN = '{"type":"invoke","process":1,"value":[]}\n'
+OTHER = '{"type":"invoke","process":2,"value":[]}'
 GOOD = '{"type":"ok","process":0,"f":"txn","value":[["append",1,1]]}\n'
 
 # Faulty inputs, with what is reported for them.
 IS_TEXT = "; text like r1[x] is read without --model list-append"
 NO_EDN = re.compile(r"line 2, entry 2: no JSON from column \d+ on")
 EDN = "{:type :ok, :process 0, :f :txn, :value [[:append 1 1]]}\n"
+NEGATIVE = 'a number from 0 or a text: "-1" is one, -1 is not'
+KEY, NO_KEY = "the key of operation", "is not a whole number, or a text of 1 to 64 letters, digits and _ . / : -"
+RESTART = "a recorder that starts again takes new processes, or first writes an info for each that it left"
+
+
+def cut_input(entry, line):
+    return f"the input ends inside entry {entry}, which begins in line {line}: if its recorder died, leave this entry out"
+
+
 FAULTS = {
-    "{": "line 1, entry 1: no JSON from column 1 on" + IS_TEXT,
+    "{": "line 1, entry 1: no JSON from column 2 on\n" + cut_input(1, 1),
+    '{"type":"ok","process":0,"f":"txn","value":[["append",9,1]]\n': "line 1, entry 1: no JSON from column 60 on\n" + cut_input(1, 1),
+    GOOD + '[{"type": "invoke", "process": 0, "f": "txn", "value": [["append", 4': "line 2, entry 2: no JSON from column 69 on\n" + cut_input(2, 2),
+    GOOD + '{"type":"inv\n' + GOOD: "line 2, entry 2: no JSON from column 13 on\nthe line ends inside the text that begins in column 9: was it cut off?",
+    '{"type":"ok", "process":0,\n "value":[\n\n' + GOOD:
+        "line 2, entry 1: no JSON from column 11 on\nthe line ends inside entry 1, and line 4 begins another one: was it cut off?",
+    '{"type":"ok","process":0,"value":[["r",1,[1}]]}': "line 1, entry 1: no JSON from column 44 on\n} stands here, and [ of line 1, column 42 is not closed",
+    GOOD + "}": "line 2, entry 2: no JSON from column 1 on\n} stands here, and nothing is open that it closes",
+    "\xef\xbb\xbf" + GOOD: "line 1, entry 1: no JSON from column 1 on\na byte order mark: save the input without it",
+    GOOD + "\xc2\xa0" + GOOD: "line 2, entry 2: no JSON from column 1 on\na character that is not ASCII",
+    '[{"type":"ok","process":0,"value":[]},{"type" "ok"}]': "line 1, entry 2: no JSON from column 47 on",
+    " r1[x]": "line 1, entry 1: no JSON from column 2 on" + IS_TEXT,
     "x": "line 1, entry 1: no JSON from column 1 on" + IS_TEXT,
     "r1[x] w1[x]": "line 1, entry 1: no JSON from column 1 on" + IS_TEXT,
-    EDN + "{:type :ok, :process 0, :f :txn, :value [[:append 1 2]]": NO_EDN,
-    EDN + "{:type :ok, :process 0, :f :txn, :value [[:append 1 2}]}": NO_EDN,
-    EDN + "{:type :ok, :process 0, :f :txn, :value #_5 [[:append 1 2]]}": NO_EDN,
-    EDN + "{:type :ok, :process 0, :f :txn, :value}": NO_EDN,
-    EDN + "}": NO_EDN,
+    "{:type :ok": "line 1, entry 1: no JSON from column 11 on\n" + cut_input(1, 1),
+    EDN + "{:type :ok, :process 0, :f :txn, :value [[:append 1 2]]": "line 2, entry 2: no JSON from column 56 on\n" + cut_input(2, 2),
+    EDN + "{:type :ok, :process 0, :f :txn, :value [[:append 1 2}]}":
+        "line 2, entry 2: no JSON from column 54 on\n} stands here, and [ of line 2, column 42 is not closed",
+    EDN + "{:type :invoke, :f :txn, :value [[:append 2 18] [:r 3 nil], :time 29000, :process 2, :index 29}\n" + EDN:
+        "line 2, entry 2: no JSON from column 95 on\n} stands here, and [ of line 2, column 33 is not closed",
+    EDN.replace("]]", "]") + EDN: "line 1, entry 1: no JSON from column 55 on\n} stands here, and [ of line 1, column 41 is not closed",
+    EDN + "{:type :ok, :process 0, :f :txn, :value #_5 [[:append 1 2]]}":
+        "line 2, entry 2: no JSON from column 42 on\n#_ is not read: leave out what it discards",
+    EDN + "{:type :ok, :process 0, :f :txn, :value}": "line 2, entry 2: no JSON from column 40 on",
+    EDN + "}": "line 2, entry 2: no JSON from column 1 on\n} stands here, and nothing is open that it closes",
     EDN + "#{:type :ok}": NO_EDN,
     EDN + ":ok": "line 2, entry 2: no object",
     EDN + EDN.replace("ok", "done"): "line 2, entry 2: the type is not invoke, ok, fail or info",
     EDN.replace("[[:append 1 1]]", "[[:r 1 #{1}]]"): 'line 1, entry 1: operation 1 is not ["append",key,value] or ["r",key,values]',
     EDN.replace("[[:append 1 1]]", "[[:r 1 {1 2}]]"): 'line 1, entry 1: operation 1 is not ["append",key,value] or ["r",key,values]',
     EDN.replace("[[:append 1 1]]", "[[:append 1 1N]]"): "line 1, entry 1: operation 1 has a value that is not a whole number from 0 to 4294967295",
-    GOOD + "{\n": "line 3, entry 2: no JSON from column 1 on",
+    GOOD + "{\n": "line 2, entry 2: no JSON from column 2 on\n" + cut_input(2, 2),
     GOOD + '{"type":"ok",\n "process" 1}': "line 3, entry 2: no JSON from column 12 on",
     "5": "line 1, entry 1: no object",
     '"{"': "line 1, entry 1: no object",
     "\xff": None,
     GOOD + GOOD.replace(":", "", 1): "line 2, entry 2: no JSON from column 8 on",
-    GOOD + "\n" + '{"process":0}': "line 3, entry 2: the type is not invoke, ok, fail or info",
-    '{"type":"ok"}': "line 1, entry 1: the process is not a whole number or a text",
-    '{"type":"ok","process":-1}': "line 1, entry 1: the process is not a whole number or a text",
+    GOOD + "\n" + '{"process":0}': "line 3, entry 2: the type is not invoke, ok, fail or info\ntype is missing",
+    '{"type":"ok"}': "line 1, entry 1: the process is not a whole number or a text\nprocess is missing",
+    '{"type":"ok","process":-1}': f"line 1, entry 1: the process is not a whole number or a text\na process is {NEGATIVE}",
+    EDN.replace(":process 0", ":process -1"): f"line 1, entry 1: the process is not a whole number or a text\na process is {NEGATIVE}",
+    GOOD.replace("1,1", "-1,1"): f"line 1, entry 1: {KEY} 1 {NO_KEY}\na key is {NEGATIVE}",
     '{"type":"done","process":1}': "line 1, entry 1: the type is not invoke, ok, fail or info",
     '{"type":"ok","process":null,"f":"txn"}': "line 1, entry 1: the process is not a whole number or a text",
     '{"type":"ok","process":"c0","f":"txn","value":5}': "line 1, entry 1: the value is not a list of operations",
     '{"type":"ok","process":1,"value":null}': "line 1, entry 1: the value is not a list of operations",
-    '{"type":"invoke","process":1}': "line 1, entry 1: the value is not a list of operations",
+    '{"type":"invoke","process":1}': "line 1, entry 1: the value is not a list of operations\nvalue is missing",
     '{"type":"ok","process":1,"value":[[]]}': 'line 1, entry 1: operation 1 is not ["append",key,value] or ["r",key,values]',
     '{"type":"ok","process":1,"value":[["r",1,[]],["w",1,2]]}': 'line 1, entry 1: operation 2 is not ["append",key,value] or ["r",key,values]',
     '{"type":"ok","process":1,"value":[["r",1,5]]}': 'line 1, entry 1: operation 1 is not ["append",key,value] or ["r",key,values]',
@@ -667,9 +728,12 @@ FAULTS = {
         "line 1, entry 1: the key of operation 1 is not a whole number, or a text of 1 to 64 letters, digits and _ . / : -",
     '{"type":"ok","process":1,"value":[["append","a b",1]]}':
         "line 1, entry 1: the key of operation 1 is not a whole number, or a text of 1 to 64 letters, digits and _ . / : -",
-    '{"type":"invoke","process":1,"value":[]}' * 2: "line 1, entry 2: process 1 has invoked another transaction, and has not ended it",
+    '{"type":"invoke","process":1,"value":[]}' * 2:
+        "line 1, entry 2: process 1 has invoked another transaction, line 1, entry 1, and has not ended it\n" + RESTART,
     '{"type":"invoke","process":"c 1","value":[]}' * 2:
-        "line 1, entry 2: process c 1 has invoked another transaction, and has not ended it",
+        "line 1, entry 2: process c 1 has invoked another transaction, line 1, entry 1, and has not ended it\n" + RESTART,
+    BEGUN + OTHER + "\n" + OTHER.replace("2", "3") + BEGUN:
+        "line 3, entry 4: process 1 has invoked another transaction, line 1, entry 1, and has not ended it\n" + RESTART,
     GOOD.replace("ok", "invoke") + "\n" + GOOD.replace("]]", '],["r",2,null]]'):
         "line 3, entry 2: the operations are not those of the invocation, line 1, entry 1",
     GOOD.replace("ok", "invoke") + GOOD.replace("ok", "fail").replace("1,1", "1,2"):
@@ -694,6 +758,24 @@ def reports_faults(program):
         if isinstance(wanted, re.Pattern):
             wanted = errors.rstrip() if wanted.fullmatch(errors.rstrip()) else wanted.pattern
         same(f"fault of {given[:80]!r}", (2, "", wanted + "\n"), (status, text, errors))
+
+
+def names_the_line_that_is_cut(program):
+    """A line of JSON or of EDN that is cut anywhere, with lines after it or at the end: its number, and where it is cut."""
+    entries, _ = entries_of(random.Random(1), NAMED["G2-item"])
+    count = 0
+    for lines in (lines_of(entries).splitlines(), [edn(it) for it in entries]):
+        for place in (0, 1, len(lines) - 1):
+            for cut in range(1, len(lines[place])):
+                line = lines[place][:cut]
+                given = "\n".join([*lines[:place], line, *lines[place + 1:]])
+                status, text, errors = check(program, given)
+                where, *hint = errors.splitlines()
+                wanted = f"line {place + 1}, entry {place + 1}: no JSON from column {len(line.rstrip()) + 1} on"
+                same(f"a cut after {line!r}", (2, "", wanted), (status, text, where))
+                same(f"hint of a cut after {line!r}", True, hint == [] or "ends inside" in hint[0] and "cut off?" in hint[0] or hint == [cut_input(place + 1, place + 1)])
+                count += len(hint)
+    return f"{count} hints"
 
 
 def survives_hostile_bytes(program):
@@ -799,10 +881,10 @@ def records_databases(program):
 
 
 CASES = [on_all_small_histories, on_drawn_histories, on_drawn_histories_strictly, levels_of_all_small_histories, levels_of_drawn_histories,
-         names_the_strongest_level, names_the_read_that_decides, keeps_the_order_of_begins, names_anomalies, names_the_operations,
+         names_the_strongest_level, names_the_read_that_decides, keeps_the_order_of_begins, shortens_a_long_order, draws_the_level, names_anomalies, names_the_operations,
          shows_values_of_a_long_read, ends_on_long_ones, reads_each_form, reads_edn,
          takes_null_for_the_empty_list, takes_processes_of_any_name, takes_keys_of_any_name, skips_what_is_no_transaction, refuses_nothing,
-         refuses_an_end_of_other_operations, keeps_time_only_with_invocations, reports_faults, survives_hostile_bytes, needs_its_model, hints_at_its_model, draws_its_witness, recorded_ones,
+         refuses_an_end_of_other_operations, keeps_time_only_with_invocations, reports_faults, names_the_line_that_is_cut, survives_hostile_bytes, needs_its_model, hints_at_its_model, draws_its_witness, recorded_ones,
          records_databases]
 
 if __name__ == "__main__":

@@ -16,6 +16,7 @@ import xml.etree.ElementTree as ElementTree
 
 sys.dont_write_bytecode = True
 from helpers.cases import TESTS, Differs, same, run_cases  # noqa: E402
+from helpers.textbook import unjudged  # noqa: E402
 from program import Program  # noqa: E402
 
 HISTORIES = TESTS.parent / "examples" / "histories"
@@ -178,7 +179,7 @@ def picture_of(sgt, operations, *words, status=None):
     ended, report, reported = sgt.run("check", given=given)
     drawn, text, reported_too = sgt.run("check", "--timeline", *words, given=given)
     same("status", status if status is not None else ended, drawn)
-    same("standard error", "", reported + reported_too)
+    same("standard error", unjudged(report), reported + reported_too)
     return report, text
 
 

@@ -25,6 +25,7 @@ sys.dont_write_bytecode = True
 from helpers import explained  # noqa: E402
 from helpers.cases import SECONDS, TESTS, Differs, first_line, same, run_cases  # noqa: E402
 from helpers.legal import Illegal, judge  # noqa: E402
+from helpers.textbook import unjudged  # noqa: E402
 from helpers.worked import PROGRAMS, Bank, drawn  # noqa: E402
 
 EXAMPLES = TESTS.parent / "examples"
@@ -162,7 +163,7 @@ def reads_a_named_file(sgt):
                    err=sgt.run("script", "--explain", given=OPENING + "[]\n")[2])
         sgt.expect("bank", "--workers", "2", named(OPENING + '["job",0,[1]]\n'),
                    out=sgt.run("bank", "--workers", "2", given=OPENING + '["job",0,[1]]\n')[1])
-        sgt.expect("check", named(HISTORY), status=1, out=REPORT)
+        sgt.expect("check", named(HISTORY), status=1, out=REPORT, err=unjudged(REPORT))
         sgt.expect("check", "--graph", named(HISTORY, "-h.txt").replace(scratch, f"{scratch}/."), status=1, out=GRAPH)
         missing = os.path.join(scratch, "none")
         for command in ("script", "bank", "check"):
@@ -269,13 +270,13 @@ def checks_each_history(sgt):
         report = history.with_suffix(".out").read_text()
         sound = "\nserializable yes" in report and "\nrecoverable yes\n" in report
         try:
-            sgt.expect("check", given=history.read_text(), status=0 if sound else 1, out=report)
+            sgt.expect("check", given=history.read_text(), status=0 if sound else 1, out=report, err=unjudged(report))
         except Differs as why:
             raise Differs(f"histories/{history.name}: {why}") from None
 
 
 def checks_a_history_that_breaks_all_but_one(sgt):
-    sgt.expect("check", given=HISTORY, status=1, out=REPORT)
+    sgt.expect("check", given=HISTORY, status=1, out=REPORT, err=unjudged(REPORT))
 
 
 def draws_a_cycle(sgt):
@@ -440,7 +441,7 @@ def is_sound(sgt, name, *words, given):
     same(f"{name}: standard error", "", err)
     same(f"{name}: status", 0, status)
     status, report, err = sgt.run("check", given=history)
-    same(f"{name}: standard error of check", "", err)
+    same(f"{name}: standard error of check", unjudged(report), err)
     same(f"{name}: status of check", 0, status)
     for line in ("serializable yes:", "recoverable yes\n", "commit ordered yes\n"):
         if "\n" + line not in report:
@@ -788,6 +789,7 @@ def says_what_an_operation_looks_like(sgt):
     """In a second line, with its column, and with a hint if it is plain what was meant."""
     form = "an operation is r1[x], w1[x], c1 or a1"
     small = "an operation starts with a small letter: r1[x], w1[x], c1 or a1"
+    item = "an item is 1 to 64 letters, digits and _ . / : -"
     long = "y" * 64
     for given, column, words in (
         ("A1", 1, small),
@@ -797,10 +799,30 @@ def says_what_an_operation_looks_like(sgt):
         ("c1 r2", 4, "a read and a write name an item in square brackets, as in r1[x]"),
         ("b1 r1[x]", 1, f"{form}; a transaction begins with its first one, without a word"),
         ("# none\nc1 x9", 4, form),
-        ("r1[x], w2[x]", 1, "operations are separated by spaces or newlines, without commas"),
-        ("r1[x];", 1, "operations are separated by spaces or newlines, without commas"),
+        ("r1[x], w2[x]", 6, "operations are separated by spaces or newlines, without commas"),
+        ("r1[x];", 6, "operations are separated by spaces or newlines, without commas"),
+        ("r1[x],w1[x],c1", 6, "operations are separated by spaces or newlines, without commas"),
+        ("c1 r1[x]w1[x]c1", 9, "a space or a newline has to follow an operation"),
+        ("r2[x] c1c1", 9, "a space or a newline has to follow an operation"),
+        ("r01[x]", 2, "the number of a transaction has no leading zeros"),
+        ("r0[x] c00", 8, "the number of a transaction has no leading zeros"),
+        ("r4294967295[x] r4294967296[x]", 17, "a transaction is a number from 0 to 4294967295"),
+        ("c99999999999999999999999", 2, "a transaction is a number from 0 to 4294967295"),
+        ("r1[a,b]", 5, item),
+        ("r1[]", 4, item),
+        ("w1[x:=5]", 6, item),
+        ("r1[a b]", 5, f"a ] is missing here; {item}"),
+        ("r1[ x ]", 4, f"a ] is missing here; {item}"),
+        ("c2 w1[x", 8, f"a ] is missing here; {item}"),
+        ("c2 r1[na\u00efve]", 9, "U+00EF is not ASCII"),
+        ("r1[x]\u00a0w1[x]", 6, "U+00A0 is not ASCII"),
+        ("r1[x]\u200b w1[x]", 6, "U+200B is not ASCII"),
+        ("r\u2081[x]", 2, "U+2081 is not ASCII"),
+        ("r1\uff3bx\uff3d", 3, "U+FF3B is not ASCII"),
+        ("r1[\U0001f600]", 4, "U+1F600 is not ASCII"),
+        ("\ufeffr1[x]", 1, "a byte order mark: save the input without it"),
         ("c1 r22[x] r2#", 11, "a read and a write name an item in square brackets, as in r1[x]"),
-        (f"r1[x] r2[{long}]\r\nw2[x] r2[{long}y]", 7, form),
+        (f"r1[x] r2[{long}]\r\nw2[x] r2[{long}y]", 10, item),
         ("c1 \x01\x7f \x01", 4, form),
     ):
         status, out, reported = sgt.run("check", given=given)
@@ -810,17 +832,50 @@ def says_what_an_operation_looks_like(sgt):
         same("a line of three megabytes", (2, "", f"column {column}: {form}"), (status, out, reported.splitlines()[1]))
 
 
+def hints_at_the_kind_of_another_input(sgt):
+    """Given to a check of a history: a script and a bank, and what clients saw; but not other JSON."""
+    script = "; sgt script --history or sgt bank --history writes the history of such an input"
+    clients = "; JSON and EDN are read with --model list-append"
+    for given in (OPENING + EVENTS, OPENING + JOB):
+        status, out, reported = sgt.run("check", given=given)
+        same("of a script", (2, "", True, f"{script}\n"), (status, out, reported.startswith("line 1: no operation: {"), reported[reported.index("; "):]))
+    for given in ('[\n {"process":1}]', '{"a":{"type":1}}', "[{:f :txn\n :type :ok}]"):
+        same(given, (2, "", clients), (*(it := sgt.run("check", given=given))[:2], it[2][it[2].index("; "):].strip()))
+    sgt.expect("check", given="{}", status=2, err="line 1: no operation: {}\ncolumn 1: an operation is r1[x], w1[x], c1 or a1\n")
+    reported = "line 1, entry 1: the process is not a whole number or a text\nthis is a script: sgt script --history writes its history, for sgt check\n"
+    sgt.expect("check", "--model", "list-append", given=OPENING + EVENTS, status=2, err=reported)
+
+
+def says_how_many_are_not_judged(sgt):
+    """After the report on a history with active transactions, but not where a graph or a picture is drawn."""
+    what = ": serializable and recoverable judge committed ones alone\n"
+    for given, reported in (
+        ("r1[x] r2[x] w1[x] w2[x]", f"2 transactions are active, and none committed{what}"),
+        ("r1[x] r2[x] w1[x] c1 w2[x]", f"1 transaction is active{what}"),
+        ("r1[x] a1 r2[x]", f"1 transaction is active, and none committed{what}"),
+        ("r1[x] a1", ""),
+        ("c1", ""),
+    ):
+        same(given, (0, reported), sgt.run("check", given=given)[::2])
+        for option in ("--graph", "--timeline"):
+            same(f"{given} {option}", (0, ""), sgt.run("check", option, given=given)[::2])
+
+
 def says_more_of_each_other_error(sgt):
     """In a second line, which comes without an option."""
     too_long = "an input has at most 16777216 bytes: split it, and begin the next part with what --records writes of the one before"
     history = "a history has operations: r1[x], w1[x], c1 or a1"
+    last = "the commit or abort of a transaction is its last operation"
     for words, given, reported in (
         (["script"], OPENING + " " * LONGEST_INPUT, "line 2: long line\na line has at most 65536 bytes"),
         (["script"], OPENING + ('["step",9]' + " " * 60_000 + "\n") * 300, f"input too long\n{too_long}"),
         (["script"], "\ufeff" + OPENING, "line 1: not JSON\ncolumn 1: a byte order mark: save the input without it"),
         (["bank"], OPENING + '["job",1]\n', 'line 2: bad line\nexpected ["job",procedure,[argument,..]], found ["job",1]'),
         (["check"], "", f"no operations\n{history}"),
-        (["check"], "c1 c1", "line 1: transaction 1 has ended\nthe commit or abort of a transaction is its last operation"),
+        (["check"], "c1 c1", f"line 1: transaction 1 has ended\ncolumn 4: c1 comes after c1 (1); {last}"),
+        (["check"], "r3[x] a3 # w3[x]\n\n r1[x]\t w3[x1] c1", f"line 3: transaction 3 has ended\ncolumn 9: w3[x1] comes after a3 (2); {last}"),
+        (["check"], "r33[x] c3 w33[x] c33 w3[y]", f"line 1: transaction 3 has ended\ncolumn 22: w3[y] comes after c3 (2); {last}"),
+        (["check"], "c1\n" * 1 + "r2[x]\n" * 2000 + "c1", f"line 2002: transaction 1 has ended\n{last}"),
     ):
         same(f"{words} {given[:40]!r}", (2, f"{reported}\n"), sgt.run(*words, given=given)[::2])
 
@@ -1159,6 +1214,8 @@ CASES = [
     names_the_fault_of_a_history,
     refuses_a_history_that_is_too_long,
     says_what_an_operation_looks_like,
+    hints_at_the_kind_of_another_input,
+    says_how_many_are_not_judged,
     says_more_of_each_other_error,
     shows_what_was_typed,
     finds_a_faulty_line_after_many,

@@ -5,11 +5,22 @@ A `History` looks at all pairs of operations. A `LongHistory` goes once over the
 """
 
 import heapq
+import re
 from collections import defaultdict
 from itertools import permutations
 from typing import NamedTuple
 
 ACCESSES, ENDS = "rw", "ca"
+
+
+def unjudged(report):
+    """What standard error says after the report if transactions are active, by its first line."""
+    counts = re.match(r"transactions \d+: (\d+) committed, \d+ aborted, (\d+) active\n", report)
+    if not counts or counts[2] == "0":
+        return ""
+    what = "1 transaction is active" if counts[2] == "1" else f"{counts[2]} transactions are active"
+    none = ", and none committed" if counts[1] == "0" else ""
+    return f"{what}{none}: serializable and recoverable judge committed ones alone\n"
 
 
 class Operation(NamedTuple):

@@ -16,11 +16,14 @@
 #![tactic(auto)]
 
 mod advice;
+mod ended_error;
 mod failure;
 mod help;
 mod input;
+mod input_kind;
 mod operation_error;
 mod output;
+mod unjudged;
 
 ghost use Rattle.std.specs.Prelude.{◌≤◌, ◌<◌, ◌+◌, ◌^◌};
 
@@ -30,10 +33,11 @@ use clap::{Arg, ArgAction, ArgMatches, Command};
 use failure::{Detail, Failure, check_failure, clients_failure, failure_of};
 use help::{BANK_HELP, CHECK_HELP, HELP, SCRIPT_HELP};
 use input::{FILE, open_input};
+use input_kind::kind_of;
 use output::OutputBytes;
 use sgt_bank::{Explanations, MOST_TRIES, MOST_WORKERS, run_bank};
-use sgt_check::{CheckFault, run_check};
-use sgt_clients::{Answer, ClientsFault, ClientsOutput, Flaw, Level, Question, run_clients};
+use sgt_check::{CheckFault, Verdict, run_check};
+use sgt_clients::{Answer, ClientsFault, ClientsOutput, Hint, Level, Question, run_clients};
 use sgt_input::{Fault, Reader, Sink, Source, Writer};
 use sgt_line_errors::Remembering;
 use sgt_notation::NotationFault;
@@ -47,6 +51,7 @@ use std::rt::Files;
 use std::sync::Wait;
 use std::thread::Threads;
 use std::time::Clock;
+use unjudged::unjudged;
 
 const VERSION: &str = "0.1.0";
 
@@ -80,9 +85,6 @@ For more information, try '--help'.";
 
 /// The hint for text that is read as what clients saw.
 const IS_TEXT: &str = "; text like r1[x] is read without --model list-append";
-
-/// The hint for what clients saw that is read as text.
-const IS_JSON: &str = "; JSON and EDN are read with --model list-append";
 
 /// What a person reads who types the input.
 const TYPED: &str = "reading standard input; ^D ends";
@@ -520,13 +522,26 @@ fn check<R: Print + Eprint + Files, I: Read + Drop>(
     let mut source = Remembering::new(alloc, Reader::new(input));
     let mut writer = Writer::new(OutputBytes::new(io::writer(rt)));
     match run_check(alloc, &mut source, &mut writer, check_output(options)) {
-        Ok(is_sound) => verdict(is_sound),
+        Ok(verdict) => judged(rt, options, verdict),
         Err(CheckFault::Writing) if writer.inner.is_unread() => failed(
             rt,
             Failure::<Fault>::Unread,
         ),
-        Err(fault) if is_brace(&fault) => report_hint(rt, fault, IS_JSON),
-        Err(fault) => failed(rt, check_failure(rt, &source, options.get_str(FILE), fault)),
+        Err(fault) => check_failed(rt, alloc, &source, options.get_str(FILE), fault),
+    }
+}
+
+/// Reports why a history could not be checked, and returns the exit status.
+fn check_failed<R: Eprint + Files, S: Source>(
+    rt: &R,
+    alloc: Global,
+    source: &Remembering<S>,
+    file: Option<&str>,
+    fault: CheckFault,
+) -> ExitCode {
+    match kind_of(source) {
+        Some(kind) if is_brace(&fault) => report_hint(rt, fault, kind),
+        _ => failed(rt, check_failure(rt, alloc, source, file, fault)),
     }
 }
 
@@ -554,7 +569,7 @@ fn clients_failed<R: Eprint + Files>(
     is_unread: bool,
     fault: ClientsFault,
 ) -> ExitCode {
-    if is_no_json(&fault) {
+    if matches!(fault, ClientsFault::Hinted(_, _, _, Hint::History)) {
         return report_hint(rt, fault, IS_TEXT);
     }
     if is_unread && fault == ClientsFault::Check(CheckFault::Writing) {
@@ -573,11 +588,6 @@ fn question_of(level: Option<&str>, strict: bool) -> Question {
         _ => Level::Serializable,
     };
     Question { level, strict }
-}
-
-/// Whether the first entry is no JSON from its first byte on.
-fn is_no_json(fault: &ClientsFault) -> bool {
-    matches!(fault, ClientsFault::Entry(_, 1, Flaw::NotJson(1)))
 }
 
 /// Whether the text of a history starts like JSON or EDN.
@@ -663,9 +673,16 @@ fn run_on<R: Print + Eprint + Files + Clock + Threads + Wait + Sync, I: Read + D
     }
 }
 
-/// The exit status of a check: whether the history is as it should be.
-fn verdict(is_sound: bool) -> ExitCode {
-    if is_sound {
+/// The exit status of a check: whether the history is as it should be. After a report, standard error says how many
+/// transactions were not judged.
+fn judged<R: Eprint>(rt: &R, options: &ArgMatches<'_>, verdict: Verdict) -> ExitCode {
+    if let (sgt_check::Output::Report, Some(unjudged)) = (
+        check_output(options),
+        unjudged(&verdict.counts),
+    ) {
+        report(rt, unjudged);
+    }
+    if verdict.sound {
         ExitCode::SUCCESS
     } else {
         ExitCode::from(1)

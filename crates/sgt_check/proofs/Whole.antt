@@ -1,28 +1,29 @@
 -- What a check of known bytes comes to.
-use Rattle.std.proofs.Common.{◌≡◌, ◌≢◌, ◌<◌, length, take, ℕ, Bool, List, refl, sym, subst}
+use Rattle.std.proofs.Common.{◌≡◌, ◌≢◌, ◌<◌, length, take, ℕ, List, refl, sym, subst}
 use Rattle.std.specs.Prelude.{Option, Some, None, IfSome}
 use Rattle.std.specs.Io.KnownBytes.{Appends}
 use Rattle.sgt_notation.specs.declared.fault.NotationFault.{NotationFault}
+use Rattle.sgt_check.specs.declared.checked.Verdict.{Verdict}
 use Rattle.sgt_check.specs.Checks.{IsFaultOf}
 use Rattle.sgt_check.specs.declared.fault.CheckFault.{CheckFault}
 use Rattle.sgt_check.specs.declared.fault.CheckFault.TheVariants.{Notation, NoOperations, TooLong, Reading, Writing, NoMemory}
 
 -- the lines of what was read are written
-pub is_reported : (Says : List ℕ → List ℕ → Bool → Type 0) (rest held held' : Option (List ℕ)) (text lines : List ℕ) (sound : Bool)
-    → IfSome rest (λ bytes. bytes ≡ text) → Says text lines sound → Appends held held' lines
-    → IfSome rest (λ input. (output : List ℕ) × Appends held held' output × Says input output sound)
-is_reported Says None held held' text lines sound same reported appended = tt
-is_reported Says (Some bytes) held held' text lines sound same reported appended =
-    (lines, appended, subst (λ t. Says t lines sound) (sym same) reported)
+pub is_reported : (Says : List ℕ → List ℕ → Verdict → Type 0) (rest held held' : Option (List ℕ)) (text lines : List ℕ) (v : Verdict)
+    → IfSome rest (λ bytes. bytes ≡ text) → Says text lines v → Appends held held' lines
+    → IfSome rest (λ input. (output : List ℕ) × Appends held held' output × Says input output v)
+is_reported Says None held held' text lines v same reported appended = tt
+is_reported Says (Some bytes) held held' text lines v same reported appended =
+    (lines, appended, subst (λ t. Says t lines v) (sym same) reported)
 
 -- the first bytes of those lines are written
-pub is_begun : (Says : List ℕ → List ℕ → Bool → Type 0) (rest held held' : Option (List ℕ)) (text lines : List ℕ) (sound : Bool)
-    → IfSome rest (λ bytes. bytes ≡ text) → Says text lines sound → ((k : ℕ) × Appends held held' (take k lines))
-    → IfSome rest (λ input. (output : List ℕ) × (sound : Bool) × (k : ℕ) × Says input output sound
+pub is_begun : (Says : List ℕ → List ℕ → Verdict → Type 0) (rest held held' : Option (List ℕ)) (text lines : List ℕ) (v : Verdict)
+    → IfSome rest (λ bytes. bytes ≡ text) → Says text lines v → ((k : ℕ) × Appends held held' (take k lines))
+    → IfSome rest (λ input. (output : List ℕ) × (v : Verdict) × (k : ℕ) × Says input output v
     × Appends held held' (take k output))
-is_begun Says None held held' text lines sound same reported part = tt
-is_begun Says (Some bytes) held held' text lines sound same reported part =
-    (lines, sound, part.0, subst (λ t. Says t lines sound) (sym same) reported, part.1)
+is_begun Says None held held' text lines v same reported part = tt
+is_begun Says (Some bytes) held held' text lines v same reported part =
+    (lines, v, part.0, subst (λ t. Says t lines v) (sym same) reported, part.1)
 
 -- an error of the text is an error of the input
 pub text_fault : (rest : Option (List ℕ)) (text : List ℕ) (f : CheckFault) → IfSome rest (λ bytes. bytes ≡ text) → IsFaultOf text f

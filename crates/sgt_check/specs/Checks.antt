@@ -8,10 +8,11 @@ use Rattle.sgt_notation.specs.Words.{words_of}
 use Rattle.sgt_notation.specs.Readings.{AreRead, IsFirstFault, texts}
 use Rattle.sgt_check.specs.declared.checked.Output.{Output}
 use Rattle.sgt_check.specs.declared.checked.Output.TheVariants as output
+use Rattle.sgt_check.specs.declared.checked.Verdict.{Verdict}
 use Rattle.sgt_check.specs.declared.report.Report.{Report}
 use Rattle.sgt_check.specs.declared.fault.CheckFault.{CheckFault}
 use Rattle.sgt_check.specs.declared.fault.CheckFault.TheVariants.{Notation, NoOperations, TooLong}
-use Rattle.sgt_check.specs.Reports.{IsReport}
+use Rattle.sgt_check.specs.Reports.{IsReport, AreCounts}
 use Rattle.sgt_check.specs.ReportText.{report_text}
 use Rattle.sgt_check.specs.Graphs.{IsDrawn}
 use Rattle.sgt_check.specs.Timelines.{IsPictured}
@@ -34,13 +35,14 @@ abbrev pub IsVerdict : List Operation → Bool → Type 0
 IsVerdict h sound = (sound ≡ true) ↔ (IsSerializable h × IsRecoverable h)
 
 -- What a check guarantees for each output. It writes the text of that output for the history in the input, and
--- returns the verdict on that history, which has an operation.
-pub record IsChecked (output : Output) (input written : List ℕ) (sound : Bool) : Type 0 where
+-- returns the verdict on that history, which has an operation, and its counts.
+pub record IsChecked (output : Output) (input written : List ℕ) (v : Verdict) : Type 0 where
   pub history : History
   pub read : AreRead (words_of input) (texts history) history.operations.items
   pub some : history.operations.items ≢ []
   pub lines : IsOutput output history written
-  pub verdict : IsVerdict history.operations.items sound
+  pub verdict : IsVerdict history.operations.items v.sound
+  pub counts : AreCounts history.operations.items v.counts
 
 -- an error of the input: it is too long, or its text is not a history, or has no word
 abbrev pub IsFaultOf : List ℕ → CheckFault → Type 0

@@ -7,10 +7,11 @@ ghost use Rattle.sgt_classes.specs.Equivalence.{IsSerializable};
 ghost use Rattle.sgt_classes.specs.SerialOrders.{IsSerial};
 ghost use Rattle.sgt_check.specs.Checks.{IsReported, IsOutput, IsVerdict};
 ghost use Rattle.sgt_check.specs.Graphs.{IsDrawn};
+ghost use Rattle.sgt_check.specs.Reports.{AreCounts};
 ghost use Rattle.sgt_check.specs.Timelines.{IsPictured};
 
 use crate::graph_text::append_graph;
-use crate::report::{check_history, serial_unless_commit_ordered};
+use crate::report::{Counts, check_history, count, serial_unless_commit_ordered};
 use crate::report_text::append_report;
 use crate::timeline::draw_report;
 use sgt_classes::{
@@ -46,8 +47,16 @@ pub enum Output {
 pub(crate) struct Checked {
     /// The lines of the output.
     pub lines: Vec<u8>,
+    pub verdict: Verdict,
+}
+
+/// What a check says of a history, whatever it writes.
+#[derive(Clone, Copy, Debug, PartialEq, Eq)]
+pub struct Verdict {
     /// Whether the history is serializable and recoverable.
     pub sound: bool,
+    /// How many transactions it has. Those that are active are not judged.
+    pub counts: Counts,
 }
 
 /// Checks the history, for this output.
@@ -57,7 +66,8 @@ pub(crate) fn check_for(
     output: Output,
 ) -> Result<Checked, NoMemory>
     ensures written { IfOk result (λ c. IsOutput output history.now c.lines.items) }
-    ensures verdict { IfOk result (λ c. IsWellFormed history.now.operations.items → IsVerdict history.now.operations.items c.sound) }
+    ensures verdict { IfOk result (λ c. IsWellFormed history.now.operations.items → IsVerdict history.now.operations.items c.verdict.sound) }
+    ensures counts { IfOk result (λ c. AreCounts history.now.operations.items c.verdict.counts) }
 {
     match output {
         Output::Report => check_for_report(alloc, history),
@@ -70,14 +80,18 @@ pub(crate) fn check_for(
 /// Checks the history for all classes, with the report as its output.
 fn check_for_report(alloc: Global, history: &History) -> Result<Checked, NoMemory>
     ensures written { IfOk result (λ c. IsReported history.now c.lines.items) }
-    ensures verdict { IfOk result (λ c. IsWellFormed history.now.operations.items → IsVerdict history.now.operations.items c.sound) }
+    ensures verdict { IfOk result (λ c. IsWellFormed history.now.operations.items → IsVerdict history.now.operations.items c.verdict.sound) }
+    ensures counts { IfOk result (λ c. AreCounts history.now.operations.items c.verdict.counts) }
 {
     let report = check_history(alloc, history.operations.as_slice())?;
     let mut lines = Vec::new(alloc);
     append_report(&mut lines, history, &report)?;
     Ok(Checked {
         lines,
-        sound: is_sound(&report.serializability, &report.recoverable),
+        verdict: Verdict {
+            sound: is_sound(&report.serializability, &report.recoverable),
+            counts: report.counts,
+        },
     })
 }
 
@@ -85,32 +99,44 @@ fn check_for_report(alloc: Global, history: &History) -> Result<Checked, NoMemor
 /// that a report would.
 fn check_for_graph(alloc: Global, history: &History) -> Result<Checked, NoMemory>
     ensures written { IfOk result (λ c. IsDrawn history.now c.lines.items) }
-    ensures verdict { IfOk result (λ c. IsWellFormed history.now.operations.items → IsVerdict history.now.operations.items c.sound) }
+    ensures verdict { IfOk result (λ c. IsWellFormed history.now.operations.items → IsVerdict history.now.operations.items c.verdict.sound) }
+    ensures counts { IfOk result (λ c. AreCounts history.now.operations.items c.verdict.counts) }
 {
     let operations = history.operations.as_slice();
     let commit_ordered = commit_order_violation(alloc, operations)?;
     let shown = serial_unless_commit_ordered(alloc, operations, &commit_ordered)?;
     let recoverable = recoverable_violation(alloc, operations)?;
     let conflicts = first_conflicts(alloc, operations)?;
+    let counts = count(alloc, operations)?;
     let mut lines = Vec::new(alloc);
     append_graph(alloc, &mut lines, history, conflicts.as_slice(), &shown)?;
     Ok(Checked {
         lines,
-        sound: is_sound(&shown, &recoverable),
+        verdict: Verdict {
+            sound: is_sound(&shown, &recoverable),
+            counts,
+        },
     })
 }
 
 /// Checks the history for all classes, with its picture as the output.
 fn check_for_timeline(alloc: Global, history: &History, whole: usize) -> Result<Checked, NoMemory>
     ensures written { IfOk result (λ c. IsPictured (min whole 400) history.now c.lines.items) }
-    ensures verdict { IfOk result (λ c. IsWellFormed history.now.operations.items → IsVerdict history.now.operations.items c.sound) }
+    ensures verdict { IfOk result (λ c. IsWellFormed history.now.operations.items → IsVerdict history.now.operations.items c.verdict.sound) }
+    ensures counts { IfOk result (λ c. AreCounts history.now.operations.items c.verdict.counts) }
 {
     let report = check_history(alloc, history.operations.as_slice())?;
     let picture = draw_report(alloc, history, &report, whole)?;
     let mut lines = Vec::new(alloc);
     append_picture(&mut lines, history, &picture)?;
     let sound = is_sound(&report.serializability, &report.recoverable);
-    Ok(Checked { lines, sound })
+    Ok(Checked {
+        lines,
+        verdict: Verdict {
+            sound,
+            counts: report.counts,
+        },
+    })
 }
 
 /// Whether a history is serializable and recoverable. It needs the serial order or cycle, and the first violation of

@@ -28,7 +28,7 @@ mod report_text;
 mod run;
 mod timeline;
 
-pub use checked::Output;
+pub use checked::{Output, Verdict};
 pub use fault::CheckFault;
 pub use graph_text::append_graph;
 pub use input::read_input;

@@ -213,7 +213,7 @@ fn is_abort(action: &Action) -> bool
 }
 
 /// Counts the transactions.
-fn count(alloc: Global, history: &[Operation]) -> Result<Counts, NoMemory>
+pub(crate) fn count(alloc: Global, history: &[Operation]) -> Result<Counts, NoMemory>
     ensures { IfOk result (AreCounts history.now) }
 {
     let mut seen = Table::new(alloc, history.len());

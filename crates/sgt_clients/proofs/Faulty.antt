@@ -12,8 +12,10 @@ use Rattle.sgt_clients.specs.Faults.{IsOwn}
 pub own_fault : (rest : Option (List ℕ)) (f : ClientsFault) → IsOwn f → IfSome rest (λ input. IsFaultOf input f)
 own_fault None f own = tt
 own_fault (Some bytes) (fault.Entry line entry flaw) own = tt
+own_fault (Some bytes) (fault.Hinted line entry flaw hint) own = tt
 own_fault (Some bytes) (fault.Twice second value key first) own = tt
 own_fault (Some bytes) fault.NoOperations own = tt
+own_fault (Some bytes) (fault.OnlySkipped count) own = tt
 own_fault (Some bytes) fault.NoInvocations own = tt
 own_fault (Some bytes) fault.Undecided own = tt
 own_fault (Some bytes) (fault.Check (Notation n)) own = tt

@@ -4,6 +4,7 @@ ghost use Rattle.sgt_clients.specs.declared.fault.ClientsFault.TheVariants as fa
 ghost use Rattle.sgt_clients.specs.declared.fault.ReadError.TheVariants as error;
 ghost use Rattle.sgt_check.specs.declared.fault.CheckFault.TheVariants as check_fault;
 
+use crate::hint::Hint;
 use sgt_check::CheckFault;
 use sgt_notation::Shown;
 use thiserror::Error;
@@ -29,8 +30,9 @@ pub enum Flaw {
     Key(usize),
     #[error("operation {0} has a value that is not a whole number from 0 to 4294967295")]
     Number(usize),
-    #[error("process {0} has invoked another transaction, and has not ended it")]
-    Invoked(Shown),
+    /// The other invocation is on this line, and has this number among the entries.
+    #[error("process {0} has invoked another transaction, line {1}, entry {2}, and has not ended it")]
+    Invoked(Shown, u64, usize),
     /// The invocation is on this line, and has this number among the entries.
     #[error("the operations are not those of the invocation, line {0}, entry {1}")]
     OtherOperations(u64, usize),
@@ -77,15 +79,21 @@ impl From<sgt_model::NoMemory> for ReadError {
 /// Why a check of what clients saw ended without a report. Lines and entries are counted from 1.
 #[derive(Debug, Drop, PartialEq, Eq, Error)]
 pub enum ClientsFault {
-    /// The entry, which starts on the line, is wrong.
+    /// The entry, which starts on the line, is wrong. If it is not JSON, that is the line from which on it is not.
     #[error("line {0}, entry {1}: {2}")]
     Entry(u64, usize, Flaw),
+    /// The same, and what a second line says.
+    #[error("line {0}, entry {1}: {2}")]
+    Hinted(u64, usize, Flaw, Hint),
     /// The transaction that ended or began here appends the value to the key, after the one that ended or began there.
     #[error("{0} appends {1} to key {2} a second time, after {3}")]
     Twice(Position, u32, Shown, Position),
     /// There is no transaction to judge.
     #[error("no operations")]
     NoOperations,
+    /// The same, and so many entries are of no transaction.
+    #[error("no operations; entries skipped, since they are of no transaction: {0}")]
+    OnlySkipped(usize),
     /// Real time is to be kept, and no entry is an invocation.
     #[error("no invocations: without them it is unknown when transactions began, which --strict needs")]
     NoInvocations,

@@ -24,13 +24,16 @@
 
 mod access;
 mod barriers;
+mod breaks;
 mod clients;
 mod counts;
 mod entry;
 mod evidence;
+mod explained;
 mod fault;
 mod finding;
 mod graph_text;
+mod hint;
 mod json_text;
 mod level;
 mod level_findings;
@@ -56,6 +59,7 @@ pub use clients::{Clients, Event, Span, read_clients};
 pub use fault::{ClientsFault, Flaw, Position};
 pub use finding::{Finding, Step, Why, check_clients};
 pub use graph_text::append_graph;
+pub use hint::Hint;
 pub use json_text::append_json;
 pub use level::{Answer, Level, Question};
 pub use level_findings::{LevelFindings, Weaker, check_levels};

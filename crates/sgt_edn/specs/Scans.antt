@@ -1,5 +1,5 @@
 -- The scan of a text in EDN, and the text in JSON that it writes, byte by byte.
-use Rattle.std.specs.Prelude.{◌==◌, ◌||◌, ◌&&◌, ◌+◌, ◌-◌, ◌^◌, ◌++◌, ℕ, Bool, true, false, not, if◌then◌else◌, min, List, [], ◌∷◌, codes}
+use Rattle.std.specs.Prelude.{◌==◌, ◌||◌, ◌&&◌, ◌+◌, ◌-◌, ◌^◌, ◌++◌, ℕ, Bool, true, false, not, if◌then◌else◌, min, List, [], ◌∷◌, length, take, codes}
 use Rattle.sgt_edn.specs.declared.scan.Mode.{Mode}
 use Rattle.sgt_edn.specs.declared.scan.Mode.TheVariants.{Between, Token, Literal, Text, Escape, Comment, Hash, Tag}
 use Rattle.sgt_edn.specs.declared.scan.Scan.{Scan}
@@ -136,6 +136,15 @@ text_from s t (x ∷ xs) = text_in s.mode s t x ++ text_from (after_in s.mode s 
 -- the text in JSON of a text in EDN
 abbrev pub json_of_edn : List ℕ → List ℕ
 json_of_edn text = text_from outside [] text
+
+-- how many bytes the text of these bytes has after a scan with this open token, without that of a token that they leave open
+abbrev pub size_from : Scan → List ℕ → List ℕ → ℕ
+size_from s t [] = 0
+size_from s t (x ∷ xs) = length (text_in s.mode s t x) + size_from (after_in s.mode s x) (token_in s.mode t x) xs
+
+-- how many bytes in JSON the first k bytes of a text in EDN make
+abbrev pub size_of : List ℕ → ℕ → ℕ
+size_of text k = size_from outside [] (take k text)
 
 -- the text continues with a keyword
 abbrev pub starts_keyword : List ℕ → Bool

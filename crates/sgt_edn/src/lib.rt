@@ -13,7 +13,8 @@
 //! Brackets that stand in nothing become spaces, and comments vanish. Each newline outside of strings stays, so lines keep
 //! their numbers. What is not EDN becomes what is not JSON: nothing is promised of it.
 //!
-//! [`is_edn`] decides by its first bytes whether a text is EDN or JSON.
+//! [`is_edn`] decides by its first bytes whether a text is EDN or JSON. [`edn_index`] says which byte of a text in EDN made a
+//! byte of its text in JSON.
 //!
 //! `specs/Scans.antt` defines the text byte by byte. Tested, not proved: that it is the same data.
 //!
@@ -24,8 +25,10 @@
 
 mod bytes;
 mod format;
+mod place;
 mod scan;
 mod token;
 
 pub use format::is_edn;
+pub use place::edn_index;
 pub use scan::json_of_edn;

@@ -10,7 +10,7 @@ use std::alloc::Global;
 
 /// What a scan is in.
 #[derive(Clone, Copy, Debug, PartialEq, Eq)]
-enum Mode {
+pub(crate) enum Mode {
     /// Nothing.
     Between,
     /// A token.
@@ -31,8 +31,8 @@ enum Mode {
 
 /// How far a scan is.
 #[derive(Clone, Copy, Debug, PartialEq, Eq)]
-struct Scan {
-    mode: Mode,
+pub(crate) struct Scan {
+    pub mode: Mode,
     /// How many collections are open, the outer map among them.
     depth: usize,
     /// Whether the next item of the outer map is a value, not a key.
@@ -42,6 +42,18 @@ struct Scan {
 }
 
 impl Scan {
+    /// Before the first byte of a text.
+    pub(crate) fn start() -> Scan
+        ensures { result ≡ outside }
+    {
+        Scan {
+            mode: Mode::Between,
+            depth: 0,
+            is_value: false,
+            is_first: true,
+        }
+    }
+
     /// The same in another mode.
     fn in_mode(self, mode: Mode) -> Scan
         ensures { result ≡ in_mode mode self }
@@ -159,7 +171,7 @@ impl Scan {
     }
 
     /// After one more byte.
-    fn after(self, byte: u8) -> Scan
+    pub(crate) fn after(self, byte: u8) -> Scan
         ensures { result ≡ after_in self.mode self byte }
     {
         match self.mode {
@@ -186,12 +198,7 @@ pub fn json_of_edn(alloc: Global, text: &[u8]) -> Result<Vec<u8>, NoMemory>
 {
     let mut json = Vec::with_capacity(alloc, text.len())?;
     let mut token = Vec::new(alloc);
-    let mut scan = Scan {
-        mode: Mode::Between,
-        depth: 0,
-        is_value: false,
-        is_first: true,
-    };
+    let mut scan = Scan::start();
     for byte in text {
         append_one(&mut json, scan, token.as_slice(), *byte)?;
         note(&mut token, scan.mode, *byte)?;
@@ -202,7 +209,12 @@ pub fn json_of_edn(alloc: Global, text: &[u8]) -> Result<Vec<u8>, NoMemory>
 }
 
 /// Appends the text of one more byte.
-fn append_one(json: &mut Vec<u8>, scan: Scan, token: &[u8], byte: u8) -> Result<(), NoMemory>
+pub(crate) fn append_one(
+    json: &mut Vec<u8>,
+    scan: Scan,
+    token: &[u8],
+    byte: u8,
+) -> Result<(), NoMemory>
     ensures { OnOk result (json.new.items ≡ json.old.items ++ text_in scan.mode scan token.now byte) }
 {
     match scan.mode {
@@ -318,7 +330,7 @@ fn append_hash(json: &mut Vec<u8>, scan: Scan, byte: u8) -> Result<(), NoMemory>
 }
 
 /// Adds one more byte to the token, or ends it.
-fn note(token: &mut Vec<u8>, mode: Mode, byte: u8) -> Result<(), NoMemory>
+pub(crate) fn note(token: &mut Vec<u8>, mode: Mode, byte: u8) -> Result<(), NoMemory>
     ensures { OnOk result (token.new.items ≡ token_in mode token.old.items byte) }
 {
     match mode {

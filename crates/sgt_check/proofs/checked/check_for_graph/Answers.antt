@@ -6,6 +6,7 @@ use Rattle.sgt_classes.specs.Equivalence.{IsSerializable}
 use Rattle.sgt_classes.specs.SerialOrders.{IsShown, IsSerial}
 use Rattle.sgt_classes.specs.FirstConflicts.{AreFirstConflicts}
 use Rattle.sgt_check.specs.GraphText.{graph_text}
+use Rattle.sgt_check.specs.Reports.{AreCounts}
 use Rattle.sgt_check.proofs.Named.{can_be_named}
 use Rattle.sgt_check.proofs.checked.check_for_graph.Goals as goal
 
@@ -33,3 +34,7 @@ returns-clause-verdict c well =
     c.is_sound.ensures c.args.history.now.operations.items
     (subst (λ l. IsWellFormed l → IsSerial c.in_ok-shown.shown ↔ IsSerializable l) same c.in_ok-shown.ensures.serializable well)
     (subst (λ l. IsFirstViolation (BreaksRecoverability l) c.in_ok-recoverable.recoverable) same c.in_ok-recoverable.ensures)
+
+pub returns-clause-counts : goal.returns-clause-counts
+returns-clause-counts c =
+    subst (λ l. AreCounts l c.in_ok-counts.counts) c.as_slice-operations.ensures.value c.in_ok-counts.ensures

@@ -13,3 +13,7 @@ pub returns-clause-verdict : goal.returns-clause-verdict
 returns-clause-verdict c well =
     let found : IsReport c.args.history.now.operations.items c.in_ok-report.report = search rules in
     c.is_sound.ensures c.args.history.now.operations.items (found.serializable well) found.recoverable
+
+pub returns-clause-counts : goal.returns-clause-counts
+returns-clause-counts c =
+    let found : IsReport c.args.history.now.operations.items c.in_ok-report.report = search rules in found.counts

@@ -19,4 +19,5 @@ returns-clause-checked c =
       some = search rules;
       lines = search rules;
       verdict = c.in_ok-check_for.ensures.verdict read.ends_are_last;
+      counts = search rules;
     }

@@ -17,7 +17,7 @@ pub returns-clause-checked : goal.returns-clause-checked
 returns-clause-checked g c =
     is_reported (IsChecked c.args.output) (g.S.Source.rest c.args.source.now) (g.T.Sink.held c.args.sink.now)
     (g.T.Sink.held c.write_all.new.sink)
-    c.in_ok-text.text.items c.in_ok-checked.checked.lines.items c.in_ok-checked.checked.sound
+    c.in_ok-text.text.items c.in_ok-checked.checked.lines.items c.in_ok-checked.checked.verdict
     c.in_ok-text.ensures.bytes
     (search rules)
     (search rules)
@@ -26,7 +26,7 @@ pub returns-in_default-clause-part : goal.returns-in_default-clause-part
 returns-in_default-clause-part g c = λ _.
     is_begun (IsChecked c.args.output) (g.S.Source.rest c.args.source.now) (g.T.Sink.held c.args.sink.now)
     (g.T.Sink.held c.write_all.new.sink)
-    c.in_ok-text.text.items c.in_ok-checked.checked.lines.items c.in_ok-checked.checked.sound
+    c.in_ok-text.text.items c.in_ok-checked.checked.lines.items c.in_ok-checked.checked.verdict
     c.in_ok-text.ensures.bytes
     (search rules)
     (search rules)

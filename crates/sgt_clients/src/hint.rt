@@ -1,0 +1,40 @@
+//! What a second line says about a wrong entry.
+use thiserror::Error;
+
+/// What a second line says about a wrong entry. Lines, entries and columns are counted from 1.
+#[derive(Debug, Drop, PartialEq, Eq, Error)]
+pub enum Hint {
+    /// The first entry is not JSON from its first byte on, and may be text.
+    #[error("text like r1[x] is read without --model list-append")]
+    History,
+    #[error("this is a script: sgt script --history writes its history, for sgt check")]
+    Script,
+    /// The line ends inside this entry, and another one begins in the next line that is not empty.
+    #[error("the line ends inside entry {0}, and line {1} begins another one: was it cut off?")]
+    Line(usize, u64),
+    /// The input ends inside this entry, which begins in this line.
+    #[error("the input ends inside entry {0}, which begins in line {1}: if its recorder died, leave this entry out")]
+    Input(usize, u64),
+    /// The line ends inside a text, which begins in this column.
+    #[error("the line ends inside the text that begins in column {0}: was it cut off?")]
+    Text(usize),
+    /// This bracket closes another one than that of this line and column.
+    #[error("{0} stands here, and {1} of line {2}, column {3} is not closed")]
+    Mismatch(&'static str, &'static str, u64, usize),
+    #[error("{0} stands here, and nothing is open that it closes")]
+    Stray(&'static str),
+    #[error("a byte order mark: save the input without it")]
+    Mark,
+    #[error("a character that is not ASCII")]
+    Foreign,
+    #[error("#_ is not read: leave out what it discards")]
+    Discard,
+    #[error("{0} is missing")]
+    Missing(&'static str),
+    #[error("a process is a number from 0 or a text: \"-1\" is one, -1 is not")]
+    NegativeProcess,
+    #[error("a key is a number from 0 or a text: \"-1\" is one, -1 is not")]
+    NegativeKey,
+    #[error("a recorder that starts again takes new processes, or first writes an info for each that it left")]
+    Restart,
+}
