@@ -21,7 +21,7 @@ Limits:
   live          1 to 32 transactions at a time, as line 1 says
   starts        1 to 4000000000, as line 1 says
   procedures    64 statements, 16 deep; 4 arguments, 16 registers, 8 answers;
-                no loops, no deletes, no scans
+                no loops, no scans
   a line        65536 bytes
   an input      16777216 bytes; a history 268435456
   a bank        1000000 jobs, 16 workers, 1000 tries for each job
