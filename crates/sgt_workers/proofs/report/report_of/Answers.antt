@@ -26,14 +26,14 @@ returns-clause-report g c =
     c.in_ok-test_outcomes.ensures.stand) in
     record {
       opening = λ k. ap (λ o. contents_of o k) past.opening;
-      legal = subst (λ l. Legal s l) is past.legal;
+      legal = subst (λ l. Legal s l) is past.guarantees.legal;
       outcomes = stand;
       all_ended = stand.all_ended;
       values = λ k. subst (λ l. contents_of c.in-Ok.database k ≡ settled s.opening l k) is (c.in-Ok.ensures.values k);
       replayed = λ k. subst (λ l. contents_of c.in-Ok.database k ≡ (folded s l).last k) is (c.in-Ok.ensures.replayed k);
       by_key = c.in-Ok.ensures.by_key;
-      replay = subst (λ l. ReplayAgrees s l) is past.replay;
-      no_cycle = subst (λ l. Acyclic (Pair l)) is past.no_cycle;
-      causes = subst (λ l. AbortsHaveCause s l) is past.causes;
-      order = subst (λ l. CommitsInOrder l) is past.order;
+      replay = subst (λ l. ReplayAgrees s l) is past.guarantees.headline.replay;
+      no_cycle = subst (λ l. Acyclic (Pair l)) is past.guarantees.headline.no_cycle;
+      causes = subst (λ l. AbortsHaveCause s l) is past.guarantees.headline.causes;
+      order = subst (λ l. CommitsInOrder l) is past.guarantees.headline.order;
     }
