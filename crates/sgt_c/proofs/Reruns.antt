@@ -413,16 +413,16 @@ given_report_the_same law s past now calls legal calls_are after same legal_then
 -- calls without accesses that were run again
 runs_report_the_same : (s : Configuration) (past : List Entry) (calls : List SgtCall) → GivenReportTheSame s past (map started_by calls)
     → reported past ≡ reverse (map result_in calls) → RunsReportTheSame s past calls
-runs_report_the_same s past calls law results_are fresh after outcomes (same, new) (ran, headline, _) = (
+runs_report_the_same s past calls law results_are fresh after outcomes (same, new) (ran, guarantees, _) = (
   same_results calls outcomes all.replies all.said (sym reported_all ∙ agrees.1.reported_same ∙ results_are),
   agrees.1,
 )
   where
     same_then : configuration_of after.engine ≡ s
-    same_then = same_before (configuration_of after.engine) calls outcomes fresh.engine after.engine ran headline.0 ∙ same
+    same_then = same_before (configuration_of after.engine) calls outcomes fresh.engine after.engine ran guarantees.legal ∙ same
 
     legal_then : Legal s after.engine.past
-    legal_then = subst (λ x. Legal x after.engine.past) same_then headline.0
+    legal_then = subst (λ x. Legal x after.engine.past) same_then guarantees.legal
 
     all : RanAllTo fresh.engine.past after.engine.past [] calls outcomes
     all = all_ran s calls outcomes fresh.engine after.engine [] ran legal_then (subst (λ l. Between l []) (sym new) (record {
