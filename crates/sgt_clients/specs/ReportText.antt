@@ -200,12 +200,20 @@ skipped_text n =
 abbrev pub next_text : ℕ → List ℕ
 next_text t = codes " " ++ transaction_text t
 
--- a serial order, `none` if it has no transaction; of more than 100 the first 100, and how many there are
-abbrev pub order_text : List ℕ → List ℕ
-order_text order =
-    if nat_lt 100 (length order) then flat_map next_text (take 100 order) ++ (codes " .. of " ++ decimal (length order)) ++ codes " (--json has the order)"
-    else if length order == 0 then codes " none"
+-- how many transactions an order has, of which the first ones stand before
+abbrev pub rest_text : ℕ → List ℕ
+rest_text n = codes " .. of " ++ decimal n ++ codes " (--json has the order)"
+
+-- the transactions of an order; of more than 100 the first 100, and how many there are
+abbrev pub shown_order : List ℕ → List ℕ
+shown_order order =
+    if nat_lt 100 (length order) then flat_map next_text (take 100 order) ++ rest_text (length order)
     else flat_map next_text order
+
+-- a serial order, `none` if it has no transaction
+abbrev pub order_text : List ℕ → List ℕ
+order_text [] = codes " none"
+order_text (t ∷ ts) = shown_order (t ∷ ts)
 
 -- the line that names the anomaly
 abbrev pub no_text : List ℕ → List ℕ
