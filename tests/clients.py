@@ -771,7 +771,9 @@ def names_the_line_that_is_cut(program):
                 given = "\n".join([*lines[:place], line, *lines[place + 1:]])
                 status, text, errors = check(program, given)
                 where, *hint = errors.splitlines()
-                wanted = f"line {place + 1}, entry {place + 1}: no JSON from column {len(line.rstrip()) + 1} on"
+                torn = re.search(r" (n|nu|nul)$", line) if place + 1 < len(lines) and "\"" in lines[place] else None
+                column = torn.start(1) if torn else len(line.rstrip())
+                wanted = f"line {place + 1}, entry {place + 1}: no JSON from column {column + 1} on"
                 same(f"a cut after {line!r}", (2, "", wanted), (status, text, where))
                 same(f"hint of a cut after {line!r}", True, hint == [] or "ends inside" in hint[0] and "cut off?" in hint[0] or hint == [cut_input(place + 1, place + 1)])
                 count += len(hint)
