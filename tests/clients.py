@@ -771,7 +771,7 @@ def names_the_line_that_is_cut(program):
                 given = "\n".join([*lines[:place], line, *lines[place + 1:]])
                 status, text, errors = check(program, given)
                 where, *hint = errors.splitlines()
-                torn = re.search(r" (n|nu|nul)$", line) if place + 1 < len(lines) and line[1] == '"' else None
+                torn = re.search(r" (n|nu|nul)$", line) if place + 1 < len(lines) and "\"" in lines[place] else None
                 column = torn.start(1) if torn else len(line.rstrip())
                 wanted = f"line {place + 1}, entry {place + 1}: no JSON from column {column + 1} on"
                 same(f"a cut after {line!r}", (2, "", wanted), (status, text, where))
