@@ -574,7 +574,7 @@ def takes_processes_of_any_name(program):
         renamed = [it | {"process": name.format(*[it["process"]] * 100)} for it in entries]
         same(f"process {name}", wanted, check(program, lines_of(renamed)))
     began = entries[0] | {"process": 7}
-    reported = "line 2, entry 2: process 7 has invoked another transaction, line 1, entry 1, and has not ended it\n"
+    reported = "line 2, entry 2: process 7 has invoked another transaction, line 1, entry 1, and has not ended it\n" + RESTART + "\n"
     same("7 and its text", (2, "", reported), check(program, lines_of([began, began | {"process": "7"}])))
 
 

@@ -51,7 +51,7 @@ use std::rt::Files;
 use std::sync::Wait;
 use std::thread::Threads;
 use std::time::Clock;
-use unjudged::unjudged;
+use unjudged::active_ones;
 
 const VERSION: &str = "0.1.0";
 
@@ -678,7 +678,7 @@ fn run_on<R: Print + Eprint + Files + Clock + Threads + Wait + Sync, I: Read + D
 fn judged<R: Eprint>(rt: &R, options: &ArgMatches<'_>, verdict: Verdict) -> ExitCode {
     if let (sgt_check::Output::Report, Some(unjudged)) = (
         check_output(options),
-        unjudged(&verdict.counts),
+        active_ones(&verdict.counts),
     ) {
         report(rt, unjudged);
     }

@@ -12,7 +12,7 @@ pub(crate) struct Unjudged {
 }
 
 /// The transactions that are active, if there are any.
-pub(crate) fn unjudged(counts: &Counts) -> Option<Unjudged> {
+pub(crate) fn active_ones(counts: &Counts) -> Option<Unjudged> {
     let active = counts.active();
     if active == 0 {
         return None;
