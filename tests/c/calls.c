@@ -348,7 +348,7 @@ static int explains(const char *said, uint32_t status, const char *text, const u
 static void refusals_are_explained(void)
 {
     const char shape_error[] = "procedure 5, at 1 0: expected a statement, found 7";
-    const char code[] = "procedure 6, at 1 0 1: expected a code from 0 to 65535, found \"a\"";
+    const char code[] = "procedure 6, at 1 0 1: expected a code from 1 to 999, found \"a\"";
     const char flaw[] = "procedure 5, at 1 0 1: code 0 is not from 1 to 999";
     const char limit[] = "\"limits\": the first number is 33, and has to be from 1 to 32";
     char text[200] = "unwritten";
