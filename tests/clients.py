@@ -23,7 +23,7 @@ from concurrent.futures import ThreadPoolExecutor
 sys.dont_write_bytecode = True
 from helpers.appends import (  # noqa: E402
     COMMITTED, Transaction, all_small, drawn, entries_of, keeps_time, lines_of, precedences, serial_orders, shortest_cycle)
-from helpers.cases import SECONDS, TESTS, Differs, same, run_cases  # noqa: E402
+from helpers.cases import SECONDS, TESTS, Differs, first_line, same, run_cases  # noqa: E402
 from helpers.levels import drawn_split, is_committed_run, is_read_committed, is_snapshot_isolated, is_snapshot_run, may_stay_open  # noqa: E402
 from pictures import Drawing  # noqa: E402
 
@@ -545,7 +545,7 @@ def takes_processes_of_any_name(program):
         same(f"process {name}", wanted, check(program, lines_of(renamed)))
     began = entries[0] | {"process": 7}
     reported = "line 2, entry 2: process 7 has invoked another transaction, and has not ended it\n"
-    same("7 and its text", (2, "", reported), check(program, lines_of([began, began | {"process": "7"}])))
+    same("7 and its text", (2, "", reported), first_line(check(program, lines_of([began, began | {"process": "7"}]))))
 
 
 def takes_keys_of_any_name(program):
@@ -573,7 +573,7 @@ def skips_what_is_no_transaction(program):
         same("report", (status, wanted, errors), check(program, lines_of(entries) + given))
         reported = json.loads(check(program, lines_of(entries) + given, "--json")[1])
         same("skipped", given.count("\n"), reported["skipped"])
-        same("alone", (2, "", "no operations\n"), check(program, given))
+        same("alone", (2, "", "no operations\n"), first_line(check(program, given)))
     same("none", False, "skipped" in json.loads(check(program, lines_of(entries), "--json")[1]))
     entries[0].pop("f")
     same("no function", (status, text, errors), check(program, lines_of(entries)))
@@ -582,7 +582,7 @@ def skips_what_is_no_transaction(program):
 def refuses_nothing(program):
     for given in ("", "\n", "[]\n"):
         for options in ([], ["--strict"], ["--json"], ["--graph"], ["--timeline"]):
-            same(f"fault of {given!r}", (2, "", "no operations\n"), check(program, given, *options))
+            same(f"fault of {given!r}", (2, "", "no operations\n"), first_line(check(program, given, *options)))
 
 
 def refuses_an_end_of_other_operations(program):
@@ -691,9 +691,10 @@ def reports_faults(program):
         if wanted is None:
             same("status", True, status in (0, 2))
             continue
+        errors = errors.split("\n")[0]
         if isinstance(wanted, re.Pattern):
-            wanted = errors.rstrip() if wanted.fullmatch(errors.rstrip()) else wanted.pattern
-        same(f"fault of {given[:80]!r}", (2, "", wanted + "\n"), (status, text, errors))
+            wanted = errors if wanted.fullmatch(errors) else wanted.pattern
+        same(f"fault of {given[:80]!r}", (2, "", wanted), (status, text, errors))
 
 
 def survives_hostile_bytes(program):

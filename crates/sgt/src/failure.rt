@@ -2,10 +2,10 @@
 
 use crate::advice::advise;
 use crate::input::is_folder;
-use crate::operation_error::{column_of, operation_error};
+use crate::operation_error::{column_after_end, column_of, operation_error};
 use sgt_check::CheckFault;
-use sgt_clients::ClientsFault;
-use sgt_input::{Fault, Source};
+use sgt_clients::{ClientsFault, Flaw};
+use sgt_input::{Fault, MOST_BYTES, Source};
 use sgt_line_errors::{Command, Remembering, explain};
 use sgt_notation::{NotationFault, Shown};
 use std::alloc::Global;
@@ -28,6 +28,8 @@ pub(crate) enum Detail {
     Nothing,
     /// These words.
     Words(&'static str),
+    /// The input has more than so many bytes.
+    TooLong(usize),
     /// These words, about the word at this column, in bytes from 1.
     At(usize, &'static str),
     /// This text.
@@ -39,23 +41,37 @@ impl Display for Detail {
         match self {
             Detail::Nothing => Ok(()),
             Detail::Words(words) => f.write_str(words),
+            Detail::TooLong(most) => {
+                let more = if *most < MOST_BYTES {
+                    "take more with --most, or "
+                } else {
+                    ""
+                };
+                write!(
+                    f,
+                    "an input has at most {most} bytes: {more}split it, and begin the next part with the record lines of the one before (--records, --json)"
+                )
+            }
             Detail::At(column, words) => write!(f, "column {column}: {words}"),
             Detail::Text(text) => f.write_str(text.as_str()),
         }
     }
 }
 
-/// The failure of a script or a bank that read from this source: from a file, or from standard input.
+/// The failure of a script or a bank that read at most so many bytes from this source: from a file, or from standard
+/// input.
 pub(crate) fn failure_of<R: Files, S: Source>(
     rt: &R,
     alloc: Global,
     command: Command,
     source: &Remembering<S>,
     file: Option<&str>,
+    most: usize,
     fault: Fault,
 ) -> Failure<Fault> {
     let detail = match fault {
         Fault::Reading => unread_detail(rt, file),
+        Fault::TooLong => Detail::TooLong(most),
         _ => match explain(alloc, &fault, command, source) {
             Some(text) => Detail::Text(text),
             None => words_or_nothing(advise(&fault)),
@@ -94,6 +110,20 @@ pub(crate) fn clients_failure<R: Files>(
         ClientsFault::Check(CheckFault::TooLong) => {
             Detail::Words("a history has at most 268435456 bytes")
         }
+        ClientsFault::NoOperations => Detail::Words(
+            "an entry has \"f\":\"txn\", or no f; all others are left out",
+        ),
+        ClientsFault::Entry(_, _, Flaw::NotJson(_)) => Detail::Words(
+            "leave out an entry that is cut off; columns of EDN are those of its text in JSON",
+        ),
+        ClientsFault::Entry(_, _, Flaw::Process) => {
+            Detail::Words(
+                "a process is a whole number from 0, or a text; a list before it may lack its bracket",
+            )
+        }
+        ClientsFault::Entry(_, _, Flaw::Invoked(_)) => Detail::Words(
+            "an entry of type info ends it too; after a restart, give processes new names",
+        ),
         _ => Detail::Nothing,
     };
     Failure::Fault(fault, detail)
@@ -103,10 +133,20 @@ pub(crate) fn clients_failure<R: Files>(
 fn notation_detail<S: Source>(source: &Remembering<S>, fault: &NotationFault) -> Detail {
     match fault {
         NotationFault::NoOperation(line, word) => operation_detail(source, *line, word),
-        NotationFault::Ended(_, _) => {
-            Detail::Words("the commit or abort of a transaction is its last operation")
-        }
+        NotationFault::Ended(line, t) => ended_detail(source, *line, *t),
         NotationFault::NoMemory => Detail::Nothing,
+    }
+}
+
+/// What is said about an operation of this line, whose transaction has ended.
+fn ended_detail<S: Source>(source: &Remembering<S>, line: u64, t: u32) -> Detail {
+    let words = "the commit or abort of a transaction is its last operation";
+    match source.line(line) {
+        Some(bytes) => match column_after_end(bytes, line == 1, t) {
+            Some(column) => Detail::At(column, words),
+            None => Detail::Words(words),
+        },
+        None => Detail::Words(words),
     }
 }
 

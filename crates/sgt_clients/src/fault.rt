@@ -77,7 +77,7 @@ impl From<sgt_model::NoMemory> for ReadError {
 /// Why a check of what clients saw ended without a report. Lines and entries are counted from 1.
 #[derive(Debug, Drop, PartialEq, Eq, Error)]
 pub enum ClientsFault {
-    /// The entry, which starts on the line, is wrong.
+    /// The entry is wrong. It starts on the line; if it is not JSON, the line is where it stops being JSON.
     #[error("line {0}, entry {1}: {2}")]
     Entry(u64, usize, Flaw),
     /// The transaction that ended or began here appends the value to the key, after the one that ended or began there.
