@@ -1,5 +1,5 @@
 -- The lines of a report on the levels of isolation.
-use Rattle.std.specs.Prelude.{◌++◌, ℕ, Bool, List, [], Option, Some, None, codes}
+use Rattle.std.specs.Prelude.{◌++◌, ℕ, Bool, List, [], Option, Some, None, codes, if◌then◌else◌}
 use Rattle.std.specs.List.{flat_map}
 use Rattle.sgt_appends.specs.declared.fault.Fault.{Fault}
 use Rattle.sgt_levels.specs.declared.levels.Committed.{Committed}
@@ -52,9 +52,15 @@ broken_text c name (committed.Partial partial) =
 broken_text c name (committed.Cycle ties) = not_text (codes "not read committed: ") name ++ flat_map (tie_text c) ties.items
 broken_text c name committed.Open = codes "read committed undecided\n"
 
+-- the line that what stands above breaks a level as well
+abbrev pub above_text : List ℕ → List ℕ
+above_text words = words ++ codes "by the lines above\n"
+
 -- what breaks read committed
 abbrev pub committed_text : Clients → Option Weaker → List ℕ
-committed_text c (Some w) = broken_text c w.committed_name.now w.levels.committed
+committed_text c (Some w) =
+    if w.committed_above then above_text (codes "not read committed: ")
+    else broken_text c w.committed_name.now w.levels.committed
 committed_text c None = []
 
 -- no answer for snapshot isolation
@@ -70,7 +76,9 @@ split_text c name unseen snapshot.Open = open_text c unseen
 
 -- what breaks snapshot isolation
 abbrev pub snapshot_text : Clients → Option Weaker → List ℕ
-snapshot_text c (Some w) = split_text c w.snapshot_name.now w.unseen w.levels.snapshot
+snapshot_text c (Some w) =
+    if w.snapshot_above then above_text (codes "not snapshot isolation: ")
+    else split_text c w.snapshot_name.now w.unseen w.levels.snapshot
 snapshot_text c None = []
 
 -- the lines of a finding that is no order

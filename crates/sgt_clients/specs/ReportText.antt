@@ -200,10 +200,12 @@ skipped_text n =
 abbrev pub next_text : ℕ → List ℕ
 next_text t = codes " " ++ transaction_text t
 
--- a serial order, `none` if it has no transaction
+-- a serial order, `none` if it has no transaction; of more than 100 the first 100, and how many there are
 abbrev pub order_text : List ℕ → List ℕ
-order_text [] = codes " none"
-order_text (t ∷ ts) = flat_map next_text (t ∷ ts)
+order_text order =
+    if nat_lt 100 (length order) then flat_map next_text (take 100 order) ++ (codes " .. of " ++ decimal (length order)) ++ codes " (--json has the order)"
+    else if length order == 0 then codes " none"
+    else flat_map next_text order
 
 -- the line that names the anomaly
 abbrev pub no_text : List ℕ → List ℕ

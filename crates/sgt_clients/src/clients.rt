@@ -183,8 +183,25 @@ impl ClientsReader {
         ensures { IsOwn result }
     {
         match shown_name(alloc, self.processes.texts.as_slice(), process) {
-            Ok(name) => ClientsFault::Entry(line, self.entries, Flaw::Invoked(name)),
+            Ok(name) => {
+                let (other, began) = self.place_of_active(process);
+                ClientsFault::Entry(line, self.entries, Flaw::Invoked(name, other, began))
+            }
             Err(error) => ClientsFault::from(error),
+        }
+    }
+
+    /// The line on which the process invoked what it has not ended, and the number of that entry.
+    fn place_of_active(&self, process: u32) -> (u64, usize) {
+        let Some(invocation) = self.active.get(&process) else {
+            return (0, 0);
+        };
+        match (
+            self.lines.get(invocation.transaction),
+            self.spans.get(invocation.transaction),
+        ) {
+            (Some(line), Some(span)) => (*line, span.began),
+            _ => (0, 0),
         }
     }
 

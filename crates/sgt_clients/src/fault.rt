@@ -29,8 +29,9 @@ pub enum Flaw {
     Key(usize),
     #[error("operation {0} has a value that is not a whole number from 0 to 4294967295")]
     Number(usize),
-    #[error("process {0} has invoked another transaction, and has not ended it")]
-    Invoked(Shown),
+    /// The other invocation is on this line, and has this number among the entries.
+    #[error("process {0} has invoked another transaction, line {1}, entry {2}, and has not ended it")]
+    Invoked(Shown, u64, usize),
     /// The invocation is on this line, and has this number among the entries.
     #[error("the operations are not those of the invocation, line {0}, entry {1}")]
     OtherOperations(u64, usize),
@@ -86,6 +87,9 @@ pub enum ClientsFault {
     /// There is no transaction to judge.
     #[error("no operations")]
     NoOperations,
+    /// The same, and so many entries are of no transaction.
+    #[error("no operations; entries skipped, since they are of no transaction: {0}")]
+    OnlySkipped(usize),
     /// Real time is to be kept, and no entry is an invocation.
     #[error("no invocations: without them it is unknown when transactions began, which --strict needs")]
     NoInvocations,

@@ -12,7 +12,7 @@ use crate::clients::Clients;
 use crate::fault::ClientsFault;
 use crate::finding::{Finding, check_clients, is_serial};
 use crate::level::{Answer, Level, is_yes};
-use crate::names::{committed_name, snapshot_name};
+use crate::names::{breaks_committed, breaks_snapshot, committed_name, snapshot_name};
 use crate::strict::check_strictly;
 use sgt_appends::Transaction;
 use sgt_levels::{Committed, Levels, Snapshot, Unseen, levels_of, unseen_appends};
@@ -25,6 +25,10 @@ pub struct Weaker {
     pub levels: Levels,
     pub committed_name: &'static str,
     pub snapshot_name: &'static str,
+    /// Whether the finding of serializability breaks read committed as well, and by no more steps.
+    pub committed_above: bool,
+    /// The same for snapshot isolation.
+    pub snapshot_above: bool,
     /// If snapshot isolation is undecided: two appends to one key that no read saw.
     pub unseen: Option<Unseen>,
 }
@@ -172,7 +176,8 @@ pub fn check_levels(
 {
     let finding = finding_of(alloc, clients, strict)?;
     let untimed = untimed_of(alloc, clients, &finding, strict)?;
-    let weaker = weaker_of(alloc, clients, has_order(&finding, &untimed))?;
+    let ordered = has_order(&finding, &untimed);
+    let weaker = weaker_of(alloc, clients, ordered, &finding)?;
     Ok(LevelFindings {
         finding,
         untimed,
@@ -218,7 +223,12 @@ fn has_order(finding: &Finding, untimed: &Option<Finding>) -> bool
 }
 
 /// What is found of the levels below serializable, unless there is a serial order.
-fn weaker_of(alloc: Global, clients: &Clients, ordered: bool) -> Result<Option<Weaker>, NoMemory>
+fn weaker_of(
+    alloc: Global,
+    clients: &Clients,
+    ordered: bool,
+    finding: &Finding,
+) -> Result<Option<Weaker>, NoMemory>
     ensures right { IfOk result (λ weaker. IfSome weaker (λ w. AreRight clients.now.transactions.items w.levels)) }
     ensures unseen { IfOk result (λ weaker. IfSome weaker (λ w. IfSome w.unseen (AreUnseen clients.now.transactions.items))) }
     ensures none { IfOk result (λ weaker. weaker ≡ None → ordered ≡ true) }
@@ -231,6 +241,8 @@ fn weaker_of(alloc: Global, clients: &Clients, ordered: bool) -> Result<Option<W
     Ok(Some(Weaker {
         committed_name: committed_name(&levels.committed),
         snapshot_name: snapshot_name(history, &levels.snapshot),
+        committed_above: breaks_committed(finding, &levels.committed),
+        snapshot_above: breaks_snapshot(finding, &levels.snapshot),
         unseen: unseen_of(alloc, history, &levels.snapshot)?,
         levels,
     }))

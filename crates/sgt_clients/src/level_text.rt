@@ -4,7 +4,7 @@ ghost use Rattle.std.specs.Prelude.{◌≡◌, ◌++◌, codes, flat_map, OnOk};
 ghost use Rattle.sgt_clients.specs.ReportText.{step_text};
 ghost use Rattle.sgt_clients.specs.TieText.{tie_text};
 ghost use Rattle.sgt_clients.specs.Levels.{strongest_of};
-ghost use Rattle.sgt_clients.specs.LevelText.{level_words, strongest_words, strongest_text, not_text, fault_line, broken_text, committed_text, open_text, split_text, snapshot_text, unserial_text, untimed_text, next_text, levels_text};
+ghost use Rattle.sgt_clients.specs.LevelText.{level_words, strongest_words, strongest_text, not_text, above_text, fault_line, broken_text, committed_text, open_text, split_text, snapshot_text, unserial_text, untimed_text, next_text, levels_text};
 
 use crate::clients::Clients;
 use crate::finding::{Finding, Step};
@@ -118,6 +118,9 @@ fn append_committed(
 {
     match weaker {
         Some(weaker) => {
+            if weaker.committed_above {
+                return append_above(text, b"not read committed: ");
+            }
             append_broken(
                 text,
                 clients,
@@ -127,6 +130,15 @@ fn append_committed(
         }
         None => Ok(()),
     }
+}
+
+/// Appends that what stands above breaks a level as well.
+fn append_above(text: &mut Vec<u8>, words: &[u8]) -> Result<(), NoMemory>
+    ensures { OnOk result (text.new.items ≡ text.old.items ++ above_text words.now) }
+{
+    text.extend_from_slice(words)?;
+    text.extend_from_slice(b"by the lines above\n")?;
+    Ok(())
 }
 
 /// Appends the lines of an answer for read committed that is no yes.
@@ -194,13 +206,18 @@ fn append_snapshot(
     ensures { OnOk result (text.new.items ≡ text.old.items ++ snapshot_text clients.now weaker.now) }
 {
     match weaker {
-        Some(weaker) => append_split(
-            text,
-            clients,
-            weaker.snapshot_name,
-            &weaker.unseen,
-            &weaker.levels.snapshot,
-        ),
+        Some(weaker) => {
+            if weaker.snapshot_above {
+                return append_above(text, b"not snapshot isolation: ");
+            }
+            append_split(
+                text,
+                clients,
+                weaker.snapshot_name,
+                &weaker.unseen,
+                &weaker.levels.snapshot,
+            )
+        }
         None => Ok(()),
     }
 }

@@ -1,6 +1,6 @@
 //! The names of anomalies, as Adya (1999) and Elle (2020) spell them.
 
-use crate::finding::{Step, Why};
+use crate::finding::{Finding, Step, Why};
 use sgt_appends::{Anomaly, Reason, Transaction, Witness, append_at, name_of};
 use sgt_levels::{Committed, Ground, Snapshot, Tie};
 
@@ -85,6 +85,57 @@ pub(crate) fn committed_name(committed: &Committed) -> &'static str {
         Committed::Cycle(_) => "G0",
         Committed::Run(_) | Committed::Open => "",
     }
+}
+
+/// Whether the finding shows that the answer for read committed is no, by no more steps than the answer has.
+pub(crate) fn breaks_committed(finding: &Finding, committed: &Committed) -> bool {
+    match (finding, committed) {
+        (
+            Finding::Fault { reader, read, .. },
+            Committed::Fault {
+                reader: other,
+                read: place,
+                ..
+            },
+        ) => { *reader == *other && *read == *place }
+        (Finding::Cycle(steps, _), Committed::Cycle(ties)) => {
+            steps.len() <= ties.len() && misses_and_times(steps.as_slice()) == 0
+        }
+        _ => false,
+    }
+}
+
+/// Whether the finding shows that the answer for snapshot isolation is no, by no more steps than the answer has.
+pub(crate) fn breaks_snapshot(finding: &Finding, snapshot: &Snapshot) -> bool {
+    match (finding, snapshot) {
+        (Finding::Cycle(steps, _), Snapshot::Cycle(ties)) => {
+            steps.len() <= ties.len()
+                && !misses_in_a_row(steps.as_slice())
+                && !has_times(steps.as_slice())
+        }
+        _ => false,
+    }
+}
+
+/// Whether a step is of real time.
+fn has_times(steps: &[Step]) -> bool {
+    for step in steps {
+        if step.why == Why::RealTime {
+            return true;
+        }
+    }
+    false
+}
+
+/// How many steps are by a missed append, or of real time.
+fn misses_and_times(steps: &[Step]) -> usize {
+    let mut count = 0_usize;
+    for step in steps {
+        if is_miss(step) || step.why == Why::RealTime {
+            count = count.saturating_add(1);
+        }
+    }
+    count
 }
 
 /// Whether a tie is by a value that was read.

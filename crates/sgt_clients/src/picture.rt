@@ -1,12 +1,16 @@
-//! The picture of a finding: the operations that a witness names, or those of the serial order.
+//! The picture of what was found of a level: the operations that a witness names, or those of an order.
 
 use crate::clients::Clients;
 use crate::evidence::{put_at, seen_at};
 use crate::finding::{Finding, Step, Why};
+use crate::level::Level;
+use crate::level_findings::{LevelFindings, Weaker};
 use crate::scene::{Scene, Stroke, place_of};
 use crate::stroke_text::history_of;
-use sgt_appends::{Fault, Operation, Reason};
+use sgt_appends::{Fault, Operation, Reason, Status};
 use sgt_classes::{Edge, Violation};
+use sgt_format::append_numbered;
+use sgt_levels::{Committed, Ground, Partial, Snapshot, Tie};
 use sgt_model::NoMemory;
 use sgt_timeline::{Highlight, append_picture, draw};
 use std::alloc::Global;
@@ -21,7 +25,18 @@ const MOST_STEPS: usize = 64;
 const LEGEND: &[u8] =
     b"w[x: +1] appends 1 to x. The order from left to right is logical, not time.\n";
 
-/// Appends the picture in SVG, with the report below it.
+/// What is drawn of a history.
+#[derive(Clone, Copy, PartialEq, Eq)]
+enum Subject {
+    /// An order of its transactions.
+    Order,
+    /// A cycle of transactions.
+    Cycle,
+    /// A read that is wrong.
+    Read,
+}
+
+/// Appends the picture of what was found of the level in SVG, with the report below it.
 ///
 /// # Errors
 ///
@@ -30,62 +45,201 @@ pub fn append_timeline(
     alloc: Global,
     text: &mut Vec<u8>,
     clients: &Clients,
-    finding: &Finding,
+    found: &LevelFindings,
+    level: Level,
     report: &[u8],
 ) -> Result<(), NoMemory> {
-    let scene = scene_of(alloc, clients, finding)?;
+    let mut scene = Scene::new(alloc);
+    let subject = add_level(alloc, &mut scene, clients, found, level)?;
+    if subject != Subject::Order {
+        scene.add_ends(alloc, clients)?;
+        scene.sort(alloc)?;
+    }
     let history = history_of(alloc, clients, scene.strokes.as_slice())?;
     let edges = edges_of(alloc, &scene)?;
-    let highlight = highlight_of(finding, edges.as_slice());
-    let picture = draw(
-        alloc,
-        &history,
-        highlight,
-        caption_of(alloc, report)?.as_slice(),
-    )?;
+    let operations = operations_of(clients);
+    let caption = caption_of(alloc, report, scene.strokes.len(), operations, subject)?;
+    let highlight = highlight_of(subject, edges.as_slice());
+    let mut picture = draw(alloc, &history, highlight, caption.as_slice())?;
+    picture.operations = operations;
     append_picture(text, &history, &picture)
 }
 
-/// The words below the picture: the report, and what a write and the order mean here.
-fn caption_of(alloc: Global, report: &[u8]) -> Result<Vec<u8>, NoMemory> {
+/// How many operations the history has, with the known ends of its transactions.
+fn operations_of(clients: &Clients) -> usize {
+    let mut count = 0_usize;
+    for transaction in &clients.transactions {
+        count = count.saturating_add(transaction.operations.len());
+        if transaction.status != Status::Unknown {
+            count = count.saturating_add(1);
+        }
+    }
+    count
+}
+
+/// The words below the picture: the report, what a write and the order mean here, and what was left out.
+fn caption_of(
+    alloc: Global,
+    report: &[u8],
+    drawn: usize,
+    operations: usize,
+    subject: Subject,
+) -> Result<Vec<u8>, NoMemory> {
     let mut caption = Vec::from_slice(alloc, report)?;
     caption.extend_from_slice(LEGEND)?;
+    if drawn < operations {
+        append_numbered(&mut caption, b"drawn: ", drawn)?;
+        append_numbered(&mut caption, b" of ", operations)?;
+        caption.extend_from_slice(left_out(subject))?;
+    }
     Ok(caption)
 }
 
-/// What is drawn of the finding.
-fn scene_of(alloc: Global, clients: &Clients, finding: &Finding) -> Result<Scene, NoMemory> {
-    let mut scene = Scene::new(alloc);
-    match finding {
-        Finding::Serial(order) => {
-            add_order(&mut scene, clients, order.as_slice())?;
-            return Ok(scene);
+/// Which of the operations are drawn, if not all are.
+fn left_out(subject: Subject) -> &'static [u8] {
+    match subject {
+        Subject::Order => b" operations: those of the first transactions of the order\n",
+        Subject::Cycle => b" operations: those of the cycle, with the ends of its transactions\n",
+        Subject::Read => b" operations: those that show what is wrong with the read\n",
+    }
+}
+
+/// Adds what was found of the level.
+fn add_level(
+    alloc: Global,
+    scene: &mut Scene,
+    clients: &Clients,
+    found: &LevelFindings,
+    level: Level,
+) -> Result<Subject, NoMemory> {
+    match (level, &found.weaker, &found.untimed) {
+        (Level::ReadCommitted, Some(weaker), _) => {
+            add_committed(alloc, scene, clients, found, weaker)
         }
-        Finding::Cycle(steps, _) => add_steps(&mut scene, steps.as_slice())?,
+        (Level::SnapshotIsolation, Some(weaker), _) => {
+            add_snapshot(alloc, scene, clients, found, weaker)
+        }
+        (Level::StrictSerializable, _, _) | (_, _, None) => {
+            add_finding(scene, clients, &found.finding)
+        }
+        (_, _, Some(untimed)) => add_finding(scene, clients, untimed),
+    }
+}
+
+/// Adds what was found of read committed.
+fn add_committed(
+    alloc: Global,
+    scene: &mut Scene,
+    clients: &Clients,
+    found: &LevelFindings,
+    weaker: &Weaker,
+) -> Result<Subject, NoMemory> {
+    match &weaker.levels.committed {
+        Committed::Run(order) => add_order(scene, clients, order.as_slice()),
+        Committed::Fault {
+            reader,
+            read,
+            fault,
+        } => add_fault(scene, clients, *reader, *read, fault),
+        Committed::Partial(partial) => add_partial(scene, partial),
+        Committed::Cycle(ties) => add_ties(alloc, scene, ties.as_slice()),
+        Committed::Open => add_finding(scene, clients, &found.finding),
+    }
+}
+
+/// Adds what was found of snapshot isolation.
+fn add_snapshot(
+    alloc: Global,
+    scene: &mut Scene,
+    clients: &Clients,
+    found: &LevelFindings,
+    weaker: &Weaker,
+) -> Result<Subject, NoMemory> {
+    match &weaker.levels.snapshot {
+        Snapshot::Run(run) => add_order(scene, clients, run.order.as_slice()),
+        Snapshot::NotCommitted => add_committed(alloc, scene, clients, found, weaker),
+        Snapshot::Cycle(ties) => add_ties(alloc, scene, ties.as_slice()),
+        Snapshot::Open => add_finding(scene, clients, &found.finding),
+    }
+}
+
+/// Adds a finding.
+fn add_finding(
+    scene: &mut Scene,
+    clients: &Clients,
+    finding: &Finding,
+) -> Result<Subject, NoMemory> {
+    match finding {
+        Finding::Serial(order) => add_order(scene, clients, order.as_slice()),
+        Finding::Cycle(steps, _) => add_steps(scene, steps.as_slice()),
         Finding::Fault {
             reader,
             read,
             fault,
             ..
-        } => add_fault(&mut scene, clients, *reader, *read, fault)?,
+        } => add_fault(scene, clients, *reader, *read, fault),
     }
-    scene.add_ends(alloc, clients)?;
-    scene.sort(alloc)?;
-    Ok(scene)
+}
+
+/// Adds a read that saw one append of a transaction and missed another one.
+fn add_partial(scene: &mut Scene, partial: &Partial) -> Result<Subject, NoMemory> {
+    scene.add_pair(
+        at(partial.by, partial.seen),
+        at(partial.reader, partial.read),
+    )?;
+    scene.add(at(partial.by, partial.missed))?;
+    Ok(Subject::Read)
+}
+
+/// Adds the ties of a cycle.
+fn add_ties(alloc: Global, scene: &mut Scene, ties: &[Tie]) -> Result<Subject, NoMemory> {
+    let mut steps = Vec::with_capacity(alloc, ties.len())?;
+    for tie in ties {
+        steps.push(Step {
+            from: tie.from,
+            to: tie.to,
+            why: Why::Observed(reason_of(tie.ground)),
+        })?;
+    }
+    add_steps(scene, steps.as_slice())
+}
+
+/// The reason whose operations are those of the ground.
+fn reason_of(ground: Ground) -> Reason {
+    match ground {
+        Ground::Seen { append, read } => Reason::Seen { append, read },
+        Ground::Missed { read, append } | Ground::Wait { read, append, .. } => {
+            Reason::Missed { read, append }
+        }
+        Ground::InOrder {
+            first,
+            second,
+            reader,
+            read,
+        }
+        | Ground::Late {
+            first,
+            second,
+            reader,
+            read,
+        } => Reason::InOrder {
+            first,
+            second,
+            reader,
+            read,
+        },
+    }
 }
 
 /// What stands out.
-fn highlight_of<'a>(finding: &Finding, edges: &'a [Edge]) -> Highlight<'a> {
-    match finding {
-        Finding::Serial(_) => Highlight::Nothing,
-        Finding::Cycle(_, _) => Highlight::Cycle(edges),
-        Finding::Fault { .. } => match edges.first() {
-            Some(edge) => Highlight::Violation(Violation {
-                earlier: edge.earlier,
-                later: edge.later,
-            }),
-            None => Highlight::Nothing,
-        },
+fn highlight_of<'a>(subject: Subject, edges: &'a [Edge]) -> Highlight<'a> {
+    match (subject, edges.first()) {
+        (Subject::Order, _) | (Subject::Read, None) => Highlight::Nothing,
+        (Subject::Cycle, _) => Highlight::Cycle(edges),
+        (Subject::Read, Some(edge)) => Highlight::Violation(Violation {
+            earlier: edge.earlier,
+            later: edge.later,
+        }),
     }
 }
 
@@ -103,19 +257,19 @@ fn edges_of(alloc: Global, scene: &Scene) -> Result<Vec<Edge>, NoMemory> {
     Ok(edges)
 }
 
-/// Adds the operations of the serial order, up to this many.
-fn add_order(scene: &mut Scene, clients: &Clients, order: &[usize]) -> Result<(), NoMemory> {
+/// Adds the operations of an order, up to this many.
+fn add_order(scene: &mut Scene, clients: &Clients, order: &[usize]) -> Result<Subject, NoMemory> {
     for transaction in order {
         let Some(one) = clients.transactions.get(*transaction) else {
-            return Ok(());
+            return Ok(Subject::Order);
         };
         if scene.strokes.len().saturating_add(one.operations.len()) >= MOST_DRAWN {
-            return Ok(());
+            return Ok(Subject::Order);
         }
         add_all(scene, *transaction, one.operations.len())?;
         scene.add_end(clients, *transaction)?;
     }
-    Ok(())
+    Ok(Subject::Order)
 }
 
 /// Adds all operations of the transaction.
@@ -130,13 +284,13 @@ fn add_all(scene: &mut Scene, transaction: usize, count: usize) -> Result<(), No
 }
 
 /// Adds the operations of the first steps of a cycle.
-fn add_steps(scene: &mut Scene, steps: &[Step]) -> Result<(), NoMemory> {
+fn add_steps(scene: &mut Scene, steps: &[Step]) -> Result<Subject, NoMemory> {
     for (place, step) in steps.iter().enumerate() {
         if place < MOST_STEPS {
             add_step(scene, step, next_of(steps, place))?;
         }
     }
-    Ok(())
+    Ok(Subject::Cycle)
 }
 
 /// The step after the one at the place, in a cycle.
@@ -206,26 +360,29 @@ fn add_fault(
     reader: usize,
     read: usize,
     fault: &Fault,
-) -> Result<(), NoMemory> {
+) -> Result<Subject, NoMemory> {
     let here = at(reader, read);
     match fault {
         Fault::Unwritten(value) | Fault::Twice(value) => {
-            match appender_of(clients, here, *value) {
-                Some(stroke) => scene.add_pair(stroke, here),
-                None => scene.add(here),
-            }
+            add_before(scene, appender_of(clients, here, *value), here)?;
         }
-        Fault::Aborted { by, append } => scene.add_pair(at(*by, *append), here),
-        Fault::Incompatible { other, read } => scene.add_pair(at(*other, *read), here),
+        Fault::Aborted { by, append } => scene.add_pair(at(*by, *append), here)?,
+        Fault::Incompatible { other, read } => scene.add_pair(at(*other, *read), here)?,
         Fault::Swapped { by, first, second } => {
             scene.add(at(*by, *first))?;
-            scene.add_pair(at(*by, *second), here)
+            scene.add_pair(at(*by, *second), here)?;
         }
-        Fault::Ahead { append } => scene.add_pair(here, at(reader, *append)),
-        Fault::EndsOtherwise => match own_before(clients, here) {
-            Some(stroke) => scene.add_pair(stroke, here),
-            None => scene.add(here),
-        },
+        Fault::Ahead { append } => scene.add_pair(here, at(reader, *append))?,
+        Fault::EndsOtherwise => add_before(scene, own_before(clients, here), here)?,
+    }
+    Ok(Subject::Read)
+}
+
+/// Adds the read, and the operation before it that shows what is wrong, if there is one.
+fn add_before(scene: &mut Scene, before: Option<Stroke>, read: Stroke) -> Result<(), NoMemory> {
+    match before {
+        Some(stroke) => scene.add_pair(stroke, read),
+        None => scene.add(read),
     }
 }
 

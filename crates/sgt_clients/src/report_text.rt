@@ -1,6 +1,7 @@
 //! The lines of a report.
 
 ghost use Rattle.std.specs.Prelude.{◌≡◌, ◌++◌, Bool, List, [], codes, flat_map, if◌then◌else◌, OnOk};
+ghost use Rattle.std.specs.Fmt.{decimal};
 ghost use Rattle.sgt_clients.specs.ReportText.{verdict_text, finding_text, counts_text, skipped_text, order_text, next_text, no_text, step_text, why_text};
 ghost use Rattle.sgt_clients.specs.Reports.{report_text};
 ghost use Rattle.sgt_clients.specs.declared.finding.Why.TheVariants.{RealTime};
@@ -121,15 +122,28 @@ fn append_order(text: &mut Vec<u8>, order: &[usize]) -> Result<(), NoMemory>
     Ok(())
 }
 
-/// Appends the transactions, or that there is none.
+/// Appends the transactions, or that there is none. Of more than 100 it appends the first ones.
 fn append_all(text: &mut Vec<u8>, order: &[usize]) -> Result<(), NoMemory>
     ensures { OnOk result (text.new.items ≡ text.old.items ++ order_text order.now) }
 {
+    if order.len() > 100 {
+        append_each(text, &order[..100])?;
+        return append_rest(text, order.len());
+    }
     if order.is_empty() {
         text.extend_from_slice(b" none")?;
         return Ok(());
     }
     append_each(text, order)
+}
+
+/// Appends how many transactions an order has, of which the first ones stand before.
+fn append_rest(text: &mut Vec<u8>, count: usize) -> Result<(), NoMemory>
+    ensures { OnOk result (text.new.items ≡ text.old.items ++ ((codes " .. of " ++ decimal count) ++ codes " (--json has the order)")) }
+{
+    append_numbered(text, b" .. of ", count)?;
+    text.extend_from_slice(b" (--json has the order)")?;
+    Ok(())
 }
 
 /// Appends each transaction after a space.

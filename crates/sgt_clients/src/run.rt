@@ -17,7 +17,7 @@ use crate::fault::ClientsFault;
 use crate::finding::Finding;
 use crate::graph_text::append_graph;
 use crate::json_text::append_json;
-use crate::level::{Answer, Question};
+use crate::level::{Answer, Level, Question};
 use crate::level_findings::{LevelFindings, check_levels};
 use crate::picture::append_timeline;
 use crate::report_text::append_report;
@@ -45,7 +45,7 @@ pub enum ClientsOutput {
 ///
 /// # Errors
 ///
-/// - `Entry` with the first entry that is wrong, `NoOperations` if there is no transaction, `NoInvocations` if
+/// - `Entry` with the first entry that is wrong, `NoOperations` or `OnlySkipped` if there is no transaction, `NoInvocations` if
 ///   real time is to be kept and no entry is an invocation, `Twice` if a value is appended twice to a key, `Check` if the input has more than 268,435,456 bytes, a read failed or an allocation.
 ///   Nothing is written then.
 /// - `Check` if a write failed. A prefix of the output is written then.
@@ -115,16 +115,27 @@ fn check_json(
     let clients = read_clients(alloc, text)?;
     let strict = question.keeps_time();
     if clients.transactions.is_empty() {
-        return Err(ClientsFault::NoOperations);
+        return Err(nothing_to_judge(clients.skipped));
     }
     if strict && !clients.invoked {
         return Err(ClientsFault::NoInvocations);
     }
     let found = find(alloc, &clients, strict)?;
     Ok(Checked {
-        text: text_of(alloc, &clients, &found, output, strict)?,
+        text: text_of(alloc, &clients, &found, output, strict, question.level)?,
         answer: found.answer(question.level),
     })
+}
+
+/// The error of an input without a transaction, of which so many entries were skipped.
+fn nothing_to_judge(skipped: usize) -> ClientsFault
+    ensures { IsOwn result }
+{
+    if skipped == 0 {
+        ClientsFault::NoOperations
+    } else {
+        ClientsFault::OnlySkipped(skipped)
+    }
 }
 
 /// Checks which levels what clients saw is of.
@@ -148,6 +159,7 @@ fn own(error: ClientsFault) -> ClientsFault
             ClientsFault::Twice(second, value, key, first)
         }
         ClientsFault::NoOperations => ClientsFault::NoOperations,
+        ClientsFault::OnlySkipped(count) => ClientsFault::OnlySkipped(count),
         ClientsFault::NoInvocations => ClientsFault::NoInvocations,
         ClientsFault::Undecided => ClientsFault::Undecided,
         ClientsFault::Check(_) => ClientsFault::Check(CheckFault::NoMemory),
@@ -161,6 +173,7 @@ fn text_of(
     found: &LevelFindings,
     output: ClientsOutput,
     strict: bool,
+    level: Level,
 ) -> Result<Vec<u8>, NoMemory>
     ensures { IfOk result (λ text. IsOutput output strict clients.now found.now text.items) }
 {
@@ -168,7 +181,7 @@ fn text_of(
         ClientsOutput::Report => report_of(alloc, clients, found, strict),
         ClientsOutput::Json => json_of(alloc, clients, found, strict),
         ClientsOutput::Graph => graph_of(alloc, clients, &found.finding),
-        ClientsOutput::Timeline => timeline_of(alloc, clients, found, strict),
+        ClientsOutput::Timeline => timeline_of(alloc, clients, found, strict, level),
     }
 }
 
@@ -215,9 +228,10 @@ fn timeline_of(
     clients: &Clients,
     found: &LevelFindings,
     strict: bool,
+    level: Level,
 ) -> Result<Vec<u8>, NoMemory> {
     let report = report_of(alloc, clients, found, strict)?;
     let mut text = Vec::new(alloc);
-    append_timeline(alloc, &mut text, clients, &found.finding, report.as_slice())?;
+    append_timeline(alloc, &mut text, clients, found, level, report.as_slice())?;
     Ok(text)
 }

@@ -8,5 +8,5 @@ returns c = record {
   timed = c.in_ok-untimed.ensures.none;
   weaker = c.in_ok-weaker.ensures.right;
   unseen = c.in_ok-weaker.ensures.unseen;
-  implied = λ none. sym c.has_order.ensures ∙ c.in_ok-weaker.ensures.none none;
+  implied = λ none. sym c.has_order-ordered.ensures ∙ c.in_ok-weaker.ensures.none none;
 }
