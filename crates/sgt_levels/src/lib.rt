@@ -27,19 +27,22 @@ mod search;
 mod survey;
 mod tie;
 mod unseen;
+mod write_search;
+mod writes;
 
 pub use laws::{
     commit_orders_are_enough, commit_raised_are_enough, commits_are_obeyed,
-    committed_cycles_are_enough, committed_faults_are_enough, decided_splits_are_enough,
-    lost_update_is_no_snapshot, no_miss_cycles_are_enough, seen_are_decided, serial_is_snapshot,
-    snapshot_cycles_are_enough, snapshot_faults_are_enough, snapshot_is_committed,
-    spaced_cycles_are_enough, split_is_obeyed, split_raised_are_enough, splits_are_enough,
-    tails_depend, write_skew_is_between,
+    committed_cycles_are_enough, committed_faults_are_enough, committed_is_uncommitted,
+    decided_splits_are_enough, lost_update_is_no_snapshot, no_miss_cycles_are_enough,
+    seen_are_decided, serial_is_snapshot, snapshot_cycles_are_enough, snapshot_faults_are_enough,
+    snapshot_is_committed, spaced_cycles_are_enough, split_is_obeyed, split_raised_are_enough,
+    splits_are_enough, tails_depend, write_cycles_are_enough, write_skew_is_between,
 };
-pub use levels::{Committed, Levels, Snapshot, levels_of};
+pub use levels::{Committed, Levels, Snapshot, Writes, levels_of};
 pub use replay::{is_committed_run, is_snapshot_run};
 pub use ruling::{Level, ruled_out};
 pub use search::Snapshots;
 pub use survey::Partial;
 pub use tie::{Ground, Tie, rules_out_committed, rules_out_partial, rules_out_snapshot};
 pub use unseen::{Unseen, unseen_appends};
+pub use writes::{is_write_order, rules_out_uncommitted};
