@@ -423,6 +423,36 @@ def keeps_the_order_of_begins(program):
     same("status", 0, check(program, in_turn(history), "--level", "snapshot-isolation")[0])
 
 
+def shortens_a_long_order(program):
+    """Of more than 100 transactions the line of a yes has the first 100, and the object of JSON all."""
+    for count in (1, 99, 100, 101, 5_000):
+        given = in_turn([one("ok", (A, it, 1)) for it in range(count)])
+        order = json.loads(check(program, given, "--json")[1])["order"]
+        same(f"transactions of {count}", list(range(1, count + 1)), sorted(order))
+        shown = " ".join(f"t{it}" for it in order[:100]) + f" .. of {count} (--json has the order)" * (count > 100)
+        same(f"line of {count}", f"serializable yes: {shown}", check(program, given)[1].splitlines()[1])
+
+
+def draws_the_level(program):
+    """The picture is of the level that is asked: the cycle that breaks it, or an order. It says how many operations it leaves out."""
+    update = [one("ok", (R, 1, ()), (A, 1, 1)), one("ok", (R, 1, ()), (A, 1, 2)), one("ok", (R, 1, (1, 2)))]
+    given = in_turn([*SKEW, *update])
+    marks = {}
+    for level in LEVELS[:3]:
+        drawing = Drawing(check(program, given, "--timeline", "--level", level)[1])
+        marks[level] = {int(re.match(r"[a-z]+(\d+)", it.title)[1]) for it in drawing.marks}
+        drawn_ones = re.search(r"drawn: (\d+) of (\d+) operations", drawing.description)
+        same(f"operations of {level}", (len(drawing.marks), 14) if len(drawing.marks) < 14 else None,
+             tuple(map(int, drawn_ones.groups())) if drawn_ones else None)
+    same("snapshot isolation", True, {3, 4} <= marks["snapshot-isolation"] <= {3, 4, 5})
+    same("read committed", {1, 2, 3, 4, 5}, marks["read-committed"])
+    skew = Drawing(check(program, in_turn(SKEW), "--timeline", "--level", "snapshot-isolation")[1])
+    same("an order", (6, False), (len(skew.marks), "drawn:" in skew.description))
+    long = in_turn([one("ok", (A, it, 1)) for it in range(1_000)])
+    drawing = Drawing(check(program, long, "--timeline")[1])
+    same("a long order", True, f"drawn: {len(drawing.marks)} of 2000 operations" in drawing.description)
+
+
 def names_anomalies(program):
     for name, history in NAMED.items():
         entries, spans = entries_of(random.Random(1), history)
@@ -544,7 +574,7 @@ def takes_processes_of_any_name(program):
         renamed = [it | {"process": name.format(*[it["process"]] * 100)} for it in entries]
         same(f"process {name}", wanted, check(program, lines_of(renamed)))
     began = entries[0] | {"process": 7}
-    reported = "line 2, entry 2: process 7 has invoked another transaction, and has not ended it\n"
+    reported = "line 2, entry 2: process 7 has invoked another transaction, line 1, entry 1, and has not ended it\n"
     same("7 and its text", (2, "", reported), check(program, lines_of([began, began | {"process": "7"}])))
 
 
@@ -573,7 +603,8 @@ def skips_what_is_no_transaction(program):
         same("report", (status, wanted, errors), check(program, lines_of(entries) + given))
         reported = json.loads(check(program, lines_of(entries) + given, "--json")[1])
         same("skipped", given.count("\n"), reported["skipped"])
-        same("alone", (2, "", "no operations\n"), check(program, given))
+        alone = f"no operations; entries skipped, since they are of no transaction: {given.count(chr(10))}\n"
+        same("alone", (2, "", alone), check(program, given))
     same("none", False, "skipped" in json.loads(check(program, lines_of(entries), "--json")[1]))
     entries[0].pop("f")
     same("no function", (status, text, errors), check(program, lines_of(entries)))
@@ -622,6 +653,8 @@ def keeps_time_only_with_invocations(program):
     same("with an invocation", 0, check(program, GOOD + began, "--strict")[0])
 
 
+BEGUN = '{"type":"invoke","process":1,"value":[]}\n'
+OTHER = '{"type":"invoke","process":2,"value":[]}'
 GOOD = '{"type":"ok","process":0,"f":"txn","value":[["append",1,1]]}\n'
 
 # Faulty inputs, with what is reported for them.
@@ -667,9 +700,11 @@ FAULTS = {
         "line 1, entry 1: the key of operation 1 is not a whole number, or a text of 1 to 64 letters, digits and _ . / : -",
     '{"type":"ok","process":1,"value":[["append","a b",1]]}':
         "line 1, entry 1: the key of operation 1 is not a whole number, or a text of 1 to 64 letters, digits and _ . / : -",
-    '{"type":"invoke","process":1,"value":[]}' * 2: "line 1, entry 2: process 1 has invoked another transaction, and has not ended it",
+    '{"type":"invoke","process":1,"value":[]}' * 2: "line 1, entry 2: process 1 has invoked another transaction, line 1, entry 1, and has not ended it",
     '{"type":"invoke","process":"c 1","value":[]}' * 2:
-        "line 1, entry 2: process c 1 has invoked another transaction, and has not ended it",
+        "line 1, entry 2: process c 1 has invoked another transaction, line 1, entry 1, and has not ended it",
+    BEGUN + OTHER + "\n" + OTHER.replace("2", "3") + BEGUN:
+        "line 3, entry 4: process 1 has invoked another transaction, line 1, entry 1, and has not ended it",
     GOOD.replace("ok", "invoke") + "\n" + GOOD.replace("]]", '],["r",2,null]]'):
         "line 3, entry 2: the operations are not those of the invocation, line 1, entry 1",
     GOOD.replace("ok", "invoke") + GOOD.replace("ok", "fail").replace("1,1", "1,2"):
@@ -799,7 +834,7 @@ def records_databases(program):
 
 
 CASES = [on_all_small_histories, on_drawn_histories, on_drawn_histories_strictly, levels_of_all_small_histories, levels_of_drawn_histories,
-         names_the_strongest_level, names_the_read_that_decides, keeps_the_order_of_begins, names_anomalies, names_the_operations,
+         names_the_strongest_level, names_the_read_that_decides, keeps_the_order_of_begins, shortens_a_long_order, draws_the_level, names_anomalies, names_the_operations,
          shows_values_of_a_long_read, ends_on_long_ones, reads_each_form, reads_edn,
          takes_null_for_the_empty_list, takes_processes_of_any_name, takes_keys_of_any_name, skips_what_is_no_transaction, refuses_nothing,
          refuses_an_end_of_other_operations, keeps_time_only_with_invocations, reports_faults, survives_hostile_bytes, needs_its_model, hints_at_its_model, draws_its_witness, recorded_ones,

@@ -277,7 +277,7 @@ fn weaker_of(
         committed_name: committed_name(&levels.committed),
         snapshot_name: snapshot_name(history, &levels.snapshot),
         committed_above: breaks_committed(finding, &levels.committed),
-        snapshot_above: breaks_snapshot(finding, &levels.snapshot),
+        snapshot_above: breaks_snapshot(history, finding, &levels.snapshot),
         unseen: unseen_of(alloc, history, &levels.snapshot)?,
         levels,
     }))

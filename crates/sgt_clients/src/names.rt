@@ -113,11 +113,17 @@ pub(crate) fn breaks_committed(finding: &Finding, committed: &Committed) -> bool
     }
 }
 
-/// Whether the finding shows that the answer for snapshot isolation is no, by no more steps than the answer has.
-pub(crate) fn breaks_snapshot(finding: &Finding, snapshot: &Snapshot) -> bool {
+/// Whether the finding shows that the answer for snapshot isolation is no, by no more steps than the answer has. A lost
+/// update says more.
+pub(crate) fn breaks_snapshot(
+    history: &[Transaction],
+    finding: &Finding,
+    snapshot: &Snapshot,
+) -> bool {
     match (finding, snapshot) {
         (Finding::Cycle(steps, _), Snapshot::Cycle(ties)) => {
             steps.len() <= ties.len()
+                && !is_lost_update(history, ties.as_slice())
                 && !misses_in_a_row(steps.as_slice())
                 && !has_times(steps.as_slice())
         }
