@@ -11,7 +11,7 @@ use crate::replay::{is_committed_run, is_snapshot_run};
 use crate::search::{Found, Snapshots, one_by_one, search_commits, search_snapshots};
 use crate::survey::{Partial, Survey};
 use crate::tie::{Tie, rules_out_committed, rules_out_partial, rules_out_snapshot};
-use crate::write_search::{Written, search_writes};
+use crate::write_search::{WriteSearch, search_writes};
 use crate::writes::{is_write_order, rules_out_uncommitted};
 use sgt_appends::{AppendIndex, Fault, Transaction, first_fault, first_incompatible, unknown_read};
 use sgt_model::NoMemory;
@@ -141,19 +141,19 @@ fn search_order(
     ensures { IfOk result (IsWritesRight history.now) }
 {
     match search_writes(alloc, history, appends)? {
-        Written::Order(order) => {
+        WriteSearch::Order(order) => {
             if is_write_order(alloc, history, order.as_slice())? {
                 return Ok(Writes::Order(order));
             }
             Ok(Writes::Open)
         }
-        Written::Ties(ties) => {
+        WriteSearch::Ties(ties) => {
             if rules_out_uncommitted(history, ties.as_slice()) {
                 return Ok(Writes::Cycle(ties));
             }
             Ok(Writes::Open)
         }
-        Written::Nothing => Ok(Writes::Open),
+        WriteSearch::Nothing => Ok(Writes::Open),
     }
 }
 

@@ -1,19 +1,22 @@
 //! Levels of isolation of what clients saw, in the list-append model.
 //!
 //! Snapshot isolation (`specs/Snapshots.antt`) and read committed (`specs/Commits.antt`), beside the serial runs of
-//! `sgt_appends`, each by its runs and by the edges between transactions.
+//! `sgt_appends`, each by its runs and by the edges between transactions; and read uncommitted, PL-1, by orders of writes
+//! (`specs/WriteOrders.antt`).
 //!
 //! Proved, for snapshot isolation and for read committed:
 //! - each edge goes forward in each run, so a cycle of the level's kind, or a fault of a read, leaves no run
 //! - times that rise along the edges are a run, if no read has a fault; a linear number of edges suffices
-//! - what is serializable is snapshot isolated, and what is snapshot isolated is read committed
+//! - what is serializable is snapshot isolated, what is snapshot isolated is read committed, and what is read committed is
+//!   read uncommitted
 //! - write skew is snapshot isolated and not serializable; lost update is not snapshot isolated
 //! - `levels_of` answers `Run` only with a run, and *no* only if there is none: an order that the tests of `replay.rt`
-//!   accept is a run, and a cycle that those of `tie.rt` accept leaves none
+//!   accept is a run, and a cycle that those of `tie.rt` accept leaves none; the same of write orders in `writes.rt`
 //! - `ruled_out` names the weakest level that a cycle rules out
 //! - `unseen_appends` names two appends to one key that no read saw
 //!
-//! Tested, not proved: when `levels_of` leaves a level open (`survey.rt` and `search.rt`), and the time: n log n.
+//! Tested, not proved: when `levels_of` leaves a level open (`survey.rt`, `search.rt` and `write_search.rt`), and the time:
+//! n log n.
 //!
 //! Not decided by edges alone: in which order two transactions come that append to one key, if neither append was seen.
 #![tactic(auto)]

@@ -3,14 +3,14 @@
 use crate::search::sorted_nodes;
 use crate::survey::length_of;
 use crate::tie::{Ground, Tie};
-use sgt_appends::{AppendIndex, Link, Operation, Read, Reason, Status, Transaction, read_of};
+use sgt_appends::{AppendIndex, Link, Operation, Read, Reason, Status, Transaction, has, read_of};
 use sgt_model::NoMemory;
 use std::alloc::Global;
 use std::collections::{BTreeMap, BTreeSet};
 
 /// What the search for a write order found.
 #[derive(Drop)]
-pub enum Written {
+pub enum WriteSearch {
     /// An order.
     Order(Vec<usize>),
     /// Ties that leave none.
@@ -19,14 +19,26 @@ pub enum Written {
     Nothing,
 }
 
-/// A read that saw the most values of its key, and the last of them that a committed transaction appends.
+/// A read of a key that saw the most values that committed transactions append.
 #[derive(Clone, Copy)]
 struct Longest {
     reader: usize,
     read: usize,
+    /// How many of these values it saw.
     len: usize,
-    /// The append of that last value: its transaction and its position there.
+    /// The append of the last one: its transaction and its position there.
     last: Option<(usize, usize)>,
+}
+
+/// A value that a read saw and a committed transaction appends.
+#[derive(Clone, Copy)]
+struct Written {
+    /// Its position in the list.
+    at: usize,
+    value: u32,
+    /// The transaction that appends it, and the position of the append there.
+    by: usize,
+    append: usize,
 }
 
 /// What the search has noted.
@@ -43,13 +55,13 @@ pub fn search_writes(
     alloc: Global,
     history: &[Transaction],
     appends: &AppendIndex,
-) -> Result<Written, NoMemory> {
+) -> Result<WriteSearch, NoMemory> {
     let mut notes = Notes {
         longest: BTreeMap::new(alloc),
         seen: BTreeSet::new(alloc),
         ties: Vec::new(alloc),
     };
-    notes.find_longest(history)?;
+    notes.find_longest(history, appends)?;
     notes.tie_reads(history, appends)?;
     notes.tie_appends(history)?;
     notes.sorted(alloc, history)
@@ -57,11 +69,15 @@ pub fn search_writes(
 
 impl Notes {
     /// Finds the longest read of each key.
-    fn find_longest(&mut self, history: &[Transaction]) -> Result<(), NoMemory> {
+    fn find_longest(
+        &mut self,
+        history: &[Transaction],
+        appends: &AppendIndex,
+    ) -> Result<(), NoMemory> {
         for number in 0..history.len() {
             for position in 0..length_of(history, number) {
                 if let Some(read) = read_of(history, number, position) {
-                    self.offer(read)?;
+                    self.offer(history, appends, read)?;
                 }
             }
         }
@@ -69,9 +85,15 @@ impl Notes {
     }
 
     /// Makes the read the longest of its key, if it saw more.
-    fn offer(&mut self, read: Read<'_>) -> Result<(), NoMemory> {
+    fn offer(
+        &mut self,
+        history: &[Transaction],
+        appends: &AppendIndex,
+        read: Read<'_>,
+    ) -> Result<(), NoMemory> {
+        let len = count_written(history, appends, read);
         if let Some(longest) = self.longest.get(&read.key) {
-            if read.seen.len() <= longest.len {
+            if len <= longest.len {
                 return Ok(());
             }
         }
@@ -80,7 +102,7 @@ impl Notes {
             Longest {
                 reader: read.reader,
                 read: read.position,
-                len: read.seen.len(),
+                len,
                 last: None,
             },
         )?;
@@ -130,7 +152,7 @@ impl Notes {
         longest: Longest,
         read: Read<'_>,
     ) -> Result<(), NoMemory> {
-        let mut last = None;
+        let mut last: Option<(usize, usize)> = None;
         for value in read.seen {
             self.seen.insert((read.key, *value))?;
             if let Some((to, second)) = written_at(history, appends, read.key, *value) {
@@ -170,7 +192,7 @@ impl Notes {
         self.tie(from, to, ground)
     }
 
-    /// Adds the two ties of reads of which neither is a prefix of the other: at the first place where they differ.
+    /// Adds two ties, if the values of neither read are the first ones of the other: where they first differ.
     fn tie_others(
         &mut self,
         history: &[Transaction],
@@ -178,40 +200,42 @@ impl Notes {
         whole: Read<'_>,
         read: Read<'_>,
     ) -> Result<(), NoMemory> {
-        for (one, other) in whole.seen.iter().zip(read.seen.iter()) {
-            if *one != *other {
-                let first = written_at(history, appends, read.key, *one);
-                let second = written_at(history, appends, read.key, *other);
-                if let Some(first) = first {
-                    if let Some(second) = second {
-                        self.tie_between(first, second, whole, *other)?;
-                        self.tie_between(second, first, read, *one)?;
-                    }
-                }
+        let mut from = 0;
+        let mut other_from = 0;
+        for _ in 0..read.seen.len() {
+            let Some(one) = next_written(history, appends, whole, from) else {
                 return Ok(());
+            };
+            let Some(other) = next_written(history, appends, read, other_from) else {
+                return Ok(());
+            };
+            if one.value != other.value {
+                self.tie_between(one, other, whole)?;
+                return self.tie_between(other, one, read);
             }
+            from = one.at.saturating_add(1);
+            other_from = other.at.saturating_add(1);
         }
         Ok(())
     }
 
-    /// Adds the tie that the read saw the first append, and the value of the second one later or not at all.
+    /// Adds the tie that the read saw the first value, and the second one later or not at all.
     fn tie_between(
         &mut self,
-        first: (usize, usize),
-        second: (usize, usize),
+        first: Written,
+        second: Written,
         read: Read<'_>,
-        value: u32,
     ) -> Result<(), NoMemory> {
-        if sgt_appends::has(read.seen, value) {
-            return self.tie_in_order(first.0, second.0, first.1, second.1, read);
+        if has(read.seen, second.value) {
+            return self.tie_in_order(first.by, second.by, first.append, second.append, read);
         }
         let ground = Ground::Late {
-            first: first.1,
-            second: second.1,
+            first: first.append,
+            second: second.append,
             reader: read.reader,
             read: read.position,
         };
-        self.tie(first.0, second.0, ground)
+        self.tie(first.by, second.by, ground)
     }
 
     /// Adds the ties from the last values of the longest reads to the appends that they did not see.
@@ -263,7 +287,7 @@ impl Notes {
     }
 
     /// The committed transactions along the ties, or a cycle of ties.
-    fn sorted(&self, alloc: Global, history: &[Transaction]) -> Result<Written, NoMemory> {
+    fn sorted(&self, alloc: Global, history: &[Transaction]) -> Result<WriteSearch, NoMemory> {
         let mut links = Vec::with_capacity(alloc, self.ties.len())?;
         for (number, tie) in self.ties.iter().enumerate() {
             links.push(Link {
@@ -276,13 +300,13 @@ impl Notes {
             })?;
         }
         match sorted_nodes(alloc, links.as_slice(), history.len())? {
-            Some(Ok(sorted)) => Ok(Written::Order(committed_ones(
+            Some(Ok(sorted)) => Ok(WriteSearch::Order(committed_ones(
                 alloc,
                 history,
                 sorted.order.as_slice(),
             )?)),
-            Some(Err(cycle)) => Ok(Written::Ties(self.ties_of(alloc, cycle.as_slice())?)),
-            None => Ok(Written::Nothing),
+            Some(Err(cycle)) => Ok(WriteSearch::Ties(self.ties_of(alloc, cycle.as_slice())?)),
+            None => Ok(WriteSearch::Nothing),
         }
     }
 
@@ -315,6 +339,38 @@ fn committed_ones(
         }
     }
     Ok(order)
+}
+
+/// How many values that committed transactions append the read saw.
+fn count_written(history: &[Transaction], appends: &AppendIndex, read: Read<'_>) -> usize {
+    let mut count = 0_usize;
+    for value in read.seen {
+        if written_at(history, appends, read.key, *value).is_some() {
+            count = count.saturating_add(1);
+        }
+    }
+    count
+}
+
+/// The first such value from the position on.
+fn next_written(
+    history: &[Transaction],
+    appends: &AppendIndex,
+    read: Read<'_>,
+    from: usize,
+) -> Option<Written> {
+    for at in from..read.seen.len() {
+        let value = read.seen[at];
+        if let Some((by, append)) = written_at(history, appends, read.key, value) {
+            return Some(Written {
+                at,
+                value,
+                by,
+                append,
+            });
+        }
+    }
+    None
 }
 
 /// The append of the value to the key, if its transaction committed.
