@@ -1,5 +1,5 @@
 -- Write orders: what each read shows of them, and cycles that leave none.
-use Rattle.std.proofs.Common.{◌≡◌, ◌≢◌, ◌<◌, ◌≤◌, ◌+◌, ℕ, List, [], ◌∷◌, ◌++◌, take, drop, length, get_or, sym, ap, ◌∙◌, subst, inl, inr, arith, append-nil, take-append-drop}
+use Rattle.std.proofs.Common.{◌≡◌, ◌≢◌, ◌<◌, ◌≤◌, ◌+◌, ℕ, zero, suc, List, [], ◌∷◌, ◌++◌, Option, Some, None, take, drop, length, get_or, refl, sym, ap, ◌∙◌, subst, inl, inr, arith, append-nil, take-append-drop}
 use Rattle.std.proofs.lemmas.Bool.{cases_eq}
 use Rattle.std.proofs.lemmas.List.{take_more}
 use Rattle.sgt_appends.specs.declared.transaction.Operation.TheVariants.{Read}
@@ -9,11 +9,14 @@ use Rattle.sgt_appends.specs.Lists.{Has, IsOnce, StandsBefore}
 use Rattle.sgt_appends.specs.Runs.{operations_of, Ended}
 use Rattle.sgt_appends.specs.Precedences.{appended, Appends, AppendsOnce, WereSeen}
 use Rattle.sgt_appends.specs.Guides.{appended_by}
+use Rattle.sgt_appends.specs.Indexes.{Positions, IsIndex}
+use Rattle.sgt_appends.specs.Reads.{IsReadAt}
 use Rattle.sgt_appends.proofs.Words.{Has-append_left, Has-append_right, Has-append_cases, StandsBefore-cons, StandsBefore-back, StandsBefore-cases, StandsBefore-has, stand_somehow, not_both}
 use Rattle.sgt_appends.proofs.Along.{as_these}
 use Rattle.sgt_appends.proofs.Faulty.{appended_once}
 use Rattle.sgt_appends.proofs.Orders.{place_of}
-use Rattle.sgt_appends.proofs.Passed.{at_reads, stands_within, ended_within}
+use Rattle.sgt_appends.proofs.Filed.{append_at}
+use Rattle.sgt_appends.proofs.Passed.{at_reads, same_read_at, stands_within, ended_within}
 use Rattle.sgt_appends.proofs.Running.{appended_has}
 use Rattle.sgt_levels.specs.Commits.{IsCommittedRun}
 use Rattle.sgt_levels.specs.Levels.{WasLate}
@@ -120,6 +123,57 @@ kept_one h k xs ys x it none = record {
     not_last : (v : ℕ) → Has (x ∷ []) v → ¬ IsWritten h k v
     not_last v (inl same) written = none (subst (λ q. IsWritten h k q) (sym same) written)
     not_last v (inr no) written = no
+
+-- the next value of the second list
+pub kept_next : (h : List Transaction) (k : ℕ) (list : List ℕ) (at v : ℕ) → at < length list → get_or list at 0 ≡ v → (xs : List ℕ)
+    → AreKept h k xs (take at list) → AreKept h k (xs ++ v ∷ []) (take (at + 1) list)
+kept_next h k list at v within same xs it =
+    subst (λ l. AreKept h k (xs ++ v ∷ []) l) (ap (λ x. take at list ++ x ∷ []) (sym same) ∙ sym (take_more list at 0 within))
+    (kept_both h k xs (take at list) v it)
+
+-- one value more of the first list
+pub kept_step : (h : List Transaction) (k : ℕ) (seen list : List ℕ) (i at next v : ℕ) → i < length seen → v ≡ get_or seen i 0
+    → ((xs : List ℕ) → AreKept h k xs (take at list) → AreKept h k (xs ++ v ∷ []) (take next list))
+    → AreKept h k (take i seen) (take at list) → AreKept h k (take (i + 1) seen) (take next list)
+kept_step h k seen list i at next v within is step kept =
+    subst (λ xs. AreKept h k xs (take next list)) (ap (λ x. take i seen ++ x ∷ []) is ∙ sym (take_more seen i 0 within))
+    (step (take i seen) kept)
+
+pub whole_front : (xs : List ℕ) (n : ℕ) → length xs ≤ n → take n xs ≡ xs
+whole_front [] zero less = refl
+whole_front [] (suc n) less = refl
+whole_front (x ∷ xs) zero less = absurd (omega (arith, less))
+whole_front (x ∷ xs) (suc n) less = ap (λ l. x ∷ l) (whole_front xs n (omega (arith, less)))
+
+-- all values of the first list
+pub kept_all : (h : List Transaction) (k : ℕ) (seen list : List ℕ) (i at : ℕ) → length seen ≤ i → AreKept h k (take i seen) (take at list)
+    → AreFirst h k seen list
+kept_all h k seen list i at whole kept = (at, subst (λ xs. AreKept h k xs (take at list)) (whole_front seen i whole) kept)
+
+-- a read fits, if what it saw does
+pub fits_read : (h : List Transaction) (lists : ℕ → List ℕ) (t p k : ℕ) (seen : List ℕ) → IsReadAt h t p k seen
+    → AreFirst h k seen (lists k) → FitsAt h lists t p
+fits_read h lists t p k seen is first l values ended reads =
+    let same = same_read_at h t p k l seen values is reads in
+    subst (λ q. AreFirst h q values (lists q)) same.0 (subst (λ xs. AreFirst h k xs (lists k)) same.1 first)
+
+-- a value of which the index says that its transaction did not commit
+pub not_written : (h : List Transaction) (at : Positions) (k v t p : ℕ) → IsIndex h at → at k v ≡ Some (t, p) → ¬ Ended h t Committed
+    → ¬ IsWritten h k v
+not_written h at k v t p index found none it =
+    let place = append_at h it.0 k v it.2 in
+    none (subst (λ u. Ended h u Committed) (same_one it.0 t place.0 p (sym (index.all k v it.0 place.0 place.1) ∙ found)) it.1)
+  where
+    same_one : (u t q p : ℕ) → Some (u, q) ≡ Some (t, p) → u ≡ t
+    same_one u t q p e = cc
+
+pub nowhere_written : (h : List Transaction) (at : Positions) (k v : ℕ) → IsIndex h at → at k v ≡ None → ¬ IsWritten h k v
+nowhere_written h at k v index none it =
+    let place = append_at h it.0 k v it.2 in
+    some_none (it.0, place.0) (sym (index.all k v it.0 place.0 place.1) ∙ none)
+  where
+    some_none : (x : ℕ × ℕ) → ¬ (Some x ≡ None)
+    some_none x e = cc
 
 -- one position more, and all; one transaction more, and all
 pub fits_more : (h : List Transaction) (lists : ℕ → List ℕ) (t i : ℕ) → ((p : ℕ) → p < i → FitsAt h lists t p) → FitsAt h lists t i

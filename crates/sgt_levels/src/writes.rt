@@ -1,12 +1,12 @@
 //! Whether committed transactions write in one order: read uncommitted, PL-1.
-ghost use Rattle.std.specs.Prelude.{◌≡◌, ◌+◌, ◌∷◌, [], ◌++◌, ℕ, List, length, take, IsTrue, IfOk, OnOk, IfSome};
+ghost use Rattle.std.specs.Prelude.{◌≡◌, ◌≤◌, ◌∷◌, [], ◌++◌, ℕ, List, length, take, IsTrue, IfOk, IfSome};
 ghost use Rattle.sgt_appends.specs.Indexes.{position_of, IsIndex};
-ghost use Rattle.sgt_appends.specs.Runs.{Ended, operations_of};
+ghost use Rattle.sgt_appends.specs.Runs.{Ended};
 ghost use Rattle.sgt_appends.specs.Precedences.{AppendsOnce};
 ghost use Rattle.sgt_appends.specs.Guides.{appended_by};
 ghost use Rattle.sgt_appends.specs.declared.transaction.Status.TheVariants.{Committed};
 ghost use Rattle.sgt_levels.specs.Replays.{values_in};
-ghost use Rattle.sgt_levels.specs.WriteOrders.{Overwrites, IsWriteOrder, IsReadUncommitted, IsWritten, AreFirst, FitsAt, FitsIn, AllFit};
+ghost use Rattle.sgt_levels.specs.WriteOrders.{Overwrites, IsWriteOrder, IsReadUncommitted, IsWritten, AreKept, AreFirst, FitsAt, FitsIn, AllFit};
 
 use crate::columns::Columns;
 use crate::survey::length_of;
@@ -29,21 +29,29 @@ pub fn is_write_order(
     if !names_each(alloc, history, order)? {
         return Ok(false);
     }
-    let lists = lists_of(alloc, history, order)?;
-    Ok(all_fit(history, &appends, &lists))
+    match lists_of(alloc, history, order)? {
+        Some(lists) => Ok(all_fit(history, &appends, &lists)),
+        None => Ok(false),
+    }
 }
 
-/// What the transactions of the order append to each key, one after another.
-fn lists_of(alloc: Global, history: &[Transaction], order: &[usize]) -> Result<Columns, NoMemory>
-    ensures { IfOk result (λ lists. (k : ℕ) → values_in lists k ≡ appended_by history.now k order.now) }
+/// What the transactions of the order append to each key, one after another, if the history has them.
+fn lists_of(
+    alloc: Global,
+    history: &[Transaction],
+    order: &[usize],
+) -> Result<Option<Columns>, NoMemory>
+    ensures { IfOk result (λ found. IfSome found (λ lists. (k : ℕ) → values_in lists k ≡ appended_by history.now k order.now)) }
 {
     let mut lists = Columns::new(alloc);
     for place in 0..order.len() {
-        if let Some(transaction) = history.get(order[place]) {
-            lists.add_all(alloc, transaction.operations.as_slice(), place)?;
-        }
+        let Some(transaction) = history.get(order[place]) else {
+            return Ok(None);
+        };
+        let operations = transaction.operations.as_slice();
+        lists.add_all(alloc, operations, place)?;
     }
-    Ok(lists)
+    Ok(Some(lists))
 }
 
 /// Whether each read of a committed transaction fits the lists.
@@ -86,15 +94,23 @@ fn fits_at(
     let Some(read) = read_of(history, number, position) else {
         return true;
     };
-    match lists.find(read.key) {
-        Some(column) => are_first(
-            history,
-            appends,
-            read.key,
-            read.seen,
-            column.values.as_slice(),
-        ),
-        None => are_first(history, appends, read.key, read.seen, &[]),
+    fits(history, appends, lists, read.key, read.seen)
+}
+
+/// Whether the values that a read of the key saw fit the list of the key.
+fn fits(
+    history: &[Transaction],
+    appends: &AppendIndex,
+    lists: &Columns,
+    key: u32,
+    seen: &[u32],
+) -> bool
+    requires { IsIndex history.now (position_of appends.now) }
+    ensures { IsTrue result → AreFirst history.now key seen.now (values_in lists.now key) }
+{
+    match lists.find(key) {
+        Some(column) => are_first(history, appends, key, seen, column.values.as_slice()),
+        None => are_first(history, appends, key, seen, &[]),
     }
 }
 
@@ -112,13 +128,39 @@ fn are_first(
 {
     let mut at = 0;
     for value in seen {
-        if at < list.len() && list[at] == *value {
-            at += 1;
-        } else if is_written(history, appends, key, *value) {
+        let Some(next) = next_place(history, appends, key, *value, list, at) else {
             return false;
-        }
+        };
+        at = next;
     }
     true
+}
+
+/// How many values of the list a read saw with the value, if it saw so many before it. The value is the next one, or no
+/// committed transaction appends it.
+fn next_place(
+    history: &[Transaction],
+    appends: &AppendIndex,
+    key: u32,
+    value: u32,
+    list: &[u32],
+    at: usize,
+) -> Option<usize>
+    requires index { IsIndex history.now (position_of appends.now) }
+    requires within { at ≤ length list.now }
+    ensures within { IfSome result (λ next. next ≤ length list.now) }
+    ensures kept { IfSome result (λ next. (xs : List ℕ) → AreKept history.now key xs (take at list.now)
+        → AreKept history.now key (xs ++ value ∷ []) (take next list.now)) }
+{
+    if at < list.len() {
+        if list[at] == value {
+            return Some(at + 1);
+        }
+    }
+    if is_written(history, appends, key, value) {
+        return None;
+    }
+    Some(at)
 }
 
 /// Whether a committed transaction appends the value to the key.
