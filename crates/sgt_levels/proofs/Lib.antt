@@ -6,6 +6,7 @@ pub mod Wrong
 pub mod Commits
 pub mod Reading
 pub mod Order
+pub mod Ordered
 pub mod Raises
 pub mod Lates
 pub mod Rounds

@@ -4,7 +4,7 @@ use Rattle.std.proofs.lemmas.Bool.{cases_lt, lt-ltb, le-ltb}
 use Rattle.sgt_appends.specs.declared.transaction.Status.TheVariants.{Committed}
 use Rattle.sgt_appends.specs.declared.transaction.Transaction.{Transaction}
 use Rattle.sgt_appends.specs.Lists.{Has, IsOnce, StandsBefore, Rises}
-use Rattle.sgt_appends.specs.Runs.{Contents, nothing, after_all, SeesAll, operations_of, Ended, IsRun, IsSerializable}
+use Rattle.sgt_appends.specs.Runs.{Contents, nothing, after_all, SeesAll, operations_of, Ended, IsRun, IsSerialRun, IsSerializable}
 use Rattle.sgt_appends.specs.Precedences.{appended, Appends, Reads, AppendsOnce}
 use Rattle.sgt_appends.specs.Faults.{IsFault}
 use Rattle.sgt_appends.specs.Guides.{appended_by}
@@ -116,40 +116,46 @@ within_it : (order : List ℕ) (t : ℕ) → begin_at order t < commit_at order 
 unfolding begin_at commit_at
 within_it order t = omega arith
 
-pub serial_snapshot : (h : List Transaction) → IsSerializable h → IsSnapshotIsolated h
-serial_snapshot h it = (
-  it.0,
-  begin_at it.0,
-  commit_at it.0,
+-- a serial run, with these times, is a snapshot run
+pub serial_times : (h : List Transaction) (order : List ℕ) → IsSerialRun h order
+    → (begin : ℕ → ℕ) × (commit : ℕ → ℕ) × IsSnapshotRun h order begin commit
+    × ((t u : ℕ) → StandsBefore order t u → commit t < begin u)
+serial_times h order run = (
+  begin_at order,
+  commit_at order,
   record {
-    rises = rises_by (commit_at it.0) it.0 (λ t u stand. omega (arith, later_than it.0 t u it.1.once stand, within_it it.0 u));
-    committed = it.1.committed;
-    may_run = it.1.may_run;
-    begins = λ t has. within_it it.0 t;
-    sees = λ t has. sees t (serial_sees h it.0 [] it.0 nothing refl (λ k. refl) it.1.run t has);
-    apart = λ t u k v w differ has_t has_u one other. elim (stand_somehow it.0 t u has_t has_u differ) [
-      | inl x ↦ inl (later_than it.0 t u it.1.once x)
-      | inr x ↦ inr (later_than it.0 u t it.1.once x)
+    rises = rises_by (commit_at order) order (λ t u stand. omega (arith, later_than order t u run.once stand, within_it order u));
+    committed = run.committed;
+    may_run = run.may_run;
+    begins = λ t has. within_it order t;
+    sees = λ t has. sees t (serial_sees h order [] order nothing refl (λ k. refl) run.run t has);
+    apart = λ t u k v w differ has_t has_u one other. elim (stand_somehow order t u has_t has_u differ) [
+      | inl x ↦ inl (later_than order t u run.once x)
+      | inr x ↦ inr (later_than order u t run.once x)
     ];
   },
+  λ t u stand. later_than order t u run.once stand,
 )
   where
     sees : (t : ℕ)
-        → (front : List ℕ) × (back : List ℕ) × (it.0 ≡ front ++ t ∷ back) × SeesAll (operations_of h t) (λ k. appended_by h k front)
-        → SeesAll (operations_of h t) (λ k. appended_by h k (before_time (commit_at it.0) (begin_at it.0 t) it.0))
+        → (front : List ℕ) × (back : List ℕ) × (order ≡ front ++ t ∷ back) × SeesAll (operations_of h t) (λ k. appended_by h k front)
+        → SeesAll (operations_of h t) (λ k. appended_by h k (before_time (commit_at order) (begin_at order t) order))
     sees t saw =
-        let same : before_time (commit_at it.0) (begin_at it.0 t) it.0 ≡ saw.0 =
-        ap (λ xs. before_time (commit_at it.0) (begin_at it.0 t) xs) saw.2
-        ∙ before_is (commit_at it.0) (begin_at it.0 t) saw.0 (t ∷ saw.1)
-        (λ x has. later_than it.0 x t it.1.once
+        let same : before_time (commit_at order) (begin_at order t) order ≡ saw.0 =
+        ap (λ xs. before_time (commit_at order) (begin_at order t) xs) saw.2
+        ∙ before_is (commit_at order) (begin_at order t) saw.0 (t ∷ saw.1)
+        (λ x has. later_than order x t run.once
         (subst (λ xs. StandsBefore xs x t) (sym saw.2) (joins saw.0 (t ∷ saw.1) x t has (inl refl))))
         (λ y has. after_it y has) in
         subst (λ xs. SeesAll (operations_of h t) (λ k. appended_by h k xs)) (sym same) saw.3
       where
-        after_it : (y : ℕ) → Has (t ∷ saw.1) y → begin_at it.0 t ≤ commit_at it.0 y
-        after_it y (inl e) = subst (λ z. begin_at it.0 t ≤ commit_at it.0 z) e (omega (arith, within_it it.0 t))
+        after_it : (y : ℕ) → Has (t ∷ saw.1) y → begin_at order t ≤ commit_at order y
+        after_it y (inl e) = subst (λ z. begin_at order t ≤ commit_at order z) e (omega (arith, within_it order t))
         after_it y (inr has) =
-            omega (arith, within_it it.0 t, within_it it.0 y, later_than it.0 t y it.1.once (saw.0, saw.1, saw.2, has))
+            omega (arith, within_it order t, within_it order y, later_than order t y run.once (saw.0, saw.1, saw.2, has))
+
+pub serial_snapshot : (h : List Transaction) → IsSerializable h → IsSnapshotIsolated h
+serial_snapshot h it = let times = serial_times h it.0 it.1 in (it.0, times.0, times.1, times.2)
 
 -- what leaves no run of committed reads leaves no snapshot run
 pub snapshot_fault : (h : List Transaction) (t k : ℕ) (own seen : List ℕ) → AppendsOnce h → Ended h t Committed

@@ -196,7 +196,7 @@ follows_in h order begin commit t u once run depends = elim depends.1 [
   ]
 ]
 
-depends_in : (h : List Transaction) (order : List ℕ) (begin commit : ℕ → ℕ) (t u : ℕ) → AppendsOnce h
+pub depends_in : (h : List Transaction) (order : List ℕ) (begin commit : ℕ → ℕ) (t u : ℕ) → AppendsOnce h
     → IsSnapshotRun h order begin commit → Depends h t u → Has order t
 depends_in h order begin commit t u once run (inl follows) = follows_in h order begin commit t u once run follows
 depends_in h order begin commit t u once run (inr w) = run.committed t w.1.missed.has_seen.0

@@ -6,6 +6,7 @@ ghost use Rattle.sgt_levels.specs.Raises.{SplitRaisedAreEnough, TailsDepend};
 ghost use Rattle.sgt_levels.specs.Lates.{CommitRaisedAreEnough};
 ghost use Rattle.sgt_levels.specs.Rounds.{SpacedCyclesAreEnough, NoMissCyclesAreEnough};
 ghost use Rattle.sgt_levels.specs.WriteOrders.{WriteCyclesAreEnough, CommittedIsUncommitted};
+ghost use Rattle.sgt_levels.specs.Ordered.{OrderedCyclesAreEnough, OrderedIsSnapshot, SerialIsOrdered};
 ghost use Rattle.sgt_levels.specs.Examples.{WriteSkewIsBetween, LostUpdateIsNoSnapshot};
 
 /// In each snapshot run the edges go forward.
@@ -111,4 +112,19 @@ pub fn write_cycles_are_enough()
 /// A run of committed reads is a write order.
 pub fn committed_is_uncommitted()
     ensures { CommittedIsUncommitted }
+{}
+
+/// A cycle without two misses next to one another leaves no snapshot run that keeps the order.
+pub fn ordered_cycles_are_enough()
+    ensures { OrderedCyclesAreEnough }
+{}
+
+/// A snapshot run that keeps an order is a snapshot run.
+pub fn ordered_is_snapshot()
+    ensures { OrderedIsSnapshot }
+{}
+
+/// What has a serial run that keeps an order has a snapshot run that keeps it.
+pub fn serial_is_ordered()
+    ensures { SerialIsOrdered }
 {}
