@@ -2,7 +2,7 @@
 
 import itertools
 
-from .appends import ABORTED, COMMITTED, UNKNOWN, Transaction
+from .appends import ABORTED, COMMITTED, FOREVER, UNKNOWN, Transaction
 
 
 def commit_orders(history):
@@ -65,6 +65,50 @@ def snapshot_starts(history, order):
 
 def is_snapshot_isolated(history):
     return any(snapshot_starts(history, order) is not None for order in commit_orders(history))
+
+
+def ordered_starts(history, order, before):
+    """The starts of a snapshot run of the order in which a transaction begins after those have committed that come before it, or None.
+    `before` has the pairs: those that ended before another began, for strong snapshot isolation; of one process, for sessions."""
+    places, starts = {it: place for place, it in enumerate(order)}, []
+    for place, one in enumerate(order):
+        first = max([places[it] + 1 for it, later in before if later == one and it in places], default=0)
+        fitting = [start for start in range(first, place + 1) if sees_start(history, order, one, start)
+                   and not any(keys_of(history, one) & keys_of(history, other) for other in order[start:place])]
+        if not fitting:
+            return None
+        starts.append(fitting[0])
+    return starts
+
+
+def is_ordered_isolated(history, before):
+    return any(ordered_starts(history, order, before) is not None for order in commit_orders(history))
+
+
+def with_barriers(history, spans, processes=None):
+    """A history that is snapshot isolated exactly if the history is so with the order of its entries, or of those of each process. Each
+    transaction appends to a key of its own. Where transactions begin after others have ended, a barrier stands between them: it saw the
+    keys of those that ended and of the barrier before it, and appends to a key that those that begin later saw. An unknown one has no
+    reads: the barrier found its key empty."""
+    count, states, barriers = len(history), {}, []
+    operations = [[("append", 100 + it, 0), *one.operations] for it, one in enumerate(history)]
+    events = sorted((at, end, it) for it in range(count) for end, at in enumerate(spans[it]) if at < FOREVER)
+    for _, end, one in events:
+        ended, last = states.get(processes and processes[one], ((), None))
+        if end:
+            ended += (one,) * (history[one].status == COMMITTED)
+        else:
+            if ended:
+                seen = [("r", 100 + it, (0,)) for it in ended] + [("r", 1000 + it, (0,)) for it in (last,) if it is not None]
+                ended, last = (), len(barriers)
+                barriers.append([*seen, ("append", 1000 + last, 0)])
+            if last is not None and history[one].status == COMMITTED:
+                operations[one].append(("r", 1000 + last, (0,)))
+            elif last is not None:
+                barriers[last].append(("r", 100 + one, ()))
+        states[processes and processes[one]] = ended, last
+    kept = [Transaction(one.status, some) for one, some in zip(history, operations)]
+    return kept + [Transaction(COMMITTED, it) for it in barriers]
 
 
 def is_committed_run(history, order):
