@@ -378,14 +378,14 @@ STRONGEST = [
     ("read committed", "not snapshot isolation: lost-update",
      [one("ok", (R, 1, ()), (A, 1, 1)), one("ok", (R, 1, ()), (A, 1, 2)), one("ok", (R, 1, (1, 2)))]),
     ("read committed", "not snapshot isolation: lost-update", [one("ok", (R, 1, ()), (A, 1, 1)), one("ok", (R, 1, ()), (A, 1, 2))]),
-    ("read committed", "not snapshot isolation: G-single", NAMED["G-single"]),
-    ("read committed", "not snapshot isolation: G-nonadjacent", NAMED["G-nonadjacent"]),
-    ("none", "not read committed: G0", NAMED["G0"]),
-    ("none", "not read committed: G1a", NAMED["G1a"]),
+    ("read committed", "not snapshot isolation: by the lines above", NAMED["G-single"]),
+    ("read committed", "not snapshot isolation: by the lines above", NAMED["G-nonadjacent"]),
+    ("none", "not read committed: by the lines above", NAMED["G0"]),
+    ("none", "not read committed: by the lines above", NAMED["G1a"]),
     ("none", "not read committed: G1b", NAMED["G1b"]),
-    ("none", "not read committed: G1c", NAMED["G1c"]),
-    ("none", "not read committed: internal", NAMED["internal"]),
-    ("none", "not read committed: incompatible-order", NAMED["incompatible-order"]),
+    ("none", "not read committed: by the lines above", NAMED["G1c"]),
+    ("none", "not read committed: by the lines above", NAMED["internal"]),
+    ("none", "not read committed: by the lines above", NAMED["incompatible-order"]),
 ]
 
 
