@@ -380,12 +380,12 @@ STRONGEST = [
     ("read committed", "not snapshot isolation: lost-update", [one("ok", (R, 1, ()), (A, 1, 1)), one("ok", (R, 1, ()), (A, 1, 2))]),
     ("read committed", "not snapshot isolation: by the lines above", NAMED["G-single"]),
     ("read committed", "not snapshot isolation: by the lines above", NAMED["G-nonadjacent"]),
-    ("none", "not read committed: by the lines above", NAMED["G0"]),
-    ("none", "not read committed: by the lines above", NAMED["G1a"]),
-    ("none", "not read committed: G1b", NAMED["G1b"]),
-    ("none", "not read committed: by the lines above", NAMED["G1c"]),
-    ("none", "not read committed: by the lines above", NAMED["internal"]),
-    ("none", "not read committed: by the lines above", NAMED["incompatible-order"]),
+    ("none", "not read uncommitted: G0", NAMED["G0"]),
+    ("read uncommitted", "not read committed: by the lines above", NAMED["G1a"]),
+    ("read uncommitted", "not read committed: G1b", NAMED["G1b"]),
+    ("read uncommitted", "not read committed: by the lines above", NAMED["G1c"]),
+    ("read uncommitted", "not read committed: by the lines above", NAMED["internal"]),
+    ("none", "read uncommitted undecided", NAMED["incompatible-order"]),
 ]
 
 
