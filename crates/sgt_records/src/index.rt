@@ -13,7 +13,7 @@ ghost use Rattle.sgt_records.specs.Slots.{key_chain, committed_of, IsIndex};
 ghost use Rattle.sgt_records.specs.Tables.{index_in, record_in};
 
 use crate::chain::Chain;
-use crate::live_write::LiveWrite;
+use crate::live_write::{LiveWrite, pass_others};
 use crate::packed_value::PackedValue;
 use crate::record::Record;
 use crate::table::Table;
@@ -170,12 +170,14 @@ impl Index {
         ensures left { (u : ℕ) (k : Key) → is_live u k live.new.items ≡ (not (nat_eq u t) && is_live u k live.old.items) }
         ensures returned { IndicesAgree (index_in self.old.table) live.new.items }
     {
-        let mut at = live.len();
+        let mut at = pass_others(live.as_slice(), live.len(), t);
         while 0 < at {
             at -= 1;
             if live[at].by == t {
                 let write = live.swap_remove(at);
                 self.settle(t, write.key, write.index);
+                let left = live.as_slice();
+                at = pass_others(left, at, t);
             }
         }
     }

@@ -1,7 +1,7 @@
-use Rattle.std.proofs.Common.{rules, ◌≡◌, ◌-◌, ◌<◌, ◌≤◌, ◌+◌, ℕ, false, cond, nat_eq, List, length, get_or, swap_remove, vec_len, arith, sym, ap, subst, ◌∙◌, ⊎_elim}
+use Rattle.std.proofs.Common.{rules, ◌≡◌, ◌-◌, ◌<◌, ◌≤◌, ◌+◌, ℕ, false, cond, nat_eq, List, length, get_or, swap_remove, vec_len, arith, sym, ap, subst, ◌∙◌, ⊎_elim, inl, inr}
 use Rattle.std.specs.List.{AllWithin}
 use Rattle.std.specs.BTreeMap.{get}
-use Rattle.std.proofs.lemmas.Bool.{cases_eq, eqb-true}
+use Rattle.std.proofs.lemmas.Bool.{cases_eq, cases_lt, eqb-true}
 use Rattle.std.proofs.lemmas.List.{get_or_default}
 use Rattle.std.specs.Option.{unwrap_or}
 use Rattle.sgt_model.specs.Chains.{chain_without, value_in}
@@ -26,8 +26,8 @@ settle-requires c = record {
 pub loop-at-preserved-then-eq : goal.loop-at-preserved-then-eq
 loop-at-preserved-then-eq c =
     record {
-      within = omega (arith, within, long);
-      none = none;
+      within = let passed = c.pass_others-at-then-eq.ensures.within in omega (arith, within, long, passed);
+      none = λ k d low high. elim (cases_lt k at) [ inl below ↦ passed_over k d low below | inr above ↦ none k d above high ];
       others = λ u k other. ap (is_live u k) is_left ∙ others_taken old at w short c.swap_remove-write.ensures.value c.args.t own u k other
           ∙ c.loop-at.invariant.others u k other;
       chain = λ k. ap (λ l. cond (is_live c.args.t k l) (chain_without c.args.t (key_chain (record_in after.table) after.chains k))
@@ -82,6 +82,12 @@ loop-at-preserved-then-eq c =
 
     sized : vec_len c.loop-at.live ≡ length old
     sized = search rules
+
+    -- those that were passed over, and those that come after them
+    passed_over : AllWithin (λ (x : LiveWrite). nat_eq x.by c.args.t ≡ false) new c.pass_others-at-then-eq.result at
+    passed_over = subst
+        (λ (xs : List LiveWrite). AllWithin (λ (x : LiveWrite). nat_eq x.by c.args.t ≡ false) xs c.pass_others-at-then-eq.result at)
+        c.as_slice-left.ensures.value c.pass_others-at-then-eq.ensures.others
 
     none : AllWithin (λ (x : LiveWrite). nat_eq x.by c.args.t ≡ false) new at (length new)
     none k d low high = ⊎_elim
