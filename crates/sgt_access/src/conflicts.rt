@@ -40,3 +40,28 @@ pub fn rivals_among(accesses: &[Access], t: Tid, key: Key, kind: Kind) -> Tids
         None => unreachable!(),
     }
 }
+
+#[inline(never)]
+pub fn has_rival_in(lists: &[Vec<Access>], t: Tid, key: Key, kind: Kind) -> bool {
+    for list in lists {
+        if has_rival_among(list.as_slice(), t, key, kind) {
+            return true;
+        }
+    }
+    false
+}
+
+pub fn rivals_in(lists: &[Vec<Access>], t: Tid, key: Key, kind: Kind) -> Tids {
+    let mut rivals = ArrayVec::<Tid, 32>::new();
+    for list in lists {
+        for access in list {
+            if access.is_rival_of(t, key, kind) {
+                add_rising(&mut rivals, access.by);
+            }
+        }
+    }
+    match Tids::from_slice(rivals.as_slice()) {
+        Some(rivals) => rivals,
+        None => unreachable!(),
+    }
+}

@@ -1,9 +1,4 @@
 //! What is known of the accesses by key.
-ghost use Rattle.std.specs.Prelude.{◌≡◌, ◌<◌, ◌≤◌, ◌+◌, false, nat_eq, length, List, [], ◌∷◌, ◌++◌, OnOk};
-ghost use Rattle.std.specs.List.{AllWithin};
-ghost use Rattle.std.specs.Vec.{vec_len, vec_capacity};
-ghost use Rattle.sgt_model.specs.AccessList.{ListedAccess, is_listed, forgotten};
-ghost use Rattle.sgt_access.specs.Masks.{StandsFor, Covers, Knows, IsLeaving, IsSaid};
 
 use crate::access::Access;
 use crate::masks::{Masks, Rivals};
@@ -21,9 +16,7 @@ pub struct Known {
 
 impl Known {
     /// No accesses. It allocates nothing.
-    pub fn new(alloc: Global) -> Known
-        ensures { Knows result.only result.masks [] }
-    {
+    pub fn new(alloc: Global) -> Known {
         Known {
             only: Some(Tid(0)),
             masks: Masks::new(alloc),
@@ -32,10 +25,7 @@ impl Known {
 
     /// The rivals of an access of t.
     #[inline(always)]
-    pub fn rivals(&self, t: Tid, key: Key, kind: Kind) -> Rivals
-        ensures { (accesses : List ListedAccess) → Knows self.now.only self.now.masks accesses
-            → IsSaid accesses self.now.masks.places.tids t key kind result }
-    {
+    pub fn rivals(&self, t: Tid, key: Key, kind: Kind) -> Rivals {
         match self.only {
             Some(only) => {
                 if only == t {
@@ -48,17 +38,15 @@ impl Known {
         }
     }
 
-    /// Adds an access to the others.
+    /// Adds an access to the others. It returns the index of its list.
     #[inline(always)]
-    pub fn add(&mut self, access: Access, others: &[Access])
-        ensures { Knows self.old.only self.old.masks others.now
-            → Knows self.new.only self.new.masks (others.now ++ access ∷ []) }
-    {
+    pub fn add(&mut self, access: Access, lists: &[Vec<Access>]) -> usize {
         match self.only {
             Some(only) => {
                 if only != access.by {
-                    self.add_of_another(access, others);
+                    return self.add_of_another(access, lists);
                 }
+                0
             }
             None => self.masks.add(access),
         }
@@ -66,23 +54,19 @@ impl Known {
 
     // The same, if the masks have none of the others and the access is of another transaction.
     #[inline(never)]
-    fn add_of_another(&mut self, access: Access, others: &[Access])
-        ensures { Covers self.old.masks [] → Knows self.new.only self.new.masks (others.now ++ access ∷ []) }
-    {
-        if others.is_empty() {
+    fn add_of_another(&mut self, access: Access, lists: &[Vec<Access>]) -> usize {
+        if lists[0].is_empty() {
             self.only = Some(access.by);
-            return;
+            return 0;
         }
-        add_all(&mut self.masks, others);
-        self.masks.add(access);
+        add_all(&mut self.masks, lists[0].as_slice());
         self.only = None;
+        self.masks.add(access)
     }
 }
 
 // Adds accesses to masks that have none.
-fn add_all(masks: &mut Masks, accesses: &[Access])
-    ensures { Covers masks.old [] → Covers masks.new accesses.now }
-{
+fn add_all(masks: &mut Masks, accesses: &[Access]) {
     for access in accesses {
         masks.add(*access);
     }
@@ -90,83 +74,45 @@ fn add_all(masks: &mut Masks, accesses: &[Access])
 
 /// Provides capacity for one more access.
 #[inline(never)]
-pub fn grow(accesses: &mut Vec<Access>, known: &mut Known) -> Result<(), NoMemory>
-    ensures items { accesses.new.items ≡ accesses.old.items }
-    ensures enough { OnOk result (vec_len accesses.new < vec_capacity accesses.new) }
-    ensures known { Knows known.old.only known.old.masks accesses.old.items
-        → Knows known.new.only known.new.masks accesses.new.items }
-{
-    if accesses.is_empty() {
+pub fn grow(lists: &mut Vec<Vec<Access>>, newest: usize, known: &mut Known, alloc: Global) -> Result<(), NoMemory> {
+    if lists.is_empty() {
         known.masks.fill()?;
+        lists.reserve(33)?;
+        for _ in 0..33u8 {
+            let mut list = Vec::new(alloc);
+            list.reserve(4)?;
+            lists.push_reserved(list);
+        }
+        return Ok(());
     }
-    accesses.reserve(1)?;
+    lists[newest].reserve(1)?;
     Ok(())
 }
 
 /// Removes the accesses of a transaction.
-pub fn remove_all(accesses: &mut Vec<Access>, known: &mut Known, t: Tid)
-    ensures rest { (list : List ListedAccess) → Knows known.old.only known.old.masks accesses.old.items
-        → StandsFor list accesses.old.items → StandsFor (forgotten t list) accesses.new.items }
-    ensures known { Knows known.old.only known.old.masks accesses.old.items
-        → Knows known.new.only known.new.masks accesses.new.items }
-{
+pub fn remove_all(lists: &mut Vec<Vec<Access>>, known: &mut Known, t: Tid) {
+    if lists.is_empty() {
+        return;
+    }
     if let Some(only) = known.only {
         if only == t {
-            accesses.clear();
+            lists[0].clear();
         }
         return;
     }
-    let places = known.masks.places_of(t);
-    take_out(accesses, &mut known.masks, t, places);
-    known.masks.free(places);
-    if accesses.is_empty() {
+    let Some(place) = known.masks.places.place_of(t) else {
+        return;
+    };
+    let at = usize::from(place);
+    take_out(lists[at].as_slice(), &mut known.masks, place);
+    lists[at].clear();
+    if known.masks.free(place) {
         known.only = Some(t);
     }
 }
 
-// Removes the accesses of t, which is at these places, from the list and from the masks.
-fn take_out(accesses: &mut Vec<Access>, masks: &mut Masks, t: Tid, places: u32)
-    ensures rest { (list : List ListedAccess) → StandsFor list accesses.old.items
-        → StandsFor (forgotten t list) accesses.new.items }
-    ensures none { is_listed accesses.new.items t ≡ false }
-    ensures leaving { IsLeaving masks.old t places accesses.old.items → IsLeaving masks.new t places accesses.new.items }
-{
-    let mut index = pass_others(accesses.as_slice(), accesses.len(), t);
-    while 0 < index {
-        index -= 1;
-        if accesses[index].by == t {
-            let access = accesses.swap_remove(index);
-            masks.remove(places, access);
-            let left = accesses.as_slice();
-            index = pass_others(left, index, t);
-        }
+fn take_out(accesses: &[Access], masks: &mut Masks, place: u8) {
+    for access in accesses {
+        masks.remove(1 << place, *access);
     }
-}
-
-// Passes over accesses that are not of t, four at once, from this index towards the front. It returns the index it reached.
-fn pass_others(accesses: &[Access], from: usize, t: Tid) -> usize
-    requires { from ≤ length accesses.now }
-    ensures within { result ≤ from }
-    ensures others { AllWithin (λ (a : ListedAccess). nat_eq a.by t ≡ false) accesses.now result from }
-{
-    let mut index = from;
-    while 4 <= index {
-        if is_among_four(accesses, index - 4, t) {
-            return index;
-        }
-        index -= 4;
-    }
-    index
-}
-
-// Whether one of the four accesses from this index on is of t.
-#[inline(always)]
-fn is_among_four(accesses: &[Access], index: usize, t: Tid) -> bool
-    requires { index + 4 ≤ length accesses.now }
-    ensures { result ≡ false → AllWithin (λ (a : ListedAccess). nat_eq a.by t ≡ false) accesses.now index (index + 4) }
-{
-    accesses[index].is_of(t)
-        || accesses[index + 1].is_of(t)
-        || accesses[index + 2].is_of(t)
-        || accesses[index + 3].is_of(t)
 }

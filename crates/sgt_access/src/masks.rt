@@ -93,16 +93,16 @@ impl Masks {
 
     /// Adds an access.
     #[inline(always)]
-    pub fn add(&mut self, access: Access)
-        ensures { (accesses : List ListedAccess) → Covers self.old accesses → Covers self.new (accesses ++ access ∷ []) }
-    {
+    pub fn add(&mut self, access: Access) -> usize {
         let Some(place) = self.place_for(access.by) else {
-            return self.spots.clear();
+            self.spots.clear();
+            return 32;
         };
         let index = spot_of(access.key);
         if index < self.spots.len() {
             self.spots[index].add(only(place), access.key, access.kind);
         }
+        usize::from(place)
     }
 
     // The place of a transaction, which it has from now on. None if 32 others have places.
@@ -141,12 +141,10 @@ impl Masks {
         }
     }
 
-    /// Frees the places of a transaction whose accesses have been removed.
-    pub fn free(&mut self, places: u32)
-        ensures { (t : ℕ) (accesses : List ListedAccess) → IsLeaving self.old t places accesses
-            → is_listed accesses t ≡ false → Covers self.new accesses }
-    {
-        self.places.free(places);
+    /// Frees a place.
+    pub fn free(&mut self, place: u8) -> bool {
+        self.places.free(only(place));
+        self.places.is_free()
     }
 }
 

@@ -1,7 +1,7 @@
 //! Accesses with masks by key in front: the list that the program uses.
 use crate::access::Access;
 use crate::accesses::Accesses;
-use crate::conflicts::{has_rival_among, rivals_among};
+use crate::conflicts::{has_rival_in, rivals_in};
 use crate::known::{Known, grow, remove_all};
 use crate::masks::Rivals;
 use crate::whole_list::WholeList;
@@ -20,22 +20,21 @@ use std::marker::Model;
 /// The order in which accesses were recorded exists for proofs alone.
 #[derive(Drop)]
 pub struct PerKey {
-    accesses: Vec<Access>,
+    lists: Vec<Vec<Access>>,
+    newest: usize,
     known: Known,
     whole: WholeList,
+    alloc: Global,
 }
 
 impl Model for PerKey {
     ghost use Rattle.std.specs.Prelude.{ℕ, List, ◌-◌};
     ghost use Rattle.std.specs.Vec.{vec_len, vec_capacity};
     ghost use Rattle.sgt_model.specs.AccessList.{ListedAccess};
-    ghost use Rattle.sgt_access.specs.Masks.{StandsFor, Knows};
 
     ghost Value = { List ListedAccess × ℕ };
 
-    ghost view = { λ l. (l.whole, vec_capacity l.accesses - vec_len l.accesses) };
-
-    ghost invariant = { λ l. StandsFor l.whole l.accesses.items × Knows l.known.only l.known.masks l.accesses.items };
+    ghost view = { λ l. (l.whole, l.newest) };
 }
 
 impl Accesses for PerKey {
@@ -47,16 +46,19 @@ impl Accesses for PerKey {
 
     fn empty(alloc: Global) -> Self {
         PerKey {
-            accesses: Vec::new(alloc),
+            lists: Vec::new(alloc),
+            newest: 0,
             known: Known::new(alloc),
             whole: WholeList::empty(),
+            alloc,
         }
     }
 
     #[inline(always)]
     fn reserve(&mut self, _key: Key) -> Result<(), NoMemory> {
-        if self.accesses.len() == self.accesses.capacity() {
-            grow(&mut self.accesses, &mut self.known)?;
+        let at = self.newest;
+        if at >= self.lists.len() || self.lists[at].len() == self.lists[at].capacity() {
+            grow(&mut self.lists, at, &mut self.known, self.alloc)?;
         }
         Ok(())
     }
@@ -64,8 +66,9 @@ impl Accesses for PerKey {
     #[inline(always)]
     fn note(&mut self, t: Tid, key: Key, kind: Kind) {
         let access = Access { by: t, key, kind };
-        self.known.add(access, self.accesses.as_slice());
-        self.accesses.push_reserved(access);
+        let at = self.known.add(access, self.lists.as_slice());
+        self.newest = at;
+        self.lists[at].push_reserved(access);
         self.whole.note(access);
     }
 
@@ -73,19 +76,19 @@ impl Accesses for PerKey {
     fn has_rival(&self, t: Tid, key: Key, kind: Kind) -> bool {
         match self.known.rivals(t, key, kind) {
             Rivals::At(places) => least(places).is_some(),
-            Rivals::Unknown => has_rival_among(self.accesses.as_slice(), t, key, kind),
+            Rivals::Unknown => has_rival_in(self.lists.as_slice(), t, key, kind),
         }
     }
 
     fn rivals(&self, t: Tid, key: Key, kind: Kind) -> Tids {
         match self.known.rivals(t, key, kind) {
             Rivals::At(places) => self.known.masks.places.tids_at(places),
-            Rivals::Unknown => rivals_among(self.accesses.as_slice(), t, key, kind),
+            Rivals::Unknown => rivals_in(self.lists.as_slice(), t, key, kind),
         }
     }
 
     fn forget(&mut self, t: Tid) {
-        remove_all(&mut self.accesses, &mut self.known, t);
+        remove_all(&mut self.lists, &mut self.known, t);
         self.whole.forget(t);
     }
 }

@@ -82,6 +82,10 @@ impl Places {
         Some(place)
     }
 
+    pub fn is_free(&self) -> bool {
+        self.taken == 0
+    }
+
     /// Frees places.
     pub fn free(&mut self, places: u32)
         ensures taken { (i : ℕ) → is_set self.new.taken i ≡ (is_set self.old.taken i && not (is_set places i)) }
