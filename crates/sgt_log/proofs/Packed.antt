@@ -169,3 +169,9 @@ pub step_item : (os : List StoredEntry) (ps : List PackedEntry) (items : List St
     → unpacked [] p ≡ slice_index_or items place (unpacked [] p)
 step_item os ps items place p seen h is step =
     subst (λ e. e ≡ slice_index_or items place e) (step_same os [] p step) (item_at os ps items place p seen h is)
+
+pub whole_item : (os : List StoredEntry) (ps : List PackedEntry) (items : List StoredEntry) (place : ℕ) (p : PackedEntry)
+    → map (unpacked os) ps ≡ items → place < length items → p ≡ slice_index_or ps place p → IsWhole p
+    → unpacked [] p ≡ slice_index_or items place (unpacked [] p)
+whole_item os ps items place p seen h is whole =
+    subst (λ e. e ≡ slice_index_or items place e) (whole_same os [] p whole) (item_at os ps items place p seen h is)

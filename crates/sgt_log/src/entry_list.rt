@@ -122,6 +122,15 @@ impl EntryList {
         if packed.is_step() { Some(packed) } else { None }
     }
 
+    /// The entry at this index, packed. One of a frequent kind is whole, and the same in every list.
+    #[inline(always)]
+    pub fn packed_at(&self, place: usize) -> PackedEntry
+        requires { place < length self.now.items }
+        ensures { IsWhole result → unpacked [] result ≡ slice_index_or self.now.items place (unpacked [] result) }
+    {
+        self.packed[place]
+    }
+
     /// Whether the entry at this index is such a step.
     #[inline(always)]
     pub fn is_step_at(&self, place: usize) -> bool

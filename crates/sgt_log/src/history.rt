@@ -240,7 +240,11 @@ impl History {
             (Event::Access(t, request), ShortReply::Wrote { key, value }) => {
                 self.push_access(*t, request, StoredReply::wrote(key, value))
             }
-            _ => self.push_any(event, reply, lists),
+            // Only copies are passed, so the originals need not be written to memory.
+            _ => {
+                let short = *reply;
+                self.push_any(&event.copied(), &short, lists)
+            }
         }
     }
 
@@ -357,7 +361,35 @@ impl History {
         // Most entries are steps, and are copied as they are.
         match other.entries.step_at(place) {
             Some(step) => self.push_step(step),
-            None => self.push_entry(&other.entry(place)),
+            None => self.push_other_copy(other, place),
+        }
+    }
+
+    // Adds such a copy, a start or a commit at first. Their lists are copied, and nothing else of them is unpacked.
+    #[inline(never)]
+    fn push_other_copy(&mut self, other: &History, place: usize)
+        requires spare { 0 < self.old.spare }
+        requires there { place < length other.now.entries }
+        ensures entries { (e : Entry) → slice_get other.now.entries place ≡ Some e
+            → self.new.entries ≡ self.old.entries ++ e ∷ [] }
+        ensures spare { self.new.spare + 1 ≡ self.old.spare }
+        ensures capacities { self.new.capacities ≡ self.old.capacities }
+    {
+        match other.entries.packed_at(place) {
+            PackedEntry::Started {
+                procedure,
+                count,
+                t,
+                from,
+            } => {
+                let args = Span::new(from, count).items(other.values.as_slice());
+                self.push_start(procedure, args, t)
+            }
+            PackedEntry::Committed { count, t, from } => {
+                let answers = Span::new(from, count).items(other.values.as_slice());
+                self.push_commit(t, answers)
+            }
+            _ => self.push_entry(&other.entry(place)),
         }
     }
 

@@ -21,7 +21,3 @@ returns-in-Some-clause-entries c e there =
     c.push_step.ensures.entries
     ∙ ap (λ x. c.args.self.now.entries ++ x ∷ [])
     (sym (plain-entry c.other.inside.tids.items c.other.inside.values.items step.event step.reply plain.0 plain.1) ∙ same)
-
-pub returns-in-None-clause-entries : goal.returns-in-None-clause-entries
-returns-in-None-clause-entries c e there =
-    c.push_entry.ensures.entries ∙ ap (λ x. c.args.self.now.entries ++ x ∷ []) (same_Some _ e (sym c.entry.ensures.entry ∙ there))
