@@ -58,6 +58,7 @@ impl<N: Named, R: Records, A: Accesses, G: Graph> Round<N, R, A, G> {
 
     /// Makes one event of the engine, and appends its receipt. `NoMemory` if an allocation in the engine failed; then
     /// nothing has changed.
+    #[inline(always)]
     pub fn apply(
         &mut self,
         event: &Event,
@@ -77,7 +78,7 @@ impl<N: Named, R: Records, A: Accesses, G: Graph> Round<N, R, A, G> {
         ensures quits { (t : ℕ) → event.now ≡ Quit t → live self.old.past t ≡ true → IsOk result }
     {
         let mut reply = ShortReply::Unknown;
-        self.engine.answer(event, &mut reply)?;
+        self.engine.answer_inline(event, &mut reply)?;
         self.calls.add(mine, 1);
         receipts.file_newest(self.engine.history());
         Ok(())

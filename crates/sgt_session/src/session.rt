@@ -1,7 +1,7 @@
 //! A session: one caller's way to the engine.
 ghost use Rattle.std.specs.Prelude.{◌≡◌, ◌+◌, ◌<◌, ◌≤◌, ◌^◌, ◌&&◌, true, false, cond, IsTrue, List, [], ◌∷◌, ◌++◌, All, length, vec_len, vec_capacity, IfOk, MatchResult};
 ghost use Rattle.std.specs.List.{sum_by};
-ghost use Rattle.sgt_model.specs.declared.event.Event.TheVariants.{Commit};
+ghost use Rattle.sgt_model.specs.declared.event.Event.TheVariants.{Commit, Step};
 ghost use Rattle.sgt_log.specs.EntryParts.{is_access};
 ghost use Rattle.sgt_session.specs.declared.receipt.Receipt.{Receipt};
 ghost use Rattle.sgt_model.specs.Questions.{is_wait, started_in};
@@ -157,6 +157,21 @@ impl<N: Named> Session<N> {
         Ok(())
     }
 
+    /// Like `make`, for a step. It is compiled for steps alone, so the kind of its event is not tested at run time.
+    pub fn make_step<R: Records, A: Accesses, G: Graph, W: Wait>(
+        &mut self,
+        rt: &W,
+        shared: &Shared<N, R, A, G>,
+        t: Tid,
+    ) -> Result<(), NoMemory>
+        ensures { MatchResult result
+            (λ _. (r : Receipt) × (r.event ≡ Step t) × (self.new ≡ self.old ++ r ∷ []))
+            (λ _. self.new ≡ self.old) }
+    {
+        self.make_one(rt, shared, &Event::Step(t), false, &mut WaitCount::new())?;
+        Ok(())
+    }
+
     /// Commits, and waits if another transaction has to end first. It repeats the event after each wait, until the
     /// reply is not `Waits`. Each of these calls has its receipt; the last one is returned. A wait begins before the
     /// lock of the call that returned `Waits` is freed, so no end of a transaction is missed in between.
@@ -221,6 +236,7 @@ impl<N: Named> Session<N> {
 
     /// Makes one event and appends its receipt. If the reply is `Waits` and the call `may_wait`, it waits once, and
     /// counts it. The wait begins before the lock is freed. Returns whether it waited.
+    #[inline(always)]
     fn make_one<R: Records, A: Accesses, G: Graph, W: Wait>(
         &mut self,
         rt: &W,

@@ -131,9 +131,8 @@ impl<'a, N: Named, R: Records, A: Accesses, G: Graph, T: Gate, W: Wait> Caller<
 
     /// Steps until the procedure ends, and commits.
     fn run_transaction(&mut self, t: Tid) -> Result<Attempt<T::Note>, Halt<T::Note>> {
-        let step = Event::Step(t);
         for _ in self.rt.forever() {
-            self.call(&step)?;
+            self.step(t)?;
             if self.session.is_last_access() {
                 continue;
             }
@@ -156,6 +155,15 @@ impl<'a, N: Named, R: Records, A: Accesses, G: Graph, T: Gate, W: Wait> Caller<
     {
         self.pass()?;
         self.session.make(self.rt, self.shared, event)?;
+        Ok(())
+    }
+
+    /// One step, if the gate allows it. Its entry is the session's last.
+    fn step(&mut self, t: Tid) -> Result<(), Halt<T::Note>>
+        ensures { OnOk result (0 < length self.new.session) }
+    {
+        self.pass()?;
+        self.session.make_step(self.rt, self.shared, t)?;
         Ok(())
     }
 

@@ -4,7 +4,7 @@ use Rattle.sgt_session.proofs.round.Round.apply.Goals as goal
 
 pub returns-clause-filed : goal.returns-clause-filed
 returns-clause-filed g c =
-    let added = c.in_ok-answer.ensures.adds in (
+    let added = c.in_ok-answer_inline.ensures.adds in (
       receipt_of _ (record { event = c.args.event.now; reply = added.reply }),
       refl,
       refl,
