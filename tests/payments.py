@@ -180,7 +180,7 @@ def bank_of(folder, journal):
 
 def as_lines(number, seq, calls):
     """A batch as the bytes in a file."""
-    return b"\n%b\n" % seal_batch(number, seq, [json.dumps(call) for call in calls])
+    return b"\n%b\n" % seal_batch(number, seq, "".join(json.dumps(call) + "\n" for call in calls))
 
 
 def replies():
@@ -1086,7 +1086,7 @@ def forged(data, amount):
     lines = data.split(b"\n")
     at = [place for place, line in enumerate(lines) if place > 3 and (unseal(line) or [0, 0, 0])[2]][1]
     number, first, (call, *_) = unseal(lines[at])
-    lines[at] = seal_batch(number, first - 1, [json.dumps([*call[:4], amount(call[4])])])
+    lines[at] = seal_batch(number, first - 1, json.dumps([*call[:4], amount(call[4])]) + "\n")
     return b"\n".join(lines)
 
 

@@ -17,7 +17,7 @@ AT_ONCE = 10_000  # calls that are replayed: an outcome takes 384 bytes
 COMMITTED = int(Kind.COMMITTED)  # a member of an enum is compared slowly
 # The part of an outcome that a client gets, laid out as `sgt_outcome` of sgt.h: its reply's kind, the code, the number of answers, and the
 # answers.
-read_outcomes = struct.Struct("=8xI8xI24xI12x8q256x").iter_unpack
+OUTCOME = struct.Struct("=8xI8xI24xI12x8q256x")
 NO_PROCEDURE = 65_535  # the number of none
 CALL = len(pack_calls([(0,)]))  # bytes of a packed call
 Call = Sequence[Any]  # the name of a procedure, and its arguments; as JSON it is an entry of the journal
@@ -32,7 +32,7 @@ class Procedure:
 
     def __init__(self, name: str, file: dict[str, Any]) -> None:
         self.name, self.text = name, file["procedure"]  # the text is as docs/FORMATS.md has it
-        self.entry = json.dumps([name]).replace("%", "%%")[:-1] + ", %d" * self.text[0] + "]"  # of a call, by its arguments
+        self.entry = json.dumps([name]).replace("%", "%%")[:-1] + ", %d" * self.text[0] + "]\n"  # of a call, by its arguments
         self.request: list[str] = file.get("request", [])  # clients can't ask for a procedure without any keys
         self.is_for_administrators: bool = file.get("administration", False)
         self.rights: dict[str, str] = file.get("rights", {})  # by the key that has the account: pay, or read
@@ -87,7 +87,7 @@ class Bank:
         self._engine.put_bytes(rows)
         self.numbers = {name: self._engine.procedure(text) for name, text in sorted(texts.items())}
 
-    def run(self, calls: bytes, entries: Sequence[str]) -> tuple[bytes, list[str]]:
+    def run(self, calls: bytes, entries: str) -> tuple[bytes, str]:
         """Runs packed calls one after another, each as a transaction of its own. Their packed outcomes, and the entries of those that wrote.
 
         If `noted` is a file, the calls are added to it, for another process with this bank.
@@ -95,7 +95,10 @@ class Bank:
         if self.noted >= 0:
             os.write(self.noted, calls)
         outcomes = self._engine.run_bytes(calls)
-        return outcomes, [*compress(entries, wrote(outcomes))]
+        if not all(has_written := wrote(outcomes)):
+            entries = "".join(compress(entries.splitlines(True), has_written))
+        self.seq += sum(has_written)
+        return outcomes, entries
 
     def rerun(self, noted: int, at: int, left: int) -> int:
         """Runs the calls that another process notes in a file, from this byte on until at most so many are left. Where the next one begins."""

@@ -2,7 +2,7 @@
 
 import json
 import time
-from typing import Any, Callable, Sequence, Union
+from typing import Any, Callable, Union
 
 from bank import ROW, Bank, Call, Unusable
 from journal import Away, Journal, seal, unseal
@@ -10,14 +10,14 @@ from snapshots import Store
 
 PATIENCE = 60.0  # seconds that a primary waits for a journal that is away
 PAUSE = 0.05  # seconds between two times that a follower reads
-CALLS = 10_000  # of a batch, at most: no journal takes batches of any size
 Opening = dict[str, Any]  # what a batch has in place of calls: procedures, from there on; accounts and cents, if it is the first batch
 Batch = Union[list[Call], Opening]
 
 
-def seal_batch(number: int, seq: int, calls: Union[Sequence[str], Opening]) -> bytes:
-    """A batch as bytes: its number, the number of its first call, which follows call `seq`, and the entries of its calls."""
-    return seal(f"[{number}, {seq + 1}, {json.dumps(calls) if isinstance(calls, dict) else '[' + ', '.join(calls) + ']'}]")
+def seal_batch(number: int, seq: int, calls: Union[str, Opening]) -> bytes:
+    """A batch as bytes: its number, the number of its first call, which follows call `seq`, and the entries of its calls, a line each."""
+    text = json.dumps(calls) if isinstance(calls, dict) else "[" + calls[:-1].replace("\n", ", ") + "]"
+    return seal(f"[{number}, {seq + 1}, {text}]")
 
 
 def unseal_batch(data: bytes, number: int, seq: int) -> Batch:
@@ -41,7 +41,7 @@ def applied(bank: Bank, calls: Batch) -> Bank:
 
 
 class Chain:
-    """The bank after batch `number`. It follows until it leads."""
+    """The bank, and batch `number` with call `seq`, the last one that was read, or that was made of what ran. It follows until it leads."""
 
     def __init__(self, store: Store, journal: Journal, opening: Opening, server: str, renews: bool = False) -> None:
         """With `renews` the procedures of the opening may be others than those of the journal, if this server leads."""
@@ -49,6 +49,7 @@ class Chain:
         self.leads, self.ends, self.trouble = False, False, ""  # the trouble is of a follower with the journal
         self.number = max(store.numbers(), default=0)
         self.bank = store.load(self.number)
+        self.seq = self.bank.seq
         self.fresh = self._next = time.monotonic()  # when the bank was as the journal; when to read on
 
     def start(self) -> None:
@@ -84,6 +85,7 @@ class Chain:
                 calls += found
                 self.number += 1
             self.bank.replay(calls)
+            self.seq = self.bank.seq
             if not batches:
                 self.fresh = now
                 return
@@ -111,7 +113,7 @@ class Chain:
         if self.bank.texts and not self.renews:
             self._compare()
         is_new = self.bank.texts != self.opening["procedures"]
-        self.append(self.opening if is_new else [])
+        self.append(*self.next(self.opening if is_new else ""))
         self.bank = applied(self.bank, self.opening) if is_new else self.bank
         self.leads = True
 
@@ -121,15 +123,15 @@ class Chain:
         if others := [name for name in sorted({**own, **last}) if own.get(name) != last.get(name)]:
             raise Unusable(f"these procedures are not those of the journal: {', '.join(others)}. With --new-procedures a server goes on with its own")
 
-    def append(self, calls: Union[list[str], Opening]) -> None:
-        """Returns once the calls of these entries are safe. They have run already, but for an opening."""
-        parts = [calls[at : at + CALLS] for at in range(0, len(calls), CALLS)] if isinstance(calls, list) else []
-        seq = self.bank.seq - sum(map(len, parts))
-        for part in parts or [calls]:
-            number, data = self.number + 1, seal_batch(self.number + 1, seq, part)
-            self.insist(lambda: self.journal.append(number, data))
-            seq += len(part) if isinstance(part, list) else 0
-            self.number += 1
+    def next(self, calls: Union[str, Opening]) -> tuple[int, bytes]:
+        """The next batch: its number, and its bytes. Its calls have run already, but for an opening."""
+        self.number, seq = self.number + 1, self.seq
+        self.seq += calls.count("\n") if isinstance(calls, str) else 0
+        return self.number, seal_batch(self.number, seq, calls)
+
+    def append(self, number: int, data: bytes) -> None:
+        """Returns once a batch is safe."""
+        self.insist(lambda: self.journal.append(number, data))
 
     def stored(self, number: int) -> None:
         """Has the journal delete what is not needed any more, as there is a snapshot after this batch."""

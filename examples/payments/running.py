@@ -6,15 +6,16 @@ import marshal
 import os
 import pathlib
 import signal
+import socket
 import time
 from multiprocessing.connection import Connection, Pipe
-from multiprocessing.reduction import send_handle
-from typing import NoReturn
+from typing import Any, NoReturn
 
 from administration import listen_at
 from bank import Unusable
 from chain import Chain
 from journal import BEAT
+from pipeline import Pipeline
 from server import Server
 
 NEAR, HAND_OVER = 100_000, b"hand over"  # bytes of calls, which run in some milliseconds; what is said to the deputy then
@@ -23,13 +24,14 @@ NEAR, HAND_OVER = 100_000, b"hand over"  # bytes of calls, which run in some mil
 def run(server: Server, port: int, admin: pathlib.Path, begin: float) -> None:
     """Runs a server until SIGTERM or SIGINT."""
     with listen_at(admin) as listener:
-        send_handle(server.fronts[-1], listener.fileno(), None)
+        socket.send_fds(server.fronts[-1], [b"admin"], [listener.fileno()])
     print(f"serving on port {port} after call {server.chain.bank.seq}, started in {time.perf_counter() - begin:.2f} s", flush=True)
     while not server.chain.ends:
         server.turn()
         if server.chain.bank.is_long():
             cut(server)
-    server.before_replies()
+    server.mark()
+    server.pipeline.flush()
     admin.unlink(missing_ok=True)
 
 
@@ -45,9 +47,10 @@ def cut(server: Server) -> None:
 
     Where a primary does it a copy of its process, by a fork, serves meanwhile, and notes the calls that it runs in a file in memory.
     """
+    server.pipeline.flush()
     chain, number = server.chain, server.chain.number
     ran, (link, its_link), deputy = os.memfd_create("calls"), Pipe(), -1
-    with BEAT, contextlib.suppress(OSError):  # so no other thread holds a lock. Where no process can be made, clients wait
+    with BEAT, contextlib.suppress(OSError):  # so no other thread holds a lock: those of the pipeline have nothing to do. Where no process can be made, clients wait
         deputy = os.fork() if chain.leads else -1
     if deputy == 0:
         link.close()  # else it would not see the end of this process
@@ -65,17 +68,23 @@ def cut(server: Server) -> None:
 def serve(server: Server, link: Connection, ran: int) -> NoReturn:
     """Serves until it has to hand over. Then the other process needs what a turn changes."""
     ctypes.CDLL(None).prctl(1, signal.SIGKILL)  # PR_SET_PDEATHSIG: if the other process dies, it does at once
-    chain = server.chain
-    chain.bank.noted = ran
+    server.chain.bank.noted, pipeline = ran, numbers_of(server.pipeline)
+    server.pipeline = Pipeline(server.chain)  # as a fork has no threads
+    vars(server.pipeline).update(pipeline)
     said = b""
     while said != HAND_OVER:
         begin = time.monotonic()
         server.turn()
         time.sleep(min(time.monotonic() - begin, 0.02) if said else 0)  # as the other process has to catch up, it works half of the time
         said = link.recv_bytes() if link.poll() else said
-    numbers = {name: it for name, it in vars(server).items() if isinstance(it, (int, float, type(None)))}
-    link.send_bytes(marshal.dumps((chain.number, chain.bank.seq, numbers)))
+    server.pipeline.flush()
+    link.send_bytes(marshal.dumps((server.chain.number, server.chain.bank.seq, numbers_of(server), numbers_of(server.pipeline))))
     os._exit(0)
+
+
+def numbers_of(it: object) -> dict[str, Any]:
+    """The numbers that an object has, which a turn changes."""
+    return {name: value for name, value in vars(it).items() if isinstance(value, (int, float, type(None)))}
 
 
 def take_over(server: Server, deputy: int, link: Connection, ran: int) -> None:
@@ -88,10 +97,11 @@ def take_over(server: Server, deputy: int, link: Connection, ran: int) -> None:
         while not link.poll(0.1):
             if chain.ends:
                 os.kill(deputy, signal.SIGTERM)  # it may wait for a journal that is away
-        chain.number, seq, numbers = marshal.loads(link.recv_bytes())
+        chain.number, chain.seq, numbers, of_pipeline = marshal.loads(link.recv_bytes())
     except (EOFError, ConnectionError):
         raise SystemExit(1) from None  # it has said why
     chain.bank.rerun(ran, at, 0)
-    if chain.bank.seq != seq:
-        raise Unusable(f"the calls up to {seq} end with call {chain.bank.seq} where the history was cut")
+    if chain.bank.seq != chain.seq:
+        raise Unusable(f"the calls up to {chain.seq} end with call {chain.bank.seq} where the history was cut")
     vars(server).update(numbers)
+    vars(server.pipeline).update(of_pipeline)
