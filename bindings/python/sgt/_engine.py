@@ -8,14 +8,18 @@ from typing import Callable, Optional, Sequence, Union
 
 from ._errors import BadCall, NoMemory, NoSuchEntry, OpeningRefused, StillLive, Taken
 from ._library import (
+    BUSY_ENGINE,
     CALL_BYTES,
+    ENGINE_BYTES,
     FIRST_FAULT,
+    FREE,
     HELD,
     LEAST,
     MOST,
     NO_MEMORY,
     NO_TID,
     NONE,
+    OPEN,
     STILL_LIVE,
     TAKEN,
     AnyRow,
@@ -62,7 +66,8 @@ def _quick(name: str) -> Callable[..., int]:
     return HELD[name]
 
 
-_start, _run, _run_many, _step, _commit, _quit = map(_quick, ("sgt_start", "sgt_run", "sgt_run_many", "sgt_step", "sgt_commit", "sgt_quit"))
+_start, _run, _step, _commit, _quit = map(_quick, ("sgt_start", "sgt_run", "sgt_step", "sgt_commit", "sgt_quit"))
+_run_many = FREE["sgt_run_many"]
 _begin, _read, _write, _remove = map(_quick, ("sgt_begin", "sgt_read", "sgt_write", "sgt_remove"))
 _SIZES = [ctypes.c_size_t(count) for count in range(5)]
 
@@ -80,7 +85,8 @@ def _record(table: int, number: int) -> tuple[ctypes.c_uint64, ctypes.c_int64]:
 class Engine(Uncopied):
     """An engine. It is closed at the end of a `with` block, by `close`, or when it is collected.
 
-    Each call holds the interpreter's lock, so calls of several threads run one after another. For threads use `SharedEngine`.
+    Each call but `run_bytes` and `run_many` holds the interpreter's lock, so calls of several threads run one after another. For threads
+    use `SharedEngine`.
     """
 
     def __init__(
@@ -195,12 +201,22 @@ class Engine(Uncopied):
     def run_bytes(self, calls: bytes) -> bytes:
         """Runs calls as `run_many` does, from bytes that `pack_calls` makes, to bytes that `unpack_outcomes` and `wrote` read, also in
         other processes. Raises NoMemory with the outcomes of the calls before it, or BadCall if the last call is incomplete.
+
+        It releases the interpreter's lock. Meanwhile another thread's call to this engine raises Busy.
         """
         count, rest = divmod(len(calls), CALL_BYTES)
         if rest:
             raise BadCall(f"a call takes {CALL_BYTES} bytes")
-        outcomes, size, done = (COutcome * count)(), ctypes.c_size_t(count), ctypes.c_uint64()
-        status = _run_many(self._at, bytes(calls), size, outcomes, size, ctypes.byref(done))
+        outcomes, size, done, data = (COutcome * count)(), ctypes.c_size_t(count), ctypes.c_uint64(), bytes(calls)
+        if self._engine.is_open != OPEN:
+            check(HELD.sgt_entries(self._engine, done))  # raises Closed or Busy
+        moved = CEngine.from_buffer_copy(self._engine)
+        at, move = ctypes.byref(moved), ctypes.memmove  # so that an interrupt can't come between the calls of the library and `move`
+        try:
+            self._engine.is_open = BUSY_ENGINE
+            status = _run_many(at, data, size, outcomes, size, ctypes.byref(done))
+        finally:
+            move(self._at, at, ENGINE_BYTES)
         ran = bytes(outcomes)[: done.value * ctypes.sizeof(COutcome)]
         if status == NO_MEMORY:
             raise NoMemory(unpack_outcomes(ran))

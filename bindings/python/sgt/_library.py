@@ -60,6 +60,10 @@ class CEngine(ctypes.Structure):
     _fields_ = [("is_open", ctypes.c_uint8), ("at", ctypes.c_void_p)]
 
 
+ENGINE_BYTES = ctypes.sizeof(CEngine)
+OPEN, BUSY_ENGINE = 1, 2  # values of `is_open`: while it is busy each other call returns BUSY
+
+
 class CFault(ctypes.Structure):
     _fields_ = [
         ("kind", ctypes.c_uint32),
