@@ -11,7 +11,7 @@ from typing import Any, Optional, Sequence
 sys.path.insert(0, str(pathlib.Path(__file__).resolve().parents[2] / "bindings" / "python"))
 from sgt import Engine, Kind, pack_calls, wrote  # noqa: E402
 
-ENTRIES = 4_000_000  # the history is cut after so many entries, or as many as there are records; a payment makes 28
+ENTRIES = 8_000_000  # the history is cut after so many entries, or as many as there are records; a payment makes 28
 ROW = struct.Struct("<I4xqq")  # table, number and value of a row
 AT_ONCE = 10_000  # calls that are replayed: an outcome takes 384 bytes
 COMMITTED = int(Kind.COMMITTED)  # a member of an enum is compared slowly

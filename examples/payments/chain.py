@@ -41,7 +41,7 @@ def applied(bank: Bank, calls: Batch) -> Bank:
 
 
 class Chain:
-    """The bank, and batch `number` with call `seq`, the last one that was read, or that was made of what ran. It follows until it leads."""
+    """The bank, and the last batch `number`, which ends with call `seq`. The bank may have run more. It follows until it leads."""
 
     def __init__(self, store: Store, journal: Journal, opening: Opening, server: str, renews: bool = False) -> None:
         """With `renews` the procedures of the opening may be others than those of the journal, if this server leads."""
@@ -113,7 +113,7 @@ class Chain:
         if self.bank.texts and not self.renews:
             self._compare()
         is_new = self.bank.texts != self.opening["procedures"]
-        self.append(*self.next(self.opening if is_new else ""))
+        self.append(self.opening if is_new else "")
         self.bank = applied(self.bank, self.opening) if is_new else self.bank
         self.leads = True
 
@@ -123,15 +123,11 @@ class Chain:
         if others := [name for name in sorted({**own, **last}) if own.get(name) != last.get(name)]:
             raise Unusable(f"these procedures are not those of the journal: {', '.join(others)}. With --new-procedures a server goes on with its own")
 
-    def next(self, calls: Union[str, Opening]) -> tuple[int, bytes]:
-        """The next batch: its number, and its bytes. Its calls have run already, but for an opening."""
-        self.number, seq = self.number + 1, self.seq
-        self.seq += calls.count("\n") if isinstance(calls, str) else 0
-        return self.number, seal_batch(self.number, seq, calls)
-
-    def append(self, number: int, data: bytes) -> None:
-        """Returns once a batch is safe."""
+    def append(self, calls: Union[str, Opening]) -> None:
+        """Returns once the calls of these entries, a line each, are safe. They have run already, but for an opening."""
+        number, data = self.number + 1, seal_batch(self.number + 1, self.seq, calls)
         self.insist(lambda: self.journal.append(number, data))
+        self.number, self.seq = number, self.seq + (calls.count("\n") if isinstance(calls, str) else 0)
 
     def stored(self, number: int) -> None:
         """Has the journal delete what is not needed any more, as there is a snapshot after this batch."""

@@ -52,8 +52,6 @@ class Gateway:
 class EtcdJournal:
     """etcd://HOST:PORT,HOST:PORT/NAME. Each write asks that this server created `leader`, so a primary that was replaced writes nothing more."""
 
-    in_flight = 1
-
     def __init__(self, address: SplitResult) -> None:
         self.nodes, self.name, self.report = address.netloc.split(","), address.path.strip("/"), ""
         self._etcd, self._term, self._nonce = Gateway(self.nodes), -1, coded(os.urandom(8))

@@ -15,8 +15,6 @@ SHORTEST = len(seal('[1, 1, [["a"]]]')) + 2  # bytes of a batch that has a call
 class FileJournal:
     """The batches of one server, who leads always: its folder is its own."""
 
-    in_flight = 1
-
     def __init__(self, folder: pathlib.Path, keep: bool = False) -> None:
         self.folder, self.keep, self._newest = folder, keep, folder / "newest"
         self.report = ""

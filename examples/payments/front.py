@@ -20,7 +20,8 @@ CLIENTS = 1000  # of a front, or fewer if it may open fewer files. Others wait u
 OTHER_FILES = 32  # that a front has open, at most
 MESSAGE = 1 << 17  # bytes of a message between a front and the server, at most
 ASKED = 200  # requests of a message, at most
-UNANSWERED = 4  # messages, at most: so few that the sockets take them and their replies, and nobody waits to send
+GATHERED = 1000  # requests that wait to be asked, at most
+UNANSWERED = 3  # messages, at most: so few that the sockets take them and their replies, and nobody waits to send
 
 
 class Client:
@@ -70,22 +71,22 @@ class Front:
                 self.accept(self.listeners[0])
             else:
                 self.receive(number)
-        for at in range(0, len(self.new), ASKED):
-            self.ask(self.new[at : at + ASKED])
-        self.new.clear()
+        self.ask()
         self.reply()
         if self.now >= self.swept + self.idle / 4:
             self.sweep()
 
-    def ask(self, requests: list[Request]) -> None:
-        """Sends the server a message."""
-        while len(self.asked) == UNANSWERED:
-            self.hear()
-        calls = [it for it in requests if type(it) is tuple]
-        packed = pack_calls([(self.numbers[procedure.name], *args) for procedure, args in calls])
-        entries = "".join([procedure.entry % args for procedure, args in calls])
-        self.server.send(marshal.dumps((packed, entries, [it for it in requests if type(it) is dict])))
-        self.asked.append(requests)
+    def ask(self) -> None:
+        """Sends the server what is new, if it has few messages without a reply. Else more lines gather, but not without end."""
+        while self.new and (len(self.asked) < UNANSWERED or len(self.new) > GATHERED):
+            if len(self.asked) == UNANSWERED:
+                self.hear()
+            requests, self.new = self.new[:ASKED], self.new[ASKED:]
+            calls = [it for it in requests if type(it) is tuple]
+            packed = pack_calls([(self.numbers[procedure.name], *args) for procedure, args in calls])
+            entries = "".join([procedure.entry % args for procedure, args in calls])
+            self.server.send(marshal.dumps((packed, entries, [it for it in requests if type(it) is dict])))
+            self.asked.append(requests)
 
     def heard(self) -> bytes:
         """The next message of the server. `EOFError` if it has ended."""

@@ -34,7 +34,6 @@ class Journal(Protocol):
     """Numbered batches, from 1 on, each of some bytes. Each call may raise `Away`, and may then be made again with the same arguments."""
 
     report: str  # what an operator should know after `lead`
-    in_flight: int  # how many appends may be made at the same time, with numbers one after another, each by a thread of its own
 
     def lead(self) -> bool:
         """Becomes the primary, after which it is not asked again. False if another server is."""

@@ -33,8 +33,6 @@ returning 1"""
 class PostgresJournal:
     """postgresql://..: the tables `batch`, `leader` and `stored`. The row of who leads is locked while a batch is inserted: that fences."""
 
-    in_flight = 1
-
     def __init__(self, address: SplitResult) -> None:
         self.address, self.report, self._nonce = address, "", os.urandom(8).hex()
         self._link: Optional[Any] = None

@@ -24,8 +24,6 @@ return redis.call('xadd', KEYS[2], ARGV[2], 'batch', ARGV[3]) and 1"""
 class RedisJournal:
     """redis://HOST:PORT/NAME: the stream NAME, and NAME:leader, by a lease, and NAME:stored, the batches after which servers have snapshots."""
 
-    in_flight = 1
-
     def __init__(self, address: SplitResult) -> None:
         self.name, self.report, self._nonce = address.path.strip("/"), "", os.urandom(8).hex()
         self._replicas = int(parse_qs(address.query).get("replicas", ["0"])[0])

@@ -6,7 +6,7 @@ import marshal
 import select
 import socket
 import time
-from typing import Any, Optional, Sequence
+from typing import Any, Sequence
 
 from bank import CALL, NO_PROCEDURE, OUTCOME, ROW, Procedure
 from chain import PAUSE, Chain
@@ -27,7 +27,7 @@ class Server:
         self.pipeline = Pipeline(chain)
         self.entries = ""  # of calls that ran, and that the pipeline does not have yet
         self.is_marked, self.day, self.trouble = True, -1, ""  # the trouble is of the last snapshot
-        self.forgot: Optional[int] = -1  # the day of the bank on which no old id was left
+        self.may_forget = True  # there may be old ids, as the day has changed
         self.began, self.calls = time.monotonic(), 0
         self.words = {"rows": self.rows, "health": self.health, "figures": self.figures, "day": self.set_day}  # what administrators may ask
         self.writers = {chain.bank.numbers[name] for name, it in procedures.items() if it.writes}
@@ -45,7 +45,7 @@ class Server:
         asked: list[Asked] = []
         for front in ready:
             asked.append((front, *receive(front)))
-            if sum(len(calls) for _, calls, _, _ in asked) >= ENOUGH * CALL:
+            if len(asked[-1][1]) >= ENOUGH * CALL:  # who asked before has a reply soon
                 self.run(asked)
                 asked = []
         if asked or self.entries:
@@ -56,7 +56,7 @@ class Server:
     def mark(self) -> None:
         """Notes that all is safe, once."""
         if self.chain.leads and not self.is_marked:
-            self.pipeline.give(Group("", True, [], True))
+            self.pipeline.groups.put(Group("", True, [], True))
             self.is_marked = True
 
     def run(self, asked: Sequence[Asked]) -> None:
@@ -71,7 +71,7 @@ class Server:
             replies.append((front, (outcomes[at:end], [json.dumps(self.reply(*word)) for it in words for word in it.items()], age)))
             at = end
         self.is_marked = self.is_marked and not self.entries
-        self.pipeline.give(Group(self.entries, self.chain.leads, replies))
+        self.pipeline.groups.put(Group(self.entries, self.chain.leads, replies))
         self.entries = ""
 
     def call(self, name: str, *args: int, times: int = 1) -> None:
@@ -115,14 +115,14 @@ class Server:
         and `health` says so.
         """
         if self.day != today() and self.chain.leads:
-            self.day = today()
+            self.day, self.may_forget = today(), True
             self.call("day", self.day)
 
     def forget(self) -> None:
         """Has the bank forget old ids, at most twice as many as calls that wrote. So they do not pile up, and nobody waits for long."""
-        if (calls := self.entries.count("\n")) and self.forgot != (day := self.chain.bank.day()):
+        if self.may_forget and (calls := self.entries.count("\n")):
             self.call("forget", times=2 * calls)
-            self.forgot = day if self.entries.count("\n") == calls else self.forgot
+            self.may_forget = self.entries.count("\n") > calls
 
     def trouble_of_clock(self) -> str:
         """Whether the bank has another day than the clock. A follower may get the next day a moment late."""
@@ -132,6 +132,7 @@ class Server:
     def set_day(self, day: int) -> dict[str, Any]:
         """The day as an operator says it, whatever the clock says; with true in place of a number the day as it is."""
         if not isinstance(day, bool):
+            self.may_forget = True
             self.call("set_day", day)
         return {"day": self.chain.bank.day()}
 
