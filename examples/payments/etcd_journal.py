@@ -5,6 +5,7 @@
     stored/SERVER  the batch after which a server has a snapshot
 """
 
+import contextlib
 import http.client
 import json
 import os
@@ -49,6 +50,14 @@ class Gateway:
         raise Away(f"etcd: {why}")
 
 
+def leads_etcd(node: str) -> bool:
+    """Whether this node is the leader of the nodes."""
+    with contextlib.suppress(Away, KeyError):
+        status = Gateway([node]).ask("maintenance/status")
+        return bool(status["leader"] == status["header"]["member_id"])
+    return False
+
+
 class EtcdJournal:
     """etcd://HOST:PORT,HOST:PORT/NAME. Each write asks that this server created `leader`, so a primary that was replaced writes nothing more."""
 
@@ -80,6 +89,7 @@ class EtcdJournal:
         if leader.get("value") == self._nonce:
             self._term = int(leader["create_revision"])
             keep_alive(lambda: partial(Gateway(self.nodes).ask, "lease/keepalive", ID=leader["lease"]))
+            self._etcd = Gateway(sorted(self.nodes, key=lambda node: not leads_etcd(node)))  # another one would send each batch on
         return self._term >= 0
 
     def append(self, number: int, data: bytes) -> None:

@@ -10,7 +10,7 @@ import socket
 import ssl
 import time
 from collections import deque
-from typing import Optional
+from typing import Any, Optional
 
 from bank import OUTCOME
 from lines import LONGEST, Line, Reader, Request, Rights
@@ -20,8 +20,8 @@ CLIENTS = 1000  # of a front, or fewer if it may open fewer files. Others wait u
 OTHER_FILES = 32  # that a front has open, at most
 MESSAGE = 1 << 17  # bytes of a message between a front and the server, at most
 ASKED = 200  # requests of a message, at most
-GATHERED = 1000  # requests that wait to be asked, at most
 UNANSWERED = 3  # messages, at most: so few that the sockets take them and their replies, and nobody waits to send
+ENDED = "a front process has ended"
 
 
 class Client:
@@ -29,6 +29,14 @@ class Client:
 
     def __init__(self, link: socket.socket, since: float, rights: Rights) -> None:
         self.link, self.heard, self.since, self.rights = link, b"", since, rights
+
+
+def receive(link: socket.socket) -> Any:
+    """The next message. `EOFError` if the other process has ended."""
+    with contextlib.suppress(ConnectionError):
+        if message := link.recv(MESSAGE):
+            return marshal.loads(message)
+    raise EOFError(ENDED)
 
 
 class Front:
@@ -51,7 +59,7 @@ class Front:
         """Runs until the server has ended. Signals are for the server."""
         signal.pthread_sigmask(signal.SIG_BLOCK, {signal.SIGTERM, signal.SIGINT})
         with contextlib.suppress(EOFError, ConnectionError):
-            self.numbers: dict[str, int] = marshal.loads(self.heard())  # of the procedures, once the server has recovered
+            self.numbers: dict[str, int] = receive(self.server)  # of the procedures, once the server has recovered
             if self.reader.takes_words:
                 self.listeners = [socket.socket(fileno=it) for it in socket.recv_fds(self.server, MESSAGE, 1)[1]]
             for it in self.listeners:
@@ -77,8 +85,8 @@ class Front:
             self.sweep()
 
     def ask(self) -> None:
-        """Sends the server what is new, if it has few messages without a reply. Else more lines gather, but not without end."""
-        while self.new and (len(self.asked) < UNANSWERED or len(self.new) > GATHERED):
+        """Asks the server what is new. If it has enough messages, that waits for a reply, and so do clients with more."""
+        while self.new:
             if len(self.asked) == UNANSWERED:
                 self.hear()
             requests, self.new = self.new[:ASKED], self.new[ASKED:]
@@ -88,15 +96,9 @@ class Front:
             self.server.send(marshal.dumps((packed, entries, [it for it in requests if type(it) is dict])))
             self.asked.append(requests)
 
-    def heard(self) -> bytes:
-        """The next message of the server. `EOFError` if it has ended."""
-        if message := self.server.recv(MESSAGE):
-            return message
-        raise EOFError
-
     def hear(self) -> None:
         """Notes the replies to the first message that has none."""
-        outcomes, of_words, age = marshal.loads(self.heard())
+        outcomes, of_words, age = receive(self.server)
         outcome = OUTCOME.iter_unpack(outcomes)
         for it in self.asked.popleft():
             self.replies.append(it[0].reply(next(outcome), it[1][0], age) if type(it) is tuple else of_words.pop(0))

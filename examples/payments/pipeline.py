@@ -8,6 +8,7 @@ from queue import SimpleQueue
 from typing import Any, NamedTuple, Optional
 
 from chain import Chain
+from front import ENDED
 
 GROUPS = 100  # that become one batch, at most: no journal takes batches of any size
 
@@ -28,9 +29,8 @@ class Group(NamedTuple):
 class Pipeline:
     """A thread that takes the groups in order. All that wait become one batch, so batches are the larger the longer an append takes."""
 
-    def __init__(self, chain: Chain) -> None:
-        self.chain, self.groups = chain, SimpleQueue[Group]()
-        self.batches, self.appending = 0, 0.0  # and the seconds that they took
+    def __init__(self, chain: Chain, counts: dict[str, float]) -> None:
+        self.chain, self.counts, self.groups = chain, counts, SimpleQueue[Group]()
         self.failed: Optional[Exception] = None
         threading.Thread(target=self._live, daemon=True).start()
 
@@ -55,7 +55,7 @@ class Pipeline:
                 self.check()
                 self._make_safe(groups)
             except Exception as why:
-                self.failed = OSError("a front process has ended") if isinstance(why, ConnectionError) else why
+                self.failed = EOFError(ENDED) if isinstance(why, ConnectionError) else why
             for done in [it.done for it in groups if it.done]:
                 done.set()
 
@@ -64,7 +64,8 @@ class Pipeline:
         entries, begin = "".join([it.entries for it in groups]), time.monotonic()
         if entries or any([it.is_mark for it in groups]):
             self.chain.append(entries)
-            self.batches, self.appending = self.batches + 1, self.appending + time.monotonic() - begin
+            self.counts["batches"] += 1
+            self.counts["append_seconds"] += time.monotonic() - begin
         elif any([it.leads for it in groups]):
             self.chain.insist(self.chain.journal.check)  # as replies rest on no new batch
         for front, reply in [it for group in groups for it in group.replies]:

@@ -9,7 +9,7 @@ import signal
 import socket
 import time
 from multiprocessing.connection import Connection, Pipe
-from typing import Any, NoReturn
+from typing import NoReturn
 
 from administration import listen_at
 from bank import Unusable
@@ -68,9 +68,7 @@ def cut(server: Server) -> None:
 def serve(server: Server, link: Connection, ran: int) -> NoReturn:
     """Serves until it has to hand over. Then the other process needs what a turn changes."""
     ctypes.CDLL(None).prctl(1, signal.SIGKILL)  # PR_SET_PDEATHSIG: if the other process dies, it does at once
-    server.chain.bank.noted, pipeline = ran, numbers_of(server.pipeline)
-    server.pipeline = Pipeline(server.chain)  # as a fork has no threads
-    vars(server.pipeline).update(pipeline)
+    server.chain.bank.noted, server.pipeline = ran, Pipeline(server.chain, server.counts)  # as a fork has no threads
     said = b""
     while said != HAND_OVER:
         begin = time.monotonic()
@@ -78,13 +76,9 @@ def serve(server: Server, link: Connection, ran: int) -> NoReturn:
         time.sleep(min(time.monotonic() - begin, 0.02) if said else 0)  # as the other process has to catch up, it works half of the time
         said = link.recv_bytes() if link.poll() else said
     server.pipeline.flush()
-    link.send_bytes(marshal.dumps((server.chain.number, server.chain.bank.seq, numbers_of(server), numbers_of(server.pipeline))))
+    numbers = (server.chain.number, server.chain.bank.seq, server.counts, server.is_marked, server.day, server.may_forget)
+    link.send_bytes(marshal.dumps(numbers))
     os._exit(0)
-
-
-def numbers_of(it: object) -> dict[str, Any]:
-    """The numbers that an object has, which a turn changes."""
-    return {name: value for name, value in vars(it).items() if isinstance(value, (int, float, type(None)))}
 
 
 def take_over(server: Server, deputy: int, link: Connection, ran: int) -> None:
@@ -97,11 +91,10 @@ def take_over(server: Server, deputy: int, link: Connection, ran: int) -> None:
         while not link.poll(0.1):
             if chain.ends:
                 os.kill(deputy, signal.SIGTERM)  # it may wait for a journal that is away
-        chain.number, chain.seq, numbers, of_pipeline = marshal.loads(link.recv_bytes())
+        chain.number, chain.seq, counts, server.is_marked, server.day, server.may_forget = marshal.loads(link.recv_bytes())
     except (EOFError, ConnectionError):
         raise SystemExit(1) from None  # it has said why
     chain.bank.rerun(ran, at, 0)
     if chain.bank.seq != chain.seq:
         raise Unusable(f"the calls up to {chain.seq} end with call {chain.bank.seq} where the history was cut")
-    vars(server).update(numbers)
-    vars(server.pipeline).update(of_pipeline)
+    server.counts.update(counts)

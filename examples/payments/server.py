@@ -10,7 +10,7 @@ from typing import Any, Sequence
 
 from bank import CALL, NO_PROCEDURE, OUTCOME, ROW, Procedure
 from chain import PAUSE, Chain
-from front import MESSAGE
+from front import receive
 from pipeline import Group, Pipeline
 from sgt import pack_calls, unpack_calls
 
@@ -24,11 +24,11 @@ class Server:
 
     def __init__(self, chain: Chain, fronts: list[socket.socket], procedures: dict[str, Procedure]) -> None:
         self.chain, self.fronts, self.procedures = chain, fronts, procedures
-        self.pipeline = Pipeline(chain)
+        self.counts: dict[str, float] = {"calls": 0, "batches": 0, "append_seconds": 0.0}
+        self.pipeline, self.began = Pipeline(chain, self.counts), time.monotonic()
         self.entries = ""  # of calls that ran, and that the pipeline does not have yet
         self.is_marked, self.day, self.trouble = True, -1, ""  # the trouble is of the last snapshot
         self.may_forget = True  # there may be old ids, as the day has changed
-        self.began, self.calls = time.monotonic(), 0
         self.words = {"rows": self.rows, "health": self.health, "figures": self.figures, "day": self.set_day}  # what administrators may ask
         self.writers = {chain.bank.numbers[name] for name, it in procedures.items() if it.writes}
         for front in fronts:
@@ -85,7 +85,7 @@ class Server:
             calls = pack_calls([(NO_PROCEDURE if number in self.writers else number, *args) for number, *args in unpack_calls(calls)])
         outcomes, wrote = self.chain.bank.run(calls, entries)
         self.entries += wrote
-        self.calls += len(calls) // CALL
+        self.counts["calls"] += len(calls) // CALL
         return outcomes
 
     def reply(self, word: str, value: int) -> dict[str, Any]:
@@ -105,8 +105,8 @@ class Server:
 
     def figures(self, _: int) -> dict[str, Any]:
         """Since the start: seconds, calls, batches, and seconds in which batches were made safe. And the records at the last cut."""
-        seconds = {"seconds": round(time.monotonic() - self.began, 3), "append_seconds": round(self.pipeline.appending, 3)}
-        return {"seq": self.chain.bank.seq, "calls": self.calls, "batches": self.pipeline.batches, **seconds, "records": self.chain.bank.records}
+        bank, counts = self.chain.bank, {"seconds": time.monotonic() - self.began, **self.counts}
+        return {"seq": bank.seq, **{name: round(it, 3) for name, it in counts.items()}, "records": bank.records}
 
     def begin_day(self) -> None:
         """Tells the bank the day, as a call: a procedure has no clock, so the day stands in the journal.
@@ -140,13 +140,3 @@ class Server:
 def today() -> int:
     """The day by the clock, in UTC, counted from 1970."""
     return int(time.time() // 86_400)
-
-
-def receive(front: socket.socket) -> Any:
-    """The next message of a front."""
-    try:
-        if message := front.recv(MESSAGE):
-            return marshal.loads(message)
-    except ConnectionError:
-        pass
-    raise OSError("a front process has ended")
