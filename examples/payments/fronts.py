@@ -4,13 +4,14 @@ import os
 import pathlib
 import socket
 import ssl
+from multiprocessing.connection import Connection, Pipe
 from typing import Optional
 
 from bank import Procedure, Unusable
 from front import Front
 from lines import Reader, Tokens
 
-FRONTS = 3  # processes: what a payment takes of them is more than what it takes of the server, and less than twice that
+FRONTS = 3  # processes: each waits while the server runs what it has asked, so they are more than are busy at a time
 
 
 def load_tls(folder: pathlib.Path) -> ssl.SSLContext:
@@ -38,14 +39,14 @@ def listen(host: str, port: int) -> list[socket.socket]:
 
 def start_fronts(
     procedures: dict[str, Procedure], host: str, port: int, idle: float = 60, tokens: Tokens = None, tls: Optional[ssl.SSLContext] = None
-) -> tuple[int, list[socket.socket]]:
+) -> tuple[int, list[Connection]]:
     """Starts the front processes, before anything is opened that they must not share. Their port, and a connection to each.
 
     After `idle` seconds a client is dropped. The last front is for administrators alone: the server sends it a socket to listen at.
     """
     listeners, fronts = listen(host, port), []
     for number in range(FRONTS + 1):
-        front, server = socket.socketpair(socket.AF_UNIX, socket.SOCK_SEQPACKET)
+        front, server = Pipe()
         fronts.append(front)
         if os.fork() == 0:
             for it in fronts:

@@ -72,7 +72,7 @@ def main() -> None:
     words = parser.parse_args()
     try:
         {"serve": serve, "show": show, "verify": verify}[words.command](words, open_journal(words))
-    except (Unusable, OSError, ValueError, EOFError) as why:
+    except (Unusable, OSError, ValueError) as why:
         sys.exit(f"payments: {why}")
 
 

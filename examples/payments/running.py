@@ -6,9 +6,9 @@ import marshal
 import os
 import pathlib
 import signal
-import socket
 import time
 from multiprocessing.connection import Connection, Pipe
+from multiprocessing.reduction import send_handle
 from typing import NoReturn
 
 from administration import listen_at
@@ -24,14 +24,17 @@ NEAR, HAND_OVER = 100_000, b"hand over"  # bytes of calls, which run in some mil
 def run(server: Server, port: int, admin: pathlib.Path, begin: float) -> None:
     """Runs a server until SIGTERM or SIGINT."""
     with listen_at(admin) as listener:
-        socket.send_fds(server.fronts[-1], [b"admin"], [listener.fileno()])
+        send_handle(server.fronts[-1], listener.fileno(), None)
     print(f"serving on port {port} after call {server.chain.bank.seq}, started in {time.perf_counter() - begin:.2f} s", flush=True)
-    while not server.chain.ends:
-        server.turn()
-        if server.chain.bank.is_long():
-            cut(server)
-    server.mark()
-    server.pipeline.flush()
+    try:
+        while not server.chain.ends:
+            server.turn()
+            if server.chain.bank.is_long():
+                cut(server)
+        server.mark()
+        server.pipeline.flush()
+    except (EOFError, ConnectionError):
+        raise OSError("a front process has ended") from None
     admin.unlink(missing_ok=True)
 
 

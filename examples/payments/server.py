@@ -4,25 +4,24 @@ import hashlib
 import json
 import marshal
 import select
-import socket
 import time
+from multiprocessing.connection import Connection
 from typing import Any, Sequence
 
 from bank import CALL, NO_PROCEDURE, OUTCOME, ROW, Procedure
 from chain import PAUSE, Chain
-from front import receive
-from pipeline import Group, Pipeline
+from pipeline import Pipeline
 from sgt import pack_calls, unpack_calls
 
 ENOUGH = 100  # calls that are run at once: those who asked first have their replies while the next ones are run
 IDLE = 0.1  # seconds without a request, after which the journal notes what is safe
-Asked = tuple[socket.socket, bytes, str, Sequence[dict[str, int]]]  # a front, its packed calls, their entries, and words to the server itself
+Asked = tuple[Connection, bytes, str, Sequence[dict[str, int]]]  # a front, its packed calls, their entries, and words to the server itself
 
 
 class Server:
     """A primary, or a follower, which answers what does not write, and says how old its answers may be."""
 
-    def __init__(self, chain: Chain, fronts: list[socket.socket], procedures: dict[str, Procedure]) -> None:
+    def __init__(self, chain: Chain, fronts: list[Connection], procedures: dict[str, Procedure]) -> None:
         self.chain, self.fronts, self.procedures = chain, fronts, procedures
         self.counts: dict[str, float] = {"calls": 0, "batches": 0, "append_seconds": 0.0}
         self.pipeline, self.began = Pipeline(chain, self.counts), time.monotonic()
@@ -32,7 +31,7 @@ class Server:
         self.words = {"rows": self.rows, "health": self.health, "figures": self.figures, "day": self.set_day}  # what administrators may ask
         self.writers = {chain.bank.numbers[name] for name, it in procedures.items() if it.writes}
         for front in fronts:
-            front.send(marshal.dumps(chain.bank.numbers))
+            front.send_bytes(marshal.dumps(chain.bank.numbers))
 
     def turn(self) -> None:
         """Waits for requests, and runs all that have come in. Once nobody asks, an empty batch is a mark: without one damage to the last batch
@@ -44,7 +43,7 @@ class Server:
         self.begin_day()
         asked: list[Asked] = []
         for front in ready:
-            asked.append((front, *receive(front)))
+            asked.append((front, *marshal.loads(front.recv_bytes())))
             if len(asked[-1][1]) >= ENOUGH * CALL:  # who asked before has a reply soon
                 self.run(asked)
                 asked = []
@@ -56,7 +55,7 @@ class Server:
     def mark(self) -> None:
         """Notes that all is safe, once."""
         if self.chain.leads and not self.is_marked:
-            self.pipeline.groups.put(Group("", True, [], True))
+            self.pipeline.groups.put(("", []))
             self.is_marked = True
 
     def run(self, asked: Sequence[Asked]) -> None:
@@ -71,7 +70,7 @@ class Server:
             replies.append((front, (outcomes[at:end], [json.dumps(self.reply(*word)) for it in words for word in it.items()], age)))
             at = end
         self.is_marked = self.is_marked and not self.entries
-        self.pipeline.groups.put(Group(self.entries, self.chain.leads, replies))
+        self.pipeline.groups.put((self.entries, replies))
         self.entries = ""
 
     def call(self, name: str, *args: int, times: int = 1) -> None:
