@@ -1,9 +1,6 @@
 """The socket of administration: a file, which the user of the server alone may open. `nc -U` speaks to it too."""
 
-import json
-import os
-import pathlib
-import socket
+import json, os, pathlib, socket
 from typing import Any, Optional
 
 

@@ -1,9 +1,6 @@
 """Reads a journal: prints it, and checks it by a replay in a second engine."""
 
-import argparse
-import contextlib
-import hashlib
-import sys
+import argparse, contextlib, hashlib, sys
 from typing import Iterator
 
 from administration import ask

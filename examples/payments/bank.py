@@ -1,10 +1,6 @@
 """The bank: an engine with the procedures of a folder, and the number of its last journaled call."""
 
-import json
-import os
-import pathlib
-import struct
-import sys
+import json, os, pathlib, struct, sys
 from itertools import compress
 from typing import Any, Optional, Sequence
 

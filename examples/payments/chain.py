@@ -1,7 +1,6 @@
 """The bank that the batches of a journal make: replay, appends and promotion, whatever the journal is."""
 
-import json
-import time
+import json, time
 from typing import Any, Callable, Union
 
 from bank import ROW, Bank, Call, Unusable

@@ -7,8 +7,7 @@
 
 import contextlib
 import http.client
-import json
-import os
+import json, os
 from base64 import b64decode, b64encode
 from functools import partial
 from typing import Any
@@ -50,14 +49,6 @@ class Gateway:
         raise Away(f"etcd: {why}")
 
 
-def leads_etcd(node: str) -> bool:
-    """Whether this node is the leader of the nodes."""
-    with contextlib.suppress(Away, KeyError):
-        status = Gateway([node]).ask("maintenance/status")
-        return bool(status["leader"] == status["header"]["member_id"])
-    return False
-
-
 class EtcdJournal:
     """etcd://HOST:PORT,HOST:PORT/NAME. Each write asks that this server created `leader`, so a primary that was replaced writes nothing more."""
 
@@ -89,7 +80,11 @@ class EtcdJournal:
         if leader.get("value") == self._nonce:
             self._term = int(leader["create_revision"])
             keep_alive(lambda: partial(Gateway(self.nodes).ask, "lease/keepalive", ID=leader["lease"]))
-            self._etcd = Gateway(sorted(self.nodes, key=lambda node: not leads_etcd(node)))  # another one would send each batch on
+            for node in self.nodes:  # the one that leads them is asked first, as others send each batch on to it
+                with contextlib.suppress(Away):
+                    status = Gateway([node]).ask("maintenance/status")
+                    if status.get("leader") == status["header"]["member_id"]:
+                        self._etcd = Gateway([node, *self.nodes])
         return self._term >= 0
 
     def append(self, number: int, data: bytes) -> None:

@@ -1,8 +1,6 @@
 """The journal in the files of one machine: N.batches begins with batch N. The link `newest` leads to the last file."""
 
-import os
-import pathlib
-import time
+import os, pathlib, time
 from bisect import bisect_right
 from typing import BinaryIO, Optional
 

@@ -1,14 +1,6 @@
 """A front process: it reads the lines of some clients, asks the server's process, and writes the replies. It decides nothing by itself."""
 
-import contextlib
-import marshal
-import os
-import resource
-import select
-import signal
-import socket
-import ssl
-import time
+import contextlib, marshal, os, resource, select, signal, socket, ssl, time
 from itertools import islice
 from multiprocessing.connection import Connection
 from multiprocessing.reduction import recv_handle
@@ -83,8 +75,7 @@ class Front:
         words = [it for it in requests if type(it) is dict]
         if calls or words:
             packed = pack_calls([(self.numbers[procedure.name], *args) for procedure, args in calls])
-            entries = "".join([procedure.entry % args for procedure, args in calls])
-            self.server.send_bytes(marshal.dumps((packed, entries, words)))
+            self.server.send_bytes(marshal.dumps((packed, "".join([procedure.entry % args for procedure, args in calls]), words)))
 
     def replies(self, requests: list[Request]) -> Iterator[str]:
         """The replies to what the server was asked."""

@@ -1,9 +1,6 @@
 """The front processes and their listeners: where clients come, by which rights, and by TLS."""
 
-import os
-import pathlib
-import socket
-import ssl
+import os, pathlib, socket, ssl
 from multiprocessing.connection import Connection, Pipe
 from typing import Optional
 

@@ -1,12 +1,6 @@
 """What a journal is, whatever keeps it; how a batch becomes bytes; and how files are written."""
 
-import contextlib
-import json
-import os
-import pathlib
-import threading
-import time
-import zlib
+import contextlib, json, os, pathlib, threading, time, zlib
 from typing import Any, Callable, Iterable, Protocol, Sequence
 
 from bank import Unusable

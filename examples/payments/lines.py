@@ -1,8 +1,6 @@
 """The lines of clients: what they ask for, who may, and what is replied."""
 
-import hashlib
-import json
-import pathlib
+import hashlib, json, pathlib
 from itertools import permutations
 from operator import itemgetter
 from typing import Any, Optional, Union

@@ -1,11 +1,7 @@
 #!/usr/bin/env python3
 """A durable queue of payments on sgt. README.md beside this file has the idea, and how to run it."""
 
-import argparse
-import pathlib
-import socket
-import sys
-import time
+import argparse, pathlib, socket, sys, time
 from importlib import import_module
 from ipaddress import ip_address
 from urllib.parse import urlsplit

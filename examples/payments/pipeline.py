@@ -1,22 +1,20 @@
 """Makes safe what ran, and then replies. Meanwhile the engine runs the next calls, and the fronts read the next lines."""
 
-import marshal
-import threading
-import time
+import marshal, threading, time
 from multiprocessing.connection import Connection
 from queue import Queue
 from typing import Any, Optional
 
 from chain import Chain
 
-GROUPS = 100  # that become one batch, at most: no journal takes batches of any size
-# What ran at once: the entries of the calls that wrote, a line each; and what fronts get once they are safe. One without both is a mark: an
-# empty batch, which notes that all before it was safe.
-Group = tuple[str, list[tuple[Connection, tuple[Any, ...]]]]
+# What ran at once: the entries of the calls that wrote, a line each; and which front gets what once they are safe. One without a front has no
+# reply: it may be a mark, an empty batch, which notes that all before it was safe.
+Group = tuple[str, Optional[Connection], tuple[Any, ...]]
 
 
 class Pipeline:
-    """A thread that takes the groups in order. All that wait become one batch, so batches are the larger the longer an append takes."""
+    """A thread that takes the groups in order. All that wait become one batch, so batches are the larger the longer an append takes. They are
+    never large, as a front asks little before it waits for a reply."""
 
     def __init__(self, chain: Chain, counts: dict[str, float]) -> None:
         self.chain, self.counts = chain, counts
@@ -37,7 +35,7 @@ class Pipeline:
     def _live(self) -> None:
         while True:
             groups = [self.groups.get()]
-            while not self.groups.empty() and len(groups) < GROUPS:
+            while not self.groups.empty():
                 groups.append(self.groups.get())
             try:
                 self.check()
@@ -49,12 +47,13 @@ class Pipeline:
 
     def _make_safe(self, groups: list[Group]) -> None:
         """Makes all safe by one batch. Then fronts get their replies: a refusal or a balance may rest on a call that ran before."""
-        entries, begin = "".join([it for it, _ in groups]), time.monotonic()
-        if entries or ("", []) in groups:
+        entries, begin = "".join([it for it, _, _ in groups]), time.monotonic()
+        if entries or not all([front for _, front, _ in groups]):
             self.chain.append(entries)
             self.counts["batches"] += 1
             self.counts["append_seconds"] += time.monotonic() - begin
         elif self.chain.leads:
             self.chain.insist(self.chain.journal.check)  # as replies rest on no new batch
-        for front, reply in [it for _, replies in groups for it in replies]:
-            front.send_bytes(marshal.dumps(reply))
+        for _, front, reply in groups:
+            if front:
+                front.send_bytes(marshal.dumps(reply))

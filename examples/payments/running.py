@@ -1,12 +1,6 @@
 """Runs a server. When its history is long it is cut, and a snapshot stored: seconds of work, while another process serves."""
 
-import contextlib
-import ctypes
-import marshal
-import os
-import pathlib
-import signal
-import time
+import contextlib, ctypes, marshal, os, pathlib, signal, time
 from multiprocessing.connection import Connection, Pipe
 from multiprocessing.reduction import send_handle
 from typing import NoReturn
@@ -53,7 +47,7 @@ def cut(server: Server) -> None:
     server.pipeline.flush()
     chain, number = server.chain, server.chain.number
     ran, (link, its_link), deputy = os.memfd_create("calls"), Pipe(), -1
-    with BEAT, contextlib.suppress(OSError):  # so no other thread holds a lock: those of the pipeline have nothing to do. Where no process can be made, clients wait
+    with BEAT, contextlib.suppress(OSError):  # so no other thread holds a lock, as the pipeline has nothing to do. Without a deputy clients wait
         deputy = os.fork() if chain.leads else -1
     if deputy == 0:
         link.close()  # else it would not see the end of this process
@@ -79,8 +73,7 @@ def serve(server: Server, link: Connection, ran: int) -> NoReturn:
         time.sleep(min(time.monotonic() - begin, 0.02) if said else 0)  # as the other process has to catch up, it works half of the time
         said = link.recv_bytes() if link.poll() else said
     server.pipeline.flush()
-    numbers = (server.chain.number, server.chain.bank.seq, server.counts, server.is_marked, server.day, server.may_forget)
-    link.send_bytes(marshal.dumps(numbers))
+    link.send_bytes(marshal.dumps((server.chain.number, server.chain.bank.seq, server.counts, server.is_marked, server.day, server.may_forget)))
     os._exit(0)
 
 

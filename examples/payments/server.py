@@ -1,21 +1,15 @@
 """The process of the engine: it runs what the fronts have asked, and gives it to the pipeline, which replies once it is safe."""
 
-import hashlib
-import json
-import marshal
-import select
-import time
+import hashlib, json, marshal, select, time
 from multiprocessing.connection import Connection
 from typing import Any, Sequence
 
-from bank import CALL, NO_PROCEDURE, OUTCOME, ROW, Procedure
+from bank import CALL, NO_PROCEDURE, ROW, Procedure
 from chain import PAUSE, Chain
 from pipeline import Pipeline
 from sgt import pack_calls, unpack_calls
 
-ENOUGH = 100  # calls that are run at once: those who asked first have their replies while the next ones are run
 IDLE = 0.1  # seconds without a request, after which the journal notes what is safe
-Asked = tuple[Connection, bytes, str, Sequence[dict[str, int]]]  # a front, its packed calls, their entries, and words to the server itself
 
 
 class Server:
@@ -25,53 +19,40 @@ class Server:
         self.chain, self.fronts, self.procedures = chain, fronts, procedures
         self.counts: dict[str, float] = {"calls": 0, "batches": 0, "append_seconds": 0.0}
         self.pipeline, self.began = Pipeline(chain, self.counts), time.monotonic()
-        self.entries = ""  # of calls that ran, and that the pipeline does not have yet
-        self.is_marked, self.day, self.trouble = True, -1, ""  # the trouble is of the last snapshot
-        self.may_forget = True  # there may be old ids, as the day has changed
+        self.entries, self.is_marked = "", True  # of calls that ran, and that the pipeline does not have yet
+        self.day, self.may_forget, self.trouble = -1, True, ""  # there may be old ids, as the day has changed. The trouble is of the last snapshot
         self.words = {"rows": self.rows, "health": self.health, "figures": self.figures, "day": self.set_day}  # what administrators may ask
         self.writers = {chain.bank.numbers[name] for name, it in procedures.items() if it.writes}
         for front in fronts:
             front.send_bytes(marshal.dumps(chain.bank.numbers))
 
     def turn(self) -> None:
-        """Waits for requests, and runs all that have come in. Once nobody asks, an empty batch is a mark: without one damage to the last batch
-        looks like a torn tail."""
+        """Waits for requests, and runs what has come in."""
         ready = select.select(self.fronts, (), (), IDLE if self.chain.leads else PAUSE)[0]
         self.pipeline.check()
         if not self.chain.leads:
             self.chain.follow()
         self.begin_day()
-        asked: list[Asked] = []
         for front in ready:
-            asked.append((front, *marshal.loads(front.recv_bytes())))
-            if len(asked[-1][1]) >= ENOUGH * CALL:  # who asked before has a reply soon
-                self.run(asked)
-                asked = []
-        if asked or self.entries:
-            self.run(asked)
+            self.run(front, *marshal.loads(front.recv_bytes()))
         if not ready:
             self.mark()
 
     def mark(self) -> None:
-        """Notes that all is safe, once."""
-        if self.chain.leads and not self.is_marked:
-            self.pipeline.groups.put(("", []))
-            self.is_marked = True
+        """Once nobody asks, an empty batch notes that all is safe. Until then damage to the last batch looks like a torn tail."""
+        if self.entries or not self.is_marked:
+            self.pipeline.groups.put((self.entries, None, ()))
+            self.is_marked, self.entries = not self.entries, ""
 
-    def run(self, asked: Sequence[Asked]) -> None:
-        """Runs what fronts have asked. They have no reply before it is safe: a refusal or a balance may rest on a call that ran before."""
-        outcomes = memoryview(self.execute(b"".join([it[1] for it in asked]), "".join([it[2] for it in asked])))
+    def run(self, front: Connection, calls: bytes, entries: str, words: Sequence[dict[str, int]]) -> None:
+        """Runs what a front has asked: packed calls, whose entries these are, and words to the server itself."""
+        outcomes = self.execute(calls, entries)
         self.forget()
         # What a follower adds to a reply: payments that were acknowledged later may be missing in it.
         age = "" if self.chain.leads else f', "seconds_old": {time.monotonic() - self.chain.fresh:.3f}'
-        replies, at = [], 0
-        for front, calls, _, words in asked:
-            end = at + len(calls) // CALL * OUTCOME.size
-            replies.append((front, (outcomes[at:end], [json.dumps(self.reply(*word)) for it in words for word in it.items()], age)))
-            at = end
-        self.is_marked = self.is_marked and not self.entries
-        self.pipeline.groups.put((self.entries, replies))
-        self.entries = ""
+        reported = [json.dumps(self.reply(*word)) for it in words for word in it.items()]
+        self.pipeline.groups.put((self.entries, front, (outcomes, reported, age)))
+        self.is_marked, self.entries = self.is_marked and not self.entries, ""
 
     def call(self, name: str, *args: int, times: int = 1) -> None:
         """Runs a call of the server's own, if these procedures have it."""

@@ -1,10 +1,6 @@
 """The snapshots of the bank, which each server stores for itself."""
 
-import fcntl
-import json
-import os
-import pathlib
-import zlib
+import fcntl, json, os, pathlib, zlib
 
 from bank import Bank, Unusable
 from journal import seal, store, sync_names, unseal
