@@ -470,6 +470,25 @@ def mixes_no_threads_replies(_):
         same("replies of others", [], wrong[:3])
 
 
+def runs_calls_beside_threads(_):
+    """Other threads run while an engine runs calls from bytes. Its own calls raise Busy meanwhile."""
+    sgt = module()
+    count, busy = 200_000, 0
+    with sgt.Engine.bare(1, 4_000_000) as engine:
+        adds = engine.procedure([1, [["find", 0, 0, 0, 0], ["put", 0, 0, ["sum", ["reg", 0], ["arg", 0]]]]])
+        calls, outcomes = sgt.pack_calls([(adds, 1)] * count), []
+        thread = threading.Thread(target=lambda: outcomes.append(engine.run_bytes(calls)))
+        thread.start()
+        while thread.is_alive():
+            try:
+                len(engine)
+            except sgt.Busy:
+                busy += 1
+        thread.join()
+        same("whether calls were busy", True, busy > 0)
+        same("calls that wrote, and the sum", (count, count), (sum(sgt.wrote(outcomes[0])), engine.get(0, 0)))
+
+
 def waits_with_deadlines_in_python(_):
     """The deadlines, tickets and misuse of a shared engine, from Python."""
     sgt = module()
@@ -761,6 +780,7 @@ CASES = [
     keeps_an_engine_whole,
     puts_a_million_rows_soon,
     mixes_no_threads_replies,
+    runs_calls_beside_threads,
     waits_with_deadlines_in_python,
     takes_a_prepared_engine_in_python,
     ends_a_wait_at_a_signal,

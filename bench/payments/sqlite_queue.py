@@ -10,6 +10,7 @@ import random
 import sqlite3
 import struct
 import sys
+import threading
 import time
 from typing import Callable, NamedTuple
 
@@ -27,7 +28,7 @@ ACCOUNTS, CENTS, DAY, LIMIT = 1000, 100_000_000, 20_000, 1_000_000
 
 
 def opened(path: str) -> sqlite3.Connection:
-    database = sqlite3.connect(path, timeout=60, isolation_level=None)
+    database = sqlite3.connect(path, timeout=60, isolation_level=None, check_same_thread=False)
     database.execute("pragma journal_mode=wal")
     database.execute("pragma synchronous=full")
     return database
@@ -85,25 +86,26 @@ class Bank:
     """In place of the engine, for the server of payments.py."""
 
     def __init__(self, database: sqlite3.Connection) -> None:
-        self.seq, self.numbers, self.database = 0, {"pay": 0}, database
+        self.seq, self.numbers, self.database, self.lock = 0, {"pay": 0}, database, threading.Lock()
 
     def day(self) -> None:
         """It has none."""
 
-    def run(self, packed: bytes, entries: list) -> tuple:
+    def run(self, packed: bytes, entries: str) -> tuple:
         calls = unpack_calls(packed)
-        if calls and not self.database.in_transaction:
-            self.database.execute("begin immediate")
-        reported = [pay(self.database, *args) for _, *args in calls]
+        with self.lock:  # as the pipeline may be about to commit
+            if calls and not self.database.in_transaction:
+                self.database.execute("begin immediate")
+            reported = [pay(self.database, *args) for _, *args in calls]
         outcomes = [OUTCOME(not it.code, Kind.REFUSED if it.code else Kind.COMMITTED, it.code, len(it.answers), *it.answers or (0, 0)) for it in reported]
-        return b"".join(outcomes), [entry for entry, it in zip(entries, reported) if not it.code]
+        return b"".join(outcomes), "".join([entry for entry, it in zip(entries.splitlines(True), reported) if not it.code])
 
     def is_long(self) -> bool:
         return False
 
 
 class Chain:
-    """In place of the journal: the batch is one transaction."""
+    """In place of the journal: a batch is one transaction, with what has run since."""
 
     def __init__(self, bank: Bank) -> None:
         self.bank, self.leads, self.ends, self.number, self.journal = bank, True, False, 0, self
@@ -111,9 +113,10 @@ class Chain:
     def check(self) -> None:
         pass
 
-    def append(self, _calls: list) -> None:
-        if self.bank.database.in_transaction:
-            self.bank.database.execute("commit")
+    def append(self, _calls: str) -> None:
+        with self.bank.lock:
+            if self.bank.database.in_transaction:
+                self.bank.database.execute("commit")
 
     def insist(self, ask: Callable[[], None]) -> None:
         ask()

@@ -28,7 +28,7 @@ class Procedure:
 
     def __init__(self, name: str, file: dict[str, Any]) -> None:
         self.name, self.text = name, file["procedure"]  # the text is as docs/FORMATS.md has it
-        self.entry = json.dumps([name]).replace("%", "%%")[:-1] + ", %d" * self.text[0] + "]\n"  # of a call, by its arguments
+        self.entry = json.dumps([name]).replace("%", "%%")[:-1] + ", %d" * self.text[0] + "]\n"  # of a call
         self.request: list[str] = file.get("request", [])  # clients can't ask for a procedure without any keys
         self.is_for_administrators: bool = file.get("administration", False)
         self.rights: dict[str, str] = file.get("rights", {})  # by the key that has the account: pay, or read

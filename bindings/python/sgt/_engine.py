@@ -202,7 +202,7 @@ class Engine(Uncopied):
         """Runs calls as `run_many` does, from bytes that `pack_calls` makes, to bytes that `unpack_outcomes` and `wrote` read, also in
         other processes. Raises NoMemory with the outcomes of the calls before it, or BadCall if the last call is incomplete.
 
-        It releases the interpreter's lock. Meanwhile another thread's call to this engine raises Busy.
+        It releases the interpreter's lock. Meanwhile another call to this engine, by a thread or a signal handler, raises Busy.
         """
         count, rest = divmod(len(calls), CALL_BYTES)
         if rest:
