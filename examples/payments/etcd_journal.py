@@ -80,11 +80,9 @@ class EtcdJournal:
         if leader.get("value") == self._nonce:
             self._term = int(leader["create_revision"])
             keep_alive(lambda: partial(Gateway(self.nodes).ask, "lease/keepalive", ID=leader["lease"]))
-            for node in self.nodes:  # the one that leads them is asked first, as others send each batch on to it
-                with contextlib.suppress(Away):
-                    status = Gateway([node]).ask("maintenance/status")
-                    if status.get("leader") == status["header"]["member_id"]:
-                        self._etcd = Gateway([node, *self.nodes])
+            with contextlib.suppress(Away):  # the node that leads them is asked first, as others send each batch on to it
+                states = [(node, Gateway([node]).ask("maintenance/status")) for node in self.nodes]
+                self._etcd = Gateway([*[node for node, it in states if it.get("leader") == it["header"]["member_id"]], *self.nodes])
         return self._term >= 0
 
     def append(self, number: int, data: bytes) -> None:

@@ -9,6 +9,7 @@ from chain import PAUSE, Chain
 from pipeline import Pipeline
 from sgt import pack_calls, unpack_calls
 
+NO_WORD = {"error": "no word of this server"}
 IDLE = 0.1  # seconds without a request, after which the journal notes what is safe
 
 
@@ -50,7 +51,9 @@ class Server:
         self.forget()
         # What a follower adds to a reply: payments that were acknowledged later may be missing in it.
         age = "" if self.chain.leads else f', "seconds_old": {time.monotonic() - self.chain.fresh:.3f}'
-        reported = [json.dumps(self.reply(*word)) for it in words for word in it.items()]
+        if words:
+            self.pipeline.flush()
+        reported = [json.dumps(self.words.get(word, lambda _: NO_WORD)(value)) for it in words for word, value in it.items()]
         self.pipeline.groups.put((self.entries, front, (outcomes, reported, age)))
         self.is_marked, self.entries = self.is_marked and not self.entries, ""
 
@@ -67,11 +70,6 @@ class Server:
         self.entries += wrote
         self.counts["calls"] += len(calls) // CALL
         return outcomes
-
-    def reply(self, word: str, value: int) -> dict[str, Any]:
-        """What an administrator gets, once all that ran before this turn is safe."""
-        self.pipeline.flush()
-        return self.words[word](value) if word in self.words else {"error": "no word of this server"}
 
     def rows(self, _: int) -> dict[str, Any]:
         """A digest of all rows, and how many there are. Nobody is served while it is made: some seconds for ten million rows."""
