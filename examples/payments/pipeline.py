@@ -1,13 +1,12 @@
 """Makes safe what ran, and then replies. Meanwhile the engine runs the next calls, and the fronts read the next lines."""
 
-import contextlib, marshal, threading, time
+import marshal, threading, time
 from multiprocessing.connection import Connection
-from queue import Empty, Queue
+from queue import Queue
 from typing import Any, Optional
 
 from chain import Chain
 
-QUICK = 0.0005  # seconds of an append. If one takes longer, the next one waits for as many groups as the last one had, half as long at most
 # What ran at once: the entries of the calls that wrote, a line each; and which front gets what once they are safe. One without a front has no
 # reply: it may be a mark, an empty batch, which notes that all before it was safe.
 Group = tuple[str, Optional[Connection], tuple[Any, ...]]
@@ -18,7 +17,7 @@ class Pipeline:
     never large, as a front asks little before it waits for a reply."""
 
     def __init__(self, chain: Chain, counts: dict[str, float]) -> None:
-        self.chain, self.counts, self.last = chain, counts, 1  # how many groups the last batch had
+        self.chain, self.counts = chain, counts
         self.groups: Queue[Group] = Queue()
         self.failed: Optional[Exception] = None
         threading.Thread(target=self._live, daemon=True).start()
@@ -35,12 +34,9 @@ class Pipeline:
 
     def _live(self) -> None:
         while True:
-            groups, seconds = [self.groups.get()], self.counts["append_seconds"] / max(1, self.counts["batches"])
-            end = time.monotonic() + (min(seconds, 0.02) - QUICK) / 2
-            while not self.groups.empty() or len(groups) < self.last and time.monotonic() < end:  # one batch costs less than two
-                with contextlib.suppress(Empty):
-                    groups.append(self.groups.get(timeout=0.0002))
-            self.last = len(groups)
+            groups = [self.groups.get()]
+            while not self.groups.empty():
+                groups.append(self.groups.get())
             try:
                 self.check()
                 self._make_safe(groups)
@@ -54,7 +50,8 @@ class Pipeline:
         entries, begin = "".join([it for it, _, _ in groups]), time.monotonic()
         if entries or not all([front for _, front, _ in groups]):
             self.chain.append(entries)
-            self.counts.update(batches=self.counts["batches"] + 1, append_seconds=self.counts["append_seconds"] + time.monotonic() - begin)
+            self.counts["batches"] += 1
+            self.counts["append_seconds"] += time.monotonic() - begin
         elif self.chain.leads:
             self.chain.insist(self.chain.journal.check)  # as replies rest on no new batch
         for front, reply in [(front, reply) for _, front, reply in groups if front]:
