@@ -2,13 +2,13 @@
 
 import marshal, threading, time
 from multiprocessing.connection import Connection
-from queue import Queue
+from queue import SimpleQueue
 from typing import Any, Optional
 
 from chain import Chain
 
-# What ran at once: the entries of the calls that wrote, a line each; and which front gets what once they are safe. One without a front has no
-# reply: it may be a mark, an empty batch, which notes that all before it was safe.
+# What ran at once: the entries of the calls that wrote, a line each; and which front gets what once they are safe. One with nothing is a mark:
+# an empty batch, which notes that all before it was safe. In place of a front's reply there may be an event, which is set then.
 Group = tuple[str, Optional[Connection], tuple[Any, ...]]
 
 
@@ -18,7 +18,7 @@ class Pipeline:
 
     def __init__(self, chain: Chain, counts: dict[str, float]) -> None:
         self.chain, self.counts = chain, counts
-        self.groups: Queue[Group] = Queue()
+        self.groups: SimpleQueue[Group] = SimpleQueue()
         self.failed: Optional[Exception] = None
         threading.Thread(target=self._live, daemon=True).start()
 
@@ -29,7 +29,9 @@ class Pipeline:
 
     def flush(self) -> None:
         """Returns once all groups are safe, and replied to."""
-        self.groups.join()
+        done = threading.Event()
+        self.groups.put(("", None, (done,)))
+        done.wait()
         self.check()
 
     def _live(self) -> None:
@@ -42,13 +44,13 @@ class Pipeline:
                 self._make_safe(groups)
             except Exception as why:
                 self.failed = why
-            for _ in groups:
-                self.groups.task_done()
+            for done in [it for _, front, events in groups if not front for it in events]:
+                done.set()
 
     def _make_safe(self, groups: list[Group]) -> None:
         """Makes all safe by one batch. Then fronts get their replies: a refusal or a balance may rest on a call that ran before."""
         entries, begin = "".join([it for it, _, _ in groups]), time.monotonic()
-        if entries or not all([front for _, front, _ in groups]):
+        if entries or ("", None, ()) in groups:
             self.chain.append(entries)
             self.counts["batches"] += 1
             self.counts["append_seconds"] += time.monotonic() - begin
