@@ -260,8 +260,8 @@ def _typed(library: ctypes.CDLL, calls: dict[str, list[type]]) -> None:
         function.restype = None if name in ("sgt_close", "sgt_shared_watch") else ctypes.c_uint32
 
 
-# Calls to an Engine keep the interpreter's lock, so they never overlap; most are shorter than releasing it. Calls to a SharedEngine
-# release it, since they may wait.
+# Calls to an Engine keep the interpreter's lock, so they never overlap; most are shorter than releasing it. `run_bytes` releases it, and
+# makes the engine busy meanwhile. Calls to a SharedEngine release it, since they may wait.
 HELD = ctypes.PyDLL(_path())
 FREE = ctypes.CDLL(_path())
 _version = HELD["sgt_version"]
