@@ -15,7 +15,6 @@ import re
 import subprocess
 import sys
 from functools import cache
-from pathlib import Path
 
 sys.dont_write_bytecode = True
 from helpers.cases import TESTS, Differs, same, run_cases  # noqa: E402
