@@ -17,7 +17,7 @@
 //!
 //! 1. What a reader has to trust: the 24 files that `Legal`, `Headline` and `CallersRunAlone` rest on, from `Numbers` to
 //!    `Callers`.
-//! 2. Terms of single contracts: `Bounds`, `Databases`, `Programs`, `Codes`, `Histories`, `Questions`, `ShortReplies`.
+//! 2. Terms of single contracts: `Bounds`, `Databases`, `ProcedureTexts`, `Codes`, `Histories`, `Questions`, `ShortReplies`.
 //! 3. Laws, proved from the definitions of part 1: from `Admissions` to `ExecutedReplay`.
 //! 4. The state that a scheduler stores in place of the history, what its calls do to it, and why that is legal. This is
 //!    proved from part 1 too: from `Left` to `Refinement`.
