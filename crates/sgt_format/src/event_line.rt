@@ -39,7 +39,7 @@ pub fn read_event(alloc: Global, scratch: &mut Scratch, line: &[u8]) -> Result<E
     if plain_event(line, &mut event).is_some() {
         return Ok(event);
     }
-    if let Some(event) = plain_access(line) {
+    if plain_access(line, &mut event).is_some() {
         return Ok(event);
     }
     if let Some(event) = quick_event(line, scratch)? {

@@ -72,8 +72,7 @@ fn read_other_line(
     ensures line { IfOk result (λ kind. script_line_of line.now ≡ Ok (line_of kind event.new)) }
     ensures error { IfErr result (λ error. error ≢ NoMemory → script_line_of line.now ≡ Err error) }
 {
-    if let Some(found) = plain_access(line) {
-        *event = found;
+    if plain_access(line, event).is_some() {
         return Ok(LineKind::Event);
     }
     if let Some(found) = quick_event(line, scratch)? {
