@@ -24,7 +24,7 @@ sys.dont_write_bytecode = True
 from helpers.appends import (  # noqa: E402
     COMMITTED, Transaction, all_small, drawn, entries_of, keeps_time, lines_of, precedences, serial_orders, shortest_cycle)
 from helpers.cases import SECONDS, TESTS, Differs, same, run_cases  # noqa: E402
-from helpers.levels import drawn_split, is_committed_run, is_read_committed, is_snapshot_isolated, is_snapshot_run, may_stay_open  # noqa: E402
+from helpers.levels import drawn_split, is_committed_run, is_read_committed, is_read_uncommitted, is_snapshot_isolated, is_snapshot_run, is_write_order, may_have_no_write_order, may_stay_open  # noqa: E402
 from pictures import Drawing  # noqa: E402
 
 CLIENTS = TESTS.parent / "examples" / "clients"
@@ -213,7 +213,7 @@ def compare_each(program, histories, strict):
 
 # Levels of isolation
 
-LEVELS = ["read-committed", "snapshot-isolation", "serializable", "strict-serializable"]
+LEVELS = ["read-uncommitted", "read-committed", "snapshot-isolation", "serializable", "strict-serializable"]
 STATUS = {"yes": 0, "no": 1, "undecided": 3}
 
 
@@ -221,13 +221,13 @@ def compare_levels(program, draw, history):
     """Each level's answer and evidence by the definitions, with real time or without; and the exit status of one level."""
     entries, spans = entries_of(draw, history)
     given, options = lines_of(entries), ["--strict"] * (draw.random() < 0.3)
-    level = draw.choice(LEVELS[:3] + LEVELS[3:] * len(options))
+    level = draw.choice(LEVELS[:4] + LEVELS[4:] * len(options))
     try:
         status, text, errors = check(program, given, "--json", "--level", level, *options)
         same("standard error", "", errors)
         reported = json.loads(text)
         found = {it: reported["levels"][it]["holds"] for it in reported["levels"]}
-        same("levels", LEVELS[:3 + len(options)], list(found))
+        same("levels", LEVELS[:4 + len(options)], list(found))
         same("status", STATUS[found[level]], status)
         compare_answers(found, history, spans)
         Evidence(history, spans, bool(options)).compare(reported["levels"])
@@ -242,10 +242,12 @@ def compare_levels(program, draw, history):
 
 def compare_answers(found, history, spans):
     orders = list(serial_orders(history))
-    holds = {"serializable": bool(orders), "read-committed": is_read_committed(history), "snapshot-isolation": is_snapshot_isolated(history),
+    holds = {"serializable": bool(orders), "read-uncommitted": is_read_uncommitted(history), "read-committed": is_read_committed(history), "snapshot-isolation": is_snapshot_isolated(history),
              "strict-serializable": any(keeps_time(spans, it) for it in orders)}
     for level, answer in found.items():
-        if answer == "undecided":
+        if (answer, level) == ("undecided", "read-uncommitted"):
+            same("read uncommitted may be undecided", True, may_have_no_write_order(history))
+        elif answer == "undecided":
             same(f"{level} may be undecided", (True, False, "snapshot-isolation"), (may_stay_open(history), holds["serializable"], level))
         else:
             same(level, "yes" if holds[level] else "no", answer)
@@ -255,7 +257,12 @@ class Evidence(Reported):
     """The evidence of each level in the object of JSON, tested by what was observed."""
 
     def compare(self, levels):
-        committed, snapshot = levels["read-committed"], levels["snapshot-isolation"]
+        writes, committed, snapshot = (levels[it] for it in LEVELS[:3])
+        if "order" in writes:
+            same("a write order", True, is_write_order(self.history, [it - 1 for it in writes["order"]]))
+        if "cycle" in writes:
+            same("a cycle of writes", set(), {it["because"] for it in writes["cycle"]} - {"in order", "late"})
+            self.compare_ties("writes", writes["cycle"])
         if "order" in committed:
             same("a run of committed reads", True, is_committed_run(self.history, [it - 1 for it in committed["order"]]))
         if "order" in snapshot:
@@ -373,12 +380,12 @@ STRONGEST = [
     ("read committed", "not snapshot isolation: lost-update", [one("ok", (R, 1, ()), (A, 1, 1)), one("ok", (R, 1, ()), (A, 1, 2))]),
     ("read committed", "not snapshot isolation: by the lines above", NAMED["G-single"]),
     ("read committed", "not snapshot isolation: by the lines above", NAMED["G-nonadjacent"]),
-    ("none", "not read committed: by the lines above", NAMED["G0"]),
-    ("none", "not read committed: by the lines above", NAMED["G1a"]),
-    ("none", "not read committed: G1b", NAMED["G1b"]),
-    ("none", "not read committed: by the lines above", NAMED["G1c"]),
-    ("none", "not read committed: by the lines above", NAMED["internal"]),
-    ("none", "not read committed: by the lines above", NAMED["incompatible-order"]),
+    ("none", "not read uncommitted: G0", NAMED["G0"]),
+    ("read uncommitted", "not read committed: by the lines above", NAMED["G1a"]),
+    ("read uncommitted", "not read committed: G1b", NAMED["G1b"]),
+    ("read uncommitted", "not read committed: by the lines above", NAMED["G1c"]),
+    ("read uncommitted", "not read committed: by the lines above", NAMED["internal"]),
+    ("none", "read uncommitted undecided", NAMED["incompatible-order"]),
 ]
 
 
@@ -438,7 +445,7 @@ def draws_the_level(program):
     update = [one("ok", (R, 1, ()), (A, 1, 1)), one("ok", (R, 1, ()), (A, 1, 2)), one("ok", (R, 1, (1, 2)))]
     given = in_turn([*SKEW, *update])
     marks = {}
-    for level in LEVELS[:3]:
+    for level in LEVELS[1:4]:
         drawing = Drawing(check(program, given, "--timeline", "--level", level)[1])
         marks[level] = {int(re.match(r"[a-z]+(\d+)", it.title)[1]) for it in drawing.marks}
         drawn_ones = re.search(r"drawn: (\d+) of (\d+) operations", drawing.description)

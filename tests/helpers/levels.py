@@ -80,6 +80,49 @@ def is_read_committed(history):
     return any(is_committed_run(history, order) for order in commit_orders(history))
 
 
+def overwrites(history):
+    """The pairs of committed transactions of which a committed reader saw a value of the first before one of the second, or one of the
+    first and none yet of the second at the same key."""
+    by = {(key, what): number for number, one in enumerate(history) if one.status == COMMITTED
+          for word, key, what in one.operations if word == "append"}
+    pairs = set()
+    for one in history:
+        for word, key, seen in one.effective():
+            if word == "append":
+                continue
+            there = [it for it in seen if (key, it) in by]
+            later = [value for of, value in by if of == key and value not in seen]
+            pairs |= {(by[key, first], by[key, second]) for place, first in enumerate(there) for second in there[place + 1:] + later}
+    return {(one, other) for one, other in pairs if one != other}
+
+
+def is_write_order(history, order):
+    places = {it: place for place, it in enumerate(order)}
+    committed = {it for it, one in enumerate(history) if one.status == COMMITTED}
+    return len(places) == len(order) and committed <= set(order) and all(places[one] < places[other] for one, other in overwrites(history))
+
+
+def is_read_uncommitted(history):
+    return any(is_write_order(history, order) for order in
+               itertools.permutations(it for it, one in enumerate(history) if one.status == COMMITTED))
+
+
+def may_have_no_write_order(history):
+    """Whether the order of a transaction's own appends is another one in a read, or a value is there twice: no level is decided then."""
+    for one in history:
+        for word, key, seen in one.effective():
+            if word == "append":
+                continue
+            if len(set(seen)) < len(seen):
+                return True
+            for other in history:
+                mine = [it[2] for it in other.operations if it[0] == "append" and it[1] == key]
+                places = [seen.index(it) for it in mine if it in seen]
+                if places != sorted(places) or (places and any(it not in seen for it in mine[:len(places)])):
+                    return True
+    return False
+
+
 def may_stay_open(history):
     """Whether two transactions that may have committed append to one key values that nobody saw."""
     seen = {(it[1], value) for one in history for it in one.effective() if it[0] == "r" for value in it[2]}

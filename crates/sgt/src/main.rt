@@ -226,7 +226,8 @@ fn model_option<'a>(alloc: Global) -> Arg<'a> {
 }
 
 /// The levels of isolation.
-const LEVELS: [&str; 4] = [
+const LEVELS: [&str; 5] = [
+    "read-uncommitted",
     "read-committed",
     "snapshot-isolation",
     "serializable",
@@ -238,7 +239,7 @@ fn level_option<'a>(alloc: Global) -> Arg<'a> {
     Arg::new(alloc, "level")
         .long("level")
         .help(
-            "The level that the exit status is of: read-committed, snapshot-isolation,\nserializable or strict-serializable (list-append only)",
+            "The level that the exit status is of: read-uncommitted, read-committed,\nsnapshot-isolation, serializable or strict-serializable (list-append only)",
         )
         .value_parser(ValueParser::Names(&LEVELS))
         .hide_possible_values(true)
@@ -581,6 +582,7 @@ fn clients_failed<R: Eprint + Files>(
 /// What the options ask of what clients saw: by default whether it is serializable, or strictly so.
 fn question_of(level: Option<&str>, strict: bool) -> Question {
     let level = match level {
+        Some("read-uncommitted") => Level::ReadUncommitted,
         Some("read-committed") => Level::ReadCommitted,
         Some("snapshot-isolation") => Level::SnapshotIsolation,
         Some("strict-serializable") => Level::StrictSerializable,

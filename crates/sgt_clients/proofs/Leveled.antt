@@ -3,12 +3,15 @@ use Rattle.std.proofs.Common.{◌≡◌, Bool, true, false, List, refl, subst, O
 use Rattle.std.specs.Prelude.{◌||◌, ◌&&◌, if◌then◌else◌, IfSome}
 use Rattle.std.specs.Option.{option_map_or}
 use Rattle.sgt_appends.specs.declared.transaction.Transaction.{Transaction}
-use Rattle.sgt_levels.specs.Answers.{IsCommittedRight, IsSnapshotRight, AreRight}
+use Rattle.sgt_levels.specs.Answers.{IsWritesRight, IsCommittedRight, IsSnapshotRight, AreRight}
+use Rattle.sgt_levels.specs.declared.levels.Writes.{Writes}
+use Rattle.sgt_levels.specs.declared.levels.Writes.TheVariants as writes
 use Rattle.sgt_levels.specs.declared.levels.Committed.{Committed}
 use Rattle.sgt_levels.specs.declared.levels.Committed.TheVariants as committed
 use Rattle.sgt_levels.specs.declared.levels.Snapshot.{Snapshot}
 use Rattle.sgt_levels.specs.declared.levels.Snapshot.TheVariants as snapshot
 use Rattle.sgt_levels.proofs.Order.{serial_snapshot, snapshot_committed}
+use Rattle.sgt_levels.proofs.WriteOrders.{committed_writes}
 use Rattle.sgt_clients.specs.declared.clients.Clients.{Clients}
 use Rattle.sgt_clients.specs.declared.clients.Span.{Span}
 use Rattle.sgt_clients.specs.declared.finding.Finding.{Finding}
@@ -16,11 +19,11 @@ use Rattle.sgt_clients.specs.declared.finding.Finding.TheVariants.{Serial, Cycle
 use Rattle.sgt_clients.specs.declared.level.Answer.{Answer}
 use Rattle.sgt_clients.specs.declared.level.Answer.TheVariants.{Yes, No, Undecided}
 use Rattle.sgt_clients.specs.declared.level.Level.{Level}
-use Rattle.sgt_clients.specs.declared.level.Level.TheVariants.{ReadCommitted, SnapshotIsolation, Serializable, StrictSerializable}
+use Rattle.sgt_clients.specs.declared.level.Level.TheVariants.{ReadUncommitted, ReadCommitted, SnapshotIsolation, Serializable, StrictSerializable}
 use Rattle.sgt_clients.specs.declared.level_findings.LevelFindings.{LevelFindings}
 use Rattle.sgt_clients.specs.declared.level_findings.Weaker.{Weaker}
 use Rattle.sgt_clients.specs.Findings.{HasOrder, IsFound, is_order}
-use Rattle.sgt_clients.specs.Levels.{is_strict, IsOfLevel, IsAnswer, committed_answer, snapshot_answer, serial_answer, serial_finding, answer_of, is_yes, strongest_of, AreFound}
+use Rattle.sgt_clients.specs.Levels.{is_strict, IsOfLevel, IsAnswer, writes_answer, committed_answer, snapshot_answer, serial_answer, serial_finding, answer_of, is_yes, strongest_of, AreFound}
 
 -- a finding without real time
 untimed_right : (c : Clients) (f : Finding) → IsFound false c.transactions.items c.spans.items f → IsAnswer Serializable c (serial_answer f)
@@ -39,6 +42,12 @@ order_untimed : (h : List Transaction) (spans : List Span) (f : Finding) → IsF
 order_untimed h spans (Serial order) found is = found.0
 order_untimed h spans (Cycle steps name) found is = absurd (cc)
 order_untimed h spans (Fault reader read fault name) found is = absurd (cc)
+
+writes_right : (c : Clients) (a : Writes) → IsWritesRight c.transactions.items a → IsAnswer ReadUncommitted c (writes_answer a)
+writes_right c writes.Implied right = right
+writes_right c (writes.Order order) right = (order.items, right)
+writes_right c (writes.Cycle ties) right = right
+writes_right c writes.Open right = (λ is. absurd (cc), λ is. absurd (cc))
 
 committed_right : (c : Clients) (a : Committed) → IsCommittedRight c.transactions.items a → IsAnswer ReadCommitted c (committed_answer a)
 committed_right c (committed.Run order) right = (order.items, right)
@@ -77,6 +86,17 @@ committed_holds c order =
     let it = serial_snapshot c.transactions.items order in
     (it.0, snapshot_committed c.transactions.items it.0 it.1 it.2 it.3)
 
+uncommitted_holds : (c : Clients) → HasOrder false c.transactions.items c.spans.items → IsOfLevel ReadUncommitted c
+uncommitted_holds c order =
+    let it = committed_holds c order in
+    (it.0, committed_writes c.transactions.items it.0 it.1)
+
+weaker_writes : (c : Clients) (weaker : Option Weaker) → IfSome weaker (λ w. AreRight c.transactions.items w.levels)
+    → (weaker ≡ None → HasOrder false c.transactions.items c.spans.items)
+    → IsAnswer ReadUncommitted c (option_map_or (λ w. writes_answer w.levels.writes) weaker Yes)
+weaker_writes c (Some w) right implied = writes_right c w.levels.writes right.writes
+weaker_writes c None right implied = uncommitted_holds c (implied refl)
+
 weaker_committed : (c : Clients) (weaker : Option Weaker) → IfSome weaker (λ w. AreRight c.transactions.items w.levels)
     → (weaker ≡ None → HasOrder false c.transactions.items c.spans.items)
     → IsAnswer ReadCommitted c (option_map_or (λ w. committed_answer w.levels.committed) weaker Yes)
@@ -92,6 +112,10 @@ weaker_snapshot c None right implied = snapshot_holds c (implied refl)
 -- each answer is right; that of the strict level, if real time is kept
 pub answers_right : (strict : Bool) (c : Clients) (f : LevelFindings) (level : Level) → AreFound strict c f
     → (is_strict level ≡ true → strict ≡ true) → IsAnswer level c (answer_of f level)
+answers_right strict c f ReadUncommitted found keeps =
+    weaker_writes c f.weaker found.weaker
+    (λ none. serial_implies c (serial_finding f.finding f.untimed)
+    (serial_right strict c f.finding f.untimed found.finding found.untimed found.timed) (found.implied none))
 answers_right strict c f ReadCommitted found keeps =
     weaker_committed c f.weaker found.weaker
     (λ none. serial_implies c (serial_finding f.finding f.untimed)
@@ -133,9 +157,11 @@ strongest_holds strict c f found =
     (yes_holds Serializable c (answer_of f Serializable) (answers_right strict c f Serializable found (λ is. absurd (cc))))
     (pick c (is_yes (answer_of f SnapshotIsolation)) SnapshotIsolation _
     (yes_holds SnapshotIsolation c (answer_of f SnapshotIsolation) (answers_right strict c f SnapshotIsolation found (λ is. absurd (cc))))
-    (pick c (is_yes (answer_of f ReadCommitted)) ReadCommitted None
+    (pick c (is_yes (answer_of f ReadCommitted)) ReadCommitted _
     (yes_holds ReadCommitted c (answer_of f ReadCommitted) (answers_right strict c f ReadCommitted found (λ is. absurd (cc))))
-    tt)))
+    (pick c (is_yes (answer_of f ReadUncommitted)) ReadUncommitted None
+    (yes_holds ReadUncommitted c (answer_of f ReadUncommitted) (answers_right strict c f ReadUncommitted found (λ is. absurd (cc))))
+    tt))))
 
 -- a question for the strict level keeps real time
 pub level_keeps : (strict : Bool) (level : Level) → is_strict level ≡ true → (strict || is_strict level) ≡ true

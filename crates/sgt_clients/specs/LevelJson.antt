@@ -1,6 +1,8 @@
 -- The members on the levels of isolation, and the whole object of JSON.
 use Rattle.std.specs.Prelude.{◌++◌, ℕ, Bool, List, [], Option, Some, None, codes, if◌then◌else◌}
 use Rattle.std.specs.Fmt.{decimal}
+use Rattle.sgt_levels.specs.declared.levels.Writes.{Writes}
+use Rattle.sgt_levels.specs.declared.levels.Writes.TheVariants as writes
 use Rattle.sgt_levels.specs.declared.levels.Committed.{Committed}
 use Rattle.sgt_levels.specs.declared.levels.Committed.TheVariants as committed
 use Rattle.sgt_levels.specs.declared.levels.Snapshot.{Snapshot}
@@ -15,7 +17,7 @@ use Rattle.sgt_clients.specs.declared.finding.Finding.{Finding}
 use Rattle.sgt_clients.specs.declared.level.Answer.{Answer}
 use Rattle.sgt_clients.specs.declared.level.Answer.TheVariants.{Yes, No, Undecided}
 use Rattle.sgt_clients.specs.declared.level.Level.{Level}
-use Rattle.sgt_clients.specs.declared.level.Level.TheVariants.{ReadCommitted, SnapshotIsolation, Serializable, StrictSerializable}
+use Rattle.sgt_clients.specs.declared.level.Level.TheVariants.{ReadUncommitted, ReadCommitted, SnapshotIsolation, Serializable, StrictSerializable}
 use Rattle.sgt_clients.specs.declared.level_findings.LevelFindings.{LevelFindings}
 use Rattle.sgt_clients.specs.declared.level_findings.Weaker.{Weaker}
 use Rattle.sgt_clients.specs.JsonText.{items_text, ends_text, anomaly_member, order_member, reader_members, finding_members, head_text}
@@ -26,6 +28,7 @@ use Rattle.sgt_clients.specs.UnseenText.{unseen_member}
 
 -- the name of a level, as the option spells it, in quotes
 abbrev pub level_code : Level → List ℕ
+level_code ReadUncommitted = codes "\"read-uncommitted\""
 level_code ReadCommitted = codes "\"read-committed\""
 level_code SnapshotIsolation = codes "\"snapshot-isolation\""
 level_code Serializable = codes "\"serializable\""
@@ -67,6 +70,18 @@ abbrev pub partial_members : Clients → Partial → List ℕ
 partial_members c p = codes ",\"reader\":" ++ decimal (from_one p.reader) ++ (codes ",\"entry\":" ++ decimal (entry_of c p.reader))
     ++ (codes ",\"why\":\"" ++ partial_text c p ++ codes "\"")
 
+-- the evidence of an answer for read uncommitted
+abbrev pub ordered_members : Clients → List ℕ → Writes → List ℕ
+ordered_members c name writes.Implied = []
+ordered_members c name (writes.Order order) = order_member order.items
+ordered_members c name (writes.Cycle ties) = anomaly_member name ++ ties_member c ties.items
+ordered_members c name writes.Open = []
+
+-- the evidence for read uncommitted, unless it follows from that for read committed
+abbrev pub writes_members : Clients → Option Weaker → List ℕ
+writes_members c (Some w) = ordered_members c w.writes_name.now w.levels.writes
+writes_members c None = []
+
 -- the evidence of an answer for read committed
 abbrev pub evidence_members : Clients → List ℕ → Committed → List ℕ
 evidence_members c name (committed.Run order) = order_member order.items
@@ -102,8 +117,11 @@ untimed_members c (Some f) = finding_members c f
 untimed_members c None = []
 
 -- the objects of the levels
+abbrev pub writes_object : Clients → LevelFindings → List ℕ
+writes_object c f = holds_text (codes "\"read-uncommitted\":{\"holds\":\"") (answer_of f ReadUncommitted) ++ writes_members c f.weaker ++ codes "}"
+
 abbrev pub committed_object : Clients → LevelFindings → List ℕ
-committed_object c f = holds_text (codes "\"read-committed\":{\"holds\":\"") (answer_of f ReadCommitted) ++ committed_members c f.weaker ++ codes "}"
+committed_object c f = holds_text (codes ",\"read-committed\":{\"holds\":\"") (answer_of f ReadCommitted) ++ committed_members c f.weaker ++ codes "}"
 
 abbrev pub snapshot_object : Clients → LevelFindings → List ℕ
 snapshot_object c f = holds_text (codes ",\"snapshot-isolation\":{\"holds\":\"") (answer_of f SnapshotIsolation) ++ snapshot_members c f.weaker ++ codes "}"
@@ -116,7 +134,7 @@ strict_object strict f =
     if strict then holds_text (codes ",\"strict-serializable\":{\"holds\":\"") (answer_of f StrictSerializable) ++ codes "}" else []
 
 abbrev pub level_objects : Bool → Clients → LevelFindings → List ℕ
-level_objects strict c f = committed_object c f ++ snapshot_object c f ++ serial_object c f ++ strict_object strict f
+level_objects strict c f = writes_object c f ++ committed_object c f ++ snapshot_object c f ++ serial_object c f ++ strict_object strict f
 
 -- the members on the strongest level, and on each level
 abbrev pub strongest_member : Option Level → List ℕ

@@ -2,6 +2,8 @@
 use Rattle.std.specs.Prelude.{◌++◌, ℕ, Bool, List, [], Option, Some, None, codes, if◌then◌else◌}
 use Rattle.std.specs.List.{flat_map}
 use Rattle.sgt_appends.specs.declared.fault.Fault.{Fault}
+use Rattle.sgt_levels.specs.declared.levels.Writes.{Writes}
+use Rattle.sgt_levels.specs.declared.levels.Writes.TheVariants as writes
 use Rattle.sgt_levels.specs.declared.levels.Committed.{Committed}
 use Rattle.sgt_levels.specs.declared.levels.Committed.TheVariants as committed
 use Rattle.sgt_levels.specs.declared.levels.Snapshot.{Snapshot}
@@ -11,7 +13,7 @@ use Rattle.sgt_clients.specs.declared.clients.Clients.{Clients}
 use Rattle.sgt_clients.specs.declared.finding.Finding.{Finding}
 use Rattle.sgt_clients.specs.declared.finding.Finding.TheVariants as finding
 use Rattle.sgt_clients.specs.declared.level.Level.{Level}
-use Rattle.sgt_clients.specs.declared.level.Level.TheVariants.{ReadCommitted, SnapshotIsolation, Serializable, StrictSerializable}
+use Rattle.sgt_clients.specs.declared.level.Level.TheVariants.{ReadUncommitted, ReadCommitted, SnapshotIsolation, Serializable, StrictSerializable}
 use Rattle.sgt_clients.specs.declared.level_findings.LevelFindings.{LevelFindings}
 use Rattle.sgt_clients.specs.declared.level_findings.Weaker.{Weaker}
 use Rattle.sgt_clients.specs.Levels.{strongest_of}
@@ -21,6 +23,7 @@ use Rattle.sgt_clients.specs.UnseenText.{unseen_line}
 
 -- the name of a level
 abbrev pub level_words : Level → List ℕ
+level_words ReadUncommitted = codes "read uncommitted"
 level_words ReadCommitted = codes "read committed"
 level_words SnapshotIsolation = codes "snapshot isolation"
 level_words Serializable = codes "serializable"
@@ -42,6 +45,18 @@ not_text words name = words ++ name ++ codes "\n"
 -- the line of a read, and what is wrong with it
 abbrev pub fault_line : Clients → ℕ → ℕ → Fault → List ℕ
 fault_line c reader read fault = codes "  " ++ fault_text c reader read fault ++ codes "\n"
+
+-- an answer for read uncommitted that is no yes
+abbrev pub unordered_text : Clients → List ℕ → Writes → List ℕ
+unordered_text c name writes.Implied = []
+unordered_text c name (writes.Order order) = []
+unordered_text c name (writes.Cycle ties) = not_text (codes "not read uncommitted: ") name ++ flat_map (tie_text c) ties.items
+unordered_text c name writes.Open = codes "read uncommitted undecided\n"
+
+-- what breaks read uncommitted
+abbrev pub writes_text : Clients → Option Weaker → List ℕ
+writes_text c (Some w) = unordered_text c w.writes_name.now w.levels.writes
+writes_text c None = []
 
 -- an answer for read committed that is no yes
 abbrev pub broken_text : Clients → List ℕ → Committed → List ℕ
@@ -94,7 +109,8 @@ untimed_text c None = []
 
 -- what breaks the level after the strongest one, unless the lines before say it
 abbrev pub next_text : Clients → LevelFindings → Option Level → List ℕ
-next_text c f None = committed_text c f.weaker
+next_text c f None = writes_text c f.weaker
+next_text c f (Some ReadUncommitted) = committed_text c f.weaker
 next_text c f (Some ReadCommitted) = snapshot_text c f.weaker
 next_text c f (Some SnapshotIsolation) = untimed_text c f.untimed
 next_text c f (Some Serializable) = []

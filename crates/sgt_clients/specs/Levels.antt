@@ -5,6 +5,9 @@ use Rattle.sgt_levels.specs.Answers.{AreRight}
 use Rattle.sgt_levels.specs.Commits.{IsReadCommitted}
 use Rattle.sgt_levels.specs.Snapshots.{IsSnapshotIsolated}
 use Rattle.sgt_levels.specs.Unseen.{AreUnseen}
+use Rattle.sgt_levels.specs.WriteOrders.{IsReadUncommitted}
+use Rattle.sgt_levels.specs.declared.levels.Writes.{Writes}
+use Rattle.sgt_levels.specs.declared.levels.Writes.TheVariants as writes
 use Rattle.sgt_levels.specs.declared.levels.Committed.{Committed}
 use Rattle.sgt_levels.specs.declared.levels.Committed.TheVariants as committed
 use Rattle.sgt_levels.specs.declared.levels.Snapshot.{Snapshot}
@@ -14,13 +17,14 @@ use Rattle.sgt_clients.specs.declared.finding.Finding.{Finding}
 use Rattle.sgt_clients.specs.declared.level.Answer.{Answer}
 use Rattle.sgt_clients.specs.declared.level.Answer.TheVariants.{Yes, No, Undecided}
 use Rattle.sgt_clients.specs.declared.level.Level.{Level}
-use Rattle.sgt_clients.specs.declared.level.Level.TheVariants.{ReadCommitted, SnapshotIsolation, Serializable, StrictSerializable}
+use Rattle.sgt_clients.specs.declared.level.Level.TheVariants.{ReadUncommitted, ReadCommitted, SnapshotIsolation, Serializable, StrictSerializable}
 use Rattle.sgt_clients.specs.declared.level.Question.{Question}
 use Rattle.sgt_clients.specs.declared.level_findings.LevelFindings.{LevelFindings}
 use Rattle.sgt_clients.specs.Findings.{HasOrder, IsFound, is_order}
 
 -- whether the level keeps real time
 abbrev pub is_strict : Level → Bool
+is_strict ReadUncommitted = false
 is_strict ReadCommitted = false
 is_strict SnapshotIsolation = false
 is_strict Serializable = false
@@ -32,6 +36,7 @@ keeps_time q = q.strict || is_strict q.level
 
 -- what the clients saw is of the level
 abbrev pub IsOfLevel : Level → Clients → Type 0
+IsOfLevel ReadUncommitted c = IsReadUncommitted c.transactions.items
 IsOfLevel ReadCommitted c = IsReadCommitted c.transactions.items
 IsOfLevel SnapshotIsolation c = IsSnapshotIsolated c.transactions.items
 IsOfLevel Serializable c = HasOrder false c.transactions.items c.spans.items
@@ -42,6 +47,13 @@ abbrev pub IsAnswer : Level → Clients → Answer → Type 0
 IsAnswer level c Yes = IsOfLevel level c
 IsAnswer level c No = ¬ IsOfLevel level c
 IsAnswer level c Undecided = (level ≢ Serializable) × (level ≢ StrictSerializable)
+
+-- the answer for read uncommitted
+abbrev pub writes_answer : Writes → Answer
+writes_answer writes.Implied = Yes
+writes_answer (writes.Order order) = Yes
+writes_answer (writes.Cycle ties) = No
+writes_answer writes.Open = Undecided
 
 -- the answer for read committed
 abbrev pub committed_answer : Committed → Answer
@@ -69,6 +81,7 @@ serial_finding f (Some other) = other
 
 -- whether what the clients saw is of the level
 abbrev pub answer_of : LevelFindings → Level → Answer
+answer_of f ReadUncommitted = option_map_or (λ w. writes_answer w.levels.writes) f.weaker Yes
 answer_of f ReadCommitted = option_map_or (λ w. committed_answer w.levels.committed) f.weaker Yes
 answer_of f SnapshotIsolation = option_map_or (λ w. snapshot_answer w.levels.snapshot) f.weaker Yes
 answer_of f Serializable = serial_answer (serial_finding f.finding f.untimed)
@@ -81,19 +94,20 @@ is_yes No = false
 is_yes Undecided = false
 
 -- the first of the levels, from the strongest on, that holds
-abbrev pub first_level : Bool → Bool → Bool → Bool → Option Level
-first_level strict serial snapshot committed =
+abbrev pub first_level : Bool → Bool → Bool → Bool → Bool → Option Level
+first_level strict serial snapshot committed uncommitted =
     if strict then Some StrictSerializable
     else if serial then Some Serializable
     else if snapshot then Some SnapshotIsolation
     else if committed then Some ReadCommitted
+    else if uncommitted then Some ReadUncommitted
     else None
 
 -- the strongest level that holds, if any does; the strict one counts only if real time is kept
 abbrev pub strongest_of : Bool → LevelFindings → Option Level
 strongest_of strict f =
     first_level (strict && is_yes (answer_of f StrictSerializable)) (is_yes (answer_of f Serializable))
-    (is_yes (answer_of f SnapshotIsolation)) (is_yes (answer_of f ReadCommitted))
+    (is_yes (answer_of f SnapshotIsolation)) (is_yes (answer_of f ReadCommitted)) (is_yes (answer_of f ReadUncommitted))
 
 -- each finding is right, and one that is left out follows from an order
 pub record AreFound (strict : Bool) (c : Clients) (f : LevelFindings) : Type 0 where

@@ -6,6 +6,8 @@ ghost use Rattle.sgt_clients.specs.Levels.{is_strict, keeps_time, is_yes};
 /// A level of isolation. Each is stronger than those above it.
 #[derive(Clone, Copy, Debug, PartialEq, Eq)]
 pub enum Level {
+    /// Committed transactions write in one order at all keys: PL-1.
+    ReadUncommitted,
     /// Each read sees what had been committed.
     ReadCommitted,
     /// Each transaction reads from a snapshot, and two that append to one key do not overlap.
@@ -48,6 +50,7 @@ fn is_strict(level: Level) -> bool
     ensures { result ≡ is_strict level }
 {
     match level {
+        Level::ReadUncommitted => false,
         Level::ReadCommitted => false,
         Level::SnapshotIsolation => false,
         Level::Serializable => false,

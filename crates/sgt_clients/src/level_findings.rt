@@ -5,17 +5,17 @@ ghost use Rattle.std.specs.Option.{option_map_or};
 ghost use Rattle.sgt_levels.specs.Answers.{AreRight};
 ghost use Rattle.sgt_levels.specs.Unseen.{AreUnseen};
 ghost use Rattle.sgt_clients.specs.Findings.{IsFound, is_order};
-ghost use Rattle.sgt_clients.specs.Levels.{serial_finding, serial_answer, committed_answer, snapshot_answer, answer_of, is_yes, first_level, strongest_of, AreFound};
+ghost use Rattle.sgt_clients.specs.Levels.{serial_finding, serial_answer, writes_answer, committed_answer, snapshot_answer, answer_of, is_yes, first_level, strongest_of, AreFound};
 ghost use Rattle.sgt_clients.specs.declared.level.Answer.TheVariants.{Yes};
 
 use crate::clients::Clients;
 use crate::fault::ClientsFault;
 use crate::finding::{Finding, check_clients, is_serial};
 use crate::level::{Answer, Level, is_yes};
-use crate::names::{breaks_committed, breaks_snapshot, committed_name, snapshot_name};
+use crate::names::{breaks_committed, breaks_snapshot, committed_name, snapshot_name, writes_name};
 use crate::strict::check_strictly;
 use sgt_appends::Transaction;
-use sgt_levels::{Committed, Levels, Snapshot, Unseen, levels_of, unseen_appends};
+use sgt_levels::{Committed, Levels, Snapshot, Unseen, Writes, levels_of, unseen_appends};
 use sgt_model::NoMemory;
 use std::alloc::Global;
 
@@ -23,6 +23,7 @@ use std::alloc::Global;
 #[derive(Drop)]
 pub struct Weaker {
     pub levels: Levels,
+    pub writes_name: &'static str,
     pub committed_name: &'static str,
     pub snapshot_name: &'static str,
     /// Whether the finding of serializability breaks read committed as well, and by no more steps.
@@ -50,6 +51,7 @@ impl LevelFindings {
         ensures { result ≡ answer_of self.now level }
     {
         match level {
+            Level::ReadUncommitted => writes_of(&self.weaker),
             Level::ReadCommitted => committed_of(&self.weaker),
             Level::SnapshotIsolation => snapshot_of(&self.weaker),
             Level::Serializable => serial_of(&self.finding, &self.untimed),
@@ -73,13 +75,20 @@ impl LevelFindings {
             self.holds(Level::Serializable),
             self.holds(Level::SnapshotIsolation),
             self.holds(Level::ReadCommitted),
+            self.holds(Level::ReadUncommitted),
         )
     }
 }
 
 /// The first of the levels, from the strongest on, that holds.
-fn first_level(strict: bool, serial: bool, snapshot: bool, committed: bool) -> Option<Level>
-    ensures { result ≡ first_level strict serial snapshot committed }
+fn first_level(
+    strict: bool,
+    serial: bool,
+    snapshot: bool,
+    committed: bool,
+    uncommitted: bool,
+) -> Option<Level>
+    ensures { result ≡ first_level strict serial snapshot committed uncommitted }
 {
     if strict {
         return Some(Level::StrictSerializable);
@@ -93,6 +102,9 @@ fn first_level(strict: bool, serial: bool, snapshot: bool, committed: bool) -> O
     if committed {
         return Some(Level::ReadCommitted);
     }
+    if uncommitted {
+        return Some(Level::ReadUncommitted);
+    }
     None
 }
 
@@ -103,6 +115,16 @@ fn serial_of(finding: &Finding, untimed: &Option<Finding>) -> Answer
     match untimed {
         Some(other) => serial_answer(other),
         None => serial_answer(finding),
+    }
+}
+
+/// The answer for read uncommitted, which holds if nothing was found on it.
+fn writes_of(weaker: &Option<Weaker>) -> Answer
+    ensures { result ≡ option_map_or (λ w. writes_answer w.levels.writes) weaker.now Yes }
+{
+    match weaker {
+        Some(found) => writes_answer(&found.levels.writes),
+        None => Answer::Yes,
     }
 }
 
@@ -134,6 +156,18 @@ fn serial_answer(finding: &Finding) -> Answer
         Answer::Yes
     } else {
         Answer::No
+    }
+}
+
+/// The answer for read uncommitted.
+fn writes_answer(writes: &Writes) -> Answer
+    ensures { result ≡ writes_answer writes.now }
+{
+    match writes {
+        Writes::Implied => Answer::Yes,
+        Writes::Order(_) => Answer::Yes,
+        Writes::Cycle(_) => Answer::No,
+        Writes::Open => Answer::Undecided,
     }
 }
 
@@ -239,6 +273,7 @@ fn weaker_of(
     let history = clients.transactions.as_slice();
     let levels = levels_of(alloc, history, &[])?;
     Ok(Some(Weaker {
+        writes_name: writes_name(&levels.writes),
         committed_name: committed_name(&levels.committed),
         snapshot_name: snapshot_name(history, &levels.snapshot),
         committed_above: breaks_committed(finding, &levels.committed),

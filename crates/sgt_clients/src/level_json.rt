@@ -5,7 +5,7 @@ ghost use Rattle.std.specs.Fmt.{decimal};
 ghost use Rattle.sgt_clients.specs.JsonText.{next_item, items_text, order_member};
 ghost use Rattle.sgt_clients.specs.Levels.{strongest_of};
 ghost use Rattle.sgt_clients.specs.TieText.{partial_text};
-ghost use Rattle.sgt_clients.specs.LevelJson.{level_code, strongest_code, answer_text, holds_text, ground_word, tie_object, ties_member, partial_members, evidence_members, committed_members, starts_member, split_members, snapshot_members, untimed_members, committed_object, snapshot_object, serial_object, strict_object, level_objects, strongest_member, levels_members};
+ghost use Rattle.sgt_clients.specs.LevelJson.{level_code, strongest_code, answer_text, holds_text, ground_word, tie_object, ties_member, partial_members, ordered_members, writes_members, writes_object, evidence_members, committed_members, starts_member, split_members, snapshot_members, untimed_members, committed_object, snapshot_object, serial_object, strict_object, level_objects, strongest_member, levels_members};
 
 use crate::clients::Clients;
 use crate::finding::Finding;
@@ -16,7 +16,7 @@ use crate::piece::entry_of;
 use crate::tie_text::{append_ground, append_partial};
 use crate::unseen_text::append_unseen_member;
 use sgt_format::{append_number, append_numbered};
-use sgt_levels::{Committed, Ground, Partial, Snapshot, Snapshots, Tie, Unseen};
+use sgt_levels::{Committed, Ground, Partial, Snapshot, Snapshots, Tie, Unseen, Writes};
 use sgt_model::NoMemory;
 
 /// Appends the members on the strongest level, and on each level.
@@ -59,6 +59,7 @@ fn level_code(level: Level) -> &'static [u8]
     ensures { result.now ≡ level_code level }
 {
     match level {
+        Level::ReadUncommitted => b"\"read-uncommitted\"",
         Level::ReadCommitted => b"\"read-committed\"",
         Level::SnapshotIsolation => b"\"snapshot-isolation\"",
         Level::Serializable => b"\"serializable\"",
@@ -75,6 +76,7 @@ fn append_objects(
 ) -> Result<(), NoMemory>
     ensures { OnOk result (text.new.items ≡ text.old.items ++ level_objects strict clients.now found.now) }
 {
+    append_writes_object(text, clients, found)?;
     append_committed_object(text, clients, found)?;
     append_snapshot_object(text, clients, found)?;
     append_serial_object(text, clients, found)?;
@@ -102,6 +104,55 @@ fn answer_text(answer: Answer) -> &'static [u8]
     }
 }
 
+/// Appends the object of read uncommitted.
+fn append_writes_object(
+    text: &mut Vec<u8>,
+    clients: &Clients,
+    found: &LevelFindings,
+) -> Result<(), NoMemory>
+    ensures { OnOk result (text.new.items ≡ text.old.items ++ writes_object clients.now found.now) }
+{
+    let answer = found.answer(Level::ReadUncommitted);
+    append_holds(text, b"\"read-uncommitted\":{\"holds\":\"", answer)?;
+    append_writes(text, clients, &found.weaker)?;
+    text.extend_from_slice(b"}")?;
+    Ok(())
+}
+
+/// Appends the evidence for read uncommitted, unless it follows from that for read committed.
+fn append_writes(
+    text: &mut Vec<u8>,
+    clients: &Clients,
+    weaker: &Option<Weaker>,
+) -> Result<(), NoMemory>
+    ensures { OnOk result (text.new.items ≡ text.old.items ++ writes_members clients.now weaker.now) }
+{
+    match weaker {
+        Some(weaker) => { append_ordered(text, clients, weaker.writes_name, &weaker.levels.writes) }
+        None => Ok(()),
+    }
+}
+
+/// Appends the evidence of an answer for read uncommitted.
+fn append_ordered(
+    text: &mut Vec<u8>,
+    clients: &Clients,
+    name: &str,
+    writes: &Writes,
+) -> Result<(), NoMemory>
+    ensures { OnOk result (text.new.items ≡ text.old.items ++ ordered_members clients.now name.now writes.now) }
+{
+    match writes {
+        Writes::Implied => Ok(()),
+        Writes::Order(order) => append_order(text, order.as_slice()),
+        Writes::Cycle(ties) => {
+            append_name(text, name)?;
+            append_cycle(text, clients, ties.as_slice())
+        }
+        Writes::Open => Ok(()),
+    }
+}
+
 /// Appends the object of read committed.
 fn append_committed_object(
     text: &mut Vec<u8>,
@@ -111,7 +162,7 @@ fn append_committed_object(
     ensures { OnOk result (text.new.items ≡ text.old.items ++ committed_object clients.now found.now) }
 {
     let answer = found.answer(Level::ReadCommitted);
-    append_holds(text, b"\"read-committed\":{\"holds\":\"", answer)?;
+    append_holds(text, b",\"read-committed\":{\"holds\":\"", answer)?;
     append_committed(text, clients, &found.weaker)?;
     text.extend_from_slice(b"}")?;
     Ok(())

@@ -4,7 +4,7 @@ ghost use Rattle.std.specs.Prelude.{◌≡◌, ◌++◌, codes, flat_map, OnOk};
 ghost use Rattle.sgt_clients.specs.ReportText.{step_text};
 ghost use Rattle.sgt_clients.specs.TieText.{tie_text};
 ghost use Rattle.sgt_clients.specs.Levels.{strongest_of};
-ghost use Rattle.sgt_clients.specs.LevelText.{level_words, strongest_words, strongest_text, not_text, above_text, fault_line, broken_text, committed_text, open_text, split_text, snapshot_text, unserial_text, untimed_text, next_text, levels_text};
+ghost use Rattle.sgt_clients.specs.LevelText.{level_words, strongest_words, strongest_text, not_text, above_text, unordered_text, writes_text, fault_line, broken_text, committed_text, open_text, split_text, snapshot_text, unserial_text, untimed_text, next_text, levels_text};
 
 use crate::clients::Clients;
 use crate::finding::{Finding, Step};
@@ -15,7 +15,7 @@ use crate::tie_text::{append_partial_line, append_ties};
 use crate::unseen_text::append_unseen_line;
 use crate::witness_text::append_fault;
 use sgt_appends::Fault;
-use sgt_levels::{Committed, Snapshot, Tie, Unseen};
+use sgt_levels::{Committed, Snapshot, Tie, Unseen, Writes};
 use sgt_model::NoMemory;
 
 /// Appends the lines on the levels.
@@ -57,6 +57,7 @@ fn level_words(level: Level) -> &'static [u8]
     ensures { result.now ≡ level_words level }
 {
     match level {
+        Level::ReadUncommitted => b"read uncommitted",
         Level::ReadCommitted => b"read committed",
         Level::SnapshotIsolation => b"snapshot isolation",
         Level::Serializable => b"serializable",
@@ -74,7 +75,8 @@ fn append_next(
     ensures { OnOk result (text.new.items ≡ text.old.items ++ next_text clients.now found.now strongest) }
 {
     match strongest {
-        None => append_committed(text, clients, &found.weaker),
+        None => append_writes(text, clients, &found.weaker),
+        Some(Level::ReadUncommitted) => append_committed(text, clients, &found.weaker),
         Some(Level::ReadCommitted) => append_snapshot(text, clients, &found.weaker),
         Some(Level::SnapshotIsolation) => append_untimed(text, clients, &found.untimed),
         Some(Level::Serializable) => Ok(()),
@@ -105,6 +107,53 @@ fn append_fault_line(
     text.extend_from_slice(b"  ")?;
     append_fault(text, clients, reader, read, fault)?;
     text.extend_from_slice(b"\n")?;
+    Ok(())
+}
+
+/// Appends what breaks read uncommitted.
+fn append_writes(
+    text: &mut Vec<u8>,
+    clients: &Clients,
+    weaker: &Option<Weaker>,
+) -> Result<(), NoMemory>
+    ensures { OnOk result (text.new.items ≡ text.old.items ++ writes_text clients.now weaker.now) }
+{
+    match weaker {
+        Some(weaker) => {
+            append_unordered(text, clients, weaker.writes_name, &weaker.levels.writes)
+        }
+        None => Ok(()),
+    }
+}
+
+/// Appends the lines of an answer for read uncommitted that is no yes.
+fn append_unordered(
+    text: &mut Vec<u8>,
+    clients: &Clients,
+    name: &str,
+    writes: &Writes,
+) -> Result<(), NoMemory>
+    ensures { OnOk result (text.new.items ≡ text.old.items ++ unordered_text clients.now name.now writes.now) }
+{
+    match writes {
+        Writes::Implied => Ok(()),
+        Writes::Order(_) => Ok(()),
+        Writes::Cycle(ties) => append_not_ties(
+            text,
+            clients,
+            b"not read uncommitted: ",
+            name,
+            ties.as_slice(),
+        ),
+        Writes::Open => append_writes_open(text),
+    }
+}
+
+/// Appends that there is no answer for read uncommitted.
+fn append_writes_open(text: &mut Vec<u8>) -> Result<(), NoMemory>
+    ensures { OnOk result (text.new.items ≡ text.old.items ++ codes "read uncommitted undecided\n") }
+{
+    text.extend_from_slice(b"read uncommitted undecided\n")?;
     Ok(())
 }
 

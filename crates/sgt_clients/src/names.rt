@@ -2,7 +2,7 @@
 
 use crate::finding::{Finding, Step, Why};
 use sgt_appends::{Anomaly, Reason, Transaction, Witness, append_at, name_of};
-use sgt_levels::{Committed, Ground, Snapshot, Tie};
+use sgt_levels::{Committed, Ground, Snapshot, Tie, Writes};
 
 /// The name of the anomaly.
 pub(crate) fn name_text(anomaly: Anomaly) -> &'static str {
@@ -66,6 +66,14 @@ fn misses_in_a_row(steps: &[Step]) -> bool {
 /// Whether the step is by a missed append.
 fn is_miss(step: &Step) -> bool {
     matches!(step.why, Why::Observed(Reason::Missed { .. }))
+}
+
+/// The name of what leaves no write order.
+pub(crate) fn writes_name(writes: &Writes) -> &'static str {
+    match writes {
+        Writes::Cycle(_) => "G0",
+        Writes::Implied | Writes::Order(_) | Writes::Open => "",
+    }
 }
 
 /// The name of what leaves no run of committed reads.

@@ -10,7 +10,7 @@ use crate::stroke_text::history_of;
 use sgt_appends::{Fault, Operation, Reason, Status};
 use sgt_classes::{Edge, Violation};
 use sgt_format::append_numbered;
-use sgt_levels::{Committed, Ground, Partial, Snapshot, Tie};
+use sgt_levels::{Committed, Ground, Partial, Snapshot, Tie, Writes};
 use sgt_model::NoMemory;
 use sgt_timeline::{Highlight, append_picture, draw};
 use std::alloc::Global;
@@ -113,6 +113,9 @@ fn add_level(
     level: Level,
 ) -> Result<Subject, NoMemory> {
     match (level, &found.weaker, &found.untimed) {
+        (Level::ReadUncommitted, Some(weaker), _) => {
+            add_writes(alloc, scene, clients, found, weaker)
+        }
         (Level::ReadCommitted, Some(weaker), _) => {
             add_committed(alloc, scene, clients, found, weaker)
         }
@@ -123,6 +126,22 @@ fn add_level(
             add_finding(scene, clients, &found.finding)
         }
         (_, _, Some(untimed)) => add_finding(scene, clients, untimed),
+    }
+}
+
+/// Adds what was found of read uncommitted.
+fn add_writes(
+    alloc: Global,
+    scene: &mut Scene,
+    clients: &Clients,
+    found: &LevelFindings,
+    weaker: &Weaker,
+) -> Result<Subject, NoMemory> {
+    match &weaker.levels.writes {
+        Writes::Order(order) => add_order(scene, clients, order.as_slice()),
+        Writes::Cycle(ties) => add_ties(alloc, scene, ties.as_slice()),
+        Writes::Implied => add_committed(alloc, scene, clients, found, weaker),
+        Writes::Open => add_finding(scene, clients, &found.finding),
     }
 }
 

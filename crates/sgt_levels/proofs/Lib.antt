@@ -13,6 +13,7 @@ pub mod Examples
 pub mod Grown
 pub mod Replayed
 pub mod Tied
+pub mod WriteOrders
 pub mod Nodes
 pub mod Answered
 pub mod Scanned

@@ -7,10 +7,13 @@ use Rattle.sgt_levels.specs.declared.levels.Committed.TheVariants.{Run, Fault, P
 use Rattle.sgt_levels.specs.declared.levels.Snapshot.{Snapshot}
 use Rattle.sgt_levels.specs.declared.levels.Snapshot.TheVariants.{NotCommitted}
 use Rattle.sgt_levels.specs.declared.levels.Snapshot.TheVariants as snapshots
+use Rattle.sgt_levels.specs.declared.levels.Writes.{Writes}
+use Rattle.sgt_levels.specs.declared.levels.Writes.TheVariants as writes
 use Rattle.sgt_levels.specs.declared.levels.Levels.{Levels}
 use Rattle.sgt_levels.specs.Snapshots.{IsSnapshotRun, IsSnapshotIsolated}
 use Rattle.sgt_levels.specs.Commits.{IsCommittedRun, IsReadCommitted}
 use Rattle.sgt_levels.specs.Replays.{IsSnapshotReplay}
+use Rattle.sgt_levels.specs.WriteOrders.{IsWriteOrder, IsReadUncommitted}
 
 -- `Run`: the order is a run of committed reads. `Fault`, `Partial` and `Cycle`: there is none. The fault is one of the read.
 abbrev pub IsCommittedRight : List Transaction → Committed → Type 0
@@ -28,7 +31,15 @@ IsSnapshotRight h NotCommitted = ¬ IsSnapshotIsolated h
 IsSnapshotRight h (snapshots.Cycle ties) = ¬ IsSnapshotIsolated h
 IsSnapshotRight h snapshots.Open = Unit {0}
 
--- both answers are right
+-- `Implied` and `Order`: there is a write order. `Cycle`: there is none.
+abbrev pub IsWritesRight : List Transaction → Writes → Type 0
+IsWritesRight h writes.Implied = IsReadUncommitted h
+IsWritesRight h (writes.Order order) = IsWriteOrder h order.items
+IsWritesRight h (writes.Cycle ties) = ¬ IsReadUncommitted h
+IsWritesRight h writes.Open = Unit {0}
+
+-- all answers are right
 pub record AreRight (h : List Transaction) (levels : Levels) : Type 0 where
+  pub writes : IsWritesRight h levels.writes
   pub committed : IsCommittedRight h levels.committed
   pub snapshot : IsSnapshotRight h levels.snapshot

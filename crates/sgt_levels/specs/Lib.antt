@@ -1,6 +1,7 @@
 pub mod Snapshots
 pub mod Levels
 pub mod Commits
+pub mod WriteOrders
 pub mod Order
 pub mod Raises
 pub mod Lates

@@ -5,6 +5,7 @@ ghost use Rattle.sgt_levels.specs.Order.{SerialIsSnapshot, SnapshotIsCommitted};
 ghost use Rattle.sgt_levels.specs.Raises.{SplitRaisedAreEnough, TailsDepend};
 ghost use Rattle.sgt_levels.specs.Lates.{CommitRaisedAreEnough};
 ghost use Rattle.sgt_levels.specs.Rounds.{SpacedCyclesAreEnough, NoMissCyclesAreEnough};
+ghost use Rattle.sgt_levels.specs.WriteOrders.{WriteCyclesAreEnough, CommittedIsUncommitted};
 ghost use Rattle.sgt_levels.specs.Examples.{WriteSkewIsBetween, LostUpdateIsNoSnapshot};
 
 /// In each snapshot run the edges go forward.
@@ -100,4 +101,14 @@ pub fn lost_update_is_no_snapshot()
 /// A snapshot run obeys the edges from the end of a line to the appends that are not in it.
 pub fn tails_depend()
     ensures { TailsDepend }
+{}
+
+/// A cycle on which each is overwritten by the next leaves no write order.
+pub fn write_cycles_are_enough()
+    ensures { WriteCyclesAreEnough }
+{}
+
+/// A run of committed reads is a write order.
+pub fn committed_is_uncommitted()
+    ensures { CommittedIsUncommitted }
 {}

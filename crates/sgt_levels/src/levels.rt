@@ -5,12 +5,14 @@ ghost use Rattle.sgt_appends.specs.Precedences.{AppendsOnce};
 ghost use Rattle.sgt_appends.specs.Indexes.{position_of, IsIndex};
 ghost use Rattle.sgt_appends.specs.Reads.{HasFault};
 ghost use Rattle.sgt_levels.specs.Commits.{IsReadCommitted};
-ghost use Rattle.sgt_levels.specs.Answers.{AreRight, IsCommittedRight, IsSnapshotRight};
+ghost use Rattle.sgt_levels.specs.Answers.{AreRight, IsWritesRight, IsCommittedRight, IsSnapshotRight};
 
 use crate::replay::{is_committed_run, is_snapshot_run};
 use crate::search::{Found, Snapshots, one_by_one, search_commits, search_snapshots};
 use crate::survey::{Partial, Survey};
 use crate::tie::{Tie, rules_out_committed, rules_out_partial, rules_out_snapshot};
+use crate::write_search::{WriteSearch, search_writes};
+use crate::writes::{is_write_order, rules_out_uncommitted};
 use sgt_appends::{AppendIndex, Fault, Transaction, first_fault, first_incompatible, unknown_read};
 use sgt_model::NoMemory;
 use std::alloc::Global;
@@ -47,35 +49,52 @@ pub enum Snapshot {
     Open,
 }
 
-/// The answers for both levels.
+/// Whether there is a write order, with the evidence.
+#[derive(Debug, Drop, PartialEq, Eq)]
+pub enum Writes {
+    /// There is, since there is a run of committed reads.
+    Implied,
+    /// There is.
+    Order(Vec<usize>),
+    /// There is none: a cycle of ties.
+    Cycle(Vec<Tie>),
+    /// Not decided.
+    Open,
+}
+
+/// The answers for the levels.
 #[derive(Debug, Drop, PartialEq, Eq)]
 pub struct Levels {
+    pub writes: Writes,
     pub committed: Committed,
     pub snapshot: Snapshot,
 }
 
 /// Which of the levels what the clients saw is of. The hint is a serial run, if one is known, or empty.
 ///
-/// Each run and each cycle is tested. Both are open if a value is appended twice to a key, or if a transaction with an
-/// unknown end has a read. Otherwise snapshot isolation is undecided only if there is no serial run and transactions
-/// append to one key values that no read saw. That is tested, not proved.
+/// Each order, each run and each cycle is tested. All are open if a value is appended twice to a key, or if a transaction
+/// with an unknown end has a read. Otherwise snapshot isolation is undecided only if there is no serial run and
+/// transactions append to one key values that no read saw. That is tested, not proved.
 pub fn levels_of(alloc: Global, history: &[Transaction], hint: &[usize]) -> Result<Levels, NoMemory>
     ensures { IfOk result (AreRight history.now) }
 {
     let Some(appends) = AppendIndex::of_history(alloc, history)? else {
         return Ok(Levels {
+            writes: Writes::Open,
             committed: Committed::Open,
             snapshot: Snapshot::Open,
         });
     };
     if unknown_read(history).is_some() {
         return Ok(Levels {
+            writes: Writes::Open,
             committed: Committed::Open,
             snapshot: Snapshot::Open,
         });
     }
     if let Some((reader, read, fault)) = fault_of(alloc, history, &appends)? {
         return Ok(Levels {
+            writes: search_order(alloc, history, &appends)?,
             committed: Committed::Fault {
                 reader,
                 read,
@@ -87,10 +106,68 @@ pub fn levels_of(alloc: Global, history: &[Transaction], hint: &[usize]) -> Resu
     let survey = Survey::of_history(alloc, history, &appends)?;
     let committed = committed_of(alloc, history, &survey)?;
     let snapshot = snapshot_of(alloc, history, &survey, &committed, hint)?;
+    let writes = writes_of(alloc, history, &appends, &committed)?;
     Ok(Levels {
+        writes,
         committed,
         snapshot,
     })
+}
+
+/// Whether there is a write order, after the answer for committed reads.
+fn writes_of(
+    alloc: Global,
+    history: &[Transaction],
+    appends: &AppendIndex,
+    committed: &Committed,
+) -> Result<Writes, NoMemory>
+    requires once { AppendsOnce history.now }
+    requires committed { IsCommittedRight history.now committed.now }
+    ensures { IfOk result (IsWritesRight history.now) }
+{
+    if is_run(committed) {
+        return Ok(Writes::Implied);
+    }
+    search_order(alloc, history, appends)
+}
+
+/// Whether there is a write order.
+fn search_order(
+    alloc: Global,
+    history: &[Transaction],
+    appends: &AppendIndex,
+) -> Result<Writes, NoMemory>
+    requires { AppendsOnce history.now }
+    ensures { IfOk result (IsWritesRight history.now) }
+{
+    match search_writes(alloc, history, appends)? {
+        WriteSearch::Order(order) => {
+            if is_write_order(alloc, history, order.as_slice())? {
+                return Ok(Writes::Order(order));
+            }
+            Ok(Writes::Open)
+        }
+        WriteSearch::Ties(ties) => {
+            if rules_out_uncommitted(history, ties.as_slice()) {
+                return Ok(Writes::Cycle(ties));
+            }
+            Ok(Writes::Open)
+        }
+        WriteSearch::Nothing => Ok(Writes::Open),
+    }
+}
+
+/// Whether the answer is that there is a run of committed reads.
+fn is_run(committed: &Committed) -> bool
+    ensures { (h : List Transaction) → IsTrue result → IsCommittedRight h committed.now → IsReadCommitted h }
+{
+    match committed {
+        Committed::Run(_) => true,
+        Committed::Fault { .. } => false,
+        Committed::Partial(_) => false,
+        Committed::Cycle(_) => false,
+        Committed::Open => false,
+    }
 }
 
 /// A fault of a read, if there is one.

@@ -40,7 +40,7 @@ pub enum Found {
 }
 
 /// The sorted nodes, or a cycle of links; nothing if a node is out of range.
-fn sorted_nodes(
+pub(crate) fn sorted_nodes(
     alloc: Global,
     links: &[Link],
     nodes: usize,

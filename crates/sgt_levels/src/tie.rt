@@ -214,7 +214,7 @@ fn was_missed(history: &[Transaction], from: usize, to: usize, read: usize, appe
     }
 }
 
-fn were_seen(
+pub(crate) fn were_seen(
     history: &[Transaction],
     from: usize,
     to: usize,
@@ -240,7 +240,7 @@ fn were_seen(
     }
 }
 
-fn was_late(
+pub(crate) fn was_late(
     history: &[Transaction],
     from: usize,
     to: usize,

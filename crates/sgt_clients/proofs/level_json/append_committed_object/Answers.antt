@@ -10,7 +10,7 @@ pub returns : goal.returns
 returns c =
     let start = c.args.text.now.items in
     let f = c.args.found.now in
-    let words = codes "\"read-committed\":{\"holds\":\"" in
+    let words = codes ",\"read-committed\":{\"holds\":\"" in
     let head = holds_text words (answer_of f ReadCommitted) in
     let members = committed_members c.args.clients.now f.weaker in
     grow start c.append_committed.new.text.items c.extend_from_slice.new.self.items (head ++ members) (codes "}")

@@ -9,7 +9,9 @@ returns c =
     grow start c.append_serial_object.new.text.items c.append_strict_object.new.text.items _ _
     (grow start c.append_snapshot_object.new.text.items c.append_serial_object.new.text.items _ _
     (grow start c.append_committed_object.new.text.items c.append_snapshot_object.new.text.items _ _
-    c.in_ok-append_committed_object.ensures
+    (grow start c.append_writes_object.new.text.items c.append_committed_object.new.text.items _ _
+    c.in_ok-append_writes_object.ensures
+    c.in_ok-append_committed_object.ensures)
     c.in_ok-append_snapshot_object.ensures)
     c.in_ok-append_serial_object.ensures)
     strict)

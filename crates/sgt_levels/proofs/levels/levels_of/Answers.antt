@@ -13,4 +13,4 @@ returns-in-Some-2 c =
     let none : ¬ IsReadCommitted c.args.history.now =
     fault_rules_out c.args.history.now c.in-Some-2.reader c.in-Some-2.read c.in-Some-2.fault
     (index_once c.args.history.now (position_of c.in-Some.appends) index) has in
-    record { committed = (has, none); snapshot = not_snapshot c.args.history.now none }
+    record { writes = c.in_ok-search_order.ensures; committed = (has, none); snapshot = not_snapshot c.args.history.now none }
