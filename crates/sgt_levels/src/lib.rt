@@ -37,7 +37,7 @@ pub use laws::{
     commit_orders_are_enough, commit_raised_are_enough, commits_are_obeyed,
     committed_cycles_are_enough, committed_faults_are_enough, committed_is_uncommitted,
     decided_splits_are_enough, lost_update_is_no_snapshot, no_miss_cycles_are_enough,
-    seen_are_decided,     serial_is_snapshot, snapshot_cycles_are_enough, snapshot_faults_are_enough,
+    seen_are_decided, serial_is_snapshot, snapshot_cycles_are_enough, snapshot_faults_are_enough,
     snapshot_is_committed, spaced_cycles_are_enough, split_is_obeyed, split_raised_are_enough,
     splits_are_enough, tails_depend, write_cycles_are_enough, write_skew_is_between,
 };
