@@ -1,5 +1,5 @@
 -- Write orders: what each read shows of them, and cycles that leave none.
-use Rattle.std.proofs.Common.{◌≡◌, ◌≢◌, ◌<◌, ◌≤◌, ◌+◌, ℕ, zero, suc, List, [], ◌∷◌, ◌++◌, Option, Some, None, take, drop, length, get_or, refl, sym, ap, ◌∙◌, subst, inl, inr, arith, append-nil, take-append-drop}
+use Rattle.std.proofs.Common.{◌≡◌, ◌≢◌, ◌<◌, ◌≤◌, ◌+◌, ◌⊎◌, ℕ, zero, suc, List, [], ◌∷◌, ◌++◌, Option, Some, None, take, drop, length, get_or, refl, sym, ap, ◌∙◌, subst, inl, inr, arith, append-nil, take-append-drop}
 use Rattle.std.proofs.lemmas.Bool.{cases_eq}
 use Rattle.std.proofs.lemmas.List.{take_more}
 use Rattle.sgt_appends.specs.declared.transaction.Operation.TheVariants.{Read}
@@ -122,7 +122,7 @@ kept_one h k xs ys x it none = record {
   where
     not_last : (v : ℕ) → Has (x ∷ []) v → ¬ IsWritten h k v
     not_last v (inl same) written = none (subst (λ q. IsWritten h k q) (sym same) written)
-    not_last v (inr no) written = no
+    not_last v (inr nowhere) written = nowhere
 
 -- the next value of the second list
 pub kept_next : (h : List Transaction) (k : ℕ) (list : List ℕ) (at v : ℕ) → at < length list → get_or list at 0 ≡ v → (xs : List ℕ)
@@ -164,7 +164,7 @@ not_written h at k v t p index found none it =
     let place = append_at h it.0 k v it.2 in
     none (subst (λ u. Ended h u Committed) (same_one it.0 t place.0 p (sym (index.all k v it.0 place.0 place.1) ∙ found)) it.1)
   where
-    same_one : (u t q p : ℕ) → Some (u, q) ≡ Some (t, p) → u ≡ t
+    same_one : (u t q p : ℕ) → ◌≡◌ {A = Option (ℕ × ℕ)} (Some (u, q)) (Some (t, p)) → u ≡ t
     same_one u t q p e = cc
 
 pub nowhere_written : (h : List Transaction) (at : Positions) (k v : ℕ) → IsIndex h at → at k v ≡ None → ¬ IsWritten h k v
@@ -174,6 +174,19 @@ nowhere_written h at k v index none it =
   where
     some_none : (x : ℕ × ℕ) → ¬ (Some x ≡ None)
     some_none x e = cc
+
+-- a transaction of which the history says that it committed, or has none
+some_same : (x y : Transaction) → Some x ≡ Some y → x ≡ y
+some_same x y e = cc
+
+pub same_status : (o : Option Transaction) (x y : Transaction) → o ≡ Some x → o ≡ Some y → x.status ≡ Committed → y.status ≡ Committed
+same_status o x y one other is = subst (λ z. z.status ≡ Committed) (some_same x y (sym one ∙ other)) is
+
+pub none_there : (o : Option Transaction) (x : Transaction) → o ≡ None → ¬ (o ≡ Some x)
+none_there o x none some = none_some (sym some ∙ none)
+  where
+    none_some : ¬ (Some x ≡ None)
+    none_some e = cc
 
 -- one position more, and all; one transaction more, and all
 pub fits_more : (h : List Transaction) (lists : ℕ → List ℕ) (t i : ℕ) → ((p : ℕ) → p < i → FitsAt h lists t p) → FitsAt h lists t i

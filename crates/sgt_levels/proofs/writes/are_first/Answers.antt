@@ -1,4 +1,4 @@
-use Rattle.std.proofs.Common.{rules}
+use Rattle.std.proofs.Common.{rules, get_or, refl}
 use Rattle.sgt_levels.proofs.WriteOrders.{kept_step, kept_all}
 use Rattle.sgt_levels.proofs.writes.are_first.Goals as goal
 
@@ -6,7 +6,7 @@ pub loop-value-preserved : goal.loop-value-preserved
 loop-value-preserved c = record {
   within = search rules;
   kept = kept_step c.args.history.now c.args.key c.args.seen.now c.args.list.now c.loop-value.value-index c.loop-value.at c.in-Some.next
-      c.value-item.result (search rules) c.value-item.is (search rules) c.loop-value.invariant.kept;
+      (get_or c.args.seen.now c.loop-value.value-index 0) c.loop-value-test.true refl (search rules) c.loop-value.invariant.kept;
 }
 
 pub returns : goal.returns
