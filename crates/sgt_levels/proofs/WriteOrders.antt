@@ -1,5 +1,5 @@
 -- Write orders: what each read shows of them, and cycles that leave none.
-use Rattle.std.proofs.Common.{◌≡◌, ◌≢◌, ◌<◌, ◌≤◌, ◌+◌, ◌⊎◌, ℕ, zero, suc, List, [], ◌∷◌, ◌++◌, Option, Some, None, take, drop, length, get_or, refl, sym, ap, ◌∙◌, subst, inl, inr, arith, append-nil, take-append-drop}
+use Rattle.std.proofs.Common.{◌≡◌, ◌≢◌, ◌<◌, ◌≤◌, ◌+◌, ◌⊎◌, ℕ, zero, suc, Bool, true, false, List, [], ◌∷◌, ◌++◌, Option, Some, None, take, drop, length, get_or, refl, sym, ap, ◌∙◌, subst, inl, inr, arith, append-nil, take-append-drop}
 use Rattle.std.proofs.lemmas.Bool.{cases_eq}
 use Rattle.std.proofs.lemmas.List.{take_more}
 use Rattle.sgt_appends.specs.declared.transaction.Operation.TheVariants.{Read}
@@ -158,14 +158,17 @@ fits_read h lists t p k seen is first l values ended reads =
     subst (λ q. AreFirst h q values (lists q)) same.0 (subst (λ xs. AreFirst h k xs (lists k)) same.1 first)
 
 -- a value of which the index says that its transaction did not commit
-pub not_written : (h : List Transaction) (at : Positions) (k v t p : ℕ) → IsIndex h at → at k v ≡ Some (t, p) → ¬ Ended h t Committed
+pub not_written : (h : List Transaction) (at : Positions) (k v : ℕ) (x : ℕ × ℕ) → IsIndex h at → at k v ≡ Some x → ¬ Ended h x.0 Committed
     → ¬ IsWritten h k v
-not_written h at k v t p index found none it =
+not_written h at k v x index found none it =
     let place = append_at h it.0 k v it.2 in
-    none (subst (λ u. Ended h u Committed) (same_one it.0 t place.0 p (sym (index.all k v it.0 place.0 place.1) ∙ found)) it.1)
+    none (subst (λ u. Ended h u Committed) (same_one (it.0, place.0) x (sym (index.all k v it.0 place.0 place.1) ∙ found)) it.1)
   where
-    same_one : (u t q p : ℕ) → ◌≡◌ {A = Option (ℕ × ℕ)} (Some (u, q)) (Some (t, p)) → u ≡ t
-    same_one u t q p e = cc
+    first_of : Option (ℕ × ℕ) → ℕ
+    first_of None = 0
+    first_of (Some x) = x.0
+    same_one : (y x : ℕ × ℕ) → Some y ≡ Some x → y.0 ≡ x.0
+    same_one y x e = ap first_of e
 
 pub nowhere_written : (h : List Transaction) (at : Positions) (k v : ℕ) → IsIndex h at → at k v ≡ None → ¬ IsWritten h k v
 nowhere_written h at k v index none it =
@@ -174,6 +177,9 @@ nowhere_written h at k v index none it =
   where
     some_none : (x : ℕ × ℕ) → ¬ (Some x ≡ None)
     some_none x e = cc
+
+pub not_true : (b : Bool) → b ≡ false → ¬ (b ≡ true)
+not_true b no_it yes_it = cc
 
 -- a transaction of which the history says that it committed, or has none
 some_same : (x y : Transaction) → Some x ≡ Some y → x ≡ y

@@ -169,7 +169,7 @@ fn is_written(history: &[Transaction], appends: &AppendIndex, key: u32, value: u
     ensures { (¬ IsTrue result) → ¬ IsWritten history.now key value }
 {
     match appends.find(key, value) {
-        Some((number, _)) => has_committed(history, number),
+        Some(found) => has_committed(history, found.0),
         None => false,
     }
 }

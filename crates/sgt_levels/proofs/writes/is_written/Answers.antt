@@ -5,7 +5,7 @@ use Rattle.sgt_levels.proofs.writes.is_written.Goals as goal
 
 pub returns-in-Some : goal.returns-in-Some
 returns-in-Some c = λ no.
-    not_written c.args.history.now (position_of c.args.appends.now) c.args.key c.args.value c.in-Some.number _ c.requires (search rules)
+    not_written c.args.history.now (position_of c.args.appends.now) c.args.key c.args.value c.in-Some.found c.requires (search rules)
     (c.has_committed.ensures.no no)
 
 pub returns-in-None : goal.returns-in-None

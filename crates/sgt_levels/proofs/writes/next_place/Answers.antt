@@ -1,5 +1,5 @@
 use Rattle.std.proofs.Common.{rules, take}
-use Rattle.sgt_levels.proofs.WriteOrders.{kept_next, kept_one}
+use Rattle.sgt_levels.proofs.WriteOrders.{kept_next, kept_one, not_true}
 use Rattle.sgt_levels.proofs.writes.next_place.Goals as goal
 
 pub returns-then-list-at-clause-kept : goal.returns-then-list-at-clause-kept
@@ -8,4 +8,5 @@ returns-then-list-at-clause-kept c = λ xs kept.
 
 pub returns-clause-kept : goal.returns-clause-kept
 returns-clause-kept c = λ xs kept.
-    kept_one c.args.history.now c.args.key xs (take c.args.at c.args.list.now) c.args.value kept (c.is_written.ensures c.if-is_written.false)
+    kept_one c.args.history.now c.args.key xs (take c.args.at c.args.list.now) c.args.value kept 
+    (c.is_written.ensures (not_true c.is_written.result c.if-is_written.false))
