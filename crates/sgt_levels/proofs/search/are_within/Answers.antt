@@ -1,4 +1,3 @@
-use Rattle.std.proofs.Common.{◌<◌, get_or, refl}
 use Rattle.sgt_appends.specs.declared.sorting.Link.{Link}
 use Rattle.sgt_appends.specs.declared.witness.Reason.TheVariants.{Seen}
 use Rattle.sgt_levels.proofs.Nodes.{within_one, within_all}

@@ -1,4 +1,4 @@
-use Rattle.std.proofs.Common.{rules, ◌≡◌, Some, None}
+use Rattle.std.proofs.Common.{rules}
 use Rattle.sgt_appends.specs.Indexes.{position_of}
 use Rattle.sgt_levels.proofs.WriteOrders.{not_written, nowhere_written}
 use Rattle.sgt_levels.proofs.writes.is_written.Goals as goal
