@@ -167,6 +167,7 @@ not_written h at k v x index found none it =
     first_of : Option (ℕ × ℕ) → ℕ
     first_of None = 0
     first_of (Some x) = x.0
+
     same_one : (y x : ℕ × ℕ) → Some y ≡ Some x → y.0 ≡ x.0
     same_one y x e = ap first_of e
 

@@ -8,5 +8,5 @@ returns-then-list-at-clause-kept c = λ xs kept.
 
 pub returns-clause-kept : goal.returns-clause-kept
 returns-clause-kept c = λ xs kept.
-    kept_one c.args.history.now c.args.key xs (take c.args.at c.args.list.now) c.args.value kept 
+    kept_one c.args.history.now c.args.key xs (take c.args.at c.args.list.now) c.args.value kept
     (c.is_written.ensures (not_true c.is_written.result c.if-is_written.false))
