@@ -1,6 +1,6 @@
 -- What the items after a statement's word spell.
 use Rattle.std.specs.Prelude.{Bool, false, codes}
-use Rattle.serde_json.specs.Data.{Data, Items, no_items, item}
+use Rattle.serde_json.specs.Data.{Items, no_items, item}
 use Rattle.serde_json.specs.Find.{as_str}
 use Rattle.sgt_model.specs.Syntax.{CondText, Block, choose}
 use Rattle.sgt_proc_json.specs.Readings.{Reading, here, at, two, three, is_word, condition, block, one_item, two_items, three_items, four_items}
