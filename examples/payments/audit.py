@@ -9,8 +9,7 @@ from typing import Iterator
 from administration import ask
 from bank import Bank, Unusable, load_procedures
 from chain import Batch, applied, unseal_batch
-from journal import Journal, Missing
-from snapshots import Store
+from journal import Journal, Missing, Store
 
 
 def batches(store: Store, journal: Journal) -> Iterator[tuple[Bank, int, Batch]]:

@@ -1,10 +1,12 @@
-"""The process of the engine: it runs what the fronts have asked, makes it safe by one append, and only then replies."""
+"""The process of the engine: it runs what the fronts have asked. A thread makes that safe, and replies, while the next calls run."""
 
 import hashlib
 import json
 import marshal
 import select
 import time
+from collections import deque
+from concurrent.futures import Future, ThreadPoolExecutor
 from multiprocessing.connection import Connection
 from typing import Any, Optional, Sequence
 
@@ -12,8 +14,9 @@ from bank import NO_PROCEDURE, ROW, Procedure
 from chain import PAUSE, Chain
 from sgt import pack_calls, unpack_calls
 
-QUICK = 0.0005  # seconds of an append. If one takes longer, a turn waits for the fronts that asked in the last one, half as long at most
 IDLE = 0.1  # seconds without a request, after which the journal notes what is safe
+# What ran at once: the entries of calls that wrote, or none if nothing goes to the journal; which front asked, if one did, and what it gets.
+Group = tuple[Optional[list[str]], Optional[Connection], Any]
 
 
 class Server:
@@ -21,67 +24,83 @@ class Server:
 
     def __init__(self, chain: Chain, fronts: list[Connection], procedures: dict[str, Procedure]) -> None:
         self.chain, self.fronts, self.procedures = chain, fronts, procedures
-        self.batch: list[str] = []  # the entries of calls that ran, and are not safe yet
+        self.entries: list[str] = []  # of calls that ran, and are in no group yet
+        self.groups: deque[Group] = deque()
+        self.appender = ThreadPoolExecutor(1)
+        self.last: Future[None] = self.appender.submit(int)  # once it is done, all groups are safe
         self.is_marked, self.day, self.trouble = True, -1, ""  # the trouble is of the last snapshot
         self.forgot: Optional[int] = -1  # the day of the bank on which no old id was left
         self.began, self.calls, self.batches, self.appending = time.monotonic(), 0, 0, 0.0
-        # How many fronts asked in the last turn; and what administrators may.
-        self.asked, self.words = 0, {"rows": self.rows, "health": self.health, "figures": self.figures, "day": self.set_day}
+        self.words = {"rows": self.rows, "health": self.health, "figures": self.figures, "day": self.set_day}  # what administrators may ask
         self.writers = {chain.bank.numbers[name] for name, it in procedures.items() if it.writes}
         for front in fronts:
             front.send_bytes(marshal.dumps(chain.bank.numbers))
 
     def turn(self) -> None:
-        """Waits for requests, and replies to all that have come in. The next ones gather meanwhile."""
+        """Waits for requests, and runs what has come in."""
         ready = select.select(self.fronts, (), (), IDLE if self.chain.leads else PAUSE)[0]
-        end = time.monotonic() + (min(self.appending / max(1, self.batches), 0.02) - QUICK) / 2
-        while 0 < len(ready) < self.asked and time.monotonic() < end:  # the other fronts are about to ask, and one batch costs less than two
-            time.sleep(0.0002)
-            ready = select.select(self.fronts, (), (), 0)[0]
-        self.asked = len(ready)
         if not self.chain.leads:
             self.chain.follow()
         self.begin_day()
         try:
-            replies = [self.run(*marshal.loads(front.recv_bytes())) for front in ready]
-            self.forget()
-            self.before_replies()
-            # What a follower adds to a reply: payments that were acknowledged later may be missing in it.
-            age = "" if self.chain.leads else f', "seconds_old": {time.monotonic() - self.chain.fresh:.3f}'
-            for front, (outcomes, words) in zip(ready, replies):
-                front.send_bytes(marshal.dumps((outcomes, words, age)))
+            if self.last.done():
+                self.last.result()  # raises what an append has failed with
+            for front in ready:
+                self.serve(front, *marshal.loads(front.recv_bytes()))
         except (EOFError, ConnectionError):
             raise OSError("a front process has ended") from None
+        if not ready:
+            self.mark()
 
-    def before_replies(self) -> None:
-        """Makes the batch safe. Nothing is told before: a refusal or a balance may rest on a call of the same batch.
+    def mark(self) -> None:
+        """Once nobody asks, an empty batch notes that all is safe. Until then damage to the last batch looks like a torn tail."""
+        if self.entries or not self.is_marked:
+            self.hand_over(self.entries)
 
-        Once nobody asks, an empty batch notes that all is safe. Until then damage to the last batch looks like a torn tail.
-        """
-        if self.batch or not self.is_marked:
-            begin = time.monotonic()
-            self.chain.append(self.batch)
-            self.appending += time.monotonic() - begin
-            self.batches += 1
-            self.batch, self.is_marked = [], not self.batch
-        elif self.chain.leads:
+    def serve(self, front: Connection, calls: bytes, entries: Sequence[str], words: Sequence[dict[str, int]]) -> None:
+        """Runs what a front has asked: packed calls, whose entries these are, and words to the server itself."""
+        outcomes = self.run(calls, entries)
+        self.forget()
+        if words:
+            self.last.result()  # so that they report of no call that may be lost
+        reported = [self.words[word](value) if word in self.words else {"error": "no word of this server"} for it in words for word, value in it.items()]
+        # What a follower adds to a reply: payments that were acknowledged later may be missing in it.
+        age = "" if self.chain.leads else f', "seconds_old": {time.monotonic() - self.chain.fresh:.3f}'
+        self.hand_over(self.entries or None, front, (outcomes, [*map(json.dumps, reported)], age))
+
+    def hand_over(self, entries: Optional[list[str]], front: Optional[Connection] = None, reply: Any = None) -> None:
+        """Has a group made safe, and replied to."""
+        if entries is not None:
+            self.entries, self.is_marked = [], not entries
+        self.groups.append((entries, front, reply))
+        self.last = self.appender.submit(self.make_safe, self.last)
+
+    def make_safe(self, before: "Future[None]") -> None:
+        """Makes all groups safe by one batch, and then replies: a refusal or a balance may rest on a call that ran before it."""
+        before.result()  # if an append has failed, nothing after it is safe
+        groups, begin = [self.groups.popleft() for _ in range(len(self.groups))], time.monotonic()
+        entries = [it for it, _, _ in groups if it is not None]
+        if entries:
+            self.chain.append([it for part in entries for it in part])
+            self.batches, self.appending = self.batches + 1, self.appending + time.monotonic() - begin
+        elif groups and self.chain.leads:
             self.chain.insist(self.chain.journal.check)  # as replies rest on no new batch
+        for front, reply in [(front, reply) for _, front, reply in groups if front]:
+            front.send_bytes(marshal.dumps(reply))
 
     def call(self, name: str, *args: int, times: int = 1) -> None:
         """Runs a call of the server's own, if these procedures have it."""
         if name in self.procedures:
             self.run(pack_calls([(self.chain.bank.numbers[name], *args)] * times), [self.procedures[name].entry % args] * times)
 
-    def run(self, calls: bytes, entries: Sequence[str], words: Sequence[dict[str, int]] = ()) -> tuple[bytes, list[str]]:
-        """Runs packed calls, and adds the entries of those that wrote to the batch. Their packed outcomes, and then the replies to words."""
+    def run(self, calls: bytes, entries: Sequence[str]) -> bytes:
+        """Runs packed calls, and adds the entries of those that wrote. Their packed outcomes."""
         if not self.chain.leads:  # for what may write a follower has no procedure
             calls = pack_calls([(NO_PROCEDURE if number in self.writers else number, *args) for number, *args in unpack_calls(calls)])
         outcomes, wrote = self.chain.bank.run(calls, entries)
-        self.batch += wrote
-        self.chain.bank.seq += len(wrote)
+        self.entries += wrote
         self.calls += len(entries)
-        reported = [self.words[word](value) if word in self.words else {"error": "no word of this server"} for it in words for word, value in it.items()]
-        return outcomes, [*map(json.dumps, reported)]
+        return outcomes
 
     def rows(self, _: int) -> dict[str, Any]:
         """A digest of all rows, and how many there are. Nobody is served while it is made: some seconds for ten million rows."""
@@ -109,10 +128,10 @@ class Server:
             self.call("day", self.day)
 
     def forget(self) -> None:
-        """Has the bank forget old ids, at most twice as many as calls of the batch. So they do not pile up, and nobody waits for long."""
-        if (calls := len(self.batch)) and self.forgot != (day := self.chain.bank.day()):
+        """Has the bank forget old ids, at most twice as many as calls that wrote. So they do not pile up, and nobody waits for long."""
+        if (calls := len(self.entries)) and self.forgot != (day := self.chain.bank.day()):
             self.call("forget", times=2 * calls)
-            self.forgot = day if len(self.batch) == calls else self.forgot
+            self.forgot = day if len(self.entries) == calls else self.forgot
 
     def trouble_of_clock(self) -> str:
         """Whether the bank has another day than the clock. A follower may get the next day a moment late."""
