@@ -43,8 +43,7 @@ from administration import ask  # noqa: E402
 from bank import ROW, Unusable, load_procedures  # noqa: E402
 from chain import Chain, seal_batch  # noqa: E402
 from file_journal import FileJournal  # noqa: E402
-from front import OTHER_FILES  # noqa: E402
-from fronts import FRONTS  # noqa: E402
+from front import FRONTS, OTHER_FILES  # noqa: E402
 from journal import Store, unseal  # noqa: E402
 from lines import LONGEST  # noqa: E402
 

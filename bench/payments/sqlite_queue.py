@@ -17,7 +17,7 @@ from typing import Callable, NamedTuple
 PAYMENTS = pathlib.Path(__file__).resolve().parents[2] / "examples" / "payments"
 sys.path.insert(0, str(PAYMENTS))
 from bank import load_procedures  # noqa: E402
-from fronts import start_fronts  # noqa: E402
+from front import start_fronts  # noqa: E402
 from running import end_by_signals, run  # noqa: E402
 from server import Server  # noqa: E402
 from sgt import Kind, unpack_calls  # noqa: E402

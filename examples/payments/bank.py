@@ -17,7 +17,7 @@ AT_ONCE = 10_000  # calls that are replayed: an outcome takes 384 bytes
 COMMITTED = int(Kind.COMMITTED)  # a member of an enum is compared slowly
 # The part of an outcome that a client gets, laid out as `sgt_outcome` of sgt.h: its reply's kind, the code, the number of answers, and the
 # answers.
-read_outcomes = struct.Struct("=8xI8xI24xI12x8q256x").iter_unpack
+OUTCOME = struct.Struct("=8xI8xI24xI12x8q256x")
 NO_PROCEDURE = 65_535  # the number of none
 Call = Sequence[Any]  # the name of a procedure, and its arguments; as JSON it is an entry of the journal
 
@@ -83,15 +83,15 @@ class Bank:
         """`texts` are the procedures by name, and `rows` the database as `rows()` returns it."""
         self.seq, self.texts = seq, texts
         self.noted: Optional[deque[bytes]] = None  # what runs is added to it, for a bank that comes after this one
-        self._engine, self.records = Engine.bare(1, 4_000_000_000, releases=True), len(rows) // ROW.size  # as the last cut has left them
-        self._engine.put_bytes(rows)
-        self.numbers = {name: self._engine.procedure(text) for name, text in sorted(texts.items())}
+        self.engine, self.records = Engine.bare(1, 4_000_000_000, releases=True), len(rows) // ROW.size  # as the last cut has left them
+        self.engine.put_bytes(rows)
+        self.numbers = {name: self.engine.procedure(text) for name, text in sorted(texts.items())}
 
     def run(self, calls: bytes, entries: Sequence[str]) -> tuple[bytes, list[str]]:
         """Runs packed calls one after another, each as a transaction of its own. Their packed outcomes, and the entries of those that wrote."""
         if self.noted is not None:
             self.noted.append(calls)
-        outcomes = self._engine.run_bytes(calls)
+        outcomes = self.engine.run_bytes(calls)
         written = [*compress(entries, wrote(outcomes))]
         self.seq += len(written)
         return outcomes, written
@@ -99,7 +99,7 @@ class Bank:
     def rerun(self, noted: deque[bytes], left: int) -> None:
         """Runs what another bank has noted, until no more than so many parts are left."""
         while len(noted) > left:
-            self.seq += sum(wrote(self._engine.run_bytes(noted.popleft())))
+            self.seq += sum(wrote(self.engine.run_bytes(noted.popleft())))
 
     def replay(self, calls: Sequence[Call]) -> None:
         """Runs the next calls of the journal. They committed when they were journaled, so they commit again, or it is not this bank's."""
@@ -113,21 +113,17 @@ class Bank:
 
     def rows(self) -> bytes:
         """The committed database: 24 bytes a row."""
-        return self._engine.rows_bytes()
+        return self.engine.rows_bytes()
 
     def day(self) -> Optional[int]:
         """The day, counted from 1970, or None before the first, or if these procedures have no days."""
-        return self._engine.get(0, 0) if "day" in self.numbers else None
+        return self.engine.get(0, 0) if "day" in self.numbers else None
 
     def is_long(self) -> bool:
         """Whether it is time to free the history: it costs memory, and a cut costs a pass over the records."""
-        return len(self._engine) >= max(ENTRIES, self.records)
+        return len(self.engine) >= max(ENTRIES, self.records)
 
     def cut(self) -> None:
         """Frees the history. The database stays. It takes seconds where there are millions of records."""
-        self._engine.cut()
-        self.records = self._engine.records()
-
-    def close(self) -> None:
-        """Frees the engine."""
-        self._engine.close()
+        self.engine.cut()
+        self.records = self.engine.records()

@@ -27,17 +27,15 @@ class Nodes:
     """The nodes of etcd: one is asked until it fails, and then the next one."""
 
     def __init__(self, nodes: list[str]) -> None:
-        self.nodes = nodes
-        self._connect()
-
-    def _connect(self) -> None:
-        self._channel = grpc.insecure_channel(self.nodes[0], OPTIONS)
-        self._calls = {**vars(rpc.KVStub(self._channel)), **vars(rpc.LeaseStub(self._channel))}
+        self.nodes, self._channel = nodes, None  # it connects late, after the server has forked its fronts
 
     def ask(self, name: str, request: Any) -> Any:
         """What etcd replies to a request. `Away` if no node does."""
         why = ""
         for _ in self.nodes:
+            if not self._channel:
+                self._channel = grpc.insecure_channel(self.nodes[0], OPTIONS)
+                self._calls = {**vars(rpc.KVStub(self._channel)), **vars(rpc.LeaseStub(self._channel))}
             try:
                 if name == "LeaseKeepAlive":  # a stream of requests, and of replies
                     return next(self._calls[name](iter([request]), timeout=TRY))
@@ -46,9 +44,8 @@ class Nodes:
                 why = f"{error.code().name}: {error.details()}"
                 if error.code() in REFUSED:
                     raise Unusable(f"etcd: {why}") from None
-            self._channel.close()
+            self._channel = self._channel.close()
             self.nodes = self.nodes[1:] + self.nodes[:1]
-            self._connect()
         raise Away(f"etcd: {why}")
 
 
@@ -96,8 +93,7 @@ class EtcdJournal:
             raise Fenced("etcd: another primary leads")
 
     def read(self, number: int) -> list[bytes]:
-        found = self._found(self._batch(number), range_end=self._key("batch0"), limit=AT_ONCE)
-        return from_number(number, [it.value for it in found])
+        return from_number(number, [it.value for it in self._found(self._batch(number), range_end=self._key("batch0"), limit=AT_ONCE)])
 
     def stored(self, server: str, number: int, after: int) -> None:
         self._ask("Put", rpc.PutRequest(key=self._key("stored", server), value=b"%d" % number))

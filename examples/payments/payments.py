@@ -14,7 +14,7 @@ from audit import show, verify
 from bank import Unusable, load_procedures
 from chain import Chain
 from file_journal import FileJournal
-from fronts import load_tls, start_fronts
+from front import load_tls, start_fronts
 from journal import Journal, Store
 from lines import load_tokens
 from running import end_by_signals, run

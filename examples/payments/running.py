@@ -36,7 +36,7 @@ def run(server: Server, port: int, admin: pathlib.Path, begin: float) -> None:
         elif server.chain.bank.is_long():
             renewal = Renewal(server)
     server.mark()
-    server.last.result()
+    server.flush()
     admin.unlink(missing_ok=True)
 
 
@@ -51,7 +51,7 @@ class Renewal:
     """A copy of the process stores a snapshot of the bank. A thread makes another bank of that, and has it run what the old one runs."""
 
     def __init__(self, server: Server) -> None:
-        server.last.result()
+        server.flush()
         self.old, self.number, self.catches_up = server.chain.bank, server.chain.number, False
         self.old.noted = self.noted = deque[bytes]()
         (link, its_link), child = Pipe(duplex=False), -1
@@ -75,7 +75,7 @@ class Renewal:
     def end(self, server: Server) -> None:
         """The new bank runs the rest, and takes the place of the old one. If there is none, the old one is cut, and clients wait."""
         chain, self.old.noted, server.trouble = server.chain, None, ""
-        server.last.result()
+        server.flush()
         if chain.bank is not self.old:
             return  # the journal has gone on with other procedures
         try:
@@ -84,7 +84,7 @@ class Renewal:
             if bank.seq != self.old.seq:
                 raise ValueError(f"the calls up to {self.old.seq} end with call {bank.seq} in a bank that is made of a snapshot")
             chain.bank = bank
-            ThreadPoolExecutor(1).submit(self.old.close)
+            ThreadPoolExecutor(1).submit(self.old.engine.close)
         except (EOFError, OSError, MemoryError, Unusable):
             self.number = chain.number
             self.old.cut()

@@ -3,10 +3,10 @@
 import hashlib
 import json
 import marshal
+import os
 import select
 import time
-from collections import deque
-from concurrent.futures import Future, ThreadPoolExecutor
+from concurrent.futures import ThreadPoolExecutor
 from multiprocessing.connection import Connection
 from typing import Any, Optional, Sequence
 
@@ -16,7 +16,7 @@ from sgt import pack_calls, unpack_calls
 
 IDLE = 0.1  # seconds without a request, after which the journal notes what is safe
 # What ran at once: the entries of calls that wrote, or none if nothing goes to the journal; which front asked, if one did, and what it gets.
-Group = tuple[Optional[list[str]], Optional[Connection], Any]
+Group = tuple[Optional[list[str]], Optional[Connection], bytes]
 
 
 class Server:
@@ -25,9 +25,9 @@ class Server:
     def __init__(self, chain: Chain, fronts: list[Connection], procedures: dict[str, Procedure]) -> None:
         self.chain, self.fronts, self.procedures = chain, fronts, procedures
         self.entries: list[str] = []  # of calls that ran, and are in no group yet
-        self.groups: deque[Group] = deque()
-        self.appender = ThreadPoolExecutor(1)
-        self.last: Future[None] = self.appender.submit(int)  # once it is done, all groups are safe
+        self.groups: list[Group] = []  # that have run
+        self.appended: list[Group] = []  # that are being made safe, by a thread, which writes a byte then
+        self.appender, (self.is_safe, self.says_so) = ThreadPoolExecutor(1), os.pipe()
         self.is_marked, self.day, self.trouble = True, -1, ""  # the trouble is of the last snapshot
         self.forgot: Optional[int] = -1  # the day of the bank on which no old id was left
         self.began, self.calls, self.batches, self.appending = time.monotonic(), 0, 0, 0.0
@@ -37,16 +37,17 @@ class Server:
             front.send_bytes(marshal.dumps(chain.bank.numbers))
 
     def turn(self) -> None:
-        """Waits for requests, and runs what has come in."""
-        ready = select.select(self.fronts, (), (), IDLE if self.chain.leads else PAUSE)[0]
+        """Waits for requests, and runs what has come in. Replies to what is safe by then."""
+        ready = select.select([self.is_safe, *self.fronts], (), (), IDLE if self.chain.leads else PAUSE)[0]
         if not self.chain.leads:
             self.chain.follow()
         self.begin_day()
         try:
-            if self.last.done():
-                self.last.result()  # raises what an append has failed with
-            for front in ready:
-                self.serve(front, *marshal.loads(front.recv_bytes()))
+            for it in ready:
+                if it is self.is_safe:
+                    self.reply()
+                else:
+                    self.serve(it, *marshal.loads(it.recv_bytes()))
         except (EOFError, ConnectionError):
             raise OSError("a front process has ended") from None
         if not ready:
@@ -55,38 +56,54 @@ class Server:
     def mark(self) -> None:
         """Once nobody asks, an empty batch notes that all is safe. Until then damage to the last batch looks like a torn tail."""
         if self.entries or not self.is_marked:
-            self.hand_over(self.entries)
+            self.add_group(self.entries)
 
     def serve(self, front: Connection, calls: bytes, entries: Sequence[str], words: Sequence[dict[str, int]]) -> None:
         """Runs what a front has asked: packed calls, whose entries these are, and words to the server itself."""
         outcomes = self.run(calls, entries)
         self.forget()
         if words:
-            self.last.result()  # so that they report of no call that may be lost
+            self.flush()  # so that they report of no call that may be lost
         reported = [self.words[word](value) if word in self.words else {"error": "no word of this server"} for it in words for word, value in it.items()]
         # What a follower adds to a reply: payments that were acknowledged later may be missing in it.
         age = "" if self.chain.leads else f', "seconds_old": {time.monotonic() - self.chain.fresh:.3f}'
-        self.hand_over(self.entries or None, front, (outcomes, [*map(json.dumps, reported)], age))
+        self.add_group(self.entries or None, front, outcomes + marshal.dumps(([*map(json.dumps, reported)], age)))
 
-    def hand_over(self, entries: Optional[list[str]], front: Optional[Connection] = None, reply: Any = None) -> None:
-        """Has a group made safe, and replied to."""
+    def add_group(self, entries: Optional[list[str]], front: Optional[Connection] = None, reply: bytes = b"") -> None:
+        """Has this made safe next, and then replied."""
         if entries is not None:
             self.entries, self.is_marked = [], not entries
         self.groups.append((entries, front, reply))
-        self.last = self.appender.submit(self.make_safe, self.last)
+        self.begin_append()
 
-    def make_safe(self, before: "Future[None]") -> None:
-        """Makes all groups safe by one batch, and then replies: a refusal or a balance may rest on a call that ran before it."""
-        before.result()  # if an append has failed, nothing after it is safe
-        groups, begin = [self.groups.popleft() for _ in range(len(self.groups))], time.monotonic()
-        entries = [it for it, _, _ in groups if it is not None]
-        if entries:
-            self.chain.append([it for part in entries for it in part])
+    def begin_append(self) -> None:
+        """Has all groups made safe by one batch, unless an append is under way. The engine goes on meanwhile."""
+        if self.groups and not self.appended:
+            self.appended, self.groups = self.groups, []
+            self.end = self.appender.submit(self.append, [it for it, _, _ in self.appended if it is not None])
+            self.end.add_done_callback(lambda _: os.write(self.says_so, b"."))
+
+    def append(self, parts: list[list[str]]) -> None:
+        begin = time.monotonic()
+        if parts:
+            self.chain.append([it for part in parts for it in part])
             self.batches, self.appending = self.batches + 1, self.appending + time.monotonic() - begin
-        elif groups and self.chain.leads:
+        elif self.chain.leads:
             self.chain.insist(self.chain.journal.check)  # as replies rest on no new batch
-        for front, reply in [(front, reply) for _, front, reply in groups if front]:
-            front.send_bytes(marshal.dumps(reply))
+
+    def reply(self) -> None:
+        """Replies to what is safe, once it is. Nothing is told before: a refusal or a balance may rest on a call that ran before it."""
+        os.read(self.is_safe, 1)
+        self.end.result()  # raises what the append has failed with
+        for front, reply in [(front, reply) for _, front, reply in self.appended if front]:
+            front.send_bytes(reply)
+        self.appended = []
+        self.begin_append()
+
+    def flush(self) -> None:
+        """Returns once all that has run is safe, and replied to."""
+        while self.appended:
+            self.reply()
 
     def call(self, name: str, *args: int, times: int = 1) -> None:
         """Runs a call of the server's own, if these procedures have it."""
