@@ -39,7 +39,7 @@ PAYMENTS = TESTS.parent / "examples" / "payments"
 ADJUSTING = str(TESTS / "helpers" / "noting_fsync.py")
 sys.path.insert(0, str(PAYMENTS))
 import partitions as partition  # noqa: E402
-from administration import ask  # noqa: E402
+from audit import ask  # noqa: E402
 from bank import ROW, Unusable, load_procedures  # noqa: E402
 from chain import Chain, seal_batch  # noqa: E402
 from file_journal import FileJournal  # noqa: E402
@@ -919,13 +919,14 @@ def renewals():
                 (copy,) = server.copies()
                 os.kill(copy if kills else server.process.pid, number)
                 waits.unlink()
-                load.run(server, 0.3 if status is None else SECONDS)
-                if status is not None:
+                if status is None:
+                    wait_until(lambda: "no snapshot, as the process" in ask(admin, "health")["health"], "a server that says why it has no snapshot")
+                    load.run(server, until=lambda: ask(admin, "health")["health"] == "ok")
+                    same("verify", 0, run("verify", folder / "j")[0])
+                else:
+                    load.run(server)
                     same("the status", status, server.process.wait(SECONDS))
                 wait_until(lambda: not pathlib.Path(f"/proc/{copy}").exists(), "a copy that has ended")  # noqa: B023
-                if status is None:
-                    wait_until(lambda: ask(admin, "health")["health"] == "ok", "a snapshot that the server has stored itself")
-                    same("verify", 0, run("verify", folder / "j")[0])
             load.judge(*recovered(folder / "j")[:2])
     return f"{len(load.acknowledged)} acknowledged, {many} of them while the first snapshot was stored"
 
@@ -1340,7 +1341,7 @@ def ended_while_away():
         shutil.copytree(PAYMENTS / "procedures", folder / "other")
         (folder / "other" / "note.json").unlink()
         words = ("serve", folder / "new", "--journal", etcd.address, "--procedures", folder / "other")
-        same("whether other procedures are refused", True, is_refused("these procedures are not those of the journal: note. ", *words))
+        same("whether other procedures are refused", True, is_refused("these procedures are not those of the journal: note. ", *words, python=etcd.python))
         with etcd.stopped(0, 1, 2), group.servers[primary].connect() as client:
             client.sendall(json.dumps(pay(1, 1, 2, 5)).encode() + b"\n")
             follower = group.servers[(primary + 1) % 3]

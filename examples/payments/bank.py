@@ -106,10 +106,9 @@ class Bank:
         for at in range(0, len(calls), AT_ONCE):
             part = calls[at : at + AT_ONCE]
             packed, first = pack_calls([(self.numbers.get(name, NO_PROCEDURE), *args) for name, *args in part]), self.seq + 1
-            written = self.run(packed, part)[1]
-            if len(written) < len(part):
-                at = next(at for at, call in enumerate(part) if call is not [*written, None][at])
-                raise Unusable(f"call {first + at} of the journal, {part[at]}, does not commit")
+            for number, (call, written) in enumerate(zip(part, [*self.run(packed, part)[1], None]), first):
+                if call is not written:
+                    raise Unusable(f"call {number} of the journal, {call}, does not commit")
 
     def rows(self) -> bytes:
         """The committed database: 24 bytes a row."""

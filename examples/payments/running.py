@@ -5,6 +5,7 @@ import ctypes
 import os
 import pathlib
 import signal
+import socket
 import time
 from collections import deque
 from concurrent.futures import Future, ThreadPoolExecutor
@@ -12,13 +13,21 @@ from multiprocessing.connection import Connection, Pipe
 from multiprocessing.reduction import send_handle
 from typing import Optional
 
-from administration import listen_at
 from bank import Bank, Unusable
 from chain import Chain
 from journal import BEAT, Store
 from server import Server
 
-FEW = 8  # requests of fronts: their calls run in some milliseconds
+
+def listen_at(path: pathlib.Path) -> socket.socket:
+    """A socket at this path. One that an earlier server has left there is replaced."""
+    if path.is_socket():
+        path.unlink()
+    listener = socket.socket(socket.AF_UNIX)
+    os.fchmod(listener.fileno(), 0o600)  # of the file, once there is one
+    listener.bind(str(path))
+    listener.listen()
+    return listener
 
 
 def run(server: Server, port: int, admin: pathlib.Path, begin: float) -> None:
@@ -69,7 +78,7 @@ class Renewal:
             raise Unusable(trouble)
         bank = store.load(self.number)
         self.catches_up = True
-        bank.rerun(self.noted, FEW)
+        bank.rerun(self.noted, left=8)  # requests of fronts: their calls run in some milliseconds
         return bank
 
     def end(self, server: Server) -> None:
@@ -80,14 +89,12 @@ class Renewal:
             return  # the journal has gone on with other procedures
         try:
             bank = self.made.result()
-            bank.rerun(self.noted, 0)
+            bank.rerun(self.noted, left=0)
             if bank.seq != self.old.seq:
                 raise ValueError(f"the calls up to {self.old.seq} end with call {bank.seq} in a bank that is made of a snapshot")
             chain.bank = bank
             ThreadPoolExecutor(1).submit(self.old.engine.close)
-        except (EOFError, OSError, MemoryError, Unusable):
-            self.number = chain.number
-            self.old.cut()
-            server.trouble = chain.store.save(self.number, self.old)
-        if not server.trouble:
-            chain.stored(self.number)
+        except (EOFError, OSError, MemoryError, Unusable) as why:
+            server.trouble = str(why) or "no snapshot, as the process that was to store it has ended"
+            return self.old.cut()
+        chain.stored(self.number)

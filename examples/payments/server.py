@@ -6,7 +6,7 @@ import marshal
 import os
 import select
 import time
-from concurrent.futures import ThreadPoolExecutor
+from concurrent.futures import Future, ThreadPoolExecutor
 from multiprocessing.connection import Connection
 from typing import Any, Optional, Sequence
 
@@ -14,6 +14,7 @@ from bank import NO_PROCEDURE, ROW, Procedure
 from chain import PAUSE, Chain
 from sgt import pack_calls, unpack_calls
 
+QUICK = 0.0005  # seconds of an append. To have a thread make it costs less than it gains only where it takes longer
 IDLE = 0.1  # seconds without a request, after which the journal notes what is safe
 # What ran at once: the entries of calls that wrote, or none if nothing goes to the journal; which front asked, if one did, and what it gets.
 Group = tuple[Optional[list[str]], Optional[Connection], bytes]
@@ -25,9 +26,9 @@ class Server:
     def __init__(self, chain: Chain, fronts: list[Connection], procedures: dict[str, Procedure]) -> None:
         self.chain, self.fronts, self.procedures = chain, fronts, procedures
         self.entries: list[str] = []  # of calls that ran, and are in no group yet
-        self.groups: list[Group] = []  # that have run
-        self.appended: list[Group] = []  # that are being made safe, by a thread, which writes a byte then
+        self.groups, self.appended = list[Group](), list[Group]()  # what has run, and what is being made safe
         self.appender, (self.is_safe, self.says_so) = ThreadPoolExecutor(1), os.pipe()
+        self.appends: Optional[Future[None]] = None  # an append by a thread, which says by a byte that it is done
         self.is_marked, self.day, self.trouble = True, -1, ""  # the trouble is of the last snapshot
         self.forgot: Optional[int] = -1  # the day of the bank on which no old id was left
         self.began, self.calls, self.batches, self.appending = time.monotonic(), 0, 0, 0.0
@@ -37,7 +38,7 @@ class Server:
             front.send_bytes(marshal.dumps(chain.bank.numbers))
 
     def turn(self) -> None:
-        """Waits for requests, and runs what has come in. Replies to what is safe by then."""
+        """Waits for requests, runs what has come in, and replies to what is safe."""
         ready = select.select([self.is_safe, *self.fronts], (), (), IDLE if self.chain.leads else PAUSE)[0]
         if not self.chain.leads:
             self.chain.follow()
@@ -48,10 +49,11 @@ class Server:
                     self.reply()
                 else:
                     self.serve(it, *marshal.loads(it.recv_bytes()))
+            if not ready:
+                self.mark()
+            self.begin_append()
         except (EOFError, ConnectionError):
             raise OSError("a front process has ended") from None
-        if not ready:
-            self.mark()
 
     def mark(self) -> None:
         """Once nobody asks, an empty batch notes that all is safe. Until then damage to the last batch looks like a torn tail."""
@@ -74,14 +76,18 @@ class Server:
         if entries is not None:
             self.entries, self.is_marked = [], not entries
         self.groups.append((entries, front, reply))
-        self.begin_append()
 
     def begin_append(self) -> None:
-        """Has all groups made safe by one batch, unless an append is under way. The engine goes on meanwhile."""
+        """Has all groups made safe by one batch. Where that takes long a thread does it, and the engine goes on meanwhile."""
         if self.groups and not self.appended:
             self.appended, self.groups = self.groups, []
-            self.end = self.appender.submit(self.append, [it for it, _, _ in self.appended if it is not None])
-            self.end.add_done_callback(lambda _: os.write(self.says_so, b"."))
+            parts = [it for it, _, _ in self.appended if it is not None]
+            if self.appending <= QUICK * self.batches:
+                self.append(parts)
+                self.reply()
+            else:
+                self.appends = self.appender.submit(self.append, parts)
+                self.appends.add_done_callback(lambda _: os.write(self.says_so, b"."))
 
     def append(self, parts: list[list[str]]) -> None:
         begin = time.monotonic()
@@ -93,16 +99,17 @@ class Server:
 
     def reply(self) -> None:
         """Replies to what is safe, once it is. Nothing is told before: a refusal or a balance may rest on a call that ran before it."""
-        os.read(self.is_safe, 1)
-        self.end.result()  # raises what the append has failed with
+        if self.appends:
+            os.read(self.is_safe, 1)
+            self.appends = self.appends.result()  # none, or raises what the append has failed with
         for front, reply in [(front, reply) for _, front, reply in self.appended if front]:
             front.send_bytes(reply)
         self.appended = []
-        self.begin_append()
 
     def flush(self) -> None:
         """Returns once all that has run is safe, and replied to."""
-        while self.appended:
+        while self.groups or self.appended:
+            self.begin_append()
             self.reply()
 
     def call(self, name: str, *args: int, times: int = 1) -> None:
@@ -115,8 +122,7 @@ class Server:
         if not self.chain.leads:  # for what may write a follower has no procedure
             calls = pack_calls([(NO_PROCEDURE if number in self.writers else number, *args) for number, *args in unpack_calls(calls)])
         outcomes, wrote = self.chain.bank.run(calls, entries)
-        self.entries += wrote
-        self.calls += len(entries)
+        self.entries, self.calls = self.entries + wrote, self.calls + len(entries)
         return outcomes
 
     def rows(self, _: int) -> dict[str, Any]:
