@@ -9,6 +9,7 @@ It makes the library by `bindings/build`, which proves `crates/sgt_c` first unle
 its output is compared. Each case is reported, also what was left out since a program is missing. The last line counts the cases.
 """
 
+import contextlib
 import copy
 import os
 import pathlib
@@ -470,6 +471,56 @@ def mixes_no_threads_replies(_):
         same("replies of others", [], wrong[:3])
 
 
+def runs_calls_beside_threads(_):
+    """Other threads run beside the long calls of an engine that releases the interpreter's lock. Its own calls raise Busy meanwhile."""
+    sgt = module()
+    count, procedure = 200_000, [1, [["find", 0, 0, 0, 0], ["put", 0, 0, ["sum", ["reg", 0], ["arg", 0]]]]]
+
+    def busy_beside(call, *others):
+        """How often each of the other calls has raised Busy while a thread made one, and what that returned."""
+        returned, busy = [], [0] * len(others)
+        thread = threading.Thread(target=lambda: returned.append(call()))
+        thread.start()
+        while thread.is_alive():
+            for at, other in enumerate(others):
+                try:
+                    other()
+                except sgt.Busy:
+                    busy[at] += 1
+        thread.join()
+        return returned, busy
+
+    with sgt.Engine.bare(1, 4_000_000, releases=True) as engine:
+        adds = engine.procedure(procedure)
+        rows = [sgt.Row(1, number, number) for number in range(300_000)]
+        _, busy = busy_beside(lambda: engine.put(rows), engine.part)
+        same("whether a call beside `put` was busy, and its rows", (True, rows), (busy[0] > 0, engine.rows(1)))
+        calls, own = sgt.pack_calls([(adds, 1)] * count), []
+
+        def runs_one_too():
+            """A long call beside a long one."""
+            with contextlib.suppress(sgt.Busy):
+                len(engine)
+                return  # the other one has not begun, or has ended
+            own.extend(engine.run_many([(adds, 1)]))
+
+        (outcomes,), busy = busy_beside(lambda: engine.run_bytes(calls), lambda: engine.get(0, 0), runs_one_too)
+        same("whether calls beside `run_bytes` were busy", [True] * 2, [it > 0 for it in busy])
+        same("the calls that wrote, and their sum", (count, count + len(own)), (sum(sgt.wrote(outcomes)), engine.get(0, 0)))
+        before = engine.rows()
+        _, busy = busy_beside(engine.cut, lambda: engine.get(0, 0))
+        same("after the cut", (True, 0, before), (busy[0] > 0, len(engine), engine.rows()))
+        same("what `close` returned", [None], busy_beside(engine.close)[0])
+        try:
+            raise Differs(f"a closed engine has {len(engine)} entries")
+        except sgt.Closed:
+            pass
+    with sgt.Engine.bare(1, 4_000_000) as engine:  # one that keeps the lock
+        calls = sgt.pack_calls([(engine.procedure(procedure), 1)] * count)
+        _, busy = busy_beside(lambda: engine.run_bytes(calls), lambda: len(engine))
+        same("calls that were busy, and the sum", ([0], count), (busy, engine.get(0, 0)))
+
+
 def waits_with_deadlines_in_python(_):
     """The deadlines, tickets and misuse of a shared engine, from Python."""
     sgt = module()
@@ -761,6 +812,7 @@ CASES = [
     keeps_an_engine_whole,
     puts_a_million_rows_soon,
     mixes_no_threads_replies,
+    runs_calls_beside_threads,
     waits_with_deadlines_in_python,
     takes_a_prepared_engine_in_python,
     ends_a_wait_at_a_signal,

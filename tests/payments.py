@@ -6,7 +6,7 @@
 It runs the server as a user does, with the library of `bindings/out`, which has to be made: the replies; a crash under load, ROUNDS
 times (30), or one of its front processes, with what no fsync had kept taken away or garbled; a journal cut at each byte and with a flipped
 bit in each, and one with a damaged tail, or without its newest file; a full disk; an fsync that fails; large snapshots, and one that fails;
-cuts while a deputy serves; a clock that jumps; other procedures; a forged journal; clients that vanish, or ask nothing; what administrators
+cuts while the server goes on; a clock that jumps; other procedures; a forged journal; clients that vanish, or ask nothing; what administrators
 ask; holds, statements, ids that are forgotten, lists of requests, tokens and TLS; and failovers over etcd, Redis and PostgreSQL, where the
 machine has them, also of hosts that are cut off. Each case is reported, and the last line counts them. With names of cases only those run.
 """
@@ -33,21 +33,19 @@ import time
 
 sys.dont_write_bytecode = True
 from helpers.cases import C_SOURCES, TESTS, Differs, same, run_cases  # noqa: E402
-from helpers.machines import Etcd, Hosts, Postgres, Redis, free_ports, running, wait_until  # noqa: E402
+from helpers.machines import Etcd, Hosts, Postgres, Redis, free_ports, python_with, running, wait_until  # noqa: E402
 
 PAYMENTS = TESTS.parent / "examples" / "payments"
 ADJUSTING = str(TESTS / "helpers" / "noting_fsync.py")
 sys.path.insert(0, str(PAYMENTS))
 import partitions as partition  # noqa: E402
-from administration import ask  # noqa: E402
+from audit import ask  # noqa: E402
 from bank import ROW, Unusable, load_procedures  # noqa: E402
 from chain import Chain, seal_batch  # noqa: E402
 from file_journal import FileJournal  # noqa: E402
-from front import OTHER_FILES  # noqa: E402
-from fronts import FRONTS  # noqa: E402
-from journal import unseal  # noqa: E402
+from front import FRONTS, OTHER_FILES  # noqa: E402
+from journal import Store, unseal  # noqa: E402
 from lines import LONGEST  # noqa: E402
-from snapshots import Store  # noqa: E402
 
 SECONDS = 600  # of a command, a reply or an end: what comes takes less on any machine
 PROCEDURES = {name: it.text for name, it in load_procedures(PAYMENTS / "procedures").items()}
@@ -83,7 +81,7 @@ class Server:
             raise Differs("a front process goes on without the server") from None
 
     def children(self):
-        """The numbers of its front processes, and then of the deputy that serves while it cuts its history, if there is one."""
+        """The numbers of its front processes, and then of its copy that stores a snapshot, if there is one."""
         number = self.process.pid
         return [int(word) for word in pathlib.Path(f"/proc/{number}/task/{number}/children").read_text().split()]
 
@@ -91,16 +89,16 @@ class Server:
         """The numbers of its front processes."""
         return self.children()[: FRONTS + 1]
 
-    def deputies(self):
-        """The number of its deputy, if there is one. One that has handed over may not have ended yet."""
+    def copies(self):
+        """The number of its copy that stores a snapshot, if there is one."""
         return self.children()[FRONTS + 1 :]
 
     def signal(self, number):
-        """Sends a signal to the process that leads, and then to its deputy: as a stop of the machine does. The first can't make another then."""
+        """Sends a signal to it, and then to its copy: as a stop of the machine does. The first can't make another then."""
         self.process.send_signal(number)
-        for deputy in self.deputies():
+        for copy in self.copies():
             with contextlib.suppress(ProcessLookupError):
-                os.kill(deputy, number)
+                os.kill(copy, number)
 
     def connect(self):
         return socket.create_connection(("127.0.0.1", self.port), timeout=SECONDS)
@@ -880,17 +878,19 @@ def failed_snapshot():
             resource.prlimit(server.process.pid, resource.RLIMIT_FSIZE, limits)
             pay_some(server)
             wait_until(lambda: ask(admin, "health")["health"] == "ok", "a snapshot")
-            (snapshot,), (first, second) = (sorted((folder / "j").glob(f"*.{kind}")) for kind in ("snapshot", "batches"))
-            same("the files", sorted([snapshot.name, first.name, second.name, "admin", "newest"]), names_in(folder / "j"))
-            same("the first file", "000000000000001.batches", first.name)
-            same("whether it goes on in the new file", True, int(snapshot.stem) < int(second.stem) <= ask(admin, "health")["batch"] + 1)
+            (snapshot,), (*older, newest) = (sorted((folder / "j").glob(f"*.{kind}")) for kind in ("snapshot", "batches"))
+            first = folder / "j" / "000000000000001.batches"
+            same("the files", sorted([snapshot.name, *[it.name for it in older], newest.name, "admin", "newest"]), names_in(folder / "j"))
+            # If no batch came while the snapshot was stored, none of the first file is needed.
+            same("older files", [first] if int(newest.stem) > int(snapshot.stem) + 1 else [], older)
+            same("whether it goes on in the new file", True, int(snapshot.stem) < int(newest.stem) <= ask(admin, "health")["batch"] + 1)
             wait_until(lambda: pay_some(server) or not first.exists(), "a file of which no batch is needed that is deleted")
             server.process.kill()
         same("the payments", [(it["id"], it["from_has"], it["to_has"]) for it in paid], payments_in(folder / "j"))
 
 
-def deputies():
-    """While a server cuts its history and stores a snapshot, a deputy serves, and what it has run is there when it has handed over."""
+def renewals():
+    """While a copy of a server stores a snapshot the server goes on, and what has run meanwhile is there when the bank that is made of it takes over."""
     load = Load(random.Random(15))
     with scratch() as folder:
         admin, waits = folder / "j" / "admin", folder / "waits"
@@ -898,33 +898,37 @@ def deputies():
         words = ("serve", folder / "j", "--accounts", ACCOUNTS, "--cents", CENTS)
         adjusts = adjusted(CUT_AFTER=1_000, SNAPSHOT_WAITS=waits)
         with Server(*words, **adjusts) as server:
-            load.run(server, until=server.deputies)
+            load.run(server, until=server.copies)
             for _ in range(3):  # there is no snapshot before the file is gone
                 load.run(server, 0.3)
-                before = [ask(admin, word)[key] for word, key in (("health", "seq"), ("figures", "batches"))]
-                same("deputies, and snapshots", (1, []), (len(server.deputies()), list((folder / "j").glob("*.snapshot"))))
+                same("copies, and snapshots", (1, []), (len(server.copies()), list((folder / "j").glob("*.snapshot"))))
+                same("the records as of the last cut", ACCOUNTS, ask(admin, "figures")["records"])
                 same("verify", 0, run("verify", folder / "j")[0])
             many = len(load.acknowledged)
             waits.unlink()
-            wait_until(lambda: list((folder / "j").glob("*.snapshot")) and not server.deputies(), "a snapshot, and no deputy")
-            after = [ask(admin, word)[key] for word, key in (("health", "seq"), ("figures", "batches"))]
-            if any(one < other for one, other in zip(after, before)):
-                raise Differs(f"after its deputy the server has the numbers {after}, and its deputy had {before}")
+            wait_until(lambda: ask(admin, "figures")["records"] > ACCOUNTS and not server.copies(), "a new bank, and no copy")
             same("verify", 0, run("verify", folder / "j")[0])
             load.run(server, 0.3)
         load.judge(*recovered(folder / "j")[:2])
-        # What is killed while a deputy serves, by which signal; and how the server ends.
-        for kills, number, status in ((False, signal.SIGTERM, 0), (True, signal.SIGKILL, 1), (False, signal.SIGKILL, -signal.SIGKILL)):
+        # What is killed while a copy stores a snapshot, by which signal; and how the server ends, if it does.
+        for kills, number, status in ((False, signal.SIGTERM, 0), (True, signal.SIGKILL, None), (False, signal.SIGKILL, -signal.SIGKILL)):
             waits.touch()
             with Server(*words, **adjusts) as server:
-                load.run(server, until=server.deputies)
+                load.run(server, until=server.copies)
                 load.run(server, 0.2)
-                os.kill(server.deputies()[0] if kills else server.process.pid, number)
+                (copy,) = server.copies()
+                os.kill(copy if kills else server.process.pid, number)
                 waits.unlink()
-                load.run(server)
-                same("the status", status, server.process.wait(SECONDS))
+                if status is None:
+                    wait_until(lambda: "no snapshot, as the process" in ask(admin, "health")["health"], "a server that says why it has no snapshot")
+                    load.run(server, until=lambda: ask(admin, "health")["health"] == "ok")
+                    same("verify", 0, run("verify", folder / "j")[0])
+                else:
+                    load.run(server)
+                    same("the status", status, server.process.wait(SECONDS))
+                wait_until(lambda: not pathlib.Path(f"/proc/{copy}").exists(), "a copy that has ended")  # noqa: B023
             load.judge(*recovered(folder / "j")[:2])
-    return f"{len(load.acknowledged)} acknowledged, {many} of them by a deputy"
+    return f"{len(load.acknowledged)} acknowledged, {many} of them while the first snapshot was stored"
 
 
 def begun_snapshots():
@@ -1194,7 +1198,7 @@ sys.path.insert(0, sys.argv[1])
 import chain as chains
 from payments import open_journal
 from chain import Chain
-from snapshots import Store
+from journal import Store
 chains.PATIENCE = 600.0
 folder = pathlib.Path(sys.argv[3])
 chain = Chain(Store(folder), open_journal(argparse.Namespace(journal=sys.argv[2], folder=folder, keep=True)), {}, "test")
@@ -1337,7 +1341,7 @@ def ended_while_away():
         shutil.copytree(PAYMENTS / "procedures", folder / "other")
         (folder / "other" / "note.json").unlink()
         words = ("serve", folder / "new", "--journal", etcd.address, "--procedures", folder / "other")
-        same("whether other procedures are refused", True, is_refused("these procedures are not those of the journal: note. ", *words))
+        same("whether other procedures are refused", True, is_refused("these procedures are not those of the journal: note. ", *words, python=etcd.python))
         with etcd.stopped(0, 1, 2), group.servers[primary].connect() as client:
             client.sendall(json.dumps(pay(1, 1, 2, 5)).encode() + b"\n")
             follower = group.servers[(primary + 1) % 3]
@@ -1443,7 +1447,7 @@ def on_host(name, folder):
     (page,) = [block for block in (PAYMENTS / "README.md").read_text().split("```") if "etcd --name a" in block]
     for of_a in ("--name a ", "--initial-advertise-peer-urls http://a:", "--advertise-client-urls http://a:"):
         page = page.replace(of_a, of_a.replace("a ", f"{name} ").replace("//a:", f"//{name}:"))
-    page = page.replace("/var/lib/", f"{folder}/{name}-").replace("examples/payments/payments.py", f"{sys.executable} {PAYMENTS / 'payments.py'}")
+    page = page.replace("/var/lib/", f"{folder}/{name}-").replace("examples/payments/payments.py", f"{python_with('etcd3')} {PAYMENTS / 'payments.py'}")
     etcd, _, server = page.partition("\nuntil ")
     return f"{etcd} &\nuntil {server}"
 
@@ -1666,7 +1670,7 @@ def main():
     crash_test.__name__, dying_nodes.__name__ = "crashes", "nodes_die"
     cases = [sizes, replies, holds, statements, forgotten, lists, tokens, tls, second_server, between_partitions, administration]
     cases += [torn_tails, damaged_tails, damage, newest_file_gone, forged_journal]
-    cases += [full_disk, failing_fsync, large_snapshots, failed_snapshot, deputies, begun_snapshots]
+    cases += [full_disk, failing_fsync, large_snapshots, failed_snapshot, renewals, begun_snapshots]
     cases += [jumping_clock, other_procedures, bad_procedures]
     cases += [killed_fronts, vanished_clients, idle_clients]
     cases += [over_etcd, dying_nodes, ended_while_away, partitions, over_redis, forgetful_redis, redis_replicas, over_postgresql, forgetful_postgresql, crash_test]

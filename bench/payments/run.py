@@ -180,7 +180,7 @@ def take_turn(scratch, python, load, seconds):
     if not Etcd.missing():
         with running(Etcd, scratch) as etcd:
             words = (*serve, scratch / "by_etcd", "--journal", etcd.address, "--cents", CENTS)
-            served("sgt, etcd", python, load, seconds, *words, others=[it.pid for it in etcd.processes])
+            served("sgt, etcd", etcd.python, load, seconds, *words, others=[it.pid for it in etcd.processes])
 
 
 def shown(values, is_rate):

@@ -10,13 +10,14 @@ import random
 import sqlite3
 import struct
 import sys
+import threading
 import time
 from typing import Callable, NamedTuple
 
 PAYMENTS = pathlib.Path(__file__).resolve().parents[2] / "examples" / "payments"
 sys.path.insert(0, str(PAYMENTS))
 from bank import load_procedures  # noqa: E402
-from fronts import start_fronts  # noqa: E402
+from front import start_fronts  # noqa: E402
 from running import end_by_signals, run  # noqa: E402
 from server import Server  # noqa: E402
 from sgt import Kind, unpack_calls  # noqa: E402
@@ -27,7 +28,7 @@ ACCOUNTS, CENTS, DAY, LIMIT = 1000, 100_000_000, 20_000, 1_000_000
 
 
 def opened(path: str) -> sqlite3.Connection:
-    database = sqlite3.connect(path, timeout=60, isolation_level=None)
+    database = sqlite3.connect(path, timeout=60, isolation_level=None, check_same_thread=False)
     database.execute("pragma journal_mode=wal")
     database.execute("pragma synchronous=full")
     return database
@@ -85,16 +86,17 @@ class Bank:
     """In place of the engine, for the server of payments.py."""
 
     def __init__(self, database: sqlite3.Connection) -> None:
-        self.seq, self.numbers, self.database = 0, {"pay": 0}, database
+        self.seq, self.numbers, self.database, self.lock = 0, {"pay": 0}, database, threading.Lock()
 
     def day(self) -> None:
         """It has none."""
 
     def run(self, packed: bytes, entries: list) -> tuple:
         calls = unpack_calls(packed)
-        if calls and not self.database.in_transaction:
-            self.database.execute("begin immediate")
-        reported = [pay(self.database, *args) for _, *args in calls]
+        with self.lock:  # a connection can't commit what others go on with
+            if calls and not self.database.in_transaction:
+                self.database.execute("begin immediate")
+            reported = [pay(self.database, *args) for _, *args in calls]
         outcomes = [OUTCOME(not it.code, Kind.REFUSED if it.code else Kind.COMMITTED, it.code, len(it.answers), *it.answers or (0, 0)) for it in reported]
         return b"".join(outcomes), [entry for entry, it in zip(entries, reported) if not it.code]
 
@@ -112,8 +114,9 @@ class Chain:
         pass
 
     def append(self, _calls: list) -> None:
-        if self.bank.database.in_transaction:
-            self.bank.database.execute("commit")
+        with self.bank.lock:
+            if self.bank.database.in_transaction:
+                self.bank.database.execute("commit")
 
     def insist(self, ask: Callable[[], None]) -> None:
         ask()

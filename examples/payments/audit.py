@@ -1,16 +1,28 @@
-"""Reads a journal: prints it, and checks it by a replay in a second engine."""
+"""What operators use: it asks a server, prints a journal, and checks it by a replay in a second engine."""
 
 import argparse
 import contextlib
 import hashlib
+import json
+import pathlib
+import socket
 import sys
-from typing import Iterator
+from typing import Any, Iterator, Optional
 
-from administration import ask
 from bank import Bank, Unusable, load_procedures
 from chain import Batch, applied, unseal_batch
-from journal import Journal, Missing
-from snapshots import Store
+from journal import Journal, Missing, Store
+
+
+def ask(path: pathlib.Path, word: str, value: int = True, timeout: Optional[float] = None, **more: int) -> dict[str, Any]:
+    """What the server replies to a word, or to a request. An OSError if none listens there, it ends, or is late."""
+    with socket.socket(socket.AF_UNIX) as server:
+        server.settimeout(timeout)
+        server.connect(str(path))
+        server.sendall(json.dumps({word: value, **more}).encode() + b"\n")
+        if line := server.makefile().readline():
+            return dict(json.loads(line))
+        raise ConnectionError(f"{path}: the server has ended")
 
 
 def batches(store: Store, journal: Journal) -> Iterator[tuple[Bank, int, Batch]]:

@@ -1,25 +1,24 @@
 """The bank: an engine with the procedures of a folder, and the number of its last journaled call."""
 
 import json
-import os
 import pathlib
 import struct
 import sys
+from collections import deque
 from itertools import compress
 from typing import Any, Optional, Sequence
 
 sys.path.insert(0, str(pathlib.Path(__file__).resolve().parents[2] / "bindings" / "python"))
 from sgt import Engine, Kind, pack_calls, wrote  # noqa: E402
 
-ENTRIES = 4_000_000  # the history is cut after so many entries, or as many as there are records; a payment makes 28
+ENTRIES = 16_000_000  # the history is cut after so many entries, or as many as there are records; a payment makes 28
 ROW = struct.Struct("<I4xqq")  # table, number and value of a row
 AT_ONCE = 10_000  # calls that are replayed: an outcome takes 384 bytes
 COMMITTED = int(Kind.COMMITTED)  # a member of an enum is compared slowly
 # The part of an outcome that a client gets, laid out as `sgt_outcome` of sgt.h: its reply's kind, the code, the number of answers, and the
 # answers.
-read_outcomes = struct.Struct("=8xI8xI24xI12x8q256x").iter_unpack
+OUTCOME = struct.Struct("=8xI8xI24xI12x8q256x")
 NO_PROCEDURE = 65_535  # the number of none
-CALL = len(pack_calls([(0,)]))  # bytes of a packed call
 Call = Sequence[Any]  # the name of a procedure, and its arguments; as JSON it is an entry of the journal
 
 
@@ -82,52 +81,48 @@ class Bank:
 
     def __init__(self, seq: int, texts: dict[str, list[Any]], rows: bytes) -> None:
         """`texts` are the procedures by name, and `rows` the database as `rows()` returns it."""
-        self.seq, self.texts, self.noted = seq, texts, -1
-        self._engine, self.records = Engine.bare(1, 4_000_000_000), len(rows) // ROW.size  # as the last cut has left them
-        self._engine.put_bytes(rows)
-        self.numbers = {name: self._engine.procedure(text) for name, text in sorted(texts.items())}
+        self.seq, self.texts = seq, texts
+        self.noted: Optional[deque[bytes]] = None  # what runs is added to it, for a bank that comes after this one
+        self.engine, self.records = Engine.bare(1, 4_000_000_000, releases=True), len(rows) // ROW.size  # as the last cut has left them
+        self.engine.put_bytes(rows)
+        self.numbers = {name: self.engine.procedure(text) for name, text in sorted(texts.items())}
 
     def run(self, calls: bytes, entries: Sequence[str]) -> tuple[bytes, list[str]]:
-        """Runs packed calls one after another, each as a transaction of its own. Their packed outcomes, and the entries of those that wrote.
+        """Runs packed calls one after another, each as a transaction of its own. Their packed outcomes, and the entries of those that wrote."""
+        if self.noted is not None:
+            self.noted.append(calls)
+        outcomes = self.engine.run_bytes(calls)
+        written = [*compress(entries, wrote(outcomes))]
+        self.seq += len(written)
+        return outcomes, written
 
-        If `noted` is a file, the calls are added to it, for another process with this bank.
-        """
-        if self.noted >= 0:
-            os.write(self.noted, calls)
-        outcomes = self._engine.run_bytes(calls)
-        return outcomes, [*compress(entries, wrote(outcomes))]
-
-    def rerun(self, noted: int, at: int, left: int) -> int:
-        """Runs the calls that another process notes in a file, from this byte on until at most so many are left. Where the next one begins."""
-        while len(calls := os.pread(noted, AT_ONCE * CALL, at)) > left:
-            calls = calls[: len(calls) // CALL * CALL]  # the last one may not be whole yet
-            self.seq += sum(wrote(self._engine.run_bytes(calls)))
-            at += len(calls)
-        return at
+    def rerun(self, noted: deque[bytes], left: int) -> None:
+        """Runs what another bank has noted, until no more than so many parts are left."""
+        while len(noted) > left:
+            self.seq += sum(wrote(self.engine.run_bytes(noted.popleft())))
 
     def replay(self, calls: Sequence[Call]) -> None:
         """Runs the next calls of the journal. They committed when they were journaled, so they commit again, or it is not this bank's."""
         for at in range(0, len(calls), AT_ONCE):
             part = calls[at : at + AT_ONCE]
-            packed = pack_calls([(self.numbers.get(name, NO_PROCEDURE), *args) for name, *args in part])
-            for has_written, call in zip(wrote(self._engine.run_bytes(packed)), part):
-                if not has_written:
-                    raise Unusable(f"call {self.seq + 1} of the journal, {call}, does not commit")
-                self.seq += 1
+            packed, first = pack_calls([(self.numbers.get(name, NO_PROCEDURE), *args) for name, *args in part]), self.seq + 1
+            for number, (call, written) in enumerate(zip(part, [*self.run(packed, part)[1], None]), first):
+                if call is not written:
+                    raise Unusable(f"call {number} of the journal, {call}, does not commit")
 
     def rows(self) -> bytes:
         """The committed database: 24 bytes a row."""
-        return self._engine.rows_bytes()
+        return self.engine.rows_bytes()
 
     def day(self) -> Optional[int]:
         """The day, counted from 1970, or None before the first, or if these procedures have no days."""
-        return self._engine.get(0, 0) if "day" in self.numbers else None
+        return self.engine.get(0, 0) if "day" in self.numbers else None
 
     def is_long(self) -> bool:
         """Whether it is time to free the history: it costs memory, and a cut costs a pass over the records."""
-        return len(self._engine) >= max(ENTRIES, self.records)
+        return len(self.engine) >= max(ENTRIES, self.records)
 
     def cut(self) -> None:
-        """Frees the history. The database stays."""
-        self._engine.cut()
-        self.records = self._engine.records()
+        """Frees the history. The database stays. It takes seconds where there are millions of records."""
+        self.engine.cut()
+        self.records = self.engine.records()

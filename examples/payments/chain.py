@@ -5,8 +5,7 @@ import time
 from typing import Any, Callable, Sequence, Union
 
 from bank import ROW, Bank, Call, Unusable
-from journal import Away, Journal, seal, unseal
-from snapshots import Store
+from journal import Away, Journal, Store, seal, unseal
 
 PATIENCE = 60.0  # seconds that a primary waits for a journal that is away
 PAUSE = 0.05  # seconds between two times that a follower reads
@@ -46,7 +45,7 @@ class Chain:
     def __init__(self, store: Store, journal: Journal, opening: Opening, server: str, renews: bool = False) -> None:
         """With `renews` the procedures of the opening may be others than those of the journal, if this server leads."""
         self.store, self.journal, self.opening, self.server, self.renews = store, journal, opening, server, renews
-        self.leads, self.ends, self.trouble = False, False, ""  # the trouble is of a follower with the journal
+        self.leads, self.ends, self.trouble, self.seq = False, False, "", 0  # the trouble is of a follower with the journal
         self.number = max(store.numbers(), default=0)
         self.bank = store.load(self.number)
         self.fresh = self._next = time.monotonic()  # when the bank was as the journal; when to read on
@@ -110,7 +109,7 @@ class Chain:
         self.insist(self.catch_up)
         if self.bank.texts and not self.renews:
             self._compare()
-        is_new = self.bank.texts != self.opening["procedures"]
+        is_new, self.seq = self.bank.texts != self.opening["procedures"], self.bank.seq
         self.append(self.opening if is_new else [])
         self.bank = applied(self.bank, self.opening) if is_new else self.bank
         self.leads = True
@@ -122,14 +121,11 @@ class Chain:
             raise Unusable(f"these procedures are not those of the journal: {', '.join(others)}. With --new-procedures a server goes on with its own")
 
     def append(self, calls: Union[list[str], Opening]) -> None:
-        """Returns once the calls of these entries are safe. They have run already, but for an opening."""
-        parts = [calls[at : at + CALLS] for at in range(0, len(calls), CALLS)] if isinstance(calls, list) else []
-        seq = self.bank.seq - sum(map(len, parts))
-        for part in parts or [calls]:
-            number, data = self.number + 1, seal_batch(self.number + 1, seq, part)
+        """Returns once the calls of these entries are safe, which follow call `seq`. They have run already, but for those of an opening."""
+        for part in [calls[at : at + CALLS] for at in range(0, len(calls), CALLS)] if isinstance(calls, list) and calls else [calls]:
+            number, data = self.number + 1, seal_batch(self.number + 1, self.seq, part)
             self.insist(lambda: self.journal.append(number, data))
-            seq += len(part) if isinstance(part, list) else 0
-            self.number += 1
+            self.number, self.seq = number, self.seq + (len(part) if isinstance(part, list) else 0)
 
     def stored(self, number: int) -> None:
         """Has the journal delete what is not needed any more, as there is a snapshot after this batch."""

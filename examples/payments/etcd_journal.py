@@ -1,51 +1,51 @@
-"""The journal in etcd, by its JSON gateway: consensus of its nodes. What it has accepted is on the disks of a majority of them. The keys NAME/..:
+"""The journal in etcd, by Debian's python3-etcd3: consensus of its nodes. What it has accepted is on the disks of a majority of them. The keys NAME/..:
 
     leader         who leads, by a lease: the key goes LEASE seconds after its server was heard of last
     batch/N        batch N
     stored/SERVER  the batch after which a server has a snapshot
+
+etcd's JSON gateway needs no package, but a batch takes twice as long by it.
 """
 
-import http.client
-import json
 import os
-from base64 import b64decode, b64encode
-from functools import partial
-from typing import Any
+from typing import Any, Iterable
 from urllib.parse import SplitResult
+
+import grpc
+from etcd3 import etcdrpc as rpc
 
 from bank import Unusable
 from journal import AT_ONCE, LEASE, TRY, Away, Fenced, from_number, keep_alive, needed
 
-REFUSED = {3, 9, 11, 12, 16}  # codes of errors that do not pass: the request is wrong, or there is no authority
+# Codes of errors that do not pass: the request is wrong, or there is no authority.
+REFUSED = {grpc.StatusCode[it] for it in ("INVALID_ARGUMENT", "FAILED_PRECONDITION", "OUT_OF_RANGE", "UNIMPLEMENTED", "UNAUTHENTICATED")}
+# Replies of any size; a node that was away is found soon; and what a user has set for other programs is none of its matter.
+OPTIONS = (("grpc.max_receive_message_length", -1), ("grpc.max_reconnect_backoff_ms", 500), ("grpc.enable_http_proxy", 0))
 
 
-def coded(data: bytes) -> str:
-    return b64encode(data).decode()
-
-
-class Gateway:
-    """The JSON gateway of the nodes: one is asked until it fails, and then the next one."""
+class Nodes:
+    """The nodes of etcd: one is asked until it fails, and then the next one."""
 
     def __init__(self, nodes: list[str]) -> None:
-        self.nodes, self._link = nodes, http.client.HTTPConnection(nodes[0], timeout=TRY)
+        self.nodes, self._channel = nodes, None  # it connects late, after the server has forked its fronts
 
-    def ask(self, path: str, **body: Any) -> dict[str, Any]:
+    def ask(self, name: str, request: Any) -> Any:
         """What etcd replies to a request. `Away` if no node does."""
-        why: object = ""
+        why = ""
         for _ in self.nodes:
+            if not self._channel:
+                self._channel = grpc.insecure_channel(self.nodes[0], OPTIONS)
+                self._calls = {**vars(rpc.KVStub(self._channel)), **vars(rpc.LeaseStub(self._channel))}
             try:
-                self._link.request("POST", f"/v3/{path}", json.dumps(body))
-                reply = json.loads(self._link.getresponse().read())
-                if "error" not in reply:
-                    return dict(reply)
-                why = reply["error"]
-                if reply.get("code") in REFUSED:
-                    raise Unusable(f"etcd: {why}")
-            except (OSError, http.client.HTTPException, ValueError) as error:
-                why = repr(error)
-            self._link.close()
+                if name == "LeaseKeepAlive":  # a stream of requests, and of replies
+                    return next(self._calls[name](iter([request]), timeout=TRY))
+                return self._calls[name](request, timeout=TRY)
+            except grpc.RpcError as error:
+                why = f"{error.code().name}: {error.details()}"
+                if error.code() in REFUSED:
+                    raise Unusable(f"etcd: {why}") from None
+            self._channel = self._channel.close()
             self.nodes = self.nodes[1:] + self.nodes[:1]
-            self._link = http.client.HTTPConnection(self.nodes[0], timeout=TRY)
         raise Away(f"etcd: {why}")
 
 
@@ -54,53 +54,48 @@ class EtcdJournal:
 
     def __init__(self, address: SplitResult) -> None:
         self.nodes, self.name, self.report = address.netloc.split(","), address.path.strip("/"), ""
-        self._etcd, self._term, self._nonce = Gateway(self.nodes), -1, coded(os.urandom(8))
+        self._ask, self._term, self._nonce = Nodes(self.nodes).ask, -1, os.urandom(8)
 
-    def _key(self, *parts: str) -> str:
-        return coded("/".join((self.name, *parts)).encode())
+    def _key(self, *parts: str) -> bytes:
+        return "/".join((self.name, *parts)).encode()
 
-    def _batch(self, number: int) -> str:
+    def _batch(self, number: int) -> bytes:
         return self._key("batch", f"{number:015}")
 
-    def _leader(self) -> dict[str, Any]:
-        found = self._etcd.ask("kv/range", key=self._key("leader")).get("kvs")
-        return dict(found[0]) if found else {}
+    def _found(self, key: bytes, **more: Any) -> Any:
+        return self._ask("Range", rpc.RangeRequest(key=key, **more)).kvs
 
-    def _created(self, key: str, revision: int) -> dict[str, Any]:
-        """The condition that a key was created so, by 0 that it is not there."""
-        return {"key": key, "target": "CREATE", "create_revision": revision}
+    def _put(self, key: bytes, value: bytes, created: Iterable[tuple[bytes, int]], **more: Any) -> Any:
+        """Writes a key if these keys were created so, by 0 if one is not there. Else its value is in the reply."""
+        compare = [rpc.Compare(target=rpc.Compare.CREATE, key=it, create_revision=revision) for it, revision in created]
+        put = rpc.RequestOp(request_put=rpc.PutRequest(key=key, value=value, **more))
+        there = rpc.RequestOp(request_range=rpc.RangeRequest(key=key))
+        return self._ask("Txn", rpc.TxnRequest(compare=compare, success=[put], failure=[there]))
 
     def lead(self) -> bool:
-        leader = self._leader()
-        if not leader:
-            lease = self._etcd.ask("lease/grant", TTL=LEASE)["ID"]
-            put = {"request_put": {"key": self._key("leader"), "value": self._nonce, "lease": lease}}
-            self._etcd.ask("kv/txn", compare=[self._created(self._key("leader"), 0)], success=[put])
-            leader = self._leader()
-        if leader.get("value") == self._nonce:
-            self._term = int(leader["create_revision"])
-            keep_alive(lambda: partial(Gateway(self.nodes).ask, "lease/keepalive", ID=leader["lease"]))
+        key = self._key("leader")
+        if not self._found(key):
+            self._put(key, self._nonce, [(key, 0)], lease=self._ask("LeaseGrant", rpc.LeaseGrantRequest(TTL=LEASE)).ID)
+        for leader in self._found(key):
+            if leader.value == self._nonce:
+                nodes, request, self._term = Nodes(self.nodes), rpc.LeaseKeepAliveRequest(ID=leader.lease), leader.create_revision
+                keep_alive(lambda: nodes.ask("LeaseKeepAlive", request))
         return self._term >= 0
 
     def append(self, number: int, data: bytes) -> None:
-        key, value = self._batch(number), coded(data)
-        compare = [self._created(self._key("leader"), self._term), self._created(key, 0)]
-        put, there = {"request_put": {"key": key, "value": value}}, {"request_range": {"key": key}}
-        reply = self._etcd.ask("kv/txn", compare=compare, success=[put], failure=[there])
+        reply = self._put(self._batch(number), data, [(self._key("leader"), self._term), (self._batch(number), 0)])
         # If the value is there, an earlier try has written it.
-        if not reply.get("succeeded") and [it["value"] for it in reply["responses"][0]["response_range"].get("kvs", ())] != [value]:
+        if not reply.succeeded and [it.value for it in reply.responses[0].response_range.kvs] != [data]:
             raise Fenced(f"etcd: another primary leads, after batch {number - 1}")
 
     def check(self) -> None:
-        if int(self._leader().get("create_revision", 0)) != self._term:
+        if [it.create_revision for it in self._found(self._key("leader"))] != [self._term]:
             raise Fenced("etcd: another primary leads")
 
     def read(self, number: int) -> list[bytes]:
-        found = self._etcd.ask("kv/range", key=self._batch(number), range_end=self._key("batch0"), limit=AT_ONCE)
-        return from_number(number, [b64decode(it["value"]) for it in found.get("kvs", ())])
+        return from_number(number, [it.value for it in self._found(self._batch(number), range_end=self._key("batch0"), limit=AT_ONCE)])
 
     def stored(self, server: str, number: int, after: int) -> None:
-        self._etcd.ask("kv/put", key=self._key("stored", server), value=coded(b"%d" % number))
-        found = self._etcd.ask("kv/range", key=self._key("stored", ""), range_end=self._key("stored0"))
-        keep = needed(int(b64decode(it["value"])) for it in found["kvs"])
-        self._etcd.ask("kv/deleterange", key=self._batch(0), range_end=self._batch(keep))
+        self._ask("Put", rpc.PutRequest(key=self._key("stored", server), value=b"%d" % number))
+        keep = needed(int(it.value) for it in self._found(self._key("stored", ""), range_end=self._key("stored0")))
+        self._ask("DeleteRange", rpc.DeleteRangeRequest(key=self._batch(0), range_end=self._batch(keep)))

@@ -3,6 +3,7 @@
 import contextlib
 import marshal
 import os
+import pathlib
 import resource
 import select
 import signal
@@ -10,14 +11,15 @@ import socket
 import ssl
 import time
 from itertools import islice
-from multiprocessing.connection import Connection
+from multiprocessing.connection import Connection, Pipe
 from multiprocessing.reduction import recv_handle
 from typing import Optional
 
-from bank import read_outcomes
-from lines import LONGEST, Line, Reader, Request, Rights
+from bank import OUTCOME, Procedure, Unusable
+from lines import LONGEST, Line, Reader, Request, Rights, Tokens
 from sgt import pack_calls
 
+FRONTS = 3  # processes: each waits while the server runs what it has asked, so they are more than are busy at a time
 CLIENTS = 1000  # of a front, or fewer if it may open fewer files. Others wait until one of them has gone, or another front takes them
 OTHER_FILES = 32  # that a front has open, at most
 
@@ -77,8 +79,9 @@ class Front:
             return requests  # they are replies
         packed = pack_calls([(self.numbers[procedure.name], *args) for procedure, args in calls])
         self.server.send_bytes(marshal.dumps((packed, [procedure.entry % args for procedure, args in calls], words)))
-        outcomes, of_words, age = marshal.loads(self.server.recv_bytes())
-        reported = iter([procedure.reply(outcome, args[0], age) for (procedure, args), outcome in zip(calls, read_outcomes(outcomes))])
+        replied, at = memoryview(self.server.recv_bytes()), len(calls) * OUTCOME.size
+        of_words, age = marshal.loads(replied[at:])
+        reported = iter([procedure.reply(outcome, args[0], age) for (procedure, args), outcome in zip(calls, OUTCOME.iter_unpack(replied[:at]))])
         return [next(reported) if type(it) is tuple else it if type(it) is str else of_words.pop(0) for it in requests]
 
     def wait(self) -> list[tuple[int, Line]]:
@@ -146,3 +149,46 @@ class Front:
             lines.append(line)
         client.since = self.now if lines else client.since
         return lines
+
+
+def load_tls(folder: pathlib.Path) -> ssl.SSLContext:
+    """TLS by two files: server.pem has the server's key and certificate, and clients.pem the authorities whose clients it takes."""
+    try:
+        tls = ssl.create_default_context(ssl.Purpose.CLIENT_AUTH, cafile=folder / "clients.pem")
+        tls.load_cert_chain(folder / "server.pem")
+    except OSError as why:
+        raise Unusable(f"{folder}: server.pem and clients.pem: {why}") from None
+    tls.verify_mode = ssl.CERT_REQUIRED
+    return tls
+
+
+def listen(host: str, port: int) -> list[socket.socket]:
+    """A listener for each front, all at one port. The kernel would share its clients with another server, too: so that is refused."""
+    with socket.create_server((host, port)) as alone:  # refused if anybody listens there
+        port, name = alone.getsockname()[1], socket.socket(socket.AF_UNIX)
+        name.bind(f"\0payments:{port}")  # refused if another server is about to
+        name.detach()  # it stays while the server or a front lives
+    listeners = [socket.create_server((host, port), backlog=1024, reuse_port=True) for _ in range(FRONTS)]
+    for it in listeners:
+        it.setsockopt(socket.IPPROTO_TCP, socket.TCP_NODELAY, 1)  # of the clients, too
+    return listeners
+
+
+def start_fronts(
+    procedures: dict[str, Procedure], host: str, port: int, idle: float = 60, tokens: Tokens = None, tls: Optional[ssl.SSLContext] = None
+) -> tuple[int, list[Connection]]:
+    """Starts the front processes, before anything is opened that they must not share. Their port, and a connection to each.
+
+    After `idle` seconds a client is dropped. The last front is for administrators alone: the server sends it a socket to listen at.
+    """
+    listeners, fronts = listen(host, port), []
+    for number in range(FRONTS + 1):
+        front, server = Pipe()
+        fronts.append(front)
+        if os.fork() == 0:
+            for it in fronts:
+                it.close()  # else a front would not see the end of the server
+            own = listeners[number:] + listeners[:number] if number < FRONTS else []
+            Front(own, server, Reader(procedures, tokens, not own), idle, tls if own else None).run()
+        server.close()
+    return listeners[0].getsockname()[1], fronts

@@ -1,6 +1,7 @@
-"""What a journal is, whatever keeps it; how a batch becomes bytes; and how files are written."""
+"""What is stored: what a journal is, whatever keeps it; how a batch becomes bytes; how files are written; and snapshots."""
 
 import contextlib
+import fcntl
 import json
 import os
 import pathlib
@@ -9,7 +10,7 @@ import time
 import zlib
 from typing import Any, Callable, Iterable, Protocol, Sequence
 
-from bank import Unusable
+from bank import Bank, Unusable
 
 AT_ONCE = 200  # batches that are read
 FOLLOWING = 50_000  # batches that stay for a server that is away
@@ -57,21 +58,16 @@ def needed(stored: Iterable[int]) -> int:
     return max(numbers[-1], numbers[len(numbers) // 2] - FOLLOWING)
 
 
-def keep_alive(begin: Callable[[], Callable[[], object]]) -> None:
-    """Renews a lease from a thread, by what `begin` returns there, while this process lives and is not stopped: a copy of it by a fork, too.
-
-    If that fails, the next append is fenced.
-    """
+def keep_alive(renew: Callable[[], object]) -> None:
+    """Renews a lease from a thread while this process lives and is not stopped. If that fails, the next append is fenced."""
 
     def live() -> None:
-        renew = begin()
         while True:
             with BEAT, contextlib.suppress(Away, Unusable):
                 renew()
             time.sleep(LEASE / 6)
 
     threading.Thread(target=live, daemon=True).start()
-    os.register_at_fork(after_in_child=lambda: keep_alive(begin))
 
 
 def seal(text: str) -> bytes:
@@ -117,3 +113,55 @@ def sync_names(folder: pathlib.Path) -> None:
         os.fsync(names)
     finally:
         os.close(names)
+
+
+class Store:
+    """A folder of one server: N.snapshot is the bank after batch N.
+
+    First a line that has the procedures' texts, as a journal of calls means nothing without, and then the rows.
+    """
+
+    def __init__(self, folder: pathlib.Path, keep: bool = False) -> None:
+        self.folder, self.keep = folder, keep
+
+    def claim(self) -> None:
+        """Makes the folder, and keeps other servers from it. What a killed server has left of a snapshot is removed."""
+        self.folder.mkdir(0o700, exist_ok=True)
+        sync_names(self.folder.parent)
+        self._claimed = os.open(self.folder, os.O_RDONLY)
+        try:
+            fcntl.flock(self._claimed, fcntl.LOCK_EX | fcntl.LOCK_NB)
+        except BlockingIOError:
+            raise Unusable(f"{self.folder}: another server has this folder") from None
+        for it in self.folder.glob("*.new"):
+            it.unlink()
+
+    def path(self, number: int) -> pathlib.Path:
+        return self.folder / f"{number:015}.snapshot"
+
+    def numbers(self) -> list[int]:
+        """The batches after which there is a snapshot."""
+        return sorted(int(path.stem) for path in self.folder.glob("*.snapshot"))
+
+    def load(self, number: int) -> Bank:
+        """The bank after this batch. After batch 0 it is empty. `Unusable` if the snapshot is damaged."""
+        if number == 0:
+            return Bank(0, {}, b"")
+        with open(self.path(number), "rb") as file:
+            header, rows = file.readline(), file.read()
+        seq, texts, length, checksum = unseal(header[:-1]) or [0, {}, 0, -1]
+        if length != len(rows) or zlib.crc32(rows) != checksum:
+            raise Unusable(f"{self.path(number)}: the snapshot is damaged")
+        return Bank(seq, texts, rows)
+
+    def save(self, number: int, bank: Bank) -> str:
+        """Stores the bank after this batch, and deletes the snapshots before it, unless they are to be kept. Or says why it can't."""
+        try:
+            rows = bank.rows()
+            store(self.path(number), seal(json.dumps([bank.seq, bank.texts, len(rows), zlib.crc32(rows)])), b"\n", rows)
+        except (OSError, MemoryError) as why:
+            self.path(number).with_suffix(".new").unlink(missing_ok=True)
+            return f"no snapshot {self.path(number)}: {why}"
+        for it in [it for it in self.numbers() if it < number and not self.keep]:
+            self.path(it).unlink()
+        return ""

@@ -14,12 +14,11 @@ from audit import show, verify
 from bank import Unusable, load_procedures
 from chain import Chain
 from file_journal import FileJournal
-from fronts import load_tls, start_fronts
-from journal import Journal
+from front import load_tls, start_fronts
+from journal import Journal, Store
 from lines import load_tokens
 from running import end_by_signals, run
 from server import Server
-from snapshots import Store
 
 
 def open_journal(words: argparse.Namespace) -> Journal:

@@ -56,7 +56,7 @@ class PostgresJournal:
     def lead(self) -> bool:
         leads = bool(self._ask(LEAD, nonce=self._nonce))
         if leads:
-            keep_alive(lambda: partial(PostgresJournal(self.address)._ask, RENEW, nonce=self._nonce))
+            keep_alive(partial(PostgresJournal(self.address)._ask, RENEW, nonce=self._nonce))
         return leads
 
     def append(self, number: int, data: bytes) -> None:

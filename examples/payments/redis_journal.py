@@ -46,7 +46,7 @@ class RedisJournal:
             raise Unusable("Redis: it must run with appendonly yes and appendfsync always")
         self._ask("SET", self.name + ":leader", self._nonce, "NX", "PX", LEASE * 1000)
         if leads := self._renew():
-            keep_alive(lambda: self._renew)
+            keep_alive(self._renew)
         return leads
 
     def append(self, number: int, data: bytes) -> None:

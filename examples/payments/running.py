@@ -1,23 +1,33 @@
-"""Runs a server. When its history is long it is cut, and a snapshot stored: seconds of work, while another process serves."""
+"""Runs a server. A bank with a long history is replaced by one without. That takes seconds, in which the old one serves."""
 
 import contextlib
 import ctypes
-import marshal
 import os
 import pathlib
 import signal
+import socket
 import time
+from collections import deque
+from concurrent.futures import Future, ThreadPoolExecutor
 from multiprocessing.connection import Connection, Pipe
 from multiprocessing.reduction import send_handle
-from typing import NoReturn
+from typing import Optional
 
-from administration import listen_at
-from bank import Unusable
+from bank import Bank, Unusable
 from chain import Chain
-from journal import BEAT
+from journal import BEAT, Store
 from server import Server
 
-NEAR, HAND_OVER = 100_000, b"hand over"  # bytes of calls, which run in some milliseconds; what is said to the deputy then
+
+def listen_at(path: pathlib.Path) -> socket.socket:
+    """A socket at this path. One that an earlier server has left there is replaced."""
+    if path.is_socket():
+        path.unlink()
+    listener = socket.socket(socket.AF_UNIX)
+    os.fchmod(listener.fileno(), 0o600)  # of the file, once there is one
+    listener.bind(str(path))
+    listener.listen()
+    return listener
 
 
 def run(server: Server, port: int, admin: pathlib.Path, begin: float) -> None:
@@ -25,11 +35,17 @@ def run(server: Server, port: int, admin: pathlib.Path, begin: float) -> None:
     with listen_at(admin) as listener:
         send_handle(server.fronts[-1], listener.fileno(), None)
     print(f"serving on port {port} after call {server.chain.bank.seq}, started in {time.perf_counter() - begin:.2f} s", flush=True)
+    renewal: Optional[Renewal] = None
     while not server.chain.ends:
+        at = time.monotonic()
         server.turn()
-        if server.chain.bank.is_long():
-            cut(server)
-    server.before_replies()
+        if renewal:
+            time.sleep(min(time.monotonic() - at, 0.02) * renewal.catches_up)  # as the new bank has to catch up, the old one works half of the time
+            renewal = renewal.end(server) if renewal.made.done() else renewal
+        elif server.chain.bank.is_long():
+            renewal = Renewal(server)
+    server.mark()
+    server.flush()
     admin.unlink(missing_ok=True)
 
 
@@ -40,58 +56,45 @@ def end_by_signals(chain: Chain) -> None:
         signal.signal(number, lambda *_: setattr(chain, "ends", True))
 
 
-def cut(server: Server) -> None:
-    """Frees the history, and stores a snapshot. One that can't be stored ends nothing: the next cut tries again.
+class Renewal:
+    """A copy of the process stores a snapshot of the bank. A thread makes another bank of that, and has it run what the old one runs."""
 
-    Where a primary does it a copy of its process, by a fork, serves meanwhile, and notes the calls that it runs in a file in memory.
-    """
-    chain, number = server.chain, server.chain.number
-    ran, (link, its_link), deputy = os.memfd_create("calls"), Pipe(), -1
-    with BEAT, contextlib.suppress(OSError):  # so no other thread holds a lock. Where no process can be made, clients wait
-        deputy = os.fork() if chain.leads else -1
-    if deputy == 0:
-        link.close()  # else it would not see the end of this process
-        serve(server, its_link, ran)
-    its_link.close()
-    chain.bank.cut()
-    server.trouble = chain.store.save(number, chain.bank)
-    if deputy > 0:
-        take_over(server, deputy, link, ran)
-    os.close(ran)
-    if not server.trouble:
-        chain.stored(number)
+    def __init__(self, server: Server) -> None:
+        server.flush()
+        self.old, self.number, self.catches_up = server.chain.bank, server.chain.number, False
+        self.old.noted = self.noted = deque[bytes]()
+        (link, its_link), child = Pipe(duplex=False), -1
+        with BEAT, contextlib.suppress(OSError):  # so no other thread holds a lock
+            child = os.fork()
+        if child == 0:
+            ctypes.CDLL(None).prctl(1, signal.SIGKILL)  # PR_SET_PDEATHSIG: if the server dies, it does at once
+            its_link.send(server.chain.store.save(self.number, self.old))
+            os._exit(0)
+        its_link.close()
+        self.made: Future[Bank] = ThreadPoolExecutor(1).submit(self._make, server.chain.store, link)
 
+    def _make(self, store: Store, link: Connection) -> Bank:
+        if trouble := link.recv():
+            raise Unusable(trouble)
+        bank = store.load(self.number)
+        self.catches_up = True
+        bank.rerun(self.noted, left=8)  # requests of fronts: their calls run in some milliseconds
+        return bank
 
-def serve(server: Server, link: Connection, ran: int) -> NoReturn:
-    """Serves until it has to hand over. Then the other process needs what a turn changes."""
-    ctypes.CDLL(None).prctl(1, signal.SIGKILL)  # PR_SET_PDEATHSIG: if the other process dies, it does at once
-    chain = server.chain
-    chain.bank.noted = ran
-    said = b""
-    while said != HAND_OVER:
-        begin = time.monotonic()
-        server.turn()
-        time.sleep(min(time.monotonic() - begin, 0.02) if said else 0)  # as the other process has to catch up, it works half of the time
-        said = link.recv_bytes() if link.poll() else said
-    numbers = {name: it for name, it in vars(server).items() if isinstance(it, (int, float, type(None)))}
-    link.send_bytes(marshal.dumps((chain.number, chain.bank.seq, numbers)))
-    os._exit(0)
-
-
-def take_over(server: Server, deputy: int, link: Connection, ran: int) -> None:
-    """Runs what the other process has run, has it end, and runs the rest."""
-    chain = server.chain
-    try:
-        link.send_bytes(b"catches up")
-        at = chain.bank.rerun(ran, 0, NEAR)
-        link.send_bytes(HAND_OVER)
-        while not link.poll(0.1):
-            if chain.ends:
-                os.kill(deputy, signal.SIGTERM)  # it may wait for a journal that is away
-        chain.number, seq, numbers = marshal.loads(link.recv_bytes())
-    except (EOFError, ConnectionError):
-        raise SystemExit(1) from None  # it has said why
-    chain.bank.rerun(ran, at, 0)
-    if chain.bank.seq != seq:
-        raise Unusable(f"the calls up to {seq} end with call {chain.bank.seq} where the history was cut")
-    vars(server).update(numbers)
+    def end(self, server: Server) -> None:
+        """The new bank runs the rest, and takes the place of the old one. If there is none, the old one is cut, and clients wait."""
+        chain, self.old.noted, server.trouble = server.chain, None, ""
+        server.flush()
+        if chain.bank is not self.old:
+            return  # the journal has gone on with other procedures
+        try:
+            bank = self.made.result()
+            bank.rerun(self.noted, left=0)
+            if bank.seq != self.old.seq:
+                raise ValueError(f"the calls up to {self.old.seq} end with call {bank.seq} in a bank that is made of a snapshot")
+            chain.bank = bank
+            ThreadPoolExecutor(1).submit(self.old.engine.close)
+        except (EOFError, OSError, MemoryError, Unusable) as why:
+            server.trouble = str(why) or "no snapshot, as the process that was to store it has ended"
+            return self.old.cut()
+        chain.stored(self.number)

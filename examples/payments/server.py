@@ -1,10 +1,12 @@
-"""The process of the engine: it runs what the fronts have asked, makes it safe by one append, and only then replies."""
+"""The process of the engine: it runs what the fronts have asked. A thread makes that safe, and replies, while the next calls run."""
 
 import hashlib
 import json
 import marshal
+import os
 import select
 import time
+from concurrent.futures import Future, ThreadPoolExecutor
 from multiprocessing.connection import Connection
 from typing import Any, Optional, Sequence
 
@@ -12,8 +14,10 @@ from bank import NO_PROCEDURE, ROW, Procedure
 from chain import PAUSE, Chain
 from sgt import pack_calls, unpack_calls
 
-QUICK = 0.0005  # seconds of an append. If one takes longer, a turn waits for the fronts that asked in the last one, half as long at most
+QUICK = 0.0005  # seconds of an append. To have a thread make it costs less than it gains only where it takes longer
 IDLE = 0.1  # seconds without a request, after which the journal notes what is safe
+# What ran at once: the entries of calls that wrote, or none if nothing goes to the journal; which front asked, if one did, and what it gets.
+Group = tuple[Optional[list[str]], Optional[Connection], bytes]
 
 
 class Server:
@@ -21,67 +25,105 @@ class Server:
 
     def __init__(self, chain: Chain, fronts: list[Connection], procedures: dict[str, Procedure]) -> None:
         self.chain, self.fronts, self.procedures = chain, fronts, procedures
-        self.batch: list[str] = []  # the entries of calls that ran, and are not safe yet
+        self.entries: list[str] = []  # of calls that ran, and are in no group yet
+        self.groups, self.appended = list[Group](), list[Group]()  # what has run, and what is being made safe
+        self.appender, (self.is_safe, self.says_so) = ThreadPoolExecutor(1), os.pipe()
+        self.appends: Optional[Future[None]] = None  # an append by a thread, which says by a byte that it is done
         self.is_marked, self.day, self.trouble = True, -1, ""  # the trouble is of the last snapshot
         self.forgot: Optional[int] = -1  # the day of the bank on which no old id was left
         self.began, self.calls, self.batches, self.appending = time.monotonic(), 0, 0, 0.0
-        # How many fronts asked in the last turn; and what administrators may.
-        self.asked, self.words = 0, {"rows": self.rows, "health": self.health, "figures": self.figures, "day": self.set_day}
+        self.words = {"rows": self.rows, "health": self.health, "figures": self.figures, "day": self.set_day}  # what administrators may ask
         self.writers = {chain.bank.numbers[name] for name, it in procedures.items() if it.writes}
         for front in fronts:
             front.send_bytes(marshal.dumps(chain.bank.numbers))
 
     def turn(self) -> None:
-        """Waits for requests, and replies to all that have come in. The next ones gather meanwhile."""
-        ready = select.select(self.fronts, (), (), IDLE if self.chain.leads else PAUSE)[0]
-        end = time.monotonic() + (min(self.appending / max(1, self.batches), 0.02) - QUICK) / 2
-        while 0 < len(ready) < self.asked and time.monotonic() < end:  # the other fronts are about to ask, and one batch costs less than two
-            time.sleep(0.0002)
-            ready = select.select(self.fronts, (), (), 0)[0]
-        self.asked = len(ready)
+        """Waits for requests, runs what has come in, and replies to what is safe."""
+        ready = select.select([self.is_safe, *self.fronts], (), (), IDLE if self.chain.leads else PAUSE)[0]
         if not self.chain.leads:
             self.chain.follow()
         self.begin_day()
         try:
-            replies = [self.run(*marshal.loads(front.recv_bytes())) for front in ready]
-            self.forget()
-            self.before_replies()
-            # What a follower adds to a reply: payments that were acknowledged later may be missing in it.
-            age = "" if self.chain.leads else f', "seconds_old": {time.monotonic() - self.chain.fresh:.3f}'
-            for front, (outcomes, words) in zip(ready, replies):
-                front.send_bytes(marshal.dumps((outcomes, words, age)))
+            for it in ready:
+                if it is self.is_safe:
+                    self.reply()
+                else:
+                    self.serve(it, *marshal.loads(it.recv_bytes()))
+            if not ready:
+                self.mark()
+            self.begin_append()
         except (EOFError, ConnectionError):
             raise OSError("a front process has ended") from None
 
-    def before_replies(self) -> None:
-        """Makes the batch safe. Nothing is told before: a refusal or a balance may rest on a call of the same batch.
+    def mark(self) -> None:
+        """Once nobody asks, an empty batch notes that all is safe. Until then damage to the last batch looks like a torn tail."""
+        if self.entries or not self.is_marked:
+            self.add_group(self.entries)
 
-        Once nobody asks, an empty batch notes that all is safe. Until then damage to the last batch looks like a torn tail.
-        """
-        if self.batch or not self.is_marked:
-            begin = time.monotonic()
-            self.chain.append(self.batch)
-            self.appending += time.monotonic() - begin
-            self.batches += 1
-            self.batch, self.is_marked = [], not self.batch
+    def serve(self, front: Connection, calls: bytes, entries: Sequence[str], words: Sequence[dict[str, int]]) -> None:
+        """Runs what a front has asked: packed calls, whose entries these are, and words to the server itself."""
+        outcomes = self.run(calls, entries)
+        self.forget()
+        if words:
+            self.flush()  # so that they report of no call that may be lost
+        reported = [self.words[word](value) if word in self.words else {"error": "no word of this server"} for it in words for word, value in it.items()]
+        # What a follower adds to a reply: payments that were acknowledged later may be missing in it.
+        age = "" if self.chain.leads else f', "seconds_old": {time.monotonic() - self.chain.fresh:.3f}'
+        self.add_group(self.entries or None, front, outcomes + marshal.dumps(([*map(json.dumps, reported)], age)))
+
+    def add_group(self, entries: Optional[list[str]], front: Optional[Connection] = None, reply: bytes = b"") -> None:
+        """Has this made safe next, and then replied."""
+        if entries is not None:
+            self.entries, self.is_marked = [], not entries
+        self.groups.append((entries, front, reply))
+
+    def begin_append(self) -> None:
+        """Has all groups made safe by one batch. Where that takes long a thread does it, and the engine goes on meanwhile."""
+        if self.groups and not self.appended:
+            self.appended, self.groups = self.groups, []
+            parts = [it for it, _, _ in self.appended if it is not None]
+            if self.appending <= QUICK * self.batches:
+                self.append(parts)
+                self.reply()
+            else:
+                self.appends = self.appender.submit(self.append, parts)
+                self.appends.add_done_callback(lambda _: os.write(self.says_so, b"."))
+
+    def append(self, parts: list[list[str]]) -> None:
+        begin = time.monotonic()
+        if parts:
+            self.chain.append([it for part in parts for it in part])
+            self.batches, self.appending = self.batches + 1, self.appending + time.monotonic() - begin
         elif self.chain.leads:
             self.chain.insist(self.chain.journal.check)  # as replies rest on no new batch
+
+    def reply(self) -> None:
+        """Replies to what is safe, once it is. Nothing is told before: a refusal or a balance may rest on a call that ran before it."""
+        if self.appends:
+            os.read(self.is_safe, 1)
+            self.appends = self.appends.result()  # none, or raises what the append has failed with
+        for front, reply in [(front, reply) for _, front, reply in self.appended if front]:
+            front.send_bytes(reply)
+        self.appended = []
+
+    def flush(self) -> None:
+        """Returns once all that has run is safe, and replied to."""
+        while self.groups or self.appended:
+            self.begin_append()
+            self.reply()
 
     def call(self, name: str, *args: int, times: int = 1) -> None:
         """Runs a call of the server's own, if these procedures have it."""
         if name in self.procedures:
             self.run(pack_calls([(self.chain.bank.numbers[name], *args)] * times), [self.procedures[name].entry % args] * times)
 
-    def run(self, calls: bytes, entries: Sequence[str], words: Sequence[dict[str, int]] = ()) -> tuple[bytes, list[str]]:
-        """Runs packed calls, and adds the entries of those that wrote to the batch. Their packed outcomes, and then the replies to words."""
+    def run(self, calls: bytes, entries: Sequence[str]) -> bytes:
+        """Runs packed calls, and adds the entries of those that wrote. Their packed outcomes."""
         if not self.chain.leads:  # for what may write a follower has no procedure
             calls = pack_calls([(NO_PROCEDURE if number in self.writers else number, *args) for number, *args in unpack_calls(calls)])
         outcomes, wrote = self.chain.bank.run(calls, entries)
-        self.batch += wrote
-        self.chain.bank.seq += len(wrote)
-        self.calls += len(entries)
-        reported = [self.words[word](value) if word in self.words else {"error": "no word of this server"} for it in words for word, value in it.items()]
-        return outcomes, [*map(json.dumps, reported)]
+        self.entries, self.calls = self.entries + wrote, self.calls + len(entries)
+        return outcomes
 
     def rows(self, _: int) -> dict[str, Any]:
         """A digest of all rows, and how many there are. Nobody is served while it is made: some seconds for ten million rows."""
@@ -109,10 +151,10 @@ class Server:
             self.call("day", self.day)
 
     def forget(self) -> None:
-        """Has the bank forget old ids, at most twice as many as calls of the batch. So they do not pile up, and nobody waits for long."""
-        if (calls := len(self.batch)) and self.forgot != (day := self.chain.bank.day()):
+        """Has the bank forget old ids, at most twice as many as calls that wrote. So they do not pile up, and nobody waits for long."""
+        if (calls := len(self.entries)) and self.forgot != (day := self.chain.bank.day()):
             self.call("forget", times=2 * calls)
-            self.forgot = day if len(self.batch) == calls else self.forgot
+            self.forgot = day if len(self.entries) == calls else self.forgot
 
     def trouble_of_clock(self) -> str:
         """Whether the bank has another day than the clock. A follower may get the next day a moment late."""

@@ -72,10 +72,8 @@ def python_with(module):
 class Etcd:
     """Three nodes, whose journal has this address."""
 
-    python = sys.executable
-
     def __init__(self, folder):
-        self.folder, self.ports = folder, free_ports(6)
+        self.folder, self.ports, self.python = folder, free_ports(6), python_with("etcd3")
         self.processes = [None] * 3
         self.address = f"etcd://{','.join(f'127.0.0.1:{port}' for port in self.ports[:3])}/bank"
 
@@ -87,7 +85,9 @@ class Etcd:
     @staticmethod
     def missing():
         """What is missing here, if anything is."""
-        return little_space(1000) if shutil.which("etcd") else "there is no etcd on this machine"
+        if not shutil.which("etcd"):
+            return "there is no etcd on this machine"
+        return little_space(1000) if python_with("etcd3") else "there is no python3-etcd3 on this machine"
 
     def start(self, number):
         own, peers = f"http://127.0.0.1:{self.ports[number]}", [f"http://127.0.0.1:{port}" for port in self.ports[3:]]

@@ -2,7 +2,7 @@
 
     [NOTE_FSYNC=FILE] [CUT_AFTER=ENTRIES] [LEASE=SECONDS] [PATIENCE=SECONDS] [DAYS_AHEAD=FILE] noting_fsync.py PROGRAM WORD..
 
-Its clock shows the time of day of a day that is always the same, so that no test depends on when it runs.
+Its day is always the same, so that no test depends on when it runs.
 
 A kill loses nothing of the page cache. With these notes a test can take away what only stood there, as a loss of power may.
 CUT_AFTER has the bank cut its history after so many entries, LEASE is after how many seconds a primary is replaced, and PATIENCE after how
@@ -17,7 +17,7 @@ import sys
 import time
 
 DAY = 20_000  # counted from 1970
-fsync, now = os.fsync, time.time
+fsync = os.fsync
 
 
 def noting(file):
@@ -36,9 +36,11 @@ def days_ahead():
 
 
 os.fsync = noting
-time.time = lambda: 86_400 * (DAY + days_ahead()) + now() % 86_400
 sys.argv = sys.argv[1:]
 sys.path.insert(0, str(pathlib.Path(sys.argv[0]).resolve().parent))
+import server  # noqa: E402
+
+server.today = lambda: DAY + days_ahead()
 if "CUT_AFTER" in os.environ:
     import bank
 

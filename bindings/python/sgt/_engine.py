@@ -4,18 +4,22 @@ from __future__ import annotations
 
 import ctypes
 import json
-from typing import Callable, Optional, Sequence, Union
+import threading
+from typing import Any, Callable, Optional, Sequence, Union
 
-from ._errors import BadCall, NoMemory, NoSuchEntry, OpeningRefused, StillLive, Taken
+from ._errors import BadCall, Busy, NoMemory, NoSuchEntry, OpeningRefused, StillLive, Taken
 from ._library import (
     CALL_BYTES,
     FIRST_FAULT,
+    FREE,
     HELD,
+    IN_A_CALL,
     LEAST,
     MOST,
     NO_MEMORY,
     NO_TID,
     NONE,
+    OPEN,
     STILL_LIVE,
     TAKEN,
     AnyRow,
@@ -62,7 +66,7 @@ def _quick(name: str) -> Callable[..., int]:
     return HELD[name]
 
 
-_start, _run, _run_many, _step, _commit, _quit = map(_quick, ("sgt_start", "sgt_run", "sgt_run_many", "sgt_step", "sgt_commit", "sgt_quit"))
+_start, _run, _step, _commit, _quit = map(_quick, ("sgt_start", "sgt_run", "sgt_step", "sgt_commit", "sgt_quit"))
 _begin, _read, _write, _remove = map(_quick, ("sgt_begin", "sgt_read", "sgt_write", "sgt_remove"))
 _SIZES = [ctypes.c_size_t(count) for count in range(5)]
 
@@ -80,8 +84,11 @@ def _record(table: int, number: int) -> tuple[ctypes.c_uint64, ctypes.c_int64]:
 class Engine(Uncopied):
     """An engine. It is closed at the end of a `with` block, by `close`, or when it is collected.
 
-    Each call holds the interpreter's lock, so calls of several threads run one after another. For threads use `SharedEngine`.
+    Each call holds the interpreter's lock, so calls of several threads run one after another. For threads use `SharedEngine`. An engine
+    that `bare` opens with `releases` is for one thread, and other threads run beside its long calls.
     """
+
+    _long: Optional[threading.Lock] = None  # has the call that has released the interpreter's lock, if there may be one
 
     def __init__(
         self,
@@ -104,11 +111,15 @@ class Engine(Uncopied):
         check(status)
 
     @classmethod
-    def bare(cls, live: int, begins: int, asks: bool = True) -> Engine:
+    def bare(cls, live: int, begins: int, asks: bool = True, releases: bool = False) -> Engine:
         """Opens an engine without records and procedures, not even SmallBank's: at most `live` transactions at a time, at most
         `begins` in all; with `asks`, codes are reported at the commit. Raises OpeningRefused or NoMemory.
+
+        With `releases` the calls that may take long release the interpreter's lock: `put`, `put_bytes`, `run_many`, `run_bytes`, `cut` and
+        `close`. While one of them runs, each other call to this engine raises Busy.
         """
         engine = cls.__new__(cls)
+        engine._long = threading.Lock() if releases else None
         engine._engine = CEngine()
         engine._at = ctypes.byref(engine._engine)
         limits = (whole(number, 0, 2**64 - 1) for number in (live, begins, asks))
@@ -118,6 +129,25 @@ class Engine(Uncopied):
         check(status)
         return engine
 
+    def _call(self, name: str, *args: Any) -> Optional[int]:
+        """Makes a call that may take long. If it releases the interpreter's lock, all other calls find an engine that is in a call."""
+        if self._long is None:
+            return getattr(HELD, name)(self._at, *args)
+        if not self._long.acquire(blocking=False):
+            raise Busy()
+        try:
+            if self._engine.is_open != OPEN:
+                return getattr(HELD, name)(self._at, *args)
+            self._engine.is_open = IN_A_CALL
+            moved = CEngine.from_buffer_copy(self._engine)  # an engine may move while no call is in it
+            moved.is_open = OPEN
+            try:
+                return getattr(FREE, name)(ctypes.byref(moved), *args)
+            finally:
+                ctypes.memmove(self._at, ctypes.byref(moved), ctypes.sizeof(moved))
+        finally:
+            self._long.release()
+
     def put(self, rows: Sequence[AnyRow]) -> None:
         """Puts new records into the initial database, while the history is empty. Each call goes through all records.
 
@@ -125,7 +155,7 @@ class Engine(Uncopied):
         BadCall if a row is out of range. Then nothing has changed.
         """
         at = ctypes.c_uint64()
-        status = HELD.sgt_put(self._engine, rows_for(rows), len(rows), at)
+        status = self._call("sgt_put", rows_for(rows), ctypes.c_size_t(len(rows)), ctypes.byref(at))
         if status == TAKEN:
             raise Taken(at.value)
         check(status)
@@ -134,7 +164,7 @@ class Engine(Uncopied):
         """Puts the rows in these bytes, as `rows_bytes` returns them. Raises what `put` raises."""
         at = ctypes.c_uint64()
         reported, count = rows_in(rows)
-        status = HELD.sgt_put(self._engine, reported, count, at)
+        status = self._call("sgt_put", reported, ctypes.c_size_t(count), ctypes.byref(at))
         if status == TAKEN:
             raise Taken(at.value)
         check(status)
@@ -200,8 +230,8 @@ class Engine(Uncopied):
         if rest:
             raise BadCall(f"a call takes {CALL_BYTES} bytes")
         outcomes, size, done = (COutcome * count)(), ctypes.c_size_t(count), ctypes.c_uint64()
-        status = _run_many(self._at, bytes(calls), size, outcomes, size, ctypes.byref(done))
-        ran = bytes(outcomes)[: done.value * ctypes.sizeof(COutcome)]
+        status = self._call("sgt_run_many", bytes(calls), size, outcomes, size, ctypes.byref(done))
+        ran = ctypes.string_at(outcomes, done.value * ctypes.sizeof(COutcome))
         if status == NO_MEMORY:
             raise NoMemory(unpack_outcomes(ran))
         check(status)
@@ -351,14 +381,14 @@ class Engine(Uncopied):
     def cut(self) -> None:
         """Cuts the history off. Raises StillLive if a transaction is live; then nothing has changed."""
         live = ctypes.c_uint64()
-        status = HELD.sgt_cut(self._engine, live)
+        status = self._call("sgt_cut", ctypes.byref(live))
         if status == STILL_LIVE:
             raise StillLive(live.value)
         check(status)
 
     def close(self) -> None:
         """Closes the engine. Later calls raise Closed."""
-        HELD.sgt_close(self._engine)
+        self._call("sgt_close")
 
     def __enter__(self) -> Engine:
         return self

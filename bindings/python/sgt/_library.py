@@ -60,6 +60,9 @@ class CEngine(ctypes.Structure):
     _fields_ = [("is_open", ctypes.c_uint8), ("at", ctypes.c_void_p)]
 
 
+OPEN, IN_A_CALL = 1, 2  # values of `is_open`
+
+
 class CFault(ctypes.Structure):
     _fields_ = [
         ("kind", ctypes.c_uint32),
@@ -257,7 +260,7 @@ def _typed(library: ctypes.CDLL, calls: dict[str, list[type]]) -> None:
 
 
 # Calls to an Engine keep the interpreter's lock, so they never overlap; most are shorter than releasing it. Calls to a SharedEngine
-# release it, since they may wait.
+# release it, since they may wait; so do the long calls of an Engine that is made so.
 HELD = ctypes.PyDLL(_path())
 FREE = ctypes.CDLL(_path())
 _version = HELD["sgt_version"]
