@@ -5,7 +5,7 @@ use Rattle.sgt_model.specs.declared.procedure.Expr.TheVariants.{Arg}
 use Rattle.sgt_model.specs.ProcedureTexts.{expr_text}
 use Rattle.sgt_model.specs.Syntax.{sum, diff, reg, arg, num, empty, save, choose, less}
 use Rattle.sgt_smallbank.proofs.Forks.{before_branches}
-use Rattle.sgt_smallbank.proofs.write_check.charge.Goals as goal
+use Rattle.sgt_smallbank.proofs.five_procedures.charge.Goals as goal
 
 pub returns : goal.returns
 returns c = λ rest.
