@@ -5,7 +5,7 @@ use Rattle.std.specs.Fmt.{decimal}
 use Rattle.sgt_notation.specs.Spellings.{spelling}
 use Rattle.sgt_notation.specs.Readings.{texts}
 use Rattle.sgt_check.proofs.Pieces.{grow, grow_number, placed_there}
-use Rattle.sgt_check.proofs.placed_text.append_placed.Goals as goal
+use Rattle.sgt_check.proofs.mentioned.append_placed.Goals as goal
 
 pub returns : goal.returns
 returns c =

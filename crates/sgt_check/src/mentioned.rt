@@ -1,17 +1,39 @@
-//! Operations and transactions of a history as text.
+//! What a text on a history mentions: transactions and operations.
 ghost use Rattle.std.specs.Prelude.{◌≡◌, ◌++◌, OnOk};
 ghost use Rattle.sgt_check.specs.ReportText.{placed, transaction_at, transaction_of};
+ghost use Rattle.sgt_check.specs.Mentions.{mentioned_text};
 
-use sgt_format::{append_number, append_numbered};
+use sgt_format::{Spelled, append_number, append_numbered};
 use sgt_model::NoMemory;
 use sgt_notation::{History, append_operation};
 
+/// What a text on a history mentions.
+#[derive(Clone, Copy)]
+pub(crate) enum Mentioned<'a> {
+    /// The transaction.
+    Transaction(u32),
+    /// The operation at the position, and the position counted from 1.
+    Placed(&'a History, usize),
+    /// The transaction of the operation at the position, if there is a position.
+    TransactionOf(&'a History, Option<usize>),
+}
+
+impl Spelled for Mentioned<'_> {
+    ghost spelled = { mentioned_text };
+
+    fn append_to(&self, text: &mut Vec<u8>) -> Result<(), NoMemory> {
+        match self {
+            Mentioned::Transaction(transaction) => Ok(append_number(text, *transaction)?),
+            Mentioned::Placed(history, place) => append_placed(text, history, *place),
+            Mentioned::TransactionOf(history, place) => append_transaction_of(
+                text, history, *place,
+            ),
+        }
+    }
+}
+
 /// Appends the operation at a position, and the position counted from 1.
-pub(crate) fn append_placed(
-    text: &mut Vec<u8>,
-    history: &History,
-    place: usize,
-) -> Result<(), NoMemory>
+fn append_placed(text: &mut Vec<u8>, history: &History, place: usize) -> Result<(), NoMemory>
     ensures { OnOk result (text.new.items ≡ text.old.items ++ placed history.now place) }
 {
     let Some(operation) = history.operations.get(place) else {
@@ -24,7 +46,7 @@ pub(crate) fn append_placed(
 }
 
 /// Appends the transaction of the operation at a position.
-pub(crate) fn append_transaction_at(
+fn append_transaction_at(
     text: &mut Vec<u8>,
     history: &History,
     place: usize,
@@ -38,7 +60,7 @@ pub(crate) fn append_transaction_at(
 }
 
 /// Appends the transaction of the operation at a position, if there is a position.
-pub(crate) fn append_transaction_of(
+fn append_transaction_of(
     text: &mut Vec<u8>,
     history: &History,
     place: Option<usize>,
