@@ -8,9 +8,6 @@ use Rattle.sgt_classes.specs.declared.operation.Violation.{Violation}
 use Rattle.sgt_notation.specs.declared.history.History.{History}
 use Rattle.sgt_notation.specs.Spellings.{spelling}
 use Rattle.sgt_notation.specs.Readings.{texts}
-use Rattle.std.specs.List.{flat_map}
-use Rattle.sgt_check.specs.declared.piece.Piece.{Piece}
-use Rattle.sgt_check.specs.Pieces.{piece_text, with_pieces, pieces_text}
 use Rattle.sgt_check.specs.ReportText.{placed, class_text}
 
 -- a piece after the text so far
@@ -39,14 +36,3 @@ reported_no name why o v is = sym (ap (class_text name why) is)
 pub placed_there : (h : History) (i : ℕ) (op : Operation) → slice_get h.operations.items i ≡ Some op
     → placed h i ≡ spelling (texts h) op ++ codes " (" ++ decimal (i + 1) ++ codes ")"
 placed_there h i op is = ap (λ o. option_map_or (λ op. spelling (texts h) op ++ codes " (" ++ decimal (i + 1) ++ codes ")") o []) is
-
--- pieces after the text so far
-with_pieces_all : (h : History) (came : List ℕ) (pieces : List Piece) → with_pieces h came pieces ≡ came ++ flat_map (piece_text h) pieces
-with_pieces_all h came [] = sym (append-nil came)
-with_pieces_all h came (p ∷ ps) =
-    with_pieces_all h (came ++ piece_text h p) ps ∙ append_assoc came (piece_text h p) (flat_map (piece_text h) ps)
-
--- pieces in order
-pub pieces_all : (h : History) (pieces : List Piece) → flat_map (piece_text h) pieces ≡ pieces_text h pieces
-pieces_all h [] = refl
-pieces_all h (p ∷ ps) = sym (with_pieces_all h (piece_text h p) ps)

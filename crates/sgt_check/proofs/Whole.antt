@@ -3,13 +3,12 @@ use Rattle.std.proofs.Common.{◌≡◌, ◌≢◌, ◌<◌, length, take, ℕ, 
 use Rattle.std.specs.Prelude.{Option, Some, None, IfSome}
 use Rattle.std.specs.Io.KnownBytes.{Appends}
 use Rattle.sgt_notation.specs.declared.fault.NotationFault.{NotationFault}
-use Rattle.sgt_check.specs.declared.checked.Verdict.{Verdict}
 use Rattle.sgt_check.specs.Checks.{IsFaultOf}
 use Rattle.sgt_check.specs.declared.fault.CheckFault.{CheckFault}
 use Rattle.sgt_check.specs.declared.fault.CheckFault.TheVariants.{Notation, NoOperations, TooLong, Reading, Writing, NoMemory}
 
 -- the lines of what was read are written
-pub is_reported : (Says : List ℕ → List ℕ → Verdict → Type 0) (rest held held' : Option (List ℕ)) (text lines : List ℕ) (v : Verdict)
+pub is_reported : {A : Type 0} (Says : List ℕ → List ℕ → A → Type 0) (rest held held' : Option (List ℕ)) (text lines : List ℕ) (v : A)
     → IfSome rest (λ bytes. bytes ≡ text) → Says text lines v → Appends held held' lines
     → IfSome rest (λ input. (output : List ℕ) × Appends held held' output × Says input output v)
 is_reported Says None held held' text lines v same reported appended = tt
@@ -17,9 +16,9 @@ is_reported Says (Some bytes) held held' text lines v same reported appended =
     (lines, appended, subst (λ t. Says t lines v) (sym same) reported)
 
 -- the first bytes of those lines are written
-pub is_begun : (Says : List ℕ → List ℕ → Verdict → Type 0) (rest held held' : Option (List ℕ)) (text lines : List ℕ) (v : Verdict)
+pub is_begun : {A : Type 0} (Says : List ℕ → List ℕ → A → Type 0) (rest held held' : Option (List ℕ)) (text lines : List ℕ) (v : A)
     → IfSome rest (λ bytes. bytes ≡ text) → Says text lines v → ((k : ℕ) × Appends held held' (take k lines))
-    → IfSome rest (λ input. (output : List ℕ) × (v : Verdict) × (k : ℕ) × Says input output v
+    → IfSome rest (λ input. (output : List ℕ) × (v : A) × (k : ℕ) × Says input output v
     × Appends held held' (take k output))
 is_begun Says None held held' text lines v same reported part = tt
 is_begun Says (Some bytes) held held' text lines v same reported part =

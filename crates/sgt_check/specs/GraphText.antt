@@ -6,6 +6,7 @@ use Rattle.sgt_classes.specs.declared.operation.Operation.{Operation}
 use Rattle.sgt_classes.specs.declared.graph.Edge.{Edge}
 use Rattle.sgt_classes.specs.declared.serial.Serializability.{Serializability}
 use Rattle.sgt_classes.specs.declared.serial.Serializability.TheVariants.{Serial, Cycle}
+use Rattle.sgt_format.specs.Templates.{filled}
 use Rattle.sgt_notation.specs.declared.history.History.{History}
 use Rattle.sgt_check.specs.Reports.{commits}
 use Rattle.sgt_check.specs.ReportText.{placed}
@@ -32,8 +33,9 @@ colour_text false = codes "\"];\n"
 -- the line of an edge: its two transactions, and its two operations with their positions; red if the cycle has an
 -- edge between the two
 abbrev pub arrow_text : History → List Edge → Edge → List ℕ
-arrow_text h cycle e = codes "  " ++ decimal e.from ++ codes " -> " ++ decimal e.to ++ codes " [label=\"" ++ placed h e.earlier
-    ++ codes " " ++ placed h e.later ++ colour_text (leads cycle e.from e.to)
+arrow_text h cycle e =
+    filled (codes "  # -> # [label=\"# #") (decimal e.from ∷ decimal e.to ∷ placed h e.earlier ∷ placed h e.later ∷ [])
+    ++ colour_text (leads cycle e.from e.to)
 
 -- the committed transactions in commit order, and then the edges
 abbrev pub graph_text : History → List Edge → Serializability → List ℕ

@@ -4,4 +4,4 @@ pub mod Checks
 pub mod GraphText
 pub mod Graphs
 pub mod Timelines
-pub mod Pieces
+pub mod Mentions

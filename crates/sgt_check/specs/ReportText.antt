@@ -1,5 +1,5 @@
 -- The lines of a report.
-use Rattle.std.specs.Prelude.{ℕ, ◌+◌, ◌-◌, List, [], ◌∷◌, ◌++◌, Option, Some, None, slice_get, codes}
+use Rattle.std.specs.Prelude.{ℕ, ◌+◌, ◌-◌, List, [], ◌∷◌, ◌++◌, Option, Some, None, slice_get, map, codes}
 use Rattle.std.specs.Option.{option_map_or}
 use Rattle.std.specs.List.{flat_map}
 use Rattle.std.specs.Fmt.{decimal}
@@ -7,6 +7,7 @@ use Rattle.sgt_classes.specs.declared.operation.Violation.{Violation}
 use Rattle.sgt_classes.specs.declared.graph.Edge.{Edge}
 use Rattle.sgt_classes.specs.declared.serial.Serializability.{Serializability}
 use Rattle.sgt_classes.specs.declared.serial.Serializability.TheVariants.{Serial, Cycle}
+use Rattle.sgt_format.specs.Templates.{filled}
 use Rattle.sgt_notation.specs.declared.history.History.{History}
 use Rattle.sgt_notation.specs.Spellings.{spelling}
 use Rattle.sgt_notation.specs.Readings.{texts}
@@ -27,8 +28,9 @@ transaction_of h place = option_map_or (transaction_at h) place []
 
 -- the number of transactions, and how many committed, aborted or are active
 abbrev pub counts_text : Counts → List ℕ
-counts_text c = codes "transactions " ++ decimal c.transactions ++ codes ": " ++ decimal c.committed ++ codes " committed, "
-    ++ decimal c.aborted ++ codes " aborted, " ++ decimal (c.transactions - c.committed - c.aborted) ++ codes " active\n"
+counts_text c =
+    filled (codes "transactions #: # committed, # aborted, # active\n")
+    (map decimal (c.transactions ∷ c.committed ∷ c.aborted ∷ (c.transactions - c.committed - c.aborted) ∷ []))
 
 -- a transaction of a serial order
 abbrev pub next_text : ℕ → List ℕ
@@ -36,7 +38,7 @@ next_text t = codes " " ++ decimal t
 
 -- an edge with its two operations
 abbrev pub edge_text : History → Edge → List ℕ
-edge_text h e = codes " " ++ decimal e.from ++ codes " " ++ decimal e.to ++ codes " by " ++ placed h e.earlier ++ codes " " ++ placed h e.later
+edge_text h e = filled (codes " # # by # #") (decimal e.from ∷ decimal e.to ∷ placed h e.earlier ∷ placed h e.later ∷ [])
 
 -- an edge of a cycle after the first, with a comma before it
 abbrev pub later_edge_text : History → Edge → List ℕ
@@ -68,23 +70,28 @@ class_text name why (Some v) = name ++ codes " no: " ++ why v
 
 -- a commit too early: the writer aborts, or has not committed
 abbrev pub recoverable_why : History → Option ℕ → Option ℕ → Violation → List ℕ
-recoverable_why h write None v = placed h v.later ++ codes ", which reads from " ++ transaction_of h write ++ codes " by " ++ placed h v.earlier
-    ++ codes ", and " ++ transaction_of h write ++ codes " has not committed\n"
-recoverable_why h write (Some abort) v = placed h v.later ++ codes ", which reads from " ++ transaction_of h write ++ codes " by "
-    ++ placed h v.earlier ++ codes ", and " ++ transaction_of h write ++ codes " aborted: " ++ placed h abort ++ codes "\n"
+recoverable_why h write None v =
+    filled (codes "#, which reads from # by #, and # has not committed\n")
+    (placed h v.later ∷ transaction_of h write ∷ placed h v.earlier ∷ transaction_of h write ∷ [])
+recoverable_why h write (Some abort) v =
+    filled (codes "#, which reads from # by #, and # aborted: #\n")
+    (placed h v.later ∷ transaction_of h write ∷ placed h v.earlier ∷ transaction_of h write ∷ placed h abort ∷ [])
 
 -- a read of an uncommitted value
 abbrev pub avoiding_why : History → Violation → List ℕ
-avoiding_why h v = placed h v.later ++ codes " reads from " ++ transaction_at h v.earlier ++ codes ", which has not committed\n"
+avoiding_why h v =
+    filled (codes "# reads from #, which has not committed\n") (placed h v.later ∷ transaction_at h v.earlier ∷ [])
 
 -- an operation before the end of the earlier one's transaction
 abbrev pub follows_why : History → Violation → List ℕ
-follows_why h v = placed h v.later ++ codes " follows " ++ placed h v.earlier ++ codes ", and " ++ transaction_at h v.earlier ++ codes " has not ended\n"
+follows_why h v =
+    filled (codes "# follows #, and # has not ended\n") (placed h v.later ∷ placed h v.earlier ∷ transaction_at h v.earlier ∷ [])
 
 -- two operations whose transactions committed in the opposite order
 abbrev pub order_why : History → Violation → List ℕ
-order_why h v = transaction_at h v.earlier ++ codes " before " ++ transaction_at h v.later ++ codes " by " ++ placed h v.earlier ++ codes " "
-    ++ placed h v.later ++ codes ", and " ++ transaction_at h v.later ++ codes " committed first\n"
+order_why h v =
+    filled (codes "# before # by # #, and # committed first\n")
+    (transaction_at h v.earlier ∷ transaction_at h v.later ∷ placed h v.earlier ∷ placed h v.later ∷ transaction_at h v.later ∷ [])
 
 -- the seven lines
 abbrev pub report_text : History → Report → List ℕ

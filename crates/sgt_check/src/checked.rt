@@ -44,7 +44,7 @@ pub enum Output {
 
 /// What a check finds of a history.
 #[derive(Drop)]
-pub(crate) struct Checked {
+pub(crate) struct CheckedHistory {
     /// The lines of the output.
     pub lines: Vec<u8>,
     pub verdict: Verdict,
@@ -64,7 +64,7 @@ pub(crate) fn check_for(
     alloc: Global,
     history: &History,
     output: Output,
-) -> Result<Checked, NoMemory>
+) -> Result<CheckedHistory, NoMemory>
     ensures written { IfOk result (λ c. IsOutput output history.now c.lines.items) }
     ensures verdict { IfOk result (λ c. IsWellFormed history.now.operations.items → IsVerdict history.now.operations.items c.verdict.sound) }
     ensures counts { IfOk result (λ c. AreCounts history.now.operations.items c.verdict.counts) }
@@ -78,7 +78,7 @@ pub(crate) fn check_for(
 }
 
 /// Checks the history for all classes, with the report as its output.
-fn check_for_report(alloc: Global, history: &History) -> Result<Checked, NoMemory>
+fn check_for_report(alloc: Global, history: &History) -> Result<CheckedHistory, NoMemory>
     ensures written { IfOk result (λ c. IsReported history.now c.lines.items) }
     ensures verdict { IfOk result (λ c. IsWellFormed history.now.operations.items → IsVerdict history.now.operations.items c.verdict.sound) }
     ensures counts { IfOk result (λ c. AreCounts history.now.operations.items c.verdict.counts) }
@@ -86,7 +86,7 @@ fn check_for_report(alloc: Global, history: &History) -> Result<Checked, NoMemor
     let report = check_history(alloc, history.operations.as_slice())?;
     let mut lines = Vec::new(alloc);
     append_report(&mut lines, history, &report)?;
-    Ok(Checked {
+    Ok(CheckedHistory {
         lines,
         verdict: Verdict {
             sound: is_sound(&report.serializability, &report.recoverable),
@@ -97,7 +97,7 @@ fn check_for_report(alloc: Global, history: &History) -> Result<Checked, NoMemor
 
 /// Checks the history for the verdict alone, with the graph as its output. It makes no report, but finds the cycle
 /// that a report would.
-fn check_for_graph(alloc: Global, history: &History) -> Result<Checked, NoMemory>
+fn check_for_graph(alloc: Global, history: &History) -> Result<CheckedHistory, NoMemory>
     ensures written { IfOk result (λ c. IsDrawn history.now c.lines.items) }
     ensures verdict { IfOk result (λ c. IsWellFormed history.now.operations.items → IsVerdict history.now.operations.items c.verdict.sound) }
     ensures counts { IfOk result (λ c. AreCounts history.now.operations.items c.verdict.counts) }
@@ -110,7 +110,7 @@ fn check_for_graph(alloc: Global, history: &History) -> Result<Checked, NoMemory
     let counts = count(alloc, operations)?;
     let mut lines = Vec::new(alloc);
     append_graph(alloc, &mut lines, history, conflicts.as_slice(), &shown)?;
-    Ok(Checked {
+    Ok(CheckedHistory {
         lines,
         verdict: Verdict {
             sound: is_sound(&shown, &recoverable),
@@ -120,7 +120,11 @@ fn check_for_graph(alloc: Global, history: &History) -> Result<Checked, NoMemory
 }
 
 /// Checks the history for all classes, with its picture as the output.
-fn check_for_timeline(alloc: Global, history: &History, whole: usize) -> Result<Checked, NoMemory>
+fn check_for_timeline(
+    alloc: Global,
+    history: &History,
+    whole: usize,
+) -> Result<CheckedHistory, NoMemory>
     ensures written { IfOk result (λ c. IsPictured (min whole 400) history.now c.lines.items) }
     ensures verdict { IfOk result (λ c. IsWellFormed history.now.operations.items → IsVerdict history.now.operations.items c.verdict.sound) }
     ensures counts { IfOk result (λ c. AreCounts history.now.operations.items c.verdict.counts) }
@@ -130,7 +134,7 @@ fn check_for_timeline(alloc: Global, history: &History, whole: usize) -> Result<
     let mut lines = Vec::new(alloc);
     append_picture(&mut lines, history, &picture)?;
     let sound = is_sound(&report.serializability, &report.recoverable);
-    Ok(Checked {
+    Ok(CheckedHistory {
         lines,
         verdict: Verdict {
             sound,

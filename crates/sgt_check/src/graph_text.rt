@@ -6,9 +6,9 @@ ghost use Rattle.sgt_classes.specs.declared.graph.Edge.{Edge};
 ghost use Rattle.sgt_classes.specs.FirstAccesses.{pair_cmp};
 ghost use Rattle.sgt_check.specs.GraphText.{node_text, leads, cycle_of, colour_text, arrow_text, graph_text};
 
-use crate::piece::{Piece, append_pieces};
+use crate::mentioned::Mentioned;
 use sgt_classes::{Action, Edge, Operation, Serializability};
-use sgt_format::append_numbered;
+use sgt_format::{append_filled, append_numbered};
 use sgt_model::NoMemory;
 use sgt_notation::History;
 use std::alloc::Global;
@@ -120,21 +120,18 @@ fn append_arrow(
     ensures { OnOk result ((cycle : List Edge) → is_red ≡ leads cycle edge.now.from edge.now.to →
         text.new.items ≡ text.old.items ++ arrow_text history.now cycle edge.now) }
 {
-    append_pieces(
+    append_filled(
         text,
-        history,
+        b"  # -> # [label=\"# #",
         &[
-            Piece::Words(b"  "),
-            Piece::Number(edge.from as usize),
-            Piece::Words(b" -> "),
-            Piece::Number(edge.to as usize),
-            Piece::Words(b" [label=\""),
-            Piece::Placed(edge.earlier),
-            Piece::Words(b" "),
-            Piece::Placed(edge.later),
-            Piece::Words(colour(is_red)),
+            Mentioned::Transaction(edge.from),
+            Mentioned::Transaction(edge.to),
+            Mentioned::Placed(history, edge.earlier),
+            Mentioned::Placed(history, edge.later),
         ],
-    )
+    )?;
+    text.extend_from_slice(colour(is_red))?;
+    Ok(())
 }
 
 /// The end of an edge's line.

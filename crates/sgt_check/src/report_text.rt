@@ -1,12 +1,13 @@
 //! The lines of a report.
-ghost use Rattle.std.specs.Prelude.{◌≡◌, ◌++◌, OnOk, Some, None, codes, flat_map};
+ghost use Rattle.std.specs.Prelude.{◌≡◌, ◌++◌, OnOk, Some, None, codes, flat_map, map};
 ghost use Rattle.sgt_check.specs.ReportText.{counts_text, order_text, next_text, edge_text, later_edge_text, cycle_text, shown_text, serial_text, class_text, recoverable_why, avoiding_why, follows_why, order_why, report_text};
-ghost use Rattle.sgt_check.specs.Pieces.{pieces_text};
+ghost use Rattle.sgt_format.specs.Templates.{filled};
+ghost use Rattle.sgt_check.specs.Mentions.{mentioned_text};
 
-use crate::piece::{Piece, append_pieces};
+use crate::mentioned::Mentioned;
 use crate::report::{Counts, Report};
 use sgt_classes::{Edge, Serializability, Violation};
-use sgt_format::append_numbered;
+use sgt_format::{append_filled, append_numbered};
 use sgt_model::NoMemory;
 use sgt_notation::History;
 
@@ -32,12 +33,16 @@ pub fn append_report(text: &mut Vec<u8>, history: &History, report: &Report) -> 
 fn append_counts(text: &mut Vec<u8>, counts: &Counts) -> Result<(), NoMemory>
     ensures { OnOk result (text.new.items ≡ text.old.items ++ counts_text counts.now) }
 {
-    append_numbered(text, b"transactions ", counts.transactions)?;
-    append_numbered(text, b": ", counts.committed)?;
-    append_numbered(text, b" committed, ", counts.aborted)?;
-    append_numbered(text, b" aborted, ", counts.active())?;
-    text.extend_from_slice(b" active\n")?;
-    Ok(())
+    append_filled(
+        text,
+        b"transactions #: # committed, # aborted, # active\n",
+        &[
+            counts.transactions,
+            counts.committed,
+            counts.aborted,
+            counts.active(),
+        ],
+    )
 }
 
 /// Appends the line of serializability.
@@ -127,18 +132,14 @@ fn append_later_edge(text: &mut Vec<u8>, history: &History, edge: &Edge) -> Resu
 fn append_edge(text: &mut Vec<u8>, history: &History, edge: &Edge) -> Result<(), NoMemory>
     ensures { OnOk result (text.new.items ≡ text.old.items ++ edge_text history.now edge.now) }
 {
-    append_pieces(
+    append_filled(
         text,
-        history,
+        b" # # by # #",
         &[
-            Piece::Words(b" "),
-            Piece::Number(edge.from as usize),
-            Piece::Words(b" "),
-            Piece::Number(edge.to as usize),
-            Piece::Words(b" by "),
-            Piece::Placed(edge.earlier),
-            Piece::Words(b" "),
-            Piece::Placed(edge.later),
+            Mentioned::Transaction(edge.from),
+            Mentioned::Transaction(edge.to),
+            Mentioned::Placed(history, edge.earlier),
+            Mentioned::Placed(history, edge.later),
         ],
     )
 }
@@ -173,19 +174,14 @@ fn append_aborted(
 {
     append_broken(
         text,
-        history,
         b"recoverable",
+        b"#, which reads from # by #, and # aborted: #\n",
         &[
-            Piece::Placed(violation.later),
-            Piece::Words(b", which reads from "),
-            Piece::TransactionOf(write),
-            Piece::Words(b" by "),
-            Piece::Placed(violation.earlier),
-            Piece::Words(b", and "),
-            Piece::TransactionOf(write),
-            Piece::Words(b" aborted: "),
-            Piece::Placed(abort),
-            Piece::Words(b"\n"),
+            Mentioned::Placed(history, violation.later),
+            Mentioned::TransactionOf(history, write),
+            Mentioned::Placed(history, violation.earlier),
+            Mentioned::TransactionOf(history, write),
+            Mentioned::Placed(history, abort),
         ],
     )
 }
@@ -202,17 +198,13 @@ fn append_early(
 {
     append_broken(
         text,
-        history,
         b"recoverable",
+        b"#, which reads from # by #, and # has not committed\n",
         &[
-            Piece::Placed(violation.later),
-            Piece::Words(b", which reads from "),
-            Piece::TransactionOf(write),
-            Piece::Words(b" by "),
-            Piece::Placed(violation.earlier),
-            Piece::Words(b", and "),
-            Piece::TransactionOf(write),
-            Piece::Words(b" has not committed\n"),
+            Mentioned::Placed(history, violation.later),
+            Mentioned::TransactionOf(history, write),
+            Mentioned::Placed(history, violation.earlier),
+            Mentioned::TransactionOf(history, write),
         ],
     )
 }
@@ -230,13 +222,11 @@ fn append_avoiding(
     };
     append_broken(
         text,
-        history,
         b"avoids cascading aborts",
+        b"# reads from #, which has not committed\n",
         &[
-            Piece::Placed(violation.later),
-            Piece::Words(b" reads from "),
-            Piece::TransactionOf(Some(violation.earlier)),
-            Piece::Words(b", which has not committed\n"),
+            Mentioned::Placed(history, violation.later),
+            Mentioned::TransactionOf(history, Some(violation.earlier)),
         ],
     )
 }
@@ -255,15 +245,12 @@ fn append_follows(
     };
     append_broken(
         text,
-        history,
         name,
+        b"# follows #, and # has not ended\n",
         &[
-            Piece::Placed(violation.later),
-            Piece::Words(b" follows "),
-            Piece::Placed(violation.earlier),
-            Piece::Words(b", and "),
-            Piece::TransactionOf(Some(violation.earlier)),
-            Piece::Words(b" has not ended\n"),
+            Mentioned::Placed(history, violation.later),
+            Mentioned::Placed(history, violation.earlier),
+            Mentioned::TransactionOf(history, Some(violation.earlier)),
         ],
     )
 }
@@ -281,19 +268,14 @@ fn append_order_kept(
     };
     append_broken(
         text,
-        history,
         b"commit ordered",
+        b"# before # by # #, and # committed first\n",
         &[
-            Piece::TransactionOf(Some(violation.earlier)),
-            Piece::Words(b" before "),
-            Piece::TransactionOf(Some(violation.later)),
-            Piece::Words(b" by "),
-            Piece::Placed(violation.earlier),
-            Piece::Words(b" "),
-            Piece::Placed(violation.later),
-            Piece::Words(b", and "),
-            Piece::TransactionOf(Some(violation.later)),
-            Piece::Words(b" committed first\n"),
+            Mentioned::TransactionOf(history, Some(violation.earlier)),
+            Mentioned::TransactionOf(history, Some(violation.later)),
+            Mentioned::Placed(history, violation.earlier),
+            Mentioned::Placed(history, violation.later),
+            Mentioned::TransactionOf(history, Some(violation.later)),
         ],
     )
 }
@@ -307,16 +289,16 @@ fn append_kept(text: &mut Vec<u8>, name: &[u8]) -> Result<(), NoMemory>
     Ok(())
 }
 
-/// Appends the line of a class that the history does not belong to, and why.
+/// Appends the line of a class that the history does not belong to, and why: the template with these parts.
 fn append_broken(
     text: &mut Vec<u8>,
-    history: &History,
     name: &[u8],
-    why: &[Piece<'_>],
+    why: &[u8],
+    parts: &[Mentioned<'_>],
 ) -> Result<(), NoMemory>
-    ensures { OnOk result (text.new.items ≡ text.old.items ++ (name.now ++ codes " no: " ++ pieces_text history.now why.now)) }
+    ensures { OnOk result (text.new.items ≡ text.old.items ++ (name.now ++ codes " no: " ++ filled why.now (map mentioned_text parts.now))) }
 {
     text.extend_from_slice(name)?;
     text.extend_from_slice(b" no: ")?;
-    append_pieces(text, history, why)
+    append_filled(text, why, parts)
 }

@@ -4,7 +4,7 @@ ghost use Rattle.std.specs.Io.KnownBytes.{Appends};
 ghost use Rattle.sgt_check.specs.declared.checked.Verdict.{Verdict};
 ghost use Rattle.sgt_check.specs.Checks.{IsChecked, IsFaultOf};
 
-use crate::checked::{Checked, Output, Verdict, check_for};
+use crate::checked::{CheckedHistory, Output, Verdict, check_for};
 use crate::fault::CheckFault;
 use crate::input::read_input;
 use sgt_input::{Sink, Source, write_all};
@@ -50,7 +50,7 @@ pub fn run_check<S: Source, T: Sink>(
 }
 
 /// Checks the history in the text, for this output.
-fn check_text(alloc: Global, text: &[u8], output: Output) -> Result<Checked, CheckFault>
+fn check_text(alloc: Global, text: &[u8], output: Output) -> Result<CheckedHistory, CheckFault>
     requires { length text.now < 2 ^ 32 }
     ensures checked { IfOk result (λ c. IsChecked output text.now c.lines.items c.verdict) }
     ensures fault { IfErr result (IsFaultOf text.now) }

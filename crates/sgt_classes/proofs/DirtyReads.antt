@@ -1,14 +1,13 @@
 -- Dirty reads, and recoverability, one operation further.
 use Rattle.std.proofs.Common.{◌≡◌, ◌≢◌, ◌<◌, ◌+◌, ℕ, List, Option, Some, None, sym, ap, ◌∙◌, subst, inl, inr, arith}
-use Rattle.std.specs.Prelude.{length, ◌≤◌}
+use Rattle.std.specs.Prelude.{length}
 use Rattle.std.proofs.lemmas.Bool.{cases_eq, cases_lt}
 use Rattle.std.proofs.lemmas.Grind.{common_steps}
-use Rattle.std.proofs.lemmas.Option.{slice_get_within}
 use Rattle.sgt_classes.specs.declared.operation.Operation.{Operation}
 use Rattle.sgt_classes.specs.declared.operation.Action.TheVariants.{Read, Write, Commit}
 use Rattle.sgt_classes.specs.Histories.{Does, CommittedBefore}
-use Rattle.sgt_classes.specs.Classes.{BreaksAvoidance, BreaksRecoverability, IsRecoverable}
-use Rattle.sgt_classes.specs.Seen.{IsDirtyRead, IsLastDirtyRead, AreDirtyReads, IsCleanBy, AreCleanAbove, IsRecoverableBefore, height}
+use Rattle.sgt_classes.specs.Classes.{BreaksAvoidance, BreaksRecoverability}
+use Rattle.sgt_classes.specs.Seen.{IsDirtyRead, IsLastDirtyRead, AreDirtyReads, IsCleanBy, AreCleanAbove, height}
 use Rattle.sgt_classes.proofs.Places.{operation_at, doer_at, done_at, before_next}
 use Rattle.sgt_classes.proofs.Sources.{same_doer, same_action}
 
@@ -145,14 +144,6 @@ pub clean_by : (h : List Operation) (j k w : ℕ) (o : Option ℕ) → ((i : ℕ
 clean_by h j k w o is here committed i read =
     subst (λ u. CommittedBefore h u j) (grind (arith, common_steps, sym here ∙ is i read)) committed
 
--- one operation further, where it violates nothing
-pub recoverable_next : (h : List Operation) (p : ℕ) → IsRecoverableBefore h p → ((k : ℕ) → ¬ BreaksRecoverability h k p)
-    → IsRecoverableBefore h (p + 1)
-recoverable_next h p before here k j less broken = elim (before_next j p less) [
-  | inl earlier ↦ before k j earlier broken
-  | inr same ↦ here k (subst (λ n. BreaksRecoverability h k n) same broken)
-]
-
 -- what breaks recoverability is a dirty read
 pub dirty_of : (h : List Operation) (k p : ℕ) (broken : BreaksRecoverability h k p) → BreaksAvoidance h broken.write k
 dirty_of h k p broken = record {
@@ -199,8 +190,3 @@ recoverable_broken h p k t w o does less dirty is here uncommitted =
       commits = subst (λ u. Does h p u Commit) reader does;
       uncommitted = λ committed. uncommitted (subst (λ u. CommittedBefore h u p) writer committed);
     }
-
--- recoverable before its end is recoverable
-pub recoverable_whole : (h : List Operation) (p : ℕ) → length h ≤ p → IsRecoverableBefore h p → IsRecoverable h
-recoverable_whole h p all before k j broken =
-    let within = slice_get_within h j _ broken.commits in before k j (omega (arith, all, within)) broken

@@ -4,7 +4,7 @@ use Rattle.std.specs.Prelude.{slice_get}
 use Rattle.std.proofs.lemmas.Bool.{cases_eq, cases_lt}
 use Rattle.std.proofs.lemmas.Grind.{common_steps}
 use Rattle.sgt_classes.specs.declared.graph.Edge.{Edge}
-use Rattle.sgt_classes.specs.declared.chains.End.{End}
+use Rattle.sgt_classes.specs.declared.chains.EdgeEnd.{EdgeEnd}
 use Rattle.sgt_classes.specs.Seen.{height}
 use Rattle.sgt_classes.specs.Sorting.{end_of, IsLastEdge, AreChains}
 use Rattle.sgt_classes.proofs.Places.{before_next}
@@ -14,7 +14,7 @@ pub same_at : {X : Type 0} (xs : List X) (k : ℕ) (x y : X) → slice_get xs k 
 same_at xs k x y at other = grind (arith, common_steps, at, other)
 
 -- an edge at the transaction is not after the last
-pub not_after_last : (end : End) (es : List Edge) (j t k : ℕ) (e : Edge) (o : Option ℕ) → IsLastEdge end es j t o → k < j
+pub not_after_last : (end : EdgeEnd) (es : List Edge) (j t k : ℕ) (e : Edge) (o : Option ℕ) → IsLastEdge end es j t o → k < j
     → slice_get es k ≡ Some e → end_of end e ≡ t → k < height o
 not_after_last end es j t k e None none less at mine = absurd (none k e less at mine)
 not_after_last end es j t k e (Some i) last less at mine = elim (cases_lt i k) [
@@ -23,12 +23,12 @@ not_after_last end es j t k e (Some i) last less at mine = elim (cases_lt i k) [
 ]
 
 -- the last edge is lower than the place
-pub edge_lower : (end : End) (es : List Edge) (i t : ℕ) (o : Option ℕ) → IsLastEdge end es i t o → height o < height (Some i)
+pub edge_lower : (end : EdgeEnd) (es : List Edge) (i t : ℕ) (o : Option ℕ) → IsLastEdge end es i t o → height o < height (Some i)
 edge_lower end es i t None last = omega arith
 edge_lower end es i t (Some n) last = omega (arith, last.0)
 
 -- the last edge stays where the next is at another transaction
-last_kept : (end : End) (es : List Edge) (p t : ℕ) (e : Edge) (o : Option ℕ) → slice_get es p ≡ Some e → end_of end e ≢ t
+last_kept : (end : EdgeEnd) (es : List Edge) (p t : ℕ) (e : Edge) (o : Option ℕ) → slice_get es p ≡ Some e → end_of end e ≢ t
     → IsLastEdge end es p t o → IsLastEdge end es (p + 1) t o
 last_kept end es p t e None at apart none = λ k f less there. elim (before_next k p less) [
   | inl before ↦ none k f before there
@@ -44,7 +44,7 @@ last_kept end es p t e (Some i) at apart last = (
 )
 
 -- one edge more by its end
-pub chain_longer : (end : End) (es : List Edge) (p : ℕ) (e : Edge) (tops below tops' below' : ℕ → Option ℕ) → slice_get es p ≡ Some e
+pub chain_longer : (end : EdgeEnd) (es : List Edge) (p : ℕ) (e : Edge) (tops below tops' below' : ℕ → Option ℕ) → slice_get es p ≡ Some e
     → AreChains end es p tops below → tops' (end_of end e) ≡ Some p → ((t : ℕ) → t ≢ end_of end e → tops' t ≡ tops t)
     → below' p ≡ tops (end_of end e) → ((k : ℕ) → k ≢ p → below' k ≡ below k) → AreChains end es (p + 1) tops' below'
 chain_longer end es p e tops below tops' below' at are top others lower others_below = record {

@@ -7,8 +7,8 @@ use Rattle.std.proofs.lemmas.Grind.{common_steps}
 use Rattle.sgt_classes.specs.declared.operation.Operation.{Operation}
 use Rattle.sgt_classes.specs.declared.operation.Action.{Action}
 use Rattle.sgt_classes.specs.declared.operation.Action.TheVariants.{Read, Write, Commit, Abort}
-use Rattle.sgt_classes.specs.declared.first_accesses.Kind.{Kind}
-use Rattle.sgt_classes.specs.declared.first_accesses.Kind.TheVariants.{Any, Writes}
+use Rattle.sgt_classes.specs.declared.first_accesses.Counted.{Counted}
+use Rattle.sgt_classes.specs.declared.first_accesses.Counted.TheVariants.{Any, Writes}
 use Rattle.sgt_classes.specs.Histories.{Does}
 use Rattle.sgt_classes.specs.FirstAccesses.{pair_cmp, accessed, IsAccess, IsFirstAccess, IsLastFirst, IsSomeAccess, AreFirsts}
 use Rattle.sgt_classes.proofs.Places.{before_next, uses_item, item_uses}
@@ -37,7 +37,7 @@ pairs_apart a b differ = by (pair_cmp a b) refl
     by Greater e = ap is_eq e
 
 -- an action on an item that counts accesses it
-pub accessed_is : (kind : Kind) (h : List Operation) (i t x : ℕ) (a : Action) → accessed kind a ≡ Some x → Does h i t a
+pub accessed_is : (kind : Counted) (h : List Operation) (i t x : ℕ) (a : Action) → accessed kind a ≡ Some x → Does h i t a
     → IsAccess kind h i t x
 accessed_is Any h i t x a is does = item_uses h i t x a is does
 accessed_is Writes h i t x (Read y) is does = absurd (grind (arith, common_steps, is))
@@ -46,7 +46,7 @@ accessed_is Writes h i t x Commit is does = absurd (grind (arith, common_steps, 
 accessed_is Writes h i t x Abort is does = absurd (grind (arith, common_steps, is))
 
 -- what accesses an item is of an action on it
-pub is_accessed : (kind : Kind) (h : List Operation) (i t u x : ℕ) (a : Action) → Does h i u a → IsAccess kind h i t x
+pub is_accessed : (kind : Counted) (h : List Operation) (i t u x : ℕ) (a : Action) → Does h i u a → IsAccess kind h i t x
     → (accessed kind a ≡ Some x) × (u ≡ t)
 is_accessed Any h i t u x a does access =
     let one = uses_item h i (record { transaction = u; action = a }) t x does access in (one.1, one.0)
@@ -54,7 +54,7 @@ is_accessed Writes h i t u x a does access =
     (ap (accessed Writes) (same_action h i u t a (Write x) does access), same_doer h i u t a (Write x) does access)
 
 -- the last first access stays where the operation is none
-last_kept : (kind : Kind) (h : List Operation) (p x : ℕ) (o : Option ℕ) → ((t : ℕ) → ¬ IsFirstAccess kind h p t x)
+last_kept : (kind : Counted) (h : List Operation) (p x : ℕ) (o : Option ℕ) → ((t : ℕ) → ¬ IsFirstAccess kind h p t x)
     → IsLastFirst kind h p x o → IsLastFirst kind h (p + 1) x o
 last_kept kind h p x None not_here none = λ k t less first. elim (before_next k p less) [
   | inl earlier ↦ none k t earlier first
@@ -70,7 +70,7 @@ last_kept kind h p x (Some i) not_here is = (
 )
 
 -- what is known of an access stays where the operation is none
-some_kept : (kind : Kind) (h : List Operation) (p t x : ℕ) (o : Option ℕ) → ¬ IsAccess kind h p t x → IsSomeAccess kind h p t x o
+some_kept : (kind : Counted) (h : List Operation) (p t x : ℕ) (o : Option ℕ) → ¬ IsAccess kind h p t x → IsSomeAccess kind h p t x o
     → IsSomeAccess kind h (p + 1) t x o
 some_kept kind h p t x None not_here none = λ k less access. elim (before_next k p less) [
   | inl earlier ↦ none k earlier access
@@ -79,7 +79,7 @@ some_kept kind h p t x None not_here none = λ k less access. elim (before_next 
 some_kept kind h p t x (Some i) not_here is = (omega (arith, is.0), is.1)
 
 -- what is below first accesses stays where the operation is none
-below_kept : (kind : Kind) (h : List Operation) (p : ℕ) (below : ℕ → Option ℕ) → ((t x : ℕ) → ¬ IsFirstAccess kind h p t x)
+below_kept : (kind : Counted) (h : List Operation) (p : ℕ) (below : ℕ → Option ℕ) → ((t x : ℕ) → ¬ IsFirstAccess kind h p t x)
     → ((k t x : ℕ) → k < p → IsFirstAccess kind h k t x → IsLastFirst kind h k x (below k))
     → (k t x : ℕ) → k < p + 1 → IsFirstAccess kind h k t x → IsLastFirst kind h k x (below k)
 below_kept kind h p below not_here are k t x less first = elim (before_next k p less) [
@@ -88,7 +88,7 @@ below_kept kind h p below not_here are k t x less first = elim (before_next k p 
 ]
 
 -- what is noted of an access
-latest_noted : (kind : Kind) (h : List Operation) (p t x : ℕ) (a : Action) (latest latest' : ℕ × ℕ → Option ℕ) → Does h p t a
+latest_noted : (kind : Counted) (h : List Operation) (p t x : ℕ) (a : Action) (latest latest' : ℕ × ℕ → Option ℕ) → Does h p t a
     → accessed kind a ≡ Some x → latest' (t, x) ≡ Some p → ((r : ℕ × ℕ) → r ≢ (t, x) → latest' r ≡ latest r)
     → ((u y : ℕ) → IsSomeAccess kind h p u y (latest (u, y))) → (u y : ℕ) → IsSomeAccess kind h (p + 1) u y (latest' (u, y))
 latest_noted kind h p t x a latest latest' does is here others are u y = elim (cases_eq u t) [
@@ -108,7 +108,7 @@ latest_noted kind h p t x a latest latest' does is here others are u y = elim (c
         (some_kept kind h p u y (latest (u, y)) not_here (are u y))
 
 -- the operation is an access that is not the first
-pub firsts_again : (kind : Kind) (h : List Operation) (p t x s : ℕ) (a : Action) (tops below : ℕ → Option ℕ)
+pub firsts_again : (kind : Counted) (h : List Operation) (p t x s : ℕ) (a : Action) (tops below : ℕ → Option ℕ)
     (latest latest' : ℕ × ℕ → Option ℕ) → Does h p t a → accessed kind a ≡ Some x → latest (t, x) ≡ Some s → latest' (t, x) ≡ Some p
     → ((r : ℕ × ℕ) → r ≢ (t, x) → latest' r ≡ latest r) → AreFirsts kind h p tops below latest
     → AreFirsts kind h (p + 1) tops below latest'
@@ -129,7 +129,7 @@ firsts_again kind h p t x s a tops below latest latest' does is before here othe
         first.1 s earlier.0 (subst (λ z. IsAccess kind h s u z) item (subst (λ v. IsAccess kind h s v x) at.1 earlier.1))
 
 -- the operation is the first access
-pub firsts_noted : (kind : Kind) (h : List Operation) (p t x : ℕ) (a : Action) (tops below tops' below' : ℕ → Option ℕ)
+pub firsts_noted : (kind : Counted) (h : List Operation) (p t x : ℕ) (a : Action) (tops below tops' below' : ℕ → Option ℕ)
     (latest latest' : ℕ × ℕ → Option ℕ) → Does h p t a → accessed kind a ≡ Some x → latest (t, x) ≡ None → latest' (t, x) ≡ Some p
     → ((r : ℕ × ℕ) → r ≢ (t, x) → latest' r ≡ latest r) → tops' x ≡ Some p → ((y : ℕ) → y ≢ x → tops' y ≡ tops y)
     → below' p ≡ tops x → ((k : ℕ) → k ≢ p → below' k ≡ below k) → AreFirsts kind h p tops below latest

@@ -8,8 +8,8 @@ use Rattle.sgt_classes.specs.declared.operation.Operation.{Operation}
 use Rattle.sgt_classes.specs.declared.operation.Action.{Action}
 use Rattle.sgt_classes.specs.declared.operation.Action.TheVariants.{Read, Write}
 use Rattle.sgt_classes.specs.declared.graph.Edge.{Edge}
-use Rattle.sgt_classes.specs.declared.first_accesses.Kind.{Kind}
-use Rattle.sgt_classes.specs.declared.first_accesses.Kind.TheVariants.{Any, Writes}
+use Rattle.sgt_classes.specs.declared.first_accesses.Counted.{Counted}
+use Rattle.sgt_classes.specs.declared.first_accesses.Counted.TheVariants.{Any, Writes}
 use Rattle.sgt_classes.specs.Histories.{Does, Uses, item_of}
 use Rattle.sgt_classes.specs.Serializability.{Conflict, IsProjectionInPlace}
 use Rattle.sgt_classes.specs.Seen.{HasEdge, IsConflictBy, height}
@@ -121,7 +121,7 @@ conflicts_reported q p i t u es pairs pairs' differ order conflict no_earlier no
     ]
 
 -- where there is a first access there is none before it
-no_access : (kind : Kind) (q : List Operation) (p t x : ℕ) → ((k : ℕ) → k < p → ¬ IsFirstAccess kind q k t x) → (n i : ℕ) → i < n → i < p
+no_access : (kind : Counted) (q : List Operation) (p t x : ℕ) → ((k : ℕ) → k < p → ¬ IsFirstAccess kind q k t x) → (n i : ℕ) → i < n → i < p
     → ¬ IsAccess kind q i t x
 no_access kind q p t x none zero i less within access = omega (arith, less)
 no_access kind q p t x none (suc n) i less within access =
@@ -133,7 +133,7 @@ use_does q p u x (inl read) = (Read x, read)
 use_does q p u x (inr wrote) = (Write x, wrote)
 
 -- all conflicts of the operation are reported
-pub conflicts_after : (kind : Kind) (q : List Operation) (p n x : ℕ) (es : List Edge) (pairs : ℕ × ℕ → Option ℕ)
+pub conflicts_after : (kind : Counted) (q : List Operation) (p n x : ℕ) (es : List Edge) (pairs : ℕ × ℕ → Option ℕ)
     → AreConflicts q p n es pairs → AreRivals q p x kind
     → ((u k t : ℕ) (b : Action) → Does q p u b → k < p → t ≢ u → IsFirstAccess kind q k t x → HasEdge es t u)
     → AreConflicts q (p + 1) (p + 1) es pairs
@@ -225,18 +225,18 @@ repeated_write q p w x s (Some m) same does is i t u b less at used =
     (omega (arith, same, is.0), (x, used, inr mine, inr mine))
 
 -- above the last first access there is none
-pub reported_from_last : (kind : Kind) (q : List Operation) (es : List Edge) (p x u : ℕ) (o : Option ℕ) → IsLastFirst kind q p x o
+pub reported_from_last : (kind : Counted) (q : List Operation) (es : List Edge) (p x u : ℕ) (o : Option ℕ) → IsLastFirst kind q p x o
     → AreReportedAbove kind q es p x u o
 reported_from_last kind q es p x u None none = λ k t less differ first. absurd (none k t less first)
 reported_from_last kind q es p x u (Some i) is = (is.0, is.1, λ k t after less differ first. absurd (is.2 k t after less first))
 
 -- the last first access is before the place
-pub last_within : (kind : Kind) (q : List Operation) (p x : ℕ) (o : Option ℕ) → IsLastFirst kind q p x o → height o ≤ p
+pub last_within : (kind : Counted) (q : List Operation) (p x : ℕ) (o : Option ℕ) → IsLastFirst kind q p x o → height o ≤ p
 last_within kind q p x None none = omega arith
 last_within kind q p x (Some i) is = omega (arith, is.0)
 
 -- the first access from which on all are reported
-pub reported_from : (kind : Kind) (q : List Operation) (es : List Edge) (p x i : ℕ) (o : Option ℕ) → p < length q → o ≡ Some i
+pub reported_from : (kind : Counted) (q : List Operation) (es : List Edge) (p x i : ℕ) (o : Option ℕ) → p < length q → o ≡ Some i
     → ((u : ℕ) (b : Action) → Does q p u b → AreReportedAbove kind q es p x u o) → (i < p) × ((t : ℕ) × IsFirstAccess kind q i t x)
 reported_from kind q es p x i o within is above =
     let op : Operation = slice_index_or q p (record { transaction = 0; action = Read 0 }) in
@@ -246,24 +246,25 @@ reported_from kind q es p x i o within is above =
     (at.0, at.1)
 
 -- a first access that conflicts with the operation is the first operation of its transaction that does
-pub first_rival : (kind : Kind) (q : List Operation) (p x i v : ℕ) → AreRivals q p x kind → IsFirstAccess kind q i v x → IsFirstRival q i p
+pub first_rival : (kind : Counted) (q : List Operation) (p x i v : ℕ) → AreRivals q p x kind → IsFirstAccess kind q i v x
+    → IsFirstRival q i p
 first_rival kind q p x i v rivals first t u a b does at =
     let mine : IsFirstAccess kind q i t x = subst (λ w. IsFirstAccess kind q i w x) (accessor kind first.0) first in
     ((rivals i t u b at).1 mine.0, λ k less conflict. mine.1 k less ((rivals k t u b at).0 conflict))
   where
-    accessor : (c : Kind) → IsAccess c q i v x → v ≡ t
+    accessor : (c : Counted) → IsAccess c q i v x → v ≡ t
     accessor Any (inl read) = same_doer q i v t _ _ read does
     accessor Any (inr wrote) = same_doer q i v t _ _ wrote does
     accessor Writes wrote = same_doer q i v t _ _ wrote does
 
 -- the next one is below one that is reported
-pub reported_further : (kind : Kind) (q : List Operation) (es es' : List Edge) (p x u i : ℕ) (b : Action) (o : Option ℕ) → Does q p u b
+pub reported_further : (kind : Counted) (q : List Operation) (es es' : List Edge) (p x u i : ℕ) (b : Action) (o : Option ℕ) → Does q p u b
     → AreReportedAbove kind q es p x u (Some i) → ((t w : ℕ) → HasEdge es t w → HasEdge es' t w)
     → ((t w : ℕ) (c d : Action) → Does q i t c → Does q p w d → t ≢ w → HasEdge es' t w) → IsLastFirst kind q i x o
     → AreReportedAbove kind q es' p x u o
 reported_further kind q es es' p x u i b o does above kept reported lower = go o lower
   where
-    here : (c : Kind) (t : ℕ) → IsAccess c q i t x → t ≢ u → HasEdge es' t u
+    here : (c : Counted) (t : ℕ) → IsAccess c q i t x → t ≢ u → HasEdge es' t u
     here Any t (inl read) differ = reported t u _ b read does differ
     here Any t (inr wrote) differ = reported t u _ b wrote does differ
     here Writes t wrote differ = reported t u _ b wrote does differ
@@ -286,7 +287,7 @@ reported_further kind q es es' p x u i b o does above kept reported lower = go o
     )
 
 -- the rest are reported by the operation that is repeated
-pub reported_by_repeated : (kind : Kind) (q : List Operation) (p n x i s w : ℕ) (es : List Edge) (pairs : ℕ × ℕ → Option ℕ)
+pub reported_by_repeated : (kind : Counted) (q : List Operation) (p n x i s w : ℕ) (es : List Edge) (pairs : ℕ × ℕ → Option ℕ)
     → AreConflicts q p n es pairs → IsRepeated q p x kind s → i < s → AreReportedAbove kind q es p x w (Some i)
     → (k t : ℕ) (b : Action) → Does q p w b → k < p → t ≢ w → IsFirstAccess kind q k t x → HasEdge es t w
 reported_by_repeated kind q p n x i s w es pairs are repeated less above k t b does within differ first = elim (cases_lt i k) [

@@ -12,7 +12,7 @@ use Rattle.sgt_classes.specs.declared.operation.Action.TheVariants.{Commit}
 use Rattle.sgt_classes.specs.declared.graph.Edge.{Edge}
 use Rattle.sgt_classes.specs.declared.serial.Waits.{Waits}
 use Rattle.sgt_classes.specs.declared.watched.Watched.{Watched}
-use Rattle.sgt_classes.specs.declared.chains.End.TheVariants.{To}
+use Rattle.sgt_classes.specs.declared.chains.EdgeEnd.TheVariants.{To}
 use Rattle.sgt_classes.specs.Histories.{Does}
 use Rattle.sgt_classes.specs.Serializability.{Commits, IsEdgeBy}
 use Rattle.sgt_classes.specs.Seen.{IsFirstCommit, AreFirstCommits}

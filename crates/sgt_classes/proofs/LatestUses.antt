@@ -9,9 +9,9 @@ use Rattle.sgt_classes.specs.declared.operation.Action.{Action}
 use Rattle.sgt_classes.specs.declared.operation.Action.TheVariants.{Read, Write, Commit}
 use Rattle.sgt_classes.specs.declared.commit_order.LatestUse.{LatestUse}
 use Rattle.sgt_classes.specs.Histories.{Does, Uses, CommittedBefore, item_of}
-use Rattle.sgt_classes.specs.Serializability.{BreaksCommitOrder, IsCommitOrdered}
-use Rattle.sgt_classes.specs.Seen.{IsFirstCommit, AreFirstCommits, IsLatestUse, AreLatestUses, later_use, use_after, IsCommitOrderedBefore}
-use Rattle.sgt_classes.proofs.Places.{before_next, does_same, uses_item, uses_within, one_ender}
+use Rattle.sgt_classes.specs.Serializability.{BreaksCommitOrder}
+use Rattle.sgt_classes.specs.Seen.{IsFirstCommit, AreFirstCommits, IsLatestUse, AreLatestUses, later_use, use_after}
+use Rattle.sgt_classes.proofs.Places.{before_next, does_same, uses_item, one_ender}
 use Rattle.sgt_classes.proofs.Sources.{same_doer, same_action}
 
 -- the latest use stays where the operation is none by one that commits
@@ -125,19 +125,6 @@ end_latest h commits p t a reads writes does none are = record {
       (λ u at. absurd (grind (arith, common_steps, subst (λ b. item_of b ≡ None) (same_action h p t u _ _ does at) none)))
       (are.writes_are y);
 }
-
--- commit ordered before a place and at it
-pub ordered_next : (h : List Operation) (p : ℕ) → IsCommitOrderedBefore h p → ((i : ℕ) → ¬ BreaksCommitOrder h i p)
-    → IsCommitOrderedBefore h (p + 1)
-ordered_next h p before here i j less broken = elim (before_next j p less) [
-  | inl earlier ↦ before i j earlier broken
-  | inr same ↦ here i (subst (λ n. BreaksCommitOrder h i n) same broken)
-]
-
--- commit ordered before its end is commit ordered
-pub ordered_whole : (h : List Operation) (p : ℕ) → length h ≤ p → IsCommitOrderedBefore h p → IsCommitOrdered h
-ordered_whole h p all before i j broken =
-    let within = uses_within h j broken.after _ broken.conflict.2 in before i j (omega (arith, all, within)) broken
 
 -- a transaction that commits has a first commit, no later than any
 pub first_of : (h : List Operation) (t : ℕ) (o : Option ℕ) (c : ℕ) → IsFirstCommit h (length h) t o → Does h c t Commit

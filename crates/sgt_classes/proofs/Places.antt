@@ -1,5 +1,5 @@
 -- The operation at a place, and what one more place adds.
-use Rattle.std.proofs.Common.{◌≡◌, ◌<◌, ◌+◌, ◌⊎◌, ℕ, List, Some, ap, ◌∙◌, inl, inr, arith}
+use Rattle.std.proofs.Common.{◌≡◌, ◌<◌, ◌+◌, ◌⊎◌, ℕ, List, Some, ap, ◌∙◌, subst, inl, inr, arith}
 use Rattle.std.specs.Prelude.{slice_get, slice_index_or, length}
 use Rattle.std.proofs.lemmas.Option.{slice_get-get_or, slice_get_within}
 use Rattle.std.proofs.lemmas.Bool.{cases_lt}
@@ -8,6 +8,7 @@ use Rattle.sgt_classes.specs.declared.operation.Operation.{Operation}
 use Rattle.sgt_classes.specs.declared.operation.Action.{Action}
 use Rattle.sgt_classes.specs.declared.operation.Action.TheVariants.{Read, Write, Commit, Abort}
 use Rattle.sgt_classes.specs.Histories.{Does, Uses, Ends, EndedBefore, item_of}
+use Rattle.sgt_classes.specs.Seen.{NoneBreaksBefore}
 
 -- the operation at a place is one
 pub does_same : (h : List Operation) (i : ℕ) (op : Operation) (t : ℕ) (a : Action) → slice_get h i ≡ Some op → Does h i t a
@@ -76,6 +77,13 @@ done_by h i t a within does = ap (λ (o : Operation). o.transaction) (does_same 
 pub uses_within : (h : List Operation) (i t x : ℕ) → Uses h i t x → i < length h
 uses_within h i t x (inl does) = slice_get_within h i _ does
 uses_within h i t x (inr does) = slice_get_within h i _ does
+
+-- no violation before a position and at it
+pub none_next : (Breaks : ℕ → ℕ → Type 0) (p : ℕ) → NoneBreaksBefore Breaks p → ((i : ℕ) → ¬ Breaks i p) → NoneBreaksBefore Breaks (p + 1)
+none_next Breaks p before here i j less broken = elim (before_next j p less) [
+  | inl earlier ↦ before i j earlier broken
+  | inr same ↦ here i (subst (λ k. Breaks i k) same broken)
+]
 
 -- what ends its transaction
 pub ends_at : (h : List Operation) (i : ℕ) (op : Operation) → slice_get h i ≡ Some op → (op.action ≡ Commit) ⊎ (op.action ≡ Abort)

@@ -8,8 +8,8 @@ use Rattle.sgt_classes.specs.declared.operation.Operation.{Operation}
 use Rattle.sgt_classes.specs.declared.operation.Action.{Action}
 use Rattle.sgt_classes.specs.declared.operation.Action.TheVariants.{Read, Write}
 use Rattle.sgt_classes.specs.Histories.{Does, EndedBefore}
-use Rattle.sgt_classes.specs.Classes.{BreaksStrictness, OverwritesReader, BreaksRigorousness, IsRigorous}
-use Rattle.sgt_classes.specs.Seen.{IsOverwritten, IsLastRead, AreReads, AreFineAbove, IsStrictBefore, IsRigorousBefore, height}
+use Rattle.sgt_classes.specs.Classes.{BreaksStrictness, OverwritesReader, BreaksRigorousness}
+use Rattle.sgt_classes.specs.Seen.{IsOverwritten, IsLastRead, AreReads, AreFineAbove, NoneBreaksBefore, height}
 use Rattle.sgt_classes.proofs.Places.{operation_at, doer_at, done_at, done_by, before_next, ended_later, uses_within}
 use Rattle.sgt_classes.proofs.Sources.{same_doer, same_action}
 
@@ -153,7 +153,8 @@ height_read h i x None none = omega arith
 height_read h i x (Some n) is = omega (arith, is.0)
 
 -- a write after fine reads alone
-pub fine_overwrite : (h : List Operation) (p t x : ℕ) → Does h p t (Write x) → AreFineAbove h p x t None → IsRigorousBefore h p
+pub fine_overwrite : (h : List Operation) (p t x : ℕ) → Does h p t (Write x) → AreFineAbove h p x t None
+    → NoneBreaksBefore (BreaksRigorousness h) p
     → ((i : ℕ) → ¬ BreaksStrictness h i p) → (i : ℕ) → ¬ OverwritesReader h i p
 fine_overwrite h p t x does fine rigorous strict i broken = elim (fine i broken.reader broken.earlier read) [
   | inl over ↦ overwritten over
@@ -197,21 +198,11 @@ fine_overwrite h p t x does fine rigorous strict i broken = elim (fine i broken.
     ]
 
 -- rigorous before a place is strict before it
-pub rigorous_strict_before : (h : List Operation) (p : ℕ) → IsRigorousBefore h p → IsStrictBefore h p
+pub rigorous_strict_before : (h : List Operation) (p : ℕ) → NoneBreaksBefore (BreaksRigorousness h) p
+    → NoneBreaksBefore (BreaksStrictness h) p
 rigorous_strict_before h p rigorous i j less broken = rigorous i j less (inl broken)
 
--- one operation further, where it violates nothing
-pub rigorous_next : (h : List Operation) (p : ℕ) → IsRigorousBefore h p → ((i : ℕ) → ¬ BreaksRigorousness h i p)
-    → IsRigorousBefore h (p + 1)
-rigorous_next h p before here i j less broken = elim (before_next j p less) [
-  | inl earlier ↦ before i j earlier broken
-  | inr same ↦ here i (subst (λ n. BreaksRigorousness h i n) same broken)
-]
-
--- rigorous before its end is rigorous
-pub rigorous_whole : (h : List Operation) (p : ℕ) → length h ≤ p → IsRigorousBefore h p → IsRigorous h
-rigorous_whole h p all before i j broken = before i j (omega (arith, all, within broken)) broken
-  where
-    within : BreaksRigorousness h i j → j < length h
-    within (inl strict) = uses_within h j strict.user strict.item strict.used
-    within (inr over) = slice_get_within h j _ over.written
+-- what violates it is in the history
+pub rigorous_within : (h : List Operation) (i j : ℕ) → BreaksRigorousness h i j → j < length h
+rigorous_within h i j (inl strict) = uses_within h j strict.user strict.item strict.used
+rigorous_within h i j (inr over) = slice_get_within h j _ over.written

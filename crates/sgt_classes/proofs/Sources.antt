@@ -7,9 +7,8 @@ use Rattle.sgt_classes.specs.declared.operation.Operation.{Operation}
 use Rattle.sgt_classes.specs.declared.operation.Action.{Action}
 use Rattle.sgt_classes.specs.declared.operation.Action.TheVariants.{Read, Write, Commit, Abort}
 use Rattle.sgt_classes.specs.Histories.{Does, AbortedBefore, CommittedBefore}
-use Rattle.sgt_classes.specs.Classes.{ReadsFrom, BreaksAvoidance, AvoidsCascadingAborts}
-use Rattle.sgt_classes.specs.Seen.{IsTopWrite, AreBelow, AreDone, AreSources, AvoidsBefore, height}
-use Rattle.std.proofs.lemmas.Option.{slice_get_within}
+use Rattle.sgt_classes.specs.Classes.{ReadsFrom, BreaksAvoidance}
+use Rattle.sgt_classes.specs.Seen.{IsTopWrite, AreBelow, AreDone, AreSources, height}
 use Rattle.sgt_classes.proofs.Places.{doer_at, there, does_same, before_next}
 
 -- who has done it before a place has done it before a later one
@@ -175,13 +174,6 @@ abort_sources h p t tops below commits aborts aborts' does are here others =
       aborts_are = done_noted h p t Abort aborts aborts' does are.aborts_are here others;
     }
 
--- one operation further, where it violates nothing
-pub avoids_next : (h : List Operation) (p : ℕ) → AvoidsBefore h p → ((i : ℕ) → ¬ BreaksAvoidance h i p) → AvoidsBefore h (p + 1)
-avoids_next h p before here i j less broken = elim (before_next j p less) [
-  | inl earlier ↦ before i j earlier broken
-  | inr same ↦ here i (subst (λ k. BreaksAvoidance h i k) same broken)
-]
-
 -- an operation that does not read
 pub avoids_no_read : (h : List Operation) (p t : ℕ) (a : Action) → Does h p t a → ((x : ℕ) → a ≢ Read x) → (i : ℕ)
     → ¬ BreaksAvoidance h i p
@@ -233,11 +225,6 @@ avoidance_broken h p t x i w does top written standing differ uncommitted = reco
   reads = record { earlier = top.0; written = written; read = does; standing = standing w written; last = top.2 };
   uncommitted = uncommitted;
 }
-
--- avoiding before its end is avoiding
-pub avoids_whole : (h : List Operation) (p : ℕ) → length h ≤ p → AvoidsBefore h p → AvoidsCascadingAborts h
-avoids_whole h p all before i j broken =
-    let within = slice_get_within h j _ broken.reads.read in before i j (omega (arith, all, within)) broken
 
 -- the write at a top, by the operation that is read there
 pub top_write : (h : List Operation) (j x i : ℕ) (w : Operation) → slice_get h i ≡ Some w → IsTopWrite h j x (Some i)

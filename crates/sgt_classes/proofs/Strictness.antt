@@ -1,47 +1,35 @@
 -- Strictness, one operation further.
 use Rattle.std.proofs.Common.{◌≡◌, ◌≢◌, ◌+◌, ◌⊎◌, ℕ, List, Option, Some, None, IsSome, refl, sym, ap, ◌∙◌, subst, inl, inr, arith}
-use Rattle.std.specs.Prelude.{slice_get, length, ◌≤◌}
+use Rattle.std.specs.Prelude.{slice_get}
 use Rattle.std.proofs.lemmas.Bool.{cases_eq, cases_lt}
 use Rattle.std.proofs.lemmas.Grind.{common_steps}
 use Rattle.sgt_classes.specs.declared.operation.Operation.{Operation}
 use Rattle.sgt_classes.specs.declared.operation.Action.{Action}
 use Rattle.sgt_classes.specs.declared.operation.Action.TheVariants.{Write, Commit, Abort}
 use Rattle.sgt_classes.specs.Histories.{Does, Uses, Ends, EndedBefore, item_of}
-use Rattle.sgt_classes.specs.Classes.{BreaksStrictness, IsStrict}
-use Rattle.sgt_classes.specs.Seen.{IsLastWrite, AreLastWrites, AreEnded, IsStrictBefore}
-use Rattle.sgt_classes.proofs.Places.{does_same, uses_item, item_uses, before_next, ended_later, one_ender, uses_within}
-
--- strict before a place and at it
-pub strict_next : (h : List Operation) (p : ℕ) → IsStrictBefore h p → ((i : ℕ) → ¬ BreaksStrictness h i p) → IsStrictBefore h (p + 1)
-strict_next h p before here i j less broken = elim (before_next j p less) [
-  | inl earlier ↦ before i j earlier broken
-  | inr same ↦ here i (subst (λ k. BreaksStrictness h i k) same broken)
-]
+use Rattle.sgt_classes.specs.Classes.{BreaksStrictness}
+use Rattle.sgt_classes.specs.Seen.{IsLastWrite, AreLastWrites, AreEnded, NoneBreaksBefore}
+use Rattle.sgt_classes.proofs.Places.{does_same, uses_item, item_uses, before_next, ended_later, one_ender}
 
 -- an operation that uses no item
 pub strict_no_item : (h : List Operation) (p : ℕ) (op : Operation) → slice_get h p ≡ Some op → item_of op.action ≡ None
-    → IsStrictBefore h p → IsStrictBefore h (p + 1)
-strict_no_item h p op at none before = strict_next h p before go
-  where
-    go : (i : ℕ) → ¬ BreaksStrictness h i p
-    go i broken = let used = uses_item h p op broken.user broken.item at broken.used in grind (arith, common_steps, none, used.1)
+    → (i : ℕ) → ¬ BreaksStrictness h i p
+strict_no_item h p op at none i broken =
+    let used = uses_item h p op broken.user broken.item at broken.used in grind (arith, common_steps, none, used.1)
 
 -- an operation on an item that no transaction has written
 pub strict_no_write : (h : List Operation) (p : ℕ) (op : Operation) (x : ℕ) → slice_get h p ≡ Some op → item_of op.action ≡ Some x
-    → IsLastWrite h p x None → IsStrictBefore h p → IsStrictBefore h (p + 1)
-strict_no_write h p op x at item last before = strict_next h p before go
-  where
-    go : (i : ℕ) → ¬ BreaksStrictness h i p
-    go i broken =
-        let used = uses_item h p op broken.user broken.item at broken.used in
-        let same : broken.item ≡ x = grind (arith, common_steps, item, used.1) in
-        last i broken.writer broken.earlier (subst (λ y. Does h i broken.writer (Write y)) same broken.written)
+    → IsLastWrite h p x None → (i : ℕ) → ¬ BreaksStrictness h i p
+strict_no_write h p op x at item last i broken =
+    let used = uses_item h p op broken.user broken.item at broken.used in
+    let same : broken.item ≡ x = grind (arith, common_steps, item, used.1) in
+    last i broken.writer broken.earlier (subst (λ y. Does h i broken.writer (Write y)) same broken.written)
 
 -- an operation on an item whose last writer is the same transaction, or has ended
 pub strict_ended : (h : List Operation) (p i : ℕ) (op w : Operation) (x : ℕ) → slice_get h p ≡ Some op → item_of op.action ≡ Some x
     → slice_get h i ≡ Some w → IsLastWrite h p x (Some i) → (w.transaction ≡ op.transaction) ⊎ EndedBefore h w.transaction p
-    → IsStrictBefore h p → IsStrictBefore h (p + 1)
-strict_ended h p i op w x at item at_i last fine before = strict_next h p before go
+    → NoneBreaksBefore (BreaksStrictness h) p → (k : ℕ) → ¬ BreaksStrictness h k p
+strict_ended h p i op w x at item at_i last fine before = go
   where
     allowed : (u : ℕ) → u ≢ op.transaction → ¬ EndedBefore h u p → w.transaction ≢ u
     allowed u differ active same = elim fine [
@@ -160,11 +148,6 @@ no_end_noted h p t a f does going standing before u = (
     not_here : Ends h p u → ⊥
     not_here (inl commits) = going (ap (λ (o : Operation). o.action) (does_same h p _ u Commit does commits))
     not_here (inr aborts) = standing (ap (λ (o : Operation). o.action) (does_same h p _ u Abort does aborts))
-
--- strict before its end is strict
-pub strict_whole : (h : List Operation) (p : ℕ) → length h ≤ p → IsStrictBefore h p → IsStrict h
-strict_whole h p all before i j broken =
-    let within = uses_within h j broken.user broken.item broken.used in before i j (omega (arith, all, within)) broken
 
 -- the last writes stay where a transaction ends
 pub end_writes_noted : (h : List Operation) (p t : ℕ) (f : ℕ → Option ℕ) → Ends h p t → AreLastWrites h p f → AreLastWrites h (p + 1) f

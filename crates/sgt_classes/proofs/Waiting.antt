@@ -8,7 +8,7 @@ use Rattle.std.proofs.lemmas.Bool.{cases_eq, cases_lt, true≢false}
 use Rattle.std.proofs.lemmas.Option.{slice_get_within, slice_get-get_or, get_or_from_slice_get}
 use Rattle.std.proofs.Math.ListN.{get_or-append}
 use Rattle.sgt_classes.specs.declared.graph.Edge.{Edge}
-use Rattle.sgt_classes.specs.declared.chains.End.TheVariants.{From, To}
+use Rattle.sgt_classes.specs.declared.chains.EdgeEnd.TheVariants.{From, To}
 use Rattle.sgt_classes.specs.declared.serial.Waits.{Waits}
 use Rattle.sgt_classes.specs.declared.links.Links.{Links}
 use Rattle.sgt_classes.specs.declared.watched.Watched.{Watched}

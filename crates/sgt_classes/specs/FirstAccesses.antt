@@ -7,8 +7,8 @@ use Rattle.sgt_classes.specs.declared.operation.Operation.{Operation}
 use Rattle.sgt_classes.specs.declared.operation.Action.{Action}
 use Rattle.sgt_classes.specs.declared.operation.Action.TheVariants.{Read, Write, Commit, Abort}
 use Rattle.sgt_classes.specs.declared.graph.Edge.{Edge}
-use Rattle.sgt_classes.specs.declared.first_accesses.Kind.{Kind}
-use Rattle.sgt_classes.specs.declared.first_accesses.Kind.TheVariants.{Any, Writes}
+use Rattle.sgt_classes.specs.declared.first_accesses.Counted.{Counted}
+use Rattle.sgt_classes.specs.declared.first_accesses.Counted.TheVariants.{Any, Writes}
 use Rattle.sgt_classes.specs.declared.first_accesses.FirstAccesses.{FirstAccesses}
 use Rattle.sgt_classes.specs.declared.conflicts.Conflicts.{Conflicts}
 use Rattle.sgt_classes.specs.Histories.{Does, Uses, item_of}
@@ -23,7 +23,7 @@ abbrev pub pair_cmp : ℕ × ℕ → ℕ × ℕ → Ordering
 pair_cmp a b = ordering_then (nat_cmp a.0 b.0) (nat_cmp a.1 b.1)
 
 -- the item that an action accesses, if its access is of the kind
-abbrev pub accessed : Kind → Action → Option ℕ
+abbrev pub accessed : Counted → Action → Option ℕ
 accessed Any a = item_of a
 accessed Writes (Read x) = None
 accessed Writes (Write x) = Some x
@@ -31,27 +31,27 @@ accessed Writes Commit = None
 accessed Writes Abort = None
 
 -- at position i of the history is an access of the kind by t to x
-abbrev pub IsAccess : Kind → List Operation → ℕ → ℕ → ℕ → Type 0
+abbrev pub IsAccess : Counted → List Operation → ℕ → ℕ → ℕ → Type 0
 IsAccess Any h i t x = Uses h i t x
 IsAccess Writes h i t x = Does h i t (Write x)
 
 -- it is the first of them
-abbrev pub IsFirstAccess : Kind → List Operation → ℕ → ℕ → ℕ → Type 0
+abbrev pub IsFirstAccess : Counted → List Operation → ℕ → ℕ → ℕ → Type 0
 IsFirstAccess kind h i t x = IsAccess kind h i t x × ((k : ℕ) → k < i → ¬ IsAccess kind h k t x)
 
 -- the last of the first accesses to x before position j, or none
-abbrev pub IsLastFirst : Kind → List Operation → ℕ → ℕ → Option ℕ → Type 0
+abbrev pub IsLastFirst : Counted → List Operation → ℕ → ℕ → Option ℕ → Type 0
 IsLastFirst kind h j x None = (k t : ℕ) → k < j → ¬ IsFirstAccess kind h k t x
 IsLastFirst kind h j x (Some i) = (i < j) × ((t : ℕ) × IsFirstAccess kind h i t x)
     × ((k t : ℕ) → i < k → k < j → ¬ IsFirstAccess kind h k t x)
 
 -- an access by t to x before position j, or none if there is none
-abbrev pub IsSomeAccess : Kind → List Operation → ℕ → ℕ → ℕ → Option ℕ → Type 0
+abbrev pub IsSomeAccess : Counted → List Operation → ℕ → ℕ → ℕ → Option ℕ → Type 0
 IsSomeAccess kind h j t x None = (k : ℕ) → k < j → ¬ IsAccess kind h k t x
 IsSomeAccess kind h j t x (Some i) = (i < j) × IsAccess kind h i t x
 
 -- the stored first accesses before position j
-pub record AreFirsts (kind : Kind) (h : List Operation) (j : ℕ) (tops below : ℕ → Option ℕ) (latest : ℕ × ℕ → Option ℕ) : Type 0 where
+pub record AreFirsts (kind : Counted) (h : List Operation) (j : ℕ) (tops below : ℕ → Option ℕ) (latest : ℕ × ℕ → Option ℕ) : Type 0 where
   pub tops_are : (x : ℕ) → IsLastFirst kind h j x (tops x)
   pub below_are : (k t x : ℕ) → k < j → IsFirstAccess kind h k t x → IsLastFirst kind h k x (below k)
   pub fresh : (k : ℕ) → j ≤ k → below k ≡ None
@@ -62,12 +62,12 @@ abbrev pub KnowsFirsts : List Operation → ℕ → FirstAccesses → Type 0
 KnowsFirsts h j s = AreFirsts s.kind h j (entry_of s.tops) (link_of s.below) (get pair_cmp s.latest)
 
 -- the operation at position j conflicts exactly with those that access x, by this kind
-abbrev pub AreRivals : List Operation → ℕ → ℕ → Kind → Type 0
+abbrev pub AreRivals : List Operation → ℕ → ℕ → Counted → Type 0
 AreRivals q j x kind = (i t u : ℕ) (b : Action) → Does q j u b → Conflict q i t j u ↔ IsAccess kind q i t x
 
 -- every conflict of the operation at position j with one before position s is also one of its transaction's operation
 -- at position s
-abbrev pub IsRepeated : List Operation → ℕ → ℕ → Kind → ℕ → Type 0
+abbrev pub IsRepeated : List Operation → ℕ → ℕ → Counted → ℕ → Type 0
 IsRepeated q j x kind s = (i t u : ℕ) (b : Action) → i < s → Does q j u b → IsAccess kind q i t x → (s < j) × Conflict q i t s u
 
 -- two operations of a committed projection that conflict, the first of their transactions
@@ -107,7 +107,7 @@ IsFirstRival q i j = (t u : ℕ) (a b : Action) → Does q i t a → Does q j u 
 
 -- of the first accesses to x before position j, each after the given position has its edge; at the given position is
 -- one
-abbrev pub AreReportedAbove : Kind → List Operation → List Edge → ℕ → ℕ → ℕ → Option ℕ → Type 0
+abbrev pub AreReportedAbove : Counted → List Operation → List Edge → ℕ → ℕ → ℕ → Option ℕ → Type 0
 AreReportedAbove kind q edges j x u None = (k t : ℕ) → k < j → t ≢ u → IsFirstAccess kind q k t x → HasEdge edges t u
 AreReportedAbove kind q edges j x u (Some i) = (i < j) × ((t : ℕ) × IsFirstAccess kind q i t x)
     × ((k t : ℕ) → i < k → k < j → t ≢ u → IsFirstAccess kind q k t x → HasEdge edges t u)

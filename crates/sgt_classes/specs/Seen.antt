@@ -5,19 +5,24 @@ use Rattle.std.specs.Ordering.{nat_cmp}
 use Rattle.sgt_classes.specs.declared.operation.Operation.{Operation}
 use Rattle.sgt_classes.specs.declared.avoiding.Sources.{Sources}
 use Rattle.sgt_classes.specs.declared.recoverable.DirtyReads.{DirtyReads}
-use Rattle.sgt_classes.specs.declared.rigorous.Accesses.{Accesses}
+use Rattle.sgt_classes.specs.declared.rigorous.ItemAccesses.{ItemAccesses}
+use Rattle.sgt_classes.specs.declared.strict.Writes.{Writes}
 use Rattle.sgt_classes.specs.declared.commit_order.LatestUse.{LatestUse}
 use Rattle.sgt_classes.specs.declared.commit_order.ItemUses.{ItemUses}
 use Rattle.sgt_classes.specs.declared.graph.Edge.{Edge}
-use Rattle.sgt_classes.specs.declared.graph.Graph.{Graph}
+use Rattle.sgt_classes.specs.declared.graph.ProjectionGraph.{ProjectionGraph}
 use Rattle.sgt_classes.specs.declared.commit_order.LatestUses.{LatestUses}
 use Rattle.sgt_classes.specs.declared.operation.Action.{Action}
 use Rattle.sgt_classes.specs.declared.operation.Action.TheVariants.{Read, Write, Commit, Abort}
 use Rattle.sgt_classes.specs.Histories.{Does, Uses, AbortedBefore, CommittedBefore, EndedBefore}
 use Rattle.sgt_classes.specs.Links.{link_of}
 use Rattle.sgt_classes.specs.Tables.{entry_of}
-use Rattle.sgt_classes.specs.Classes.{BreaksStrictness, BreaksAvoidance, BreaksRecoverability, BreaksRigorousness}
-use Rattle.sgt_classes.specs.Serializability.{BreaksCommitOrder, Conflict}
+use Rattle.sgt_classes.specs.Classes.{BreaksAvoidance}
+use Rattle.sgt_classes.specs.Serializability.{Conflict}
+
+-- no operation before position p breaks the class
+abbrev pub NoneBreaksBefore : (ℕ → ℕ → Type 0) → ℕ → Type 0
+NoneBreaksBefore Breaks p = (i j : ℕ) → j < p → ¬ Breaks i j
 
 -- the last write of the item before position j, or none
 abbrev pub IsLastWrite : List Operation → ℕ → ℕ → Option ℕ → Type 0
@@ -32,9 +37,9 @@ AreLastWrites h j writes = (x : ℕ) → IsLastWrite h j x (writes x)
 abbrev pub AreEnded : List Operation → ℕ → (ℕ → Option ℕ) → Type 0
 AreEnded h j ends = (t : ℕ) → IsSome (ends t) ↔ EndedBefore h t j
 
--- no operation before position j violates strictness
-abbrev pub IsStrictBefore : List Operation → ℕ → Type 0
-IsStrictBefore h place = (i j : ℕ) → j < place → ¬ BreaksStrictness h i j
+-- the state of the checker of strictness, for the operations before position j
+abbrev pub KnowsWrites : List Operation → ℕ → Writes → Type 0
+KnowsWrites h j s = AreLastWrites h j (entry_of s.writers) × AreEnded h j (entry_of s.ended)
 
 -- Every transaction that has written the item before position j, and after the given position, has aborted by j. At
 -- the given position is a write of it.
@@ -67,10 +72,6 @@ KnowsSources h j s = AreSources h j (entry_of s.tops) (link_of s.below) (entry_o
 abbrev pub height : Option ℕ → ℕ
 height None = 0
 height (Some i) = i + 1
-
--- no operation before position j violates the avoidance of cascading aborts
-abbrev pub AvoidsBefore : List Operation → ℕ → Type 0
-AvoidsBefore h place = (i j : ℕ) → j < place → ¬ BreaksAvoidance h i j
 
 -- a dirty read: at position k, t reads from another transaction that has not committed
 abbrev pub IsDirtyRead : List Operation → ℕ → ℕ → Type 0
@@ -106,10 +107,6 @@ AreCleanAbove h j t None = (k : ℕ) → k < j → IsDirtyRead h k t → IsClean
 AreCleanAbove h j t (Some i) =
     (i < j) × IsDirtyRead h i t × ((k : ℕ) → i < k → k < j → IsDirtyRead h k t → IsCleanBy h k j)
 
--- no operation before position j violates recoverability
-abbrev pub IsRecoverableBefore : List Operation → ℕ → Type 0
-IsRecoverableBefore h place = (k j : ℕ) → j < place → ¬ BreaksRecoverability h k j
-
 -- the item is written after position k and before position j
 abbrev pub IsOverwritten : List Operation → ℕ → ℕ → ℕ → Type 0
 IsOverwritten h k j x = (m : ℕ) × (u : ℕ) × (k < m) × (m < j) × Does h m u (Write x)
@@ -127,7 +124,7 @@ pub record AreReads (h : List Operation) (j : ℕ) (lasts earlier : ℕ → Opti
   pub fresh : (k : ℕ) → j ≤ k → earlier k ≡ None
 
 -- the state of the checker of rigorousness, for the operations before position j
-pub record KnowsAccesses (h : List Operation) (j : ℕ) (s : Accesses) : Type 0 where
+pub record KnowsAccesses (h : List Operation) (j : ℕ) (s : ItemAccesses) : Type 0 where
   pub last : AreLastWrites h j (entry_of s.writes.writers)
   pub ends : AreEnded h j (entry_of s.writes.ended)
   pub reads : AreReads h j (entry_of s.lasts) (link_of s.earlier)
@@ -139,10 +136,6 @@ AreFineAbove h j x t None =
     (k r : ℕ) → k < j → Does h k r (Read x) → IsOverwritten h k j x ⊎ ((r ≡ t) ⊎ EndedBefore h r j)
 AreFineAbove h j x t (Some i) = (i < j) × ((r : ℕ) × Does h i r (Read x))
     × ((k r : ℕ) → i < k → k < j → Does h k r (Read x) → IsOverwritten h k j x ⊎ ((r ≡ t) ⊎ EndedBefore h r j))
-
--- no operation before position j violates rigorousness
-abbrev pub IsRigorousBefore : List Operation → ℕ → Type 0
-IsRigorousBefore h place = (i j : ℕ) → j < place → ¬ BreaksRigorousness h i j
 
 -- the position of the transaction's first commit before position j, or none
 abbrev pub IsFirstCommit : List Operation → ℕ → ℕ → Option ℕ → Type 0
@@ -191,10 +184,6 @@ abbrev pub use_after : Option LatestUse → ℕ → Option ℕ
 use_after None commit = None
 use_after (Some known) commit = if nat_lt commit known.commit then Some known.place else None
 
--- no operation before position j violates the commit order
-abbrev pub IsCommitOrderedBefore : List Operation → ℕ → Type 0
-IsCommitOrderedBefore h place = (i j : ℕ) → j < place → ¬ BreaksCommitOrder h i j
-
 -- two operations of a committed projection that make an edge
 pub record IsConflictBy (q : List Operation) (e : Edge) : Type 0 where
   pub differ : e.from ≢ e.to
@@ -206,7 +195,7 @@ abbrev pub HasEdge : List Edge → ℕ → ℕ → Type 0
 HasEdge edges t u = (k : ℕ) × (e : Edge) × (slice_get edges k ≡ Some e) × (e.from ≡ t) × (e.to ≡ u)
 
 -- edges of a committed projection, each with two operations that conflict
-abbrev pub IsGraph : List Operation → Graph → Type 0
+abbrev pub IsGraph : List Operation → ProjectionGraph → Type 0
 IsGraph q g = (k : ℕ) (e : Edge) → slice_get g.edges.items k ≡ Some e → IsConflictBy q e
 
 -- two operations on an item, one of them a write, with no write of it between

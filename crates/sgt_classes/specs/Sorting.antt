@@ -4,8 +4,8 @@ use Rattle.std.specs.BTreeMap.{get}
 use Rattle.std.specs.Ordering.{nat_cmp}
 use Rattle.sgt_classes.specs.declared.operation.Operation.{Operation}
 use Rattle.sgt_classes.specs.declared.graph.Edge.{Edge}
-use Rattle.sgt_classes.specs.declared.chains.End.{End}
-use Rattle.sgt_classes.specs.declared.chains.End.TheVariants.{From, To}
+use Rattle.sgt_classes.specs.declared.chains.EdgeEnd.{EdgeEnd}
+use Rattle.sgt_classes.specs.declared.chains.EdgeEnd.TheVariants.{From, To}
 use Rattle.sgt_classes.specs.declared.serial.Waits.{Waits}
 use Rattle.sgt_classes.specs.declared.watched.Watched.{Watched}
 use Rattle.sgt_classes.specs.Links.{link_of}
@@ -13,18 +13,18 @@ use Rattle.sgt_classes.specs.Tables.{entry_of}
 use Rattle.sgt_classes.specs.Serializability.{IsCycle, IsEdgeBy}
 
 -- the transaction at an end of an edge
-abbrev pub end_of : End → Edge → ℕ
+abbrev pub end_of : EdgeEnd → Edge → ℕ
 end_of From e = e.from
 end_of To e = e.to
 
 -- of the edges before position j, the last with the transaction at the end, or none
-abbrev pub IsLastEdge : End → List Edge → ℕ → ℕ → Option ℕ → Type 0
+abbrev pub IsLastEdge : EdgeEnd → List Edge → ℕ → ℕ → Option ℕ → Type 0
 IsLastEdge end es j t None = (k : ℕ) (e : Edge) → k < j → slice_get es k ≡ Some e → end_of end e ≢ t
 IsLastEdge end es j t (Some i) = (i < j) × ((e : Edge) × (slice_get es i ≡ Some e) × (end_of end e ≡ t))
     × ((k : ℕ) (e : Edge) → i < k → k < j → slice_get es k ≡ Some e → end_of end e ≢ t)
 
 -- the edges before position j by one of their ends
-pub record AreChains (end : End) (es : List Edge) (j : ℕ) (tops below : ℕ → Option ℕ) : Type 0 where
+pub record AreChains (end : EdgeEnd) (es : List Edge) (j : ℕ) (tops below : ℕ → Option ℕ) : Type 0 where
   pub tops_are : (t : ℕ) → IsLastEdge end es j t (tops t)
   pub below_are : (k : ℕ) (e : Edge) → k < j → slice_get es k ≡ Some e → IsLastEdge end es k (end_of end e) (below k)
   pub fresh : (k : ℕ) → j ≤ k → below k ≡ None

@@ -6,8 +6,9 @@ ghost use Rattle.sgt_classes.specs.Histories.{Does, AbortedBefore};
 ghost use Rattle.sgt_classes.specs.Links.{link_of};
 ghost use Rattle.sgt_classes.specs.Tables.{entry_of};
 ghost use Rattle.sgt_classes.specs.Classes.{ReadsFrom, BreaksAvoidance, IsFirstViolation};
-ghost use Rattle.sgt_classes.specs.Seen.{KnowsSources, AvoidsBefore, IsTopWrite};
+ghost use Rattle.sgt_classes.specs.Seen.{KnowsSources, IsTopWrite};
 
+use crate::checker::{Checker, first_violation};
 use crate::links::Links;
 use crate::operation::{Action, Operation, Violation};
 use crate::table::Table;
@@ -29,7 +30,7 @@ pub fn avoidance_violation(
     ensures { IfOk result (IsFirstViolation (BreaksAvoidance history.now)) }
 {
     let mut seen = Sources::new(alloc, history.len());
-    seen.violation(history)
+    first_violation(&mut seen, history)
 }
 
 /// The write that the read at the position reads from: the last one of its item before it whose transaction has not
@@ -80,24 +81,6 @@ impl Sources {
         }
     }
 
-    /// The first operation of the history that breaks the avoidance of cascading aborts. No operation may be recorded
-    /// yet.
-    fn violation(&mut self, history: &[Operation]) -> Result<Option<Violation>, NoMemory>
-        requires { KnowsSources history.now 0 self.old }
-        ensures { IfOk result (IsFirstViolation (BreaksAvoidance history.now)) }
-    {
-        for place in 0..history.len() {
-            if let Some(earlier) = self.uncommitted(history, place)? {
-                return Ok(Some(Violation {
-                    earlier,
-                    later: place,
-                }));
-            }
-            self.note(history, place)?;
-        }
-        Ok(None)
-    }
-
     /// Records the operations before the position. No operation may be recorded yet.
     fn note_until(&mut self, history: &[Operation], place: usize) -> Result<(), NoMemory>
         requires within { place < length history.now }
@@ -105,7 +88,7 @@ impl Sources {
         ensures { OnOk result (KnowsSources history.now place self.new) }
     {
         for earlier in 0..place {
-            self.note(history, earlier)?;
+            self.record(history, earlier)?;
         }
         Ok(())
     }
@@ -161,13 +144,19 @@ impl Sources {
         }
         None
     }
+}
+
+impl Checker for Sources {
+    ghost breaks = { BreaksAvoidance };
+
+    ghost knows = { KnowsSources };
+
+    fn broken(&mut self, history: &[Operation], place: usize) -> Result<Option<usize>, NoMemory> {
+        self.uncommitted(history, place)
+    }
 
     /// Records the operation: its write, or the end of its transaction.
-    pub fn note(&mut self, history: &[Operation], place: usize) -> Result<(), NoMemory>
-        requires within { place < length history.now }
-        requires sources { KnowsSources history.now place self.old }
-        ensures { OnOk result (KnowsSources history.now (place + 1) self.new) }
-    {
+    fn record(&mut self, history: &[Operation], place: usize) -> Result<(), NoMemory> {
         let operation = history[place];
         match operation.action {
             Action::Read(_) => (),

@@ -14,21 +14,21 @@ use std::alloc::Global;
 
 /// An end of an edge.
 #[derive(Clone, Copy)]
-pub enum End {
+pub enum EdgeEnd {
     /// The transaction that it leads from.
     From,
     /// The transaction that it leads to.
     To,
 }
 
-impl End {
+impl EdgeEnd {
     /// The transaction at this end of the edge.
     fn of(&self, edge: Edge) -> u32
         ensures { result ≡ end_of self.now edge }
     {
         match self {
-            End::From => edge.from,
-            End::To => edge.to,
+            EdgeEnd::From => edge.from,
+            EdgeEnd::To => edge.to,
         }
     }
 }
@@ -36,29 +36,34 @@ impl End {
 /// Edges by the transaction at one of their ends, for each transaction from last to first. An edge is its position in
 /// a list.
 #[derive(Drop)]
-pub struct Chains {
+pub struct EdgeChains {
     /// The last edge of a transaction.
     tops: Table,
     /// For an edge, the next earlier one of the same transaction.
     below: Links,
 }
 
-impl Chains {
+impl EdgeChains {
     /// No edges. Those of transactions below the bound are found by index.
     pub fn new(alloc: Global, bound: usize) -> Self
-        ensures { (end : End) (edges : List Edge) → AreChains end edges 0 (entry_of result.tops) (link_of result.below) }
+        ensures { (end : EdgeEnd) (edges : List Edge) → AreChains end edges 0 (entry_of result.tops) (link_of result.below) }
     {
-        Chains {
+        EdgeChains {
             tops: Table::new(alloc, bound),
             below: Links::new(alloc),
         }
     }
 
     /// All edges, by one of their ends. Those of transactions below the bound are found by index.
-    pub fn by_end(alloc: Global, edges: &[Edge], end: End, bound: usize) -> Result<Self, NoMemory>
+    pub fn by_end(
+        alloc: Global,
+        edges: &[Edge],
+        end: EdgeEnd,
+        bound: usize,
+    ) -> Result<Self, NoMemory>
         ensures { IfOk result (λ c. AreChains end edges.now (length edges.now) (entry_of c.tops) (link_of c.below)) }
     {
-        let mut chains = Chains::new(alloc, bound);
+        let mut chains = EdgeChains::new(alloc, bound);
         for place in 0..edges.len() {
             chains.add(edges, place, end)?;
         }
@@ -66,7 +71,7 @@ impl Chains {
     }
 
     /// Adds the edge at the position after those before it.
-    pub fn add(&mut self, edges: &[Edge], place: usize, end: End) -> Result<(), NoMemory>
+    pub fn add(&mut self, edges: &[Edge], place: usize, end: EdgeEnd) -> Result<(), NoMemory>
         requires within { place < length edges.now }
         requires before { AreChains end edges.now place (entry_of self.old.tops) (link_of self.old.below) }
         ensures { OnOk result (AreChains end edges.now (place + 1) (entry_of self.new.tops) (link_of self.new.below)) }

@@ -7,6 +7,7 @@ ghost use Rattle.sgt_classes.specs.Serializability.{BreaksCommitOrder, IsCommitO
 ghost use Rattle.sgt_classes.specs.Equivalence.{IsSerialRun, serial_history};
 ghost use Rattle.sgt_classes.specs.Seen.{AreFirstCommits, KnowsLatestUses, later_use, use_after, use_of};
 
+use crate::checker::{Checker, first_violation};
 use crate::operation::{Action, Operation, Violation};
 use crate::table::Table;
 use sgt_model::NoMemory;
@@ -29,7 +30,7 @@ pub fn commit_order_violation(
         reads: ItemUses::new(alloc, history.len()),
         writes: ItemUses::new(alloc, history.len()),
     };
-    seen.violation(history)
+    first_violation(&mut seen, history)
 }
 
 /// The committed transactions in the order of their first commits. For a commit ordered history this is a serial
@@ -132,23 +133,6 @@ struct LatestUses {
 }
 
 impl LatestUses {
-    /// The first operation of the history that breaks the commit order. No operation may be recorded yet.
-    fn violation(&mut self, history: &[Operation]) -> Result<Option<Violation>, NoMemory>
-        requires { KnowsLatestUses history.now 0 self.old }
-        ensures { IfOk result (IsFirstViolation (BreaksCommitOrder history.now)) }
-    {
-        for place in 0..history.len() {
-            if let Some(earlier) = self.inverted(history, place) {
-                return Ok(Some(Violation {
-                    earlier,
-                    later: place,
-                }));
-            }
-            self.note(history, place)?;
-        }
-        Ok(None)
-    }
-
     /// The conflicting use by a transaction that commits later.
     fn inverted(&self, history: &[Operation], place: usize) -> Option<usize>
         requires within { place < length history.now }
@@ -168,13 +152,19 @@ impl LatestUses {
         };
         committing_after(&self.reads, item, commit)
     }
+}
+
+impl Checker for LatestUses {
+    ghost breaks = { BreaksCommitOrder };
+
+    ghost knows = { KnowsLatestUses };
+
+    fn broken(&mut self, history: &[Operation], place: usize) -> Result<Option<usize>, NoMemory> {
+        Ok(self.inverted(history, place))
+    }
 
     /// Records the operation: its read or its write, if its transaction commits.
-    fn note(&mut self, history: &[Operation], place: usize) -> Result<(), NoMemory>
-        requires within { place < length history.now }
-        requires uses { KnowsLatestUses history.now place self.old }
-        ensures { OnOk result (KnowsLatestUses history.now (place + 1) self.new) }
-    {
+    fn record(&mut self, history: &[Operation], place: usize) -> Result<(), NoMemory> {
         let operation = history[place];
         let Some(commit) = self.commits.find(operation.transaction) else {
             return Ok(());

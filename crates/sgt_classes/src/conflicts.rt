@@ -2,14 +2,14 @@
 ghost use Rattle.std.specs.Prelude.{◌≡◌, ◌≢◌, ◌<◌, ◌+◌, ℕ, List, length, IfOk, OnOk};
 ghost use Rattle.sgt_classes.specs.declared.operation.Operation.{Operation};
 ghost use Rattle.sgt_classes.specs.declared.operation.Action.{Action};
-ghost use Rattle.sgt_classes.specs.declared.first_accesses.Kind.TheVariants as kind;
+ghost use Rattle.sgt_classes.specs.declared.first_accesses.Counted.TheVariants as kind;
 ghost use Rattle.sgt_classes.specs.Histories.{Does};
 ghost use Rattle.sgt_classes.specs.Seen.{HasEdge};
 ghost use Rattle.sgt_classes.specs.FirstConflicts.{AreFirstConflicts};
 ghost use Rattle.sgt_classes.specs.FirstAccesses.{KnowsFirsts, KnowsConflicts, AreRivals, IsRepeated, IsFirstRival};
 
 use crate::commit_order::first_commits;
-use crate::first_accesses::{FirstAccesses, Kind, set_pair};
+use crate::first_accesses::{Counted, FirstAccesses, set_pair};
 use crate::graph::{Edge, projection_in_place};
 use crate::operation::{Action, Operation};
 use sgt_model::NoMemory;
@@ -55,8 +55,8 @@ impl Conflicts {
             edges: Vec::new(alloc),
             reported: BTreeMap::new(alloc),
         };
-        let mut accesses = FirstAccesses::new(alloc, Kind::Any, operations.len());
-        let mut writes = FirstAccesses::new(alloc, Kind::Writes, operations.len());
+        let mut accesses = FirstAccesses::new(alloc, Counted::Any, operations.len());
+        let mut writes = FirstAccesses::new(alloc, Counted::Writes, operations.len());
         conflicts.report_all(operations, &mut accesses, &mut writes)?;
         Ok(conflicts)
     }

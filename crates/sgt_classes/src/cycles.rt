@@ -6,7 +6,7 @@ ghost use Rattle.sgt_classes.specs.Serializability.{IsCycle, IsEdgeBy};
 ghost use Rattle.sgt_classes.specs.Tables.{entry_of};
 ghost use Rattle.sgt_classes.specs.Sorting.{LeadBack, IsPathBack, Passes, AreAmong, IsCycleOf};
 
-use crate::chains::Chains;
+use crate::chains::EdgeChains;
 use crate::graph::Edge;
 use sgt_model::NoMemory;
 use std::alloc::Global;
@@ -18,7 +18,7 @@ use std::alloc::Global;
 pub fn cycle_back(
     alloc: Global,
     edges: &[Edge],
-    incoming: &mut Chains,
+    incoming: &mut EdgeChains,
     start: u32,
 ) -> Result<Vec<Edge>, NoMemory>
     requires back { LeadBack edges.now (entry_of incoming.old.tops) }
@@ -33,7 +33,7 @@ pub fn cycle_back(
 fn path_back(
     alloc: Global,
     edges: &[Edge],
-    incoming: &mut Chains,
+    incoming: &mut EdgeChains,
     start: u32,
 ) -> Result<(Vec<Edge>, u32), NoMemory>
     requires back { LeadBack edges.now (entry_of incoming.old.tops) }

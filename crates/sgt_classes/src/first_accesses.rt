@@ -16,21 +16,21 @@ use std::collections::BTreeMap;
 
 /// Which accesses to an item count.
 #[derive(Clone, Copy)]
-pub enum Kind {
+pub enum Counted {
     /// Reads and writes.
     Any,
     /// Only writes.
     Writes,
 }
 
-impl Kind {
+impl Counted {
     /// The item that the action accesses, if its access counts.
     fn item(&self, action: &Action) -> Option<u32>
         ensures { result ≡ accessed self.now action.now }
     {
         match (self, action) {
-            (Kind::Any, Action::Read(item) | Action::Write(item)) => Some(*item),
-            (Kind::Writes, Action::Write(item)) => Some(*item),
+            (Counted::Any, Action::Read(item) | Action::Write(item)) => Some(*item),
+            (Counted::Writes, Action::Write(item)) => Some(*item),
             _ => None,
         }
     }
@@ -40,7 +40,7 @@ impl Kind {
 #[derive(Drop)]
 pub struct FirstAccesses {
     /// Which accesses count.
-    kind: Kind,
+    kind: Counted,
     /// The last of the first accesses to an item.
     tops: Table,
     /// For a first access, the next earlier one to its item.
@@ -51,7 +51,7 @@ pub struct FirstAccesses {
 
 impl FirstAccesses {
     /// The state before the first operation. Numbers of items below the bound are found by index.
-    pub fn new(alloc: Global, kind: Kind, bound: usize) -> Self
+    pub fn new(alloc: Global, kind: Counted, bound: usize) -> Self
         ensures kind { result.kind ≡ kind }
         ensures knows { (q : List Operation) → KnowsFirsts q 0 result }
     {

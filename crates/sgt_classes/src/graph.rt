@@ -8,9 +8,10 @@ ghost use Rattle.sgt_classes.specs.Serializability.{Conflict, IsProjectionInPlac
 ghost use Rattle.sgt_classes.specs.Tables.{entry_of};
 ghost use Rattle.sgt_classes.specs.Seen.{AreFirstCommits, KnowsAccesses, IsGraph, HasEdge, HasConflicts, HasWriteConflicts, HasReadConflicts};
 
+use crate::checker::Checker;
 use crate::commit_order::first_commits;
 use crate::operation::{Action, Operation};
-use crate::rigorous::Accesses;
+use crate::rigorous::ItemAccesses;
 use crate::table::Table;
 use sgt_model::NoMemory;
 use std::alloc::Global;
@@ -54,33 +55,37 @@ pub fn edges_of_committed(
     ensures { IfOk result (λ edges. ReachAll history.now edges.items) }
 {
     let projection = projection_in_place(alloc, history, commits)?;
-    let graph = Graph::of_projection(alloc, projection.as_slice())?;
+    let graph = ProjectionGraph::of_projection(alloc, projection.as_slice())?;
     Ok(graph.edges)
 }
 
 /// Edges of the serialization graph of a committed projection.
 #[derive(Drop)]
-pub struct Graph {
+pub struct ProjectionGraph {
     /// The edges, in the order of their later operations.
     edges: Vec<Edge>,
 }
 
-impl Graph {
+impl ProjectionGraph {
     /// The edges of a committed projection that start at the last writer of an item, and at its readers since.
     pub fn of_projection(alloc: Global, operations: &[Operation]) -> Result<Self, NoMemory>
         ensures graph { IfOk result (λ g. IsGraph operations.now g) }
         ensures conflicts { IfOk result (λ g. HasConflicts operations.now g.edges.items (length operations.now)) }
     {
-        let mut graph = Graph {
+        let mut graph = ProjectionGraph {
             edges: Vec::new(alloc),
         };
-        let mut seen = Accesses::new(alloc, operations.len());
+        let mut seen = ItemAccesses::new(alloc, operations.len());
         graph.connect_all(operations, &mut seen)?;
         Ok(graph)
     }
 
     /// Adds the edges of the committed projection. No edge and no operation may be recorded yet.
-    fn connect_all(&mut self, operations: &[Operation], seen: &mut Accesses) -> Result<(), NoMemory>
+    fn connect_all(
+        &mut self,
+        operations: &[Operation],
+        seen: &mut ItemAccesses,
+    ) -> Result<(), NoMemory>
         requires none { self.old.edges.items ≡ [] }
         requires uses { KnowsAccesses operations.now 0 seen.old }
         ensures graph { OnOk result (IsGraph operations.now self.new) }
@@ -89,7 +94,7 @@ impl Graph {
         for place in 0..operations.len() {
             self.connect_write(operations, place, seen)?;
             self.connect_reads(operations, place, seen)?;
-            seen.note(operations, place)?;
+            seen.record(operations, place)?;
         }
         Ok(())
     }
@@ -99,7 +104,7 @@ impl Graph {
         &mut self,
         operations: &[Operation],
         place: usize,
-        seen: &Accesses,
+        seen: &ItemAccesses,
     ) -> Result<(), NoMemory>
         requires within { place < length operations.now }
         requires uses { KnowsAccesses operations.now place seen.now }
@@ -124,7 +129,7 @@ impl Graph {
         &mut self,
         operations: &[Operation],
         place: usize,
-        seen: &Accesses,
+        seen: &ItemAccesses,
     ) -> Result<(), NoMemory>
         requires within { place < length operations.now }
         requires uses { KnowsAccesses operations.now place seen.now }

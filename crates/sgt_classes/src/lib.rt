@@ -21,6 +21,7 @@
 
 mod avoiding;
 mod chains;
+mod checker;
 mod commit_order;
 mod conflicts;
 mod cycles;

@@ -4,6 +4,7 @@ ghost use Rattle.sgt_classes.specs.Classes.{BreaksRecoverability, IsFirstViolati
 ghost use Rattle.sgt_classes.specs.Seen.{KnowsSources, KnowsDirtyReads, KeepsDirtyReads};
 
 use crate::avoiding::{Sources, put_on_top};
+use crate::checker::{Checker, first_violation};
 use crate::links::Links;
 use crate::operation::{Action, Operation, Violation};
 use crate::table::Table;
@@ -30,7 +31,7 @@ pub fn recoverable_violation(
         earlier: Links::new(alloc),
         writers: BTreeMap::new(alloc),
     };
-    seen.violation(history)
+    first_violation(&mut seen, history)
 }
 
 /// The dirty reads before a position: reads from another transaction that had not committed.
@@ -47,23 +48,6 @@ struct DirtyReads {
 }
 
 impl DirtyReads {
-    /// The first operation of the history that breaks recoverability. No operation may be recorded yet.
-    fn violation(&mut self, history: &[Operation]) -> Result<Option<Violation>, NoMemory>
-        requires { KnowsDirtyReads history.now 0 self.old }
-        ensures { IfOk result (IsFirstViolation (BreaksRecoverability history.now)) }
-    {
-        for place in 0..history.len() {
-            if let Some(earlier) = self.unrecoverable(history, place) {
-                return Ok(Some(Violation {
-                    earlier,
-                    later: place,
-                }));
-            }
-            self.note(history, place)?;
-        }
-        Ok(None)
-    }
-
     /// The read that makes the operation break recoverability.
     fn unrecoverable(&self, history: &[Operation], place: usize) -> Option<usize>
         requires within { place < length history.now }
@@ -88,16 +72,6 @@ impl DirtyReads {
         None
     }
 
-    /// Records the operation: its dirty read, its write, or the end of its transaction.
-    fn note(&mut self, history: &[Operation], place: usize) -> Result<(), NoMemory>
-        requires within { place < length history.now }
-        requires reads { KnowsDirtyReads history.now place self.old }
-        ensures { OnOk result (KnowsDirtyReads history.now (place + 1) self.new) }
-    {
-        self.note_read(history, place)?;
-        self.sources.note(history, place)
-    }
-
     /// Records the operation if it is a dirty read.
     fn note_read(&mut self, history: &[Operation], place: usize) -> Result<(), NoMemory>
         requires within { place < length history.now }
@@ -112,5 +86,20 @@ impl DirtyReads {
         self.writers.insert(place, history[write].transaction)?;
         put_on_top(&mut self.lasts, &mut self.earlier, reader, place)?;
         Ok(())
+    }
+}
+
+impl Checker for DirtyReads {
+    ghost breaks = { BreaksRecoverability };
+
+    ghost knows = { KnowsDirtyReads };
+
+    fn broken(&mut self, history: &[Operation], place: usize) -> Result<Option<usize>, NoMemory> {
+        Ok(self.unrecoverable(history, place))
+    }
+
+    fn record(&mut self, history: &[Operation], place: usize) -> Result<(), NoMemory> {
+        self.note_read(history, place)?;
+        self.sources.record(history, place)
     }
 }

@@ -4,9 +4,10 @@ ghost use Rattle.sgt_classes.specs.declared.operation.Operation.{Operation};
 ghost use Rattle.sgt_classes.specs.Classes.{BreaksStrictness, OverwritesReader, BreaksRigorousness, IsFirstViolation};
 ghost use Rattle.sgt_classes.specs.Links.{link_of};
 ghost use Rattle.sgt_classes.specs.Tables.{entry_of};
-ghost use Rattle.sgt_classes.specs.Seen.{KnowsAccesses, AreReads, IsRigorousBefore};
+ghost use Rattle.sgt_classes.specs.Seen.{KnowsAccesses, AreReads, NoneBreaksBefore};
 
 use crate::avoiding::put_on_top;
+use crate::checker::{Checker, first_violation};
 use crate::links::Links;
 use crate::operation::{Action, Operation, Violation};
 use crate::strict::Writes;
@@ -27,13 +28,13 @@ pub fn rigorous_violation(
 ) -> Result<Option<Violation>, NoMemory>
     ensures { IfOk result (IsFirstViolation (BreaksRigorousness history.now)) }
 {
-    let mut seen = Accesses::new(alloc, history.len());
-    seen.violation(history)
+    let mut seen = ItemAccesses::new(alloc, history.len());
+    first_violation(&mut seen, history)
 }
 
 /// Which transactions have used each item and which have ended, before a position.
 #[derive(Drop)]
-pub struct Accesses {
+pub struct ItemAccesses {
     /// The last writes, and which transactions have ended.
     writes: Writes,
     /// The position of an item's last read since its last write.
@@ -42,33 +43,16 @@ pub struct Accesses {
     earlier: Links,
 }
 
-impl Accesses {
+impl ItemAccesses {
     /// The state before the first operation. Numbers of items and transactions below the bound are found by index.
     pub fn new(alloc: Global, bound: usize) -> Self
         ensures { (h : List Operation) → KnowsAccesses h 0 result }
     {
-        Accesses {
+        ItemAccesses {
             writes: Writes::new(alloc, bound),
             lasts: Table::new(alloc, bound),
             earlier: Links::new(alloc),
         }
-    }
-
-    /// The first operation of the history that breaks rigorousness. No operation may be recorded yet.
-    fn violation(&mut self, history: &[Operation]) -> Result<Option<Violation>, NoMemory>
-        requires { KnowsAccesses history.now 0 self.old }
-        ensures { IfOk result (IsFirstViolation (BreaksRigorousness history.now)) }
-    {
-        for place in 0..history.len() {
-            if let Some(earlier) = self.unended(history, place) {
-                return Ok(Some(Violation {
-                    earlier,
-                    later: place,
-                }));
-            }
-            self.note(history, place)?;
-        }
-        Ok(None)
     }
 
     /// The last write of the item.
@@ -96,7 +80,7 @@ impl Accesses {
     fn unended(&self, history: &[Operation], place: usize) -> Option<usize>
         requires within { place < length history.now }
         requires uses { KnowsAccesses history.now place self.now }
-        requires rigorous { IsRigorousBefore history.now place }
+        requires rigorous { NoneBreaksBefore (BreaksRigorousness history.now) place }
         ensures some { IfSome result (λ i. BreaksRigorousness history.now i place) }
         ensures none { IsNone result → (i : ℕ) → ¬ BreaksRigorousness history.now i place }
     {
@@ -111,7 +95,7 @@ impl Accesses {
     fn unended_reader(&self, history: &[Operation], place: usize) -> Option<usize>
         requires within { place < length history.now }
         requires uses { KnowsAccesses history.now place self.now }
-        requires rigorous { IsRigorousBefore history.now place }
+        requires rigorous { NoneBreaksBefore (BreaksRigorousness history.now) place }
         requires strict { (i : ℕ) → ¬ BreaksStrictness history.now i place }
         ensures some { IfSome result (λ i. OverwritesReader history.now i place) }
         ensures none { IsNone result → (i : ℕ) → ¬ OverwritesReader history.now i place }
@@ -131,17 +115,6 @@ impl Accesses {
         None
     }
 
-    /// Records the operation: its read, its write, or the end of its transaction.
-    pub fn note(&mut self, history: &[Operation], place: usize) -> Result<(), NoMemory>
-        requires within { place < length history.now }
-        requires uses { KnowsAccesses history.now place self.old }
-        ensures { OnOk result (KnowsAccesses history.now (place + 1) self.new) }
-    {
-        self.note_read(history, place)?;
-        self.writes.note(history, place)?;
-        Ok(())
-    }
-
     /// Records the operation if it is a read, and removes the reads of its item if it is a write.
     fn note_read(&mut self, history: &[Operation], place: usize) -> Result<(), NoMemory>
         requires within { place < length history.now }
@@ -157,6 +130,23 @@ impl Accesses {
             }
             Action::Commit | Action::Abort => (),
         }
+        Ok(())
+    }
+}
+
+impl Checker for ItemAccesses {
+    ghost breaks = { BreaksRigorousness };
+
+    ghost knows = { KnowsAccesses };
+
+    fn broken(&mut self, history: &[Operation], place: usize) -> Result<Option<usize>, NoMemory> {
+        Ok(self.unended(history, place))
+    }
+
+    /// Records the operation: its read, its write, or the end of its transaction.
+    fn record(&mut self, history: &[Operation], place: usize) -> Result<(), NoMemory> {
+        self.note_read(history, place)?;
+        self.writes.note(history, place)?;
         Ok(())
     }
 }

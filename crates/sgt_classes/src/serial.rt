@@ -12,7 +12,7 @@ ghost use Rattle.sgt_classes.specs.SerialOrders.{IsShown, IsSerial};
 ghost use Rattle.sgt_classes.specs.Tables.{entry_of, table_len};
 ghost use Rattle.sgt_classes.specs.Sorting.{KnowsWaits, AllReady, AllWatched, AllWait, AllWaitBut, AllLeftWait, IsReady, IsWatched, WaitsForLeft, LeadsFromLeft, IsTopEdge, IsFirstFree, AreSameBut, IsCycleOf};
 
-use crate::chains::{Chains, End};
+use crate::chains::{EdgeChains, EdgeEnd};
 use crate::commit_order::first_commits;
 use crate::cycles::cycle_back;
 use crate::graph::{Edge, edges_of_committed};
@@ -70,7 +70,7 @@ pub struct Waits {
     left: Table,
     /// The edges by the transaction that they lead to. For a transaction not in the order yet, the last edge is the
     /// last one from another such transaction, which it waits for.
-    incoming: Chains,
+    incoming: EdgeChains,
     /// The edges because of which they wait or have waited.
     watched: Watched,
     /// The transactions that wait for none, by the positions of their commits.
@@ -108,7 +108,7 @@ impl Waits {
         ensures edges { IfOk result (λ w. w.edges ≡ edges) }
         ensures left { IfOk result (λ w. w.left ≡ commits) }
     {
-        let incoming = Chains::by_end(alloc, edges.as_slice(), End::To, history.len())?;
+        let incoming = EdgeChains::by_end(alloc, edges.as_slice(), EdgeEnd::To, history.len())?;
         let mut waits = Waits {
             edges,
             left: commits,

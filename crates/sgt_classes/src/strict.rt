@@ -3,8 +3,9 @@ ghost use Rattle.std.specs.Prelude.{◌≡◌, ◌≢◌, ◌<◌, ◌+◌, ℕ,
 ghost use Rattle.sgt_classes.specs.declared.operation.Operation.{Operation};
 ghost use Rattle.sgt_classes.specs.Classes.{BreaksStrictness, IsFirstViolation};
 ghost use Rattle.sgt_classes.specs.Tables.{entry_of};
-ghost use Rattle.sgt_classes.specs.Seen.{AreLastWrites, AreEnded, IsStrictBefore};
+ghost use Rattle.sgt_classes.specs.Seen.{AreLastWrites, AreEnded, KnowsWrites, NoneBreaksBefore};
 
+use crate::checker::{Checker, first_violation};
 use crate::operation::{Action, Operation, Violation};
 use crate::table::Table;
 use sgt_model::NoMemory;
@@ -20,16 +21,7 @@ pub fn strict_violation(alloc: Global, history: &[Operation]) -> Result<Option<V
     ensures { IfOk result (IsFirstViolation (BreaksStrictness history.now)) }
 {
     let mut seen = Writes::new(alloc, history.len());
-    for place in 0..history.len() {
-        if let Some(earlier) = seen.unended(history, place) {
-            return Ok(Some(Violation {
-                earlier,
-                later: place,
-            }));
-        }
-        seen.note(history, place)?;
-    }
-    Ok(None)
+    first_violation(&mut seen, history)
 }
 
 /// The last write of each item and which transactions have ended, before a position.
@@ -72,9 +64,9 @@ impl Writes {
         requires within { place < length history.now }
         requires last { AreLastWrites history.now place (entry_of self.now.writers) }
         requires ends { AreEnded history.now place (entry_of self.now.ended) }
-        requires strict { IsStrictBefore history.now place }
+        requires strict { NoneBreaksBefore (BreaksStrictness history.now) place }
         ensures some { IfSome result (λ i. BreaksStrictness history.now i place) }
-        ensures none { IsNone result → IsStrictBefore history.now (place + 1) }
+        ensures none { IsNone result → (i : ℕ) → ¬ BreaksStrictness history.now i place }
     {
         let operation = history[place];
         let item = operation.action.item()?;
@@ -101,5 +93,19 @@ impl Writes {
             Action::Commit | Action::Abort => self.ended.set_place(operation.transaction, place)?,
         }
         Ok(())
+    }
+}
+
+impl Checker for Writes {
+    ghost breaks = { BreaksStrictness };
+
+    ghost knows = { KnowsWrites };
+
+    fn broken(&mut self, history: &[Operation], place: usize) -> Result<Option<usize>, NoMemory> {
+        Ok(self.unended(history, place))
+    }
+
+    fn record(&mut self, history: &[Operation], place: usize) -> Result<(), NoMemory> {
+        self.note(history, place)
     }
 }

@@ -4,7 +4,7 @@ ghost use Rattle.sgt_classes.specs.Links.{link_of};
 ghost use Rattle.sgt_classes.specs.Tables.{entry_of};
 ghost use Rattle.sgt_classes.specs.Sorting.{KnowsWatched};
 
-use crate::chains::{Chains, End};
+use crate::chains::{EdgeChains, EdgeEnd};
 use crate::graph::Edge;
 use sgt_model::NoMemory;
 use std::alloc::Global;
@@ -16,7 +16,7 @@ pub struct Watched {
     /// The edges.
     pub edges: Vec<Edge>,
     /// The edges by the transaction that they lead from.
-    outgoing: Chains,
+    outgoing: EdgeChains,
 }
 
 impl Watched {
@@ -27,7 +27,7 @@ impl Watched {
     {
         Watched {
             edges: Vec::new(alloc),
-            outgoing: Chains::new(alloc, bound),
+            outgoing: EdgeChains::new(alloc, bound),
         }
     }
 
@@ -53,7 +53,8 @@ impl Watched {
     {
         let place = self.edges.len();
         self.edges.push(edge)?;
-        self.outgoing.add(self.edges.as_slice(), place, End::From)?;
+        self.outgoing
+            .add(self.edges.as_slice(), place, EdgeEnd::From)?;
         Ok(())
     }
 }

@@ -1,5 +1,6 @@
 pub mod Begins
 pub mod Pieces
+pub mod Templates
 pub mod Views
 pub mod Shapes
 pub mod ReadProcedures

@@ -1,5 +1,5 @@
 -- What a line in plain form spells that is a begin, or an access on which a transaction's caller decides.
-use Rattle.std.proofs.Common.{◌≡◌, ◌<◌, false, ℕ, ℤ, List, [], ◌∷◌, ◌++◌, Some, None, Option, refl, arith, sym, ◌∙◌, ap}
+use Rattle.std.proofs.Common.{◌≡◌, ◌<◌, false, ℕ, ℤ, List, [], ◌∷◌, ◌++◌, Some, None, refl, arith, sym, ◌∙◌, ap}
 use Rattle.std.specs.Prelude.{codes, option_and_then, IsUtf8, Ok}
 use Rattle.std.specs.Fmt.{signed_decimal}
 use lib.Signed.{mag}
@@ -9,9 +9,6 @@ use Rattle.json.specs.Print.{escape_byte, quoted, ArePrintable}
 use Rattle.json.specs.Spaced.{IsGap, print_spaced}
 use Rattle.json.proofs.Printed.Decimals.{IsNumber-signed_decimal}
 use Rattle.json.proofs.Printed.Utf8.{IsUtf8-are_ascii}
-use Rattle.serde_json.specs.Data.{Num}
-use Rattle.serde_json.specs.Find.{as_i64}
-use Rattle.serde_json.specs.Read.{number_of}
 use Rattle.sgt_model.specs.Contents.{Key}
 use Rattle.sgt_model.specs.declared.event.Event.TheVariants.{Access}
 use Rattle.sgt_model.specs.declared.event.Request.{Request}
@@ -24,7 +21,7 @@ use Rattle.sgt_format.specs.PlainLines.{AreNumbers}
 use Rattle.sgt_format.specs.RecordLines.{key_of}
 use Rattle.sgt_format.proofs.LineTokens.{event_found}
 use Rattle.sgt_format.proofs.PlainLines.{IsSpaced, is_spaced}
-use Rattle.sgt_format.proofs.PlainCalls.{whole_signed, signed_utf8}
+use Rattle.sgt_format.proofs.PlainCalls.{whole_signed, signed_utf8, number_there}
 
 -- ---- what the tokens spell
 
@@ -33,19 +30,11 @@ keyed_means : (w r s u : List ℕ) (a b c : ℤ) → whole_number r ≡ Some a �
     → event_at (begin_array ∷ string w ∷ number r ∷ number s ∷ number u ∷ end_array ∷ [])
     ≡ accessed (natural 32 a) (option_and_then (of_key w) (key_of b c))
 unfolding value items
-keyed_means w r s u a b c first second third = by_numbers (number_of r) (number_of s) (number_of u) refl refl refl
-  where
-    by_numbers : (l m n : Option Num) → number_of r ≡ l → number_of s ≡ m → number_of u ≡ n
-        → event_at (begin_array ∷ string w ∷ number r ∷ number s ∷ number u ∷ end_array ∷ [])
-        ≡ accessed (natural 32 a) (option_and_then (of_key w) (key_of b c))
-    by_numbers None m n e f g = absurd (cc)
-    by_numbers (Some l) None n e f g = absurd (cc)
-    by_numbers (Some l) (Some m) None e f g = absurd (cc)
-    by_numbers (Some l) (Some m) (Some n) e f g =
-        let one : as_i64 l ≡ Some a = sym (ap (option_and_then as_i64) e) ∙ first in
-        let two : as_i64 m ≡ Some b = sym (ap (option_and_then as_i64) f) ∙ second in
-        let three : as_i64 n ≡ Some c = sym (ap (option_and_then as_i64) g) ∙ third in
-        rw (e, f, g) (rw (one, two, three) refl)
+keyed_means w r s u a b c first second third =
+    let l = number_there r a first in
+    let m = number_there s b second in
+    let n = number_there u c third in
+    rw (l.1, m.1, n.1) (rw (l.2, m.2, n.2) refl)
 
 -- a word and four
 valued_means : (w r s u x : List ℕ) (a b c d : ℤ) → whole_number r ≡ Some a → whole_number s ≡ Some b → whole_number u ≡ Some c
@@ -54,21 +43,11 @@ valued_means : (w r s u x : List ℕ) (a b c d : ℤ) → whole_number r ≡ Som
     ≡ accessed (natural 32 a) (option_and_then (λ k. of_value w k d) (key_of b c))
 unfolding value items
 valued_means w r s u x a b c d first second third fourth =
-    by_numbers (number_of r) (number_of s) (number_of u) (number_of x) refl refl refl refl
-  where
-    by_numbers : (l m n o : Option Num) → number_of r ≡ l → number_of s ≡ m → number_of u ≡ n → number_of x ≡ o
-        → event_at (begin_array ∷ string w ∷ number r ∷ number s ∷ number u ∷ number x ∷ end_array ∷ [])
-        ≡ accessed (natural 32 a) (option_and_then (λ k. of_value w k d) (key_of b c))
-    by_numbers None m n o e f g h = absurd (cc)
-    by_numbers (Some l) None n o e f g h = absurd (cc)
-    by_numbers (Some l) (Some m) None o e f g h = absurd (cc)
-    by_numbers (Some l) (Some m) (Some n) None e f g h = absurd (cc)
-    by_numbers (Some l) (Some m) (Some n) (Some o) e f g h =
-        let one : as_i64 l ≡ Some a = sym (ap (option_and_then as_i64) e) ∙ first in
-        let two : as_i64 m ≡ Some b = sym (ap (option_and_then as_i64) f) ∙ second in
-        let three : as_i64 n ≡ Some c = sym (ap (option_and_then as_i64) g) ∙ third in
-        let four : as_i64 o ≡ Some d = sym (ap (option_and_then as_i64) h) ∙ fourth in
-        rw (e, f, g, h) (rw (one, two, three, four) refl)
+    let l = number_there r a first in
+    let m = number_there s b second in
+    let n = number_there u c third in
+    let o = number_there x d fourth in
+    rw (l.1, m.1, n.1, o.1) (rw (l.2, m.2, n.2, o.2) refl)
 
 -- ---- a word and three numbers
 
@@ -81,7 +60,8 @@ key_tokens w a b c last = begin_array ∷ string w ∷ number (signed_decimal a)
 
 key_is_spaced : (w words line gap text rest : List ℕ) (a b c : ℤ) → IsUtf8 (quoted w) → IsGap gap → line ≡ words ++ (gap ++ text)
     → (are : AreNumbers text rest a b c) → rest ≡ codes "]"
-    → words ++ (gap ++ (signed_decimal a ++ (44 ∷ (are.before ++ (signed_decimal b ++ (44 ∷ (are.between ++ (signed_decimal c ++ codes "]"))))))))
+    → words ++ (gap ++ (signed_decimal a ++ (44 ∷ (are.before
+    ++ (signed_decimal b ++ (44 ∷ (are.between ++ (signed_decimal c ++ codes "]"))))))))
     ≡ print_spaced false (key_spaced w gap a are.before are.between b c (([], end_array) ∷ []))
     → IsSpaced line (key_tokens w a b c (end_array ∷ []))
 unfolding ArePrintable
@@ -144,13 +124,15 @@ plain_remove line gap text rest a b c t key is_gap begins are ends tid place =
 
 -- ---- a word and four
 
-write_is_spaced : (line gap text rest following written last : List ℕ) (a b c d : ℤ) → IsGap gap → line ≡ codes "[\"write\"," ++ (gap ++ text)
+write_is_spaced : (line gap text rest following written last : List ℕ) (a b c d : ℤ) → IsGap gap → line ≡ codes "[\"write\","
+    ++ (gap ++ text)
     → AreNumbers text rest a b c → IsGap following → rest ≡ codes "," ++ (following ++ written) → written ≡ signed_decimal d ++ last
     → last ≡ codes "]" → mag d < 1_000_000_000_000_000_000
     → IsSpaced line (key_tokens (codes "write") a b c (number (signed_decimal d) ∷ end_array ∷ []))
 unfolding print_spaced escape_byte ArePrintable
 write_is_spaced line gap text rest following written last a b c d is_gap begins are is_after next is ends small =
-    let place = key_spaced (codes "write") gap a are.before are.between b c ((following, number (signed_decimal d)) ∷ ([], end_array) ∷ []) in
+    let place = key_spaced (codes "write") gap a are.before are.between b c
+    ((following, number (signed_decimal d)) ∷ ([], end_array) ∷ []) in
     let whole : line ≡ print_spaced false place =
     begins ∙ ap (λ rest. codes "[\"write\"," ++ (gap ++ rest)) (are.is
     ∙ ap (λ rest. signed_decimal a ++ (44 ∷ (are.before ++ (signed_decimal b ++ (44 ∷ (are.between ++ (signed_decimal c ++ rest))))))) (next
@@ -182,7 +164,8 @@ write_is_spaced line gap text rest following written last a b c d is_gap begins 
     )
 
 pub plain_write : (line gap text rest following written last : List ℕ) (a b c d : ℤ) (t : ℕ) (key : Key) → IsGap gap
-    → line ≡ codes "[\"write\"," ++ (gap ++ text) → AreNumbers text rest a b c → IsGap following → rest ≡ codes "," ++ (following ++ written)
+    → line ≡ codes "[\"write\"," ++ (gap ++ text) → AreNumbers text rest a b c → IsGap following → rest ≡ codes ","
+    ++ (following ++ written)
     → written ≡ signed_decimal d ++ last → last ≡ codes "]" → mag d < 1_000_000_000_000_000_000 → natural 32 a ≡ Some t
     → key_of b c ≡ Some key → event_of line ≡ Ok (Access t (Write key (Some d)))
 plain_write line gap text rest following written last a b c d t key is_gap begins are is_after next is ends small tid place =
@@ -194,22 +177,6 @@ plain_write line gap text rest following written last a b c d t key is_gap begin
     ∙ ap (λ n. accessed n (option_and_then (λ k. of_value w k d) (key_of b c))) tid
     ∙ ap (λ k. accessed (Some t) (option_and_then (λ k. of_value w k d) k)) place in
     event_found line line _ (Some (Access t (Write key (Some d)))) all.utf8 refl (sym all.read) means
-
--- ---- three numbers at the front of a text
-
-pub three_numbers : (text rest before next more between other last : List ℕ) (a b c : ℤ) → text ≡ signed_decimal a ++ rest → IsGap before
-    → rest ≡ codes "," ++ (before ++ next) → next ≡ signed_decimal b ++ more → IsGap between → more ≡ codes "," ++ (between ++ other)
-    → other ≡ signed_decimal c ++ last → mag a < 1_000_000_000_000_000_000 → mag b < 1_000_000_000_000_000_000
-    → mag c < 1_000_000_000_000_000_000 → AreNumbers text last a b c
-three_numbers text rest before next more between other last a b c one gap two three gap' four five small small' small'' = record {
-  before = before;
-  between = between;
-  is_gap = gap;
-  is_gap_too = gap';
-  is = one ∙ ap (λ z. signed_decimal a ++ z) (two ∙ ap (λ z. 44 ∷ (before ++ z)) (three ∙ ap (λ z. signed_decimal b ++ z)
-      (four ∙ ap (λ z. 44 ∷ (between ++ z)) five)));
-  small = (small, (small', (small'', tt)));
-}
 
 -- ---- a word alone
 

@@ -1,5 +1,5 @@
 -- What a line spells that is a call in plain form.
-use Rattle.std.proofs.Common.{◌≡◌, ◌≤◌, ◌<◌, ◌-◌, ◌^◌, true, false, Bool, ℕ, ℤ, pos, negsuc, suc, List, [], ◌∷◌, ◌++◌, length, take, drop, Some, subst, refl, arith, sym, ◌∙◌, ap, lt-ltb}
+use Rattle.std.proofs.Common.{◌≡◌, ◌≤◌, ◌<◌, ◌-◌, ◌^◌, true, false, Bool, ℕ, ℤ, pos, negsuc, suc, List, [], ◌∷◌, ◌++◌, length, take, drop, Some, None, Option, subst, refl, arith, sym, ◌∙◌, ap, lt-ltb}
 use Rattle.std.specs.Prelude.{slice_index, codes, map, IsUtf8, Ok, option_and_then}
 use Rattle.std.specs.Fmt.{decimal, signed_decimal}
 use Rattle.std.proofs.lemmas.Fmt.{IsAscii-signed}
@@ -11,7 +11,9 @@ use Rattle.json.specs.Print.{escape_byte, quoted, ArePrintable}
 use Rattle.json.specs.Spaced.{IsGap, print_spaced}
 use Rattle.json.proofs.Printed.Decimals.{IsNumber-decimal, IsNumber-signed_decimal}
 use Rattle.json.proofs.Printed.Utf8.{IsUtf8-are_ascii}
+use Rattle.serde_json.specs.Data.{Num}
 use Rattle.serde_json.specs.Find.{as_i64}
+use Rattle.serde_json.specs.Read.{number_of}
 use Rattle.serde_json.proofs.Numbers.{number_of-negative}
 use Rattle.sgt_model.specs.declared.event.Event.TheVariants.{Start}
 use Rattle.sgt_proc_json.specs.Trees.{natural}
@@ -36,6 +38,14 @@ number_first text rest n digits are is =
     take_all _ (drop digits text) (omega (arith, length-drop digits text)) in
     sym (take-append-drop digits text) ∙ ap (λ front. front ++ drop digits text) are
     ∙ ap (λ rest. decimal n ++ rest) (sym following ∙ sym is)
+
+-- a number that is whole is a number
+pub number_there : (r : List ℕ) (a : ℤ) → whole_number r ≡ Some a → (l : Num) × (number_of r ≡ Some l) × (as_i64 l ≡ Some a)
+number_there r a is = by_number (number_of r) refl
+  where
+    by_number : (o : Option Num) → number_of r ≡ o → (l : Num) × (number_of r ≡ Some l) × (as_i64 l ≡ Some a)
+    by_number None e = absurd (cc)
+    by_number (Some l) e = (l, e, sym (ap (option_and_then as_i64) e) ∙ is)
 
 -- ---- arguments
 

@@ -9,15 +9,14 @@ use Rattle.json.specs.Print.{escape_byte, ArePrintable}
 use Rattle.json.specs.Spaced.{IsGap, print_spaced}
 use Rattle.json.proofs.Printed.Decimals.{IsNumber-signed_decimal}
 use Rattle.json.proofs.Printed.Utf8.{IsUtf8-are_ascii}
-use Rattle.serde_json.specs.Data.{Num, Data}
-use Rattle.serde_json.specs.Find.{as_i64}
-use Rattle.serde_json.specs.Read.{number_of, read}
+use Rattle.serde_json.specs.Data.{Data}
+use Rattle.serde_json.specs.Read.{read}
 use Rattle.sgt_format.specs.LineTokens.{whole_number, tree_at}
 use Rattle.sgt_format.specs.RecordLines.{of_numbers, record_line_in, record_line_of}
 use Rattle.sgt_format.specs.declared.record_line.RecordLine.{RecordLine}
 use Rattle.sgt_format.proofs.Views.{tree_of_read}
 use Rattle.sgt_format.proofs.PlainLines.{is_spaced}
-use Rattle.sgt_format.proofs.PlainCalls.{whole_signed, signed_utf8}
+use Rattle.sgt_format.proofs.PlainCalls.{whole_signed, signed_utf8, number_there}
 
 -- a word and three numbers
 abbrev spelled : List ℕ → List ℕ → List ℕ → List ℕ → List Token
@@ -26,18 +25,11 @@ spelled w r s t = begin_array ∷ string w ∷ number r ∷ number s ∷ number 
 numbers : (w r s t : List ℕ) (a b c : ℤ) → whole_number r ≡ Some a → whole_number s ≡ Some b → whole_number t ≡ Some c
     → option_and_then record_line_in (tree_at (spelled w r s t)) ≡ of_numbers w a b c
 unfolding value items
-numbers w r s t a b c first second third = by_numbers (number_of r) (number_of s) (number_of t) refl refl refl
-  where
-    by_numbers : (l m n : Option Num) → number_of r ≡ l → number_of s ≡ m → number_of t ≡ n
-        → option_and_then record_line_in (tree_at (spelled w r s t)) ≡ of_numbers w a b c
-    by_numbers None m n e f g = absurd (cc)
-    by_numbers (Some l) None n e f g = absurd (cc)
-    by_numbers (Some l) (Some m) None e f g = absurd (cc)
-    by_numbers (Some l) (Some m) (Some n) e f g =
-        let one : as_i64 l ≡ Some a = sym (ap (option_and_then as_i64) e) ∙ first in
-        let two : as_i64 m ≡ Some b = sym (ap (option_and_then as_i64) f) ∙ second in
-        let three : as_i64 n ≡ Some c = sym (ap (option_and_then as_i64) g) ∙ third in
-        rw (e, f, g) (rw (one, two, three) refl)
+numbers w r s t a b c first second third =
+    let l = number_there r a first in
+    let m = number_there s b second in
+    let n = number_there t c third in
+    rw (l.1, m.1, n.1) (rw (l.2, m.2, n.2) refl)
 
 -- a line is the record that its tree spells
 record_read : (line : List ℕ) (said : RecordLine) → IsUtf8 line → option_and_then record_line_in (read line) ≡ Some said

@@ -29,7 +29,8 @@ pub same_word : (text words : List ℕ) → 8 ≤ length text → 8 ≤ length w
 same_word text words long long_words marks =
     let of_text : length (take 8 text) ≡ 8 = length-take-le 8 text long in
     let of_words : length (take 8 words) ≡ 8 = length-take-le 8 words long_words in
-    let as_many : length (zip2 eqb (take 8 text) (take 8 words)) ≡ 8 = grind (arith, of_text, of_words, length-zip2 eqb (take 8 text) (take 8 words)) in
+    let as_many : length (zip2 eqb (take 8 text) (take 8 words))
+    ≡ 8 = grind (arith, of_text, of_words, length-zip2 eqb (take 8 text) (take 8 words)) in
     let mask : mask_l (zip2 eqb (take 8 text) (take 8 words)) ≡ 255 =
     sym (mask_l-mod (zip2 eqb (take 8 text) (take 8 words)) 64 (omega (arith, as_many)))
     ∙ sym (ap (λ ms. mask_l ms % 2 ^ 64) (tops_compared w8 eqb (take 8 text) (take 8 words))) ∙ marks in

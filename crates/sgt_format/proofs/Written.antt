@@ -32,7 +32,8 @@ pub adds_two : {T E : Type 0} (result : Result T E) (old line first second rest 
     → OnOk result (new ≡ old ++ take (64 - start) (drop start line)) → drop start line ≡ first ++ (second ++ rest)
     → length rest ≡ 32 → length line ≡ 96 → start ≤ 64 → OnOk result (new ≡ (old ++ first) ++ second)
 adds_two (Ok value) old line first second rest new start added is following whole within =
-    added ∙ ap (λ more. old ++ more) (written_is line (first ++ second) rest start (is ∙ sym (append_assoc first second rest)) following whole within)
+    added ∙ ap (λ more. old ++ more) (written_is line (first ++ second) rest start (is ∙ sym (append_assoc first second rest))
+    following whole within)
     ∙ sym (append_assoc old first second)
 adds_two (Err error) old line first second rest new start added is following whole within = tt
 

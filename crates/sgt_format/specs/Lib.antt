@@ -1,4 +1,5 @@
 pub mod Decimals
+pub mod Templates
 pub mod ReplyText
 pub mod CutText
 pub mod DatabaseText

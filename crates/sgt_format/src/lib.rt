@@ -39,6 +39,7 @@ mod record_text;
 mod reply_text;
 mod script_line;
 mod sheet;
+mod template;
 mod tree;
 
 pub use call::JobCall;
@@ -56,4 +57,5 @@ pub use record_line::{Record, RecordLine, read_record_line};
 pub use record_text::append_records;
 pub use reply_text::{append_reply, append_short_reply, reply_line};
 pub use script_line::{LineKind, ScriptLine, read_script_line};
+pub use template::{Spelled, append_filled};
 pub use tree::{items, read_tree};

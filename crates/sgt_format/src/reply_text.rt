@@ -51,6 +51,7 @@ pub fn append_short_reply(
 }
 
 /// On an error the lines still begin with what they held.
+#[tactic(auto, using(crate::proofs::Begins::grouped, crate::proofs::Begins::left_whole))]
 #[inline(always)]
 fn append_line(
     lines: &mut Vec<u8>,
@@ -63,21 +64,30 @@ fn append_line(
 {
     match reply {
         ShortReply::Started(t) => append_number_line(lines, b"started ", u64::from(t.0)),
-        ShortReply::NoProcedure => lines.extend_from_slice(b"no procedure\n"),
-        ShortReply::BadArgs => lines.extend_from_slice(b"bad args\n"),
-        ShortReply::Spent => lines.extend_from_slice(b"spent\n"),
-        ShortReply::Full => lines.extend_from_slice(b"full\n"),
-        ShortReply::Unknown => lines.extend_from_slice(b"unknown\n"),
+        ShortReply::NoProcedure => append_words(lines, b"no procedure\n"),
+        ShortReply::BadArgs => append_words(lines, b"bad args\n"),
+        ShortReply::Spent => append_words(lines, b"spent\n"),
+        ShortReply::Full => append_words(lines, b"full\n"),
+        ShortReply::Unknown => append_words(lines, b"unknown\n"),
         ShortReply::Over(fate) => append_over(lines, *fate, &lists.cycle),
         ShortReply::Looked { key, value } => append_looked(lines, *key, *value),
         ShortReply::Wrote { key, value } => append_wrote(lines, *key, *value),
-        ShortReply::Ended => lines.extend_from_slice(b"ended\n"),
-        ShortReply::NotEnded => lines.extend_from_slice(b"not ended\n"),
+        ShortReply::Ended => append_words(lines, b"ended\n"),
+        ShortReply::NotEnded => append_words(lines, b"not ended\n"),
         ShortReply::Waits(first) => append_number_line(lines, b"waits ", u64::from(first.0)),
         ShortReply::Committed => append_committed(lines, &lists.answers),
         ShortReply::Aborted(cause) => append_aborted(lines, *cause, &lists.cycle, &lists.fell),
         ShortReply::Refused(code) => append_refused(lines, *code, &lists.fell),
     }
+}
+
+/// Appends words.
+#[inline(always)]
+fn append_words(lines: &mut Vec<u8>, words: &[u8]) -> Result<(), AllocError>
+    ensures ok { OnOk result (lines.new.items ≡ lines.old.items ++ words.now) }
+    ensures err { OnErr result (take (vec_len lines.old) lines.new.items ≡ lines.old.items) }
+{
+    lines.extend_from_slice(words)
 }
 
 /// On an error the lines still begin with what they held.

@@ -12,7 +12,7 @@ use crate::fault::{NotationFault, Shown};
 use crate::history::History;
 use crate::items::Items;
 use crate::spelled::{Spelled, read_word};
-use crate::words::{Place, next_word, word_end};
+use crate::words::{Position, next_word, word_end};
 use sgt_classes::{Action, Operation, Table};
 use sgt_model::NoMemory;
 use std::alloc::Global;
@@ -36,13 +36,13 @@ pub fn read_history(alloc: Global, text: &[u8]) -> Result<History, NotationFault
     ensures err { IfErr result (IsFirstFault (words_of text.now)) }
 {
     let mut reader = HistoryReader::new(alloc, text.len() / BYTES);
-    let mut place = next_word(text, Place { at: 0, line: 1 });
+    let mut place = next_word(text, Position { at: 0, line: 1 });
     while place.at < text.len() {
         let end = word_end(text, place.at, place.line);
         reader.take(alloc, place.line, &text[place.at..end])?;
         place = next_word(
             text,
-            Place {
+            Position {
                 at: end,
                 line: place.line,
             },

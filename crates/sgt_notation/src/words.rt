@@ -2,9 +2,9 @@
 ghost use Rattle.std.specs.Prelude.{◌≡◌, ◌<◌, ◌≤◌, ◌+◌, ◌-◌, ◌^◌, ◌∷◌, false, length, drop, take, slice_index};
 ghost use Rattle.sgt_notation.specs.Words.{words, parts_words};
 
-/// A position in a text: the next byte, and its line from 1.
+/// A position in a text: of the next byte, and its line from 1.
 #[derive(Clone, Copy)]
-pub(crate) struct Place {
+pub(crate) struct Position {
     /// How many bytes come before it.
     pub at: usize,
     /// The number of its line.
@@ -19,7 +19,7 @@ fn parts_words(byte: u8) -> bool
 }
 
 /// The start of the next word, or the end of the text if there is none.
-pub(crate) fn next_word(text: &[u8], from: Place) -> Place
+pub(crate) fn next_word(text: &[u8], from: Position) -> Position
     requires bounds { from.at ≤ length text.now }
     requires countable { from.line + length text.now < 2 ^ 64 + from.at }
     ensures same { words false from.line (drop from.at text.now) ≡ words false result.line (drop result.at text.now) }

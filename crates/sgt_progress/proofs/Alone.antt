@@ -40,7 +40,8 @@ no_pair_out s past legal t alone u p = no_pair_from_live s past legal t u alone.
     (committed_else past u (precedes-started s past legal t u p.precedes).1 (λ alive. p.apart (sym (alone.only u alive))) p.second_stands) p
 
 -- so no access of it closes a cycle
-pub closes_none : (s : Configuration) (past : List Entry) → Legal s past → (t : ℕ) → IsAlone past t → (k : Key) (kind : Kind) (rest : List ℕ)
+pub closes_none : (s : Configuration) (past : List Entry) → Legal s past → (t : ℕ) → IsAlone past t
+    → (k : Key) (kind : Kind) (rest : List ℕ)
     → Closes past t k kind rest → ⊥
 closes_none s past legal t alone k kind rest c = go rest c.at_least_two c.pairs
   where
@@ -57,10 +58,13 @@ waits_for_none past t alone v p = p.pair.apart (alone.only v p.is_live)
 pub undoes_own : (s : Configuration) (past : List Entry) → Legal s past → (t : ℕ) → IsAlone past t → (event : Event) → IsNoQuitOf event t
     → (why : Cause) → CauseHolds s past event why → (code : ℕ) × (why ≡ cause.Asked code)
 undoes_own s past legal t alone event (inl (inl e)) (cause.Cycle cycle) h =
-    let c = subst (λ v. CauseHolds s past v (cause.Cycle cycle)) e h in absurd (closes_none s past legal t alone c.key c.kind c.rest c.closes)
-undoes_own s past legal t alone event (inl (inr e)) (cause.Cycle cycle) h = absurd (subst (λ v. CauseHolds s past v (cause.Cycle cycle)) e h)
+    let c = subst (λ v. CauseHolds s past v (cause.Cycle cycle)) e h in absurd
+    (closes_none s past legal t alone c.key c.kind c.rest c.closes)
+undoes_own s past legal t alone event (inl (inr e)) (cause.Cycle cycle) h = absurd
+    (subst (λ v. CauseHolds s past v (cause.Cycle cycle)) e h)
 undoes_own s past legal t alone event (inr (d, e)) (cause.Cycle cycle) h =
-    let c = subst (λ v. CauseHolds s past v (cause.Cycle cycle)) e h in absurd (closes_none s past legal t alone c.key c.kind c.rest c.closes)
+    let c = subst (λ v. CauseHolds s past v (cause.Cycle cycle)) e h in absurd
+    (closes_none s past legal t alone c.key c.kind c.rest c.closes)
 undoes_own s past legal t alone event a (cause.Asked code) h = (code, refl)
 undoes_own s past legal t alone event (inl (inl e)) cause.Quit h = absurd (subst (λ v. CauseHolds s past v cause.Quit) e h)
 undoes_own s past legal t alone event (inl (inr e)) cause.Quit h = absurd (subst (λ v. CauseHolds s past v cause.Quit) e h)
@@ -135,13 +139,15 @@ goes_on s past e t legal asks alone = by_effect (effect s past e.event e.reply l
         inr (
           fate.Aborted (cause.Asked w.0),
           ends_own past e t _ (ap (λ r. ending_in e.event r t) x.reply_is
-              ∙ ap₂ (λ why b. cond b (Some (fate.Aborted why)) (cond (list_any (λ v. nat_eq v t) x.undoing.fell) (Some (fate.Fell (subject e.event))) None)) w.1 own),
+              ∙ ap₂ (λ why b. cond b (Some (fate.Aborted why))
+              (cond (list_any (λ v. nat_eq v t) x.undoing.fell) (Some (fate.Fell (subject e.event))) None)) w.1 own),
           tt,
         )
     by_effect (refuses x) = inr (
       fate.Aborted (cause.Asked x.code),
       ends_own past e t _ (ap (λ r. ending_in e.event r t) x.reply_is
-          ∙ ap (λ b. cond b (Some (fate.Aborted (cause.Asked x.code))) (cond (list_any (λ v. nat_eq v t) x.undoing.fell) (Some (fate.Fell (subject e.event))) None)) own),
+          ∙ ap (λ b. cond b (Some (fate.Aborted (cause.Asked x.code)))
+          (cond (list_any (λ v. nat_eq v t) x.undoing.fell) (Some (fate.Fell (subject e.event))) None)) own),
       tt,
     )
 

@@ -50,7 +50,8 @@ some_live : (s : Configuration) (past : List Entry) → Legal s past → 0 < len
 some_live s [] legal some = omega arith
 some_live s (e ∷ past) legal some = by_effect (some_live s past legal.0) (effect s past e.event e.reply legal.1)
   where
-    same : reported_call_in past e.event e.reply ≡ [] → (0 < length (reported_calls past) → 1 ≤ s.rules.limits.live) → 1 ≤ s.rules.limits.live
+    same : reported_call_in past e.event e.reply ≡ [] → (0 < length (reported_calls past) → 1 ≤ s.rules.limits.live)
+        → 1 ≤ s.rules.limits.live
     same none h = h (subst (λ l. 0 < length (l ++ reported_calls past)) none some)
 
     lives : (t : ℕ) → live past t ≡ true → 1 ≤ s.rules.limits.live

@@ -192,14 +192,16 @@ all_go_through s (e ∷ past) legal = by_effect (all_go_through s past legal.0) 
     by_effect h (begins b) = same (ap (λ r. reported_call_in past e.event r) b.reply_is) h
     by_effect h (accesses x) = same (ends_none-no_call past e.event e.reply x.ends_none) h
     by_effect h (commits c) =
-        let now : reported_call_in past e.event e.reply ≡ whole_call past c.t ∷ [] = ap₂ (λ v r. reported_call_in past v r) c.event_is c.reply_is in
+        let now : reported_call_in past e.event e.reply ≡ whole_call past c.t
+        ∷ [] = ap₂ (λ v r. reported_call_in past v r) c.event_is c.reply_is in
         subst (λ l. AllGoThrough s (l ++ reported_calls past)) (sym now)
         (h, inl (done_from _ c.answers (reported_now c.t (GaveAnswers c.answers) now (ap reported_in c.reply_is))))
     by_effect h (undoes x) = same (ap (λ r. reported_call_in past e.event r) x.reply_is) h
     by_effect h (refuses x) =
         let t : ℕ = x.undoing.t in
         let run : Run = run_of s.rules (call_of past t) in
-        let now : reported_call_in past e.event e.reply ≡ whole_call past t ∷ [] = ap₂ (λ v r. reported_call_in past v r) x.event_is x.reply_is in
+        let now : reported_call_in past e.event e.reply ≡ whole_call past t
+        ∷ [] = ap₂ (λ v r. reported_call_in past v r) x.event_is x.reply_is in
         let commit : LegalReply s past (Commit t) e.reply = subst (λ v. LegalReply s past v e.reply) x.event_is legal.1 in
         let none = (only_own run (caller_accesses past t) (acts past t) (plays s past t legal.0) (λ answers e. cc (sym x.next ∙ e))).2 in
         let asked = raised_from _ x.code (reported_now t (RaisedCode x.code) now (ap reported_in x.reply_is)) in

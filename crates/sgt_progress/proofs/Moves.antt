@@ -30,10 +30,12 @@ use Rattle.sgt_progress.specs.Moves.{event_of_code, event_for, next_event, has_m
 
 -- of a live transaction the reply is by what it does next
 pub of_live : (past : List Entry) (t : ℕ) (r : Reply) (P : Type 0) → live past t ≡ true → OfLive past t r P → P
-of_live past t r P alive h = subst₂ (λ (b : Bool) (o : Option Fate). OfStarted b o r P) (and_parts _ _ alive).0 (live-no_fate past t alive) h
+of_live past t r P alive h = subst₂ (λ (b : Bool) (o : Option Fate). OfStarted b o r P) (and_parts _ _ alive).0
+    (live-no_fate past t alive) h
 
 pub to_live : (past : List Entry) (t : ℕ) (r : Reply) (P : Type 0) → live past t ≡ true → P → OfLive past t r P
-to_live past t r P alive h = subst₂ (λ (b : Bool) (o : Option Fate). OfStarted b o r P) (sym (and_parts _ _ alive).0) (sym (live-no_fate past t alive)) h
+to_live past t r P alive h = subst₂ (λ (b : Bool) (o : Option Fate). OfStarted b o r P) (sym (and_parts _ _ alive).0)
+    (sym (live-no_fate past t alive)) h
 
 -- the reply to a step or a commit of a live transaction that does this next
 abbrev pub ReplyTo : Configuration → List Entry → Event → ℕ → Next → Reply → Type 0
@@ -43,7 +45,8 @@ ReplyTo s past (Access u d) t n r = ⊥
 ReplyTo s past (Commit u) t n r = CommitReply s past t n r
 ReplyTo s past (Quit u) t n r = ⊥
 
-pub reply_to : (s : Configuration) (past : List Entry) (t : ℕ) → live past t ≡ true → (r : Reply) → LegalReply s past (next_event s past t) r
+pub reply_to : (s : Configuration) (past : List Entry) (t : ℕ) → live past t ≡ true → (r : Reply)
+    → LegalReply s past (next_event s past t) r
     → ReplyTo s past (next_event s past t) t (next_of s past t) r
 reply_to s past t alive r h = by_next s.rules.limits.asks (next_of s past t) h
   where
@@ -51,13 +54,15 @@ reply_to s past t alive r h = by_next s.rules.limits.asks (next_of s past t) h
     by_asks AtStep h = of_live past t r _ alive h
     by_asks AtCommit h = of_live past t r _ alive h
 
-    by_next : (asks : Asks) (n : Next) → LegalReply s past (event_for asks t n) r → ReplyTo s past (event_for asks t n) t (next_of s past t) r
+    by_next : (asks : Asks) (n : Next) → LegalReply s past (event_for asks t n) r
+        → ReplyTo s past (event_for asks t n) t (next_of s past t) r
     by_next asks (Looks k) h = of_live past t r _ alive h
     by_next asks (Puts k v) h = of_live past t r _ alive h
     by_next asks (Ends answers) h = of_live past t r _ alive h
     by_next asks (Raises code) h = by_asks asks h
 
-moves_or_waits : (s : Configuration) (past : List Entry) (t : ℕ) (n : Next) (r : Reply) → ReplyTo s past (event_for s.rules.limits.asks t n) t n r
+moves_or_waits : (s : Configuration) (past : List Entry) (t : ℕ) (n : Next) (r : Reply)
+    → ReplyTo s past (event_for s.rules.limits.asks t n) t n r
     → (has_moved (event_for s.rules.limits.asks t n) r ≡ true) ⊎ MustWait past t r
 moves_or_waits s past t (Looks k) r (inl h) = inl (ap (has_moved (Step t)) h.aborts.is)
 moves_or_waits s past t (Looks k) r (inr h) = inl (ap (has_moved (Step t)) h.is)
@@ -185,7 +190,8 @@ waits_back s past legal t [] p = reaches_self (Pair past) t
 waits_back s past legal t (u ∷ path) p = reaches_trans (Pair past) (last_of u path) u t (waits_back s past legal u path p.1)
     (t ∷ [], ((waits_for s past legal t u p.0).pair, tt), refl)
 
-no_waits_back : (s : Configuration) (past : List Entry) → Legal s past → (t : ℕ) (path : List ℕ) → 0 < length path → PathOf (WaitsFor s past) t path
+no_waits_back : (s : Configuration) (past : List Entry) → Legal s past → (t : ℕ) (path : List ℕ) → 0 < length path
+    → PathOf (WaitsFor s past) t path
     → last_of t path ≡ t → ⊥
 no_waits_back s past legal t [] some p e = omega arith
 no_waits_back s past legal t (u ∷ path) some p e = no_way_back (no_cycle s past legal) u t (waits_for s past legal t u p.0).pair

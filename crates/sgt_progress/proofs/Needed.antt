@@ -94,7 +94,8 @@ access_ends event _ t k kind is u = refl
 
 pub access_aborts : (e : Entry) (past : List Entry) (t : ℕ) (k : Key) (kind : Kind) → IsAccessBy (access_of e) t k kind → (u : ℕ)
     → aborted (e ∷ past) u ≡ aborted past u
-access_aborts e past t k kind is u = ap (λ ending. has_aborted (option_or ending (fate_of past u))) (access_ends e.event e.reply t k kind is u)
+access_aborts e past t k kind is u = ap (λ ending. has_aborted (option_or ending (fate_of past u)))
+    (access_ends e.event e.reply t k kind is u)
 
 -- an access that closes no cycle leaves none
 pub free_acyclic : (s : Configuration) (past : List Entry) → Legal s past → (t : ℕ) (k : Key) (kind : Kind) (e : Entry)
@@ -113,7 +114,8 @@ free_acyclic s past legal t k kind e is free =
     granted (Some a) (by, key, same_kind) = λ rest c. free rest (rw (by, key, same_kind) at c)
 
 -- an access that is asked for is rejected, and a cycle would be closed; or it is not, and none would be
-pub rejected_or_free : (s : Configuration) (past : List Entry) (event : Event) (t : ℕ) (k : Key) (kind : Kind) (r : Reply) → live past t ≡ true
+pub rejected_or_free : (s : Configuration) (past : List Entry) (event : Event) (t : ℕ) (k : Key) (kind : Kind) (r : Reply)
+    → live past t ≡ true
     → Requests s past event t k kind → LegalReply s past event r
     → ((is_rejection r ≡ true) × ((rest : List ℕ) × Closes past t k kind rest))
     ⊎ ((is_rejection r ≡ false) × ((rest : List ℕ) → Closes past t k kind rest → ⊥))

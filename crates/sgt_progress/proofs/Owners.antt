@@ -18,7 +18,8 @@ owners_go_on s past legal owner one t alive =
       w.0,
       w.1,
       λ held. not_moved (next_event s past w.0) held.on (w.3 (reply.Waits held.on)
-          (subst (λ u. LegalReply s past (next_event s past u) (reply.Waits held.on)) (one held.t w.0 held.waits.is_live w.1 held.own) held.waits.reported)),
+          (subst (λ u. LegalReply s past (next_event s past u) (reply.Waits held.on))
+          (one held.t w.0 held.waits.is_live w.1 held.own) held.waits.reported)),
     )
   where
     not_moved : (event : Event) (v : ℕ) → has_moved event (reply.Waits v) ≡ true → ⊥

@@ -67,7 +67,8 @@ reports s past event r h = by_effect (effect s past event r h)
 -- of a history
 
 -- one that was reported has ended
-reported-ended : (s : Configuration) (past : List Entry) → Legal s past → (t : ℕ) → Member t (reported_ones past) → (f : Fate) × (fate_of past t ≡ Some f)
+reported-ended : (s : Configuration) (past : List Entry) → Legal s past → (t : ℕ) → Member t (reported_ones past) → (f : Fate)
+    × (fate_of past t ≡ Some f)
 reported-ended s [] legal t m = absurd m
 reported-ended s (e ∷ past) legal t m = go (reported-ended s past legal.0 t) (reports s past e.event e.reply legal.1)
   where
@@ -83,10 +84,12 @@ reported-ended s (e ∷ past) legal t m = go (reported-ended s past legal.0 t) (
       | inr m ↦ before (rest m)
     ]
 
-pub reported-started : (s : Configuration) (past : List Entry) → Legal s past → (t : ℕ) → Member t (reported_ones past) → t < start_count past
+pub reported-started : (s : Configuration) (past : List Entry) → Legal s past → (t : ℕ) → Member t (reported_ones past)
+    → t < start_count past
 reported-started s past legal t m = let f = reported-ended s past legal t m in ended-started s past legal t f.0 f.1
 
-reported-not_live : (s : Configuration) (past : List Entry) → Legal s past → (t : ℕ) → Member t (reported_ones past) → live past t ≡ true → ⊥
+reported-not_live : (s : Configuration) (past : List Entry) → Legal s past → (t : ℕ) → Member t (reported_ones past) → live past t
+    ≡ true → ⊥
 reported-not_live s past legal t m alive = let f = reported-ended s past legal t m in cc (sym f.1 ∙ live-no_fate past t alive)
 
 -- each is reported once
@@ -94,14 +97,16 @@ pub once : (s : Configuration) (past : List Entry) → Legal s past → Distinct
 once s [] legal = tt
 once s (e ∷ past) legal = go (once s past legal.0) (reports s past e.event e.reply legal.1)
   where
-    go : Distinct (reported_ones past) → (reported_one_in e.event e.reply ≡ []) ⊎ ReportsOne past e.event e.reply → Distinct (reported_ones (e ∷ past))
+    go : Distinct (reported_ones past) → (reported_one_in e.event e.reply ≡ []) ⊎ ReportsOne past e.event e.reply
+        → Distinct (reported_ones (e ∷ past))
     go rest (inl none) = subst (λ l. Distinct (l ++ reported_ones past)) (sym none) rest
     go rest (inr w) = subst (λ l. Distinct (l ++ reported_ones past)) (sym w.is)
         ((λ m. reported-not_live s past legal.0 w.t m (end-live s past e.event e.reply legal.1 w.t w.fate_is w.ends)), rest)
 
 -- the calls are theirs
 
-reported_call-is : (past : List Entry) (event : Event) (r : Reply) → reported_call_in past event r ≡ map (whole_call past) (reported_one_in event r)
+reported_call-is : (past : List Entry) (event : Event) (r : Reply) → reported_call_in past event r
+    ≡ map (whole_call past) (reported_one_in event r)
 reported_call-is past event (reply.Committed answers) = refl
 reported_call-is past event (reply.Refused code fell) = refl
 reported_call-is past event _ = refl
@@ -111,7 +116,8 @@ map_agree f g [] h = refl
 map_agree f g (t ∷ l) h = ap₂ (λ c m. c ∷ m) (h t (inl refl)) (map_agree f g l (λ u m. h u (inr m)))
 
 -- one that was reported made no access now, for itself or for its caller
-reported-no_access : (s : Configuration) (past : List Entry) (e : Entry) → Legal s (e ∷ past) → (t : ℕ) → Member t (reported_ones (e ∷ past))
+reported-no_access : (s : Configuration) (past : List Entry) (e : Entry) → Legal s (e ∷ past) → (t : ℕ)
+    → Member t (reported_ones (e ∷ past))
     → caller_access_in e.event e.reply t ≡ []
 reported-no_access s past e legal t m = caller_access_in-is e.event e.reply t ∙ by_access (access_of e) refl
   where
@@ -130,7 +136,8 @@ whole-kept : (s : Configuration) (past : List Entry) (e : Entry) → Legal s (e 
     → Member t (reported_ones (e ∷ past))
     → whole_call (e ∷ past) t ≡ whole_call past t
 whole-kept s past e legal t started m =
-    ap₂ (λ (xs : List CallerAccess) (c : Call). with_caller_accesses (xs ++ caller_accesses past t) c) (reported-no_access s past e legal t m)
+    ap₂ (λ (xs : List CallerAccess) (c : Call). with_caller_accesses (xs ++ caller_accesses past t) c)
+    (reported-no_access s past e legal t m)
     (call-kept s past e t legal.1 started)
 
 pub calls : (s : Configuration) (past : List Entry) → Legal s past → reported_calls past ≡ map (whole_call past) (reported_ones past)
@@ -138,7 +145,8 @@ calls s [] legal = refl
 calls s (e ∷ past) legal =
     ap₂ (λ l m. l ++ m) (reported_call-is past e.event e.reply) (calls s past legal.0)
     ∙ (sym (map-append (whole_call past) (reported_one_in e.event e.reply) (reported_ones past))
-    ∙ map_agree (whole_call past) (whole_call (e ∷ past)) (reported_ones (e ∷ past)) (λ t m. sym (whole-kept s past e legal t (started t m) m)))
+    ∙ map_agree (whole_call past) (whole_call (e ∷ past)) (reported_ones (e ∷ past))
+    (λ t m. sym (whole-kept s past e legal t (started t m) m)))
   where
     started : (t : ℕ) → Member t (reported_ones (e ∷ past)) → t < start_count past
     started t m = elim (reports s past e.event e.reply legal.1) [
@@ -168,10 +176,11 @@ real_time s (e ∷ past) legal t u (inl b) m = absurd (reported-not_live s (e �
 real_time s (e ∷ past) legal t u (inr b) m = elim (reports s past e.event e.reply legal.1) [
   | inl none ↦ subst (λ l. StandsBefore u t (l ++ reported_ones past)) (sym none)
       (real_time s past legal.0 t u b (subst (λ l. Member u (l ++ reported_ones past)) none m))
-  | inr w ↦ subst (λ l. StandsBefore u t (l ++ reported_ones past)) (sym w.is) (elim (subst (λ l. Member u (l ++ reported_ones past)) w.is m) [
-    | inl now ↦ inl (now, ended-reported past t u b)
-    | inr before ↦ inr (real_time s past legal.0 t u b before)
-  ])
+  | inr w ↦ subst (λ l. StandsBefore u t (l ++ reported_ones past)) (sym w.is)
+      (elim (subst (λ l. Member u (l ++ reported_ones past)) w.is m) [
+        | inl now ↦ inl (now, ended-reported past t u b)
+        | inr before ↦ inr (real_time s past legal.0 t u b before)
+      ])
 ]
 
 pub replay_keeps_real_time : ReplayKeepsRealTime

@@ -266,7 +266,8 @@ record Stepped (s : Configuration) (past : List Entry) (t : ℕ) (c : Call) (bef
   going : Going s (entry ∷ past) t c before count
   less : accesses_left s (entry ∷ past) t + 1 ≤ accesses_left s past t
 
-module _ (s : Configuration) (past : List Entry) (t : ℕ) (c : Call) (before : List Call) (count : ℕ) (going : Going s past t c before count) where
+module _ (s : Configuration) (past : List Entry) (t : ℕ) (c : Call) (before : List Call) (count : ℕ)
+    (going : Going s past t c before count) where
   alive : live past t ≡ true
   alive = going.alone.is_live
 
@@ -338,7 +339,8 @@ to_end (suc n) s past t c before count going few = elim (end_or_step s past t c 
 ]
 
 -- its caller makes one more access, that goes through in its turn
-request_on : (s : Configuration) (past : List Entry) (t : ℕ) (c : Call) (before : List Call) (count : ℕ) (answers : List ℤ) (x : CallerAccess)
+request_on : (s : Configuration) (past : List Entry) (t : ℕ) (c : Call) (before : List Call) (count : ℕ) (answers : List ℤ)
+    (x : CallerAccess)
     → Going s past t c before count → next_of s past t ≡ Ends answers
     → IsDone (with_access x (outcome_in s.rules c (run_in_turn s before).last))
     → (e : Entry) × Going s (e ∷ past) t (with_caller_accesses (x ∷ c.caller_accesses) c) before count ×
@@ -408,7 +410,8 @@ commit_on s past t c before count answers going end =
       none_after_end s past e t (going.ran.legal, h) going.alone refl,
     )
 
-refuse_on : (s : Configuration) (past : List Entry) (t : ℕ) (c : Call) (before : List Call) (count : ℕ) (code : ℕ) → Going s past t c before count
+refuse_on : (s : Configuration) (past : List Entry) (t : ℕ) (c : Call) (before : List Call) (count : ℕ) (code : ℕ)
+    → Going s past t c before count
     → next_of s past t ≡ Raises code → s.rules.limits.asks ≡ AtCommit
     → (after : List Entry) × Ran s after (c ∷ before) count × NoneLive after
 refuse_on s past t c before count code going next at =
@@ -491,7 +494,8 @@ all_values [] h = refl
 all_values (v ∷ args) h = let a = All-head IsValue v args h in
     and_from _ _ (and_from _ _ (t_true _ a.0.le) (t_true _ a.1.le)) (all_values args (All-tail IsValue v args h))
 
-pub starts : (s : Configuration) (c : Call) (started living : ℕ) → IsAdmitted s c → started < s.rules.limits.begins → living < s.rules.limits.live
+pub starts : (s : Configuration) (c : Call) (started living : ℕ) → IsAdmitted s c → started < s.rules.limits.begins
+    → living < s.rules.limits.live
     → start_reply s.rules started living c.procedure c.args ≡ reply.Started started
 starts s c started living admitted some_begin some_live =
     let fits : args_fit (length c.args) c.args ≡ true = and_from _ _ (eq-eqb (length c.args) (length c.args) refl)
@@ -549,7 +553,8 @@ run_all s one (c ∷ before) admitted few through =
 
 pub reruns_agree : RerunsAgree
 reruns_agree s past legal one =
-    let all = run_all s one (reported_calls past) (committed_admitted s past legal) (reported_few s past legal) (all_go_through s past legal) in (
+    let all = run_all s one (reported_calls past) (committed_admitted s past legal) (reported_few s past legal)
+    (all_go_through s past legal) in (
       record { again = all.0; legal = all.1.legal; one_by_one = all.1.one_by_one; none_live = all.2; same_calls = all.1.same_calls },
       calls_decide s all.0 past all.1.legal legal all.1.same_calls,
     )

@@ -60,7 +60,8 @@ ready s past u alive moves = let some = some_reply_is_legal s past (next_event s
     ready_by s past u (next_of s past u) some.0 (reply_to s past u alive some.0 some.1) (moves some.0 some.1)
 
 -- the commit of one that is ready is not answered `Waits`
-step_moves : (s : Configuration) (past : List Entry) (u : ℕ) (n : Next) (r : Reply) → ReplyTo s past (event_for s.rules.limits.asks u n) u n r
+step_moves : (s : Configuration) (past : List Entry) (u : ℕ) (n : Next) (r : Reply)
+    → ReplyTo s past (event_for s.rules.limits.asks u n) u n r
     → IsStep (event_for s.rules.limits.asks u n) → MustWait past u r → ⊥
 step_moves s past u (Looks k) r (inl h) i w = cc (sym h.aborts.is ∙ w.is)
 step_moves s past u (Looks k) r (inr h) i w = cc (sym h.is ∙ w.is)
@@ -69,11 +70,13 @@ step_moves s past u (Puts k v) r (inr h) i w = cc (sym h.is ∙ w.is)
 step_moves s past u (Ends answers) r h i w = absurd i
 step_moves s past u (Raises code) r h i w = go s.rules.limits.asks refl h i
   where
-    go : (asks : Asks) → s.rules.limits.asks ≡ asks → ReplyTo s past (event_of_code asks u) u (Raises code) r → IsStep (event_of_code asks u) → ⊥
+    go : (asks : Asks) → s.rules.limits.asks ≡ asks → ReplyTo s past (event_of_code asks u) u (Raises code) r
+        → IsStep (event_of_code asks u) → ⊥
     go AtStep e h i = let a = subst (λ x. RaisedStep x past u code r) e h in cc (sym a.is ∙ w.is)
     go AtCommit e h i = i
 
-ready_no_wait : (s : Configuration) (past : List Entry) (u : ℕ) → live past u ≡ true → Ready s past u → (r : Reply) → LegalReply s past (next_event s past u) r
+ready_no_wait : (s : Configuration) (past : List Entry) (u : ℕ) → live past u ≡ true → Ready s past u → (r : Reply)
+    → LegalReply s past (next_event s past u) r
     → MustWait past u r → ⊥
 ready_no_wait s past u alive (inl i) r h w = step_moves s past u (next_of s past u) r (reply_to s past u alive r h) i w
 ready_no_wait s past u alive (inr none) r h w = none w.predecessor w.least.pair
@@ -100,7 +103,8 @@ ready_stays s event v past u (inr none) = inr (λ w p. none w (record { is_live 
 abbrev Moves : Configuration → List Entry → List Entry → Type 0
 Moves s past after = Legal s after × (events_left s after ≤ events_left s past)
 
-turns_move : (s : Configuration) (past : List Entry) → Legal s past → (order : List ℕ) (after : List Entry) → Turns s past order after → Moves s past after
+turns_move : (s : Configuration) (past : List Entry) → Legal s past → (order : List ℕ) (after : List Entry)
+    → Turns s past order after → Moves s past after
 turns_move s past legal [] after same = subst (Moves s past) (sym same) (legal, le_refl (events_left s past))
 turns_move s past legal (t ∷ order) after (inl (over, rest)) = turns_move s past legal order after rest
 turns_move s past legal (t ∷ order) after (inr (alive, (r, h, rest))) =
@@ -109,11 +113,14 @@ turns_move s past legal (t ∷ order) after (inr (alive, (r, h, rest))) =
     let fewer = left_fewer s past e (legal, h) (asked-no_start s past (next_event s past t) t (inl (next_is_own s past t)) r h) in
     let few = m.1 in (m.0, omega arith)
 
-turns_less : (s : Configuration) (past : List Entry) → Legal s past → (u : ℕ) → live past u ≡ true → Ready s past u → (order : List ℕ) → Member u order
+turns_less : (s : Configuration) (past : List Entry) → Legal s past → (u : ℕ) → live past u ≡ true → Ready s past u
+    → (order : List ℕ) → Member u order
     → (after : List Entry) → Turns s past order after → events_left s after + 1 ≤ events_left s past
 turns_less s past legal u alive is_ready [] m after same = absurd m
-turns_less s past legal u alive is_ready (t ∷ order) (inl own) after (inl (over, rest)) = absurd (both_ways _ over (subst (λ x. live past x ≡ true) own alive))
-turns_less s past legal u alive is_ready (t ∷ order) (inr m) after (inl (over, rest)) = turns_less s past legal u alive is_ready order m after rest
+turns_less s past legal u alive is_ready (t ∷ order) (inl own) after (inl (over, rest)) = absurd
+    (both_ways _ over (subst (λ x. live past x ≡ true) own alive))
+turns_less s past legal u alive is_ready (t ∷ order) (inr m) after (inl (over, rest)) = turns_less s past legal u alive is_ready
+    order m after rest
 turns_less s past legal u alive is_ready (t ∷ order) m after (inr (t_alive, (r, h, rest))) =
     let e : Entry = record { event = next_event s past t; reply = r } in
     let none = asked-no_start s past (next_event s past t) t (inl (next_is_own s past t)) r h in
@@ -127,7 +134,8 @@ turns_less s past legal u alive is_ready (t ∷ order) m after (inr (t_alive, (r
         | inr m ↦
             let same : e ≡ waited (next_event s past t) w.predecessor = ap (λ q. record { event = next_event s past t; reply = q }) w.is in
             let less = turns_less s (e ∷ past) (legal, h) u (subst (λ x. live (x ∷ past) u ≡ true) (sym same) alive)
-            (subst (λ x. Ready s (x ∷ past) u) (sym same) (ready_stays s (next_event s past t) w.predecessor past u is_ready)) order m after rest in
+            (subst (λ x. Ready s (x ∷ past) u) (sym same) (ready_stays s (next_event s past t) w.predecessor past u is_ready)) order
+            m after rest in
             omega arith
       ]
     ]
@@ -140,12 +148,14 @@ rounds_move s past legal after round = elim (someone past) [
 ]
 
 -- where nothing is live, nothing happens
-none_turns : (s : Configuration) (past : List Entry) → NoneLive past → (order : List ℕ) (after : List Entry) → Turns s past order after → after ≡ past
+none_turns : (s : Configuration) (past : List Entry) → NoneLive past → (order : List ℕ) (after : List Entry)
+    → Turns s past order after → after ≡ past
 none_turns s past none [] after same = same
 none_turns s past none (t ∷ order) after (inl (over, rest)) = none_turns s past none order after rest
 none_turns s past none (t ∷ order) after (inr (alive, rest)) = absurd (both_ways _ (none t) alive)
 
-none_rounds : (n : ℕ) (s : Configuration) (past : List Entry) → NoneLive past → (after : List Entry) → Rounds n s past after → NoneLive after
+none_rounds : (n : ℕ) (s : Configuration) (past : List Entry) → NoneLive past → (after : List Entry) → Rounds n s past after
+    → NoneLive after
 none_rounds zero s past none after same = subst NoneLive (sym same) none
 none_rounds (suc n) s past none after (between, round, rest) =
     none_rounds n s between (subst NoneLive (sym (none_turns s past none round.order between round.turns)) none) after rest

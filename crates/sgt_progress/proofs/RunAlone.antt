@@ -38,7 +38,8 @@ ending_starts_none (reply.Refused code fell) h = refl
 ending_starts_none _ h = absurd cc
 
 -- nothing is live after the end of the only live one
-pub none_after_end : (s : Configuration) (past : List Entry) (e : Entry) (t : ℕ) → Legal s (e ∷ past) → IsAlone past t → is_ending e.reply ≡ true
+pub none_after_end : (s : Configuration) (past : List Entry) (e : Entry) (t : ℕ) → Legal s (e ∷ past) → IsAlone past t
+    → is_ending e.reply ≡ true
     → NoneLive (e ∷ past)
 none_after_end s past e t legal alone ending u = false_from_ne_true (live (e ∷ past) u) (λ alive.
     let ended = endings_end_one s past e legal ending in
@@ -55,7 +56,8 @@ StepsSo reply.Ended = Unit {0}
 StepsSo r = is_ending r ≡ true
 
 module _ (s : Configuration) (past : List Entry) (legal : Legal s past) (t : ℕ) (alone : IsAlone past t) (r : Reply) where
-  access_so : (k : Key) (kind : Kind) (given : Reply) → StepsSo given → CycleAbortReply past t k kind r ⊎ Makes past t k kind given r → StepsSo r
+  access_so : (k : Key) (kind : Kind) (given : Reply) → StepsSo given
+      → CycleAbortReply past t k kind r ⊎ Makes past t k kind given r → StepsSo r
   access_so k kind given so (inl c) = absurd (closes_none s past legal t alone k kind c.rest c.closes)
   access_so k kind given so (inr m) = subst StepsSo (sym m.is) so
 

@@ -1,5 +1,5 @@
 -- Replies as objects of JSON, each with the end of its line.
-use Rattle.std.specs.Prelude.{ℕ, ℤ, List, [], ◌∷◌, Option, Some, None, codes}
+use Rattle.std.specs.Prelude.{ℕ, ℤ, List, [], ◌∷◌, ◌++◌, Option, Some, None, codes}
 use Rattle.std.specs.Fmt.{decimal, signed_decimal}
 use Rattle.sgt_model.specs.Contents.{Key}
 use Rattle.sgt_model.specs.declared.reply.Reply.{Reply}
@@ -14,15 +14,14 @@ use Rattle.sgt_reply_json.specs.Lists.{joined, list_text}
 abbrev pub numbered_object : List ℕ → ℕ → List ℕ
 numbered_object start n = joined (start ∷ decimal n ∷ codes "}\n" ∷ [])
 
--- an access of a record, without a value, with this end
+-- an access of a record, with this end
 unfoldable pub key_object : List ℕ → Key → List ℕ → List ℕ
 key_object words key end = joined (codes "{\"reply\":\"" ∷ words ∷ codes "\",\"table\":" ∷ decimal key.0 ∷ codes ",\"number\":"
     ∷ signed_decimal key.1 ∷ end ∷ [])
 
 -- an access of a record, with its value
 unfoldable pub value_object : List ℕ → Key → ℤ → List ℕ
-value_object words key value = joined (codes "{\"reply\":\"" ∷ words ∷ codes "\",\"table\":" ∷ decimal key.0 ∷ codes ",\"number\":"
-    ∷ signed_decimal key.1 ∷ codes ",\"value\":" ∷ signed_decimal value ∷ codes "}\n" ∷ [])
+value_object words key value = key_object words key (codes ",\"value\":") ++ joined (signed_decimal value ∷ codes "}\n" ∷ [])
 
 -- what a read found
 abbrev pub looked_object : Key → Option ℤ → List ℕ

@@ -1,5 +1,5 @@
 //! Numbers in decimal.
-ghost use Rattle.std.specs.Prelude.{◌≡◌, ◌++◌, OnOk, codes};
+ghost use Rattle.std.specs.Prelude.{◌≡◌, ◌++◌, OnOk};
 
 use itoa::{Buffer, Integer};
 use std::alloc::AllocError;
@@ -9,12 +9,4 @@ pub(crate) fn append_number<I: Integer>(text: &mut Vec<u8>, number: I) -> Result
     ensures { OnOk result (text.new.items ≡ text.old.items ++ I.text number) }
 {
     text.extend_from_slice(Buffer::new().format(number).as_bytes())
-}
-
-/// Appends a comma and the number.
-pub(crate) fn append_next<I: Integer>(text: &mut Vec<u8>, number: I) -> Result<(), AllocError>
-    ensures { OnOk result (text.new.items ≡ text.old.items ++ codes "," ++ I.text number) }
-{
-    text.extend_from_slice(b",")?;
-    append_number(text, number)
 }

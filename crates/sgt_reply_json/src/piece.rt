@@ -3,7 +3,7 @@ ghost use Rattle.std.specs.Prelude.{◌≡◌, ◌++◌, OnOk};
 ghost use Rattle.std.specs.List.{flat_map};
 ghost use Rattle.sgt_reply_json.specs.Pieces.{piece_text};
 
-use crate::list::{append_transactions, append_values};
+use crate::list::append_list;
 use crate::number::append_number;
 use sgt_model::Tid;
 use std::alloc::AllocError;
@@ -45,7 +45,7 @@ fn append_piece(text: &mut Vec<u8>, piece: &Piece<'_>) -> Result<(), AllocError>
         Piece::Words(words) => text.extend_from_slice(words),
         Piece::Number(number) => append_number(text, *number),
         Piece::Value(value) => append_number(text, *value),
-        Piece::Transactions(list) => append_transactions(text, list),
-        Piece::Values(list) => append_values(text, list),
+        Piece::Transactions(list) => append_list(text, list),
+        Piece::Values(list) => append_list(text, list),
     }
 }

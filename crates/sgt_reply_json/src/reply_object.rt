@@ -148,23 +148,11 @@ fn append_value_object(
 ) -> Result<(), AllocError>
     ensures { OnOk result (text.new.items ≡ text.old.items ++ value_object words.now key value) }
 {
-    append_pieces(
-        text,
-        &[
-            Piece::Words(b"{\"reply\":\""),
-            Piece::Words(words),
-            Piece::Words(b"\",\"table\":"),
-            Piece::Number(u64::from(key.table())),
-            Piece::Words(b",\"number\":"),
-            Piece::Value(key.id()),
-            Piece::Words(b",\"value\":"),
-            Piece::Value(value),
-            Piece::Words(b"}\n"),
-        ],
-    )
+    append_key_object(text, words, key, b",\"value\":")?;
+    append_pieces(text, &[Piece::Value(value), Piece::Words(b"}\n")])
 }
 
-/// Appends the object of an access without a value, with this end.
+/// Appends the object of an access, with this end.
 #[tactic(auto, unfolding(crate::specs::ReplyObjects::key_object))]
 fn append_key_object<'a>(
     text: &mut Vec<u8>,

@@ -46,7 +46,8 @@ key_back a b = same_key a b ∙ go (key_eq a b) refl (key_eq b a) refl
 -- ---- the value of a key
 
 -- entries and then rows: the value of the entries, or else that of the rows
-pub contents-append : (entries rows : List Row) (k : Key) → contents_of (entries ++ rows) k ≡ option_or (contents_of entries k) (contents_of rows k)
+pub contents-append : (entries rows : List Row) (k : Key) → contents_of (entries ++ rows) k
+    ≡ option_or (contents_of entries k) (contents_of rows k)
 contents-append [] rows k = refl
 contents-append (e ∷ es) rows k = ap (λ o. cond (key_eq e.0 k) (Some e.1) o) (contents-append es rows k) ∙ go (key_eq e.0 k)
   where

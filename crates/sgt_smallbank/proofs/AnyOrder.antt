@@ -52,12 +52,6 @@ module _ (number : Account → ℤ) where
       at later true hit = absurd (let more = of_hit n a l hit in omega arith)
       at later false miss = ap (λ b. b || list_any (has_it number n) l) miss ∙ later (sym (of_miss n a l miss) ∙ is)
 
-  zero_if_none : (n : ℤ) (l : List Account) → list_any (has_it number n) l ≡ false → count number n l ≡ 0
-  zero_if_none n [] none = refl
-  zero_if_none n (a ∷ l) none =
-      let parts = or_parts (has_it number n a) (list_any (has_it number n) l) none in
-      of_miss n a l parts.0 ∙ zero_if_none n l parts.1
-
   same_number : (n : ℤ) (a : Account) → has_it number n a ≡ true → number a ≡ n
   same_number n a hit = (Decides-int_eq (number a) n).0 hit
 
@@ -94,10 +88,12 @@ module _ (number : Account → ℤ) where
 
       one : (n : ℤ) → list_any (has_it number n) earlier ≡ true → (b : Bool) → has_it number n a ≡ b → count number n (a ∷ l) ≡ 0
       one n seen true hit = absurd (
-          let is : list_any (has_it number n) earlier ≡ false = subst (λ m. list_any (has_it number m) earlier ≡ false) (same_number n a hit) new in
+          let is : list_any (has_it number n) earlier ≡ false = subst (λ m. list_any (has_it number m) earlier ≡ false)
+          (same_number n a hit) new in
           cc)
       one n seen false miss =
-          of_miss n a l miss ∙ rest.unlike n (list_any-append (has_it number n) earlier (a ∷ []) ∙ ap (λ b. b || list_any (has_it number n) (a ∷ [])) seen)
+          of_miss n a l miss ∙ rest.unlike n (list_any-append (has_it number n) earlier (a ∷ [])
+          ∙ ap (λ b. b || list_any (has_it number n) (a ∷ [])) seen)
 
   new_first : (earlier : List Account) (a : Account) (l : List Account) → AreNew earlier (a ∷ l)
       → list_any (has_it number (number a)) earlier ≡ false
@@ -165,9 +161,11 @@ flawless_if_none earlier (a ∷ l) is =
 none_if_flawless : (earlier l : List Account) → Flawless earlier l → first_fault earlier l ≡ None
 none_if_flawless earlier [] are = refl
 none_if_flawless earlier (a ∷ l) are =
-    ap (λ b. option_or (cond b (cond (has_name earlier a.name) (Some SameName) (cond (has_customer earlier a.customer) (Some SameCustomer) None)) (Some Range)) (first_fault (earlier ++ a ∷ []) l))
+    ap (λ b. option_or (cond b (cond (has_name earlier a.name) (Some SameName)
+    (cond (has_customer earlier a.customer) (Some SameCustomer) None)) (Some Range)) (first_fault (earlier ++ a ∷ []) l))
     (All-head (λ a. is_in_range a ≡ true) a l are.in_range)
-    ∙ ap (λ b. option_or (cond b (Some SameName) (cond (has_customer earlier a.customer) (Some SameCustomer) None)) (first_fault (earlier ++ a ∷ []) l))
+    ∙ ap (λ b. option_or (cond b (Some SameName) (cond (has_customer earlier a.customer) (Some SameCustomer) None))
+    (first_fault (earlier ++ a ∷ []) l))
     (new_first (λ a. a.name) earlier a l are.names)
     ∙ ap (λ b. option_or (cond b (Some SameCustomer) None) (first_fault (earlier ++ a ∷ []) l))
     (new_first (λ a. a.customer) earlier a l are.customers)
@@ -180,7 +178,8 @@ none_if_flawless earlier (a ∷ l) are =
 -- ---- the rows of one table
 
 module _ (table : ℕ) (number value : Account → ℤ)
-    (put : (m : Contents) (a : Account) (n : ℤ) → with_account m a (table, n) ≡ cond (has_it number n a) (Some (value a)) (m (table, n))) where
+    (put : (m : Contents) (a : Account) (n : ℤ) → with_account m a (table, n)
+    ≡ cond (has_it number n a) (Some (value a)) (m (table, n))) where
   untouched : (m : Contents) (l : List Account) (n : ℤ) → list_any (has_it number n) l ≡ false → with_accounts m l (table, n) ≡ m (table, n)
   untouched m [] n none = refl
   untouched m (a ∷ l) n none =
@@ -195,7 +194,8 @@ module _ (table : ℕ) (number value : Account → ℤ)
       → with_accounts m l (table, n) ≡ Some v
   row m [] n v have is = absurd cc
   row m (a ∷ l) n v have is =
-      at (row (with_account m a) l n v (All-tail (λ a. has_it number n a ≡ true → value a ≡ v) a l have)) (list_any (has_it number n) l) refl
+      at (row (with_account m a) l n v (All-tail (λ a. has_it number n a ≡ true → value a ≡ v) a l have))
+      (list_any (has_it number n) l) refl
       (or_cases (has_it number n a) (list_any (has_it number n) l) is)
     where
       at : (list_any (has_it number n) l ≡ true → with_accounts m (a ∷ l) (table, n) ≡ Some v)
@@ -203,7 +203,8 @@ module _ (table : ℕ) (number value : Account → ℤ)
           → with_accounts m (a ∷ l) (table, n) ≡ Some v
       at deeper true later hit = deeper later
       at deeper false none (inl here) = untouched (with_account m a) l n none ∙ put m a n
-          ∙ ap (λ b. cond b (Some (value a)) (m (table, n))) here ∙ ap (λ w. Some w) (All-head (λ a. has_it number n a ≡ true → value a ≡ v) a l have here)
+          ∙ ap (λ b. cond b (Some (value a)) (m (table, n))) here
+          ∙ ap (λ w. Some w) (All-head (λ a. has_it number n a ≡ true → value a ≡ v) a l have here)
       at deeper false none (inr later) = absurd cc
 
   nowhere : (n v : ℤ) (l : List Account) → list_any (has_it number n) l ≡ false → HaveValue n v l
@@ -237,7 +238,8 @@ module _ (table : ℕ) (number value : Account → ℤ)
       at true is =
           let found = values (λ key. None) xs n (apart n) is in
           row (λ key. None) xs n found.0 found.1 is
-          ∙ sym (row (λ key. None) ys n found.0 (All-permutation (λ a. has_it number n a ≡ true → value a ≡ found.0) xs ys moved found.1) (sym (list_any-IsPermutation (has_it number n) xs ys moved) ∙ is))
+          ∙ sym (row (λ key. None) ys n found.0 (All-permutation (λ a. has_it number n a ≡ true → value a ≡ found.0) xs ys moved
+          found.1) (sym (list_any-IsPermutation (has_it number n) xs ys moved) ∙ is))
       at false none =
           untouched (λ key. None) xs n none
           ∙ sym (untouched (λ key. None) ys n (sym (list_any-IsPermutation (has_it number n) xs ys moved) ∙ none))

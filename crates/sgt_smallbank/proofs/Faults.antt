@@ -1,16 +1,14 @@
 -- The rows that accounts write, one after another, and their faults.
-use Rattle.std.proofs.Common.{◌≡◌, ℕ, ℤ, Bool, true, false, cond, List, [], ◌∷◌, ◌++◌, Option, Some, None, refl, ap, sym, ◌∙◌, ◌+◌, ◌<◌, ◌≤◌, ◌||◌, length, take, drop, get_or}
-use Rattle.std.proofs.lemmas.List.{take_more, at_drop_more, at_drop_all}
-use Rattle.std.proofs.lemmas.Bool.Decides.{Decides-and}
+use Rattle.std.proofs.Common.{◌≡◌, ℕ, ℤ, Bool, true, false, cond, List, [], ◌∷◌, ◌++◌, Option, Some, None, refl, ap, sym, ◌∙◌, ◌+◌, ◌<◌, ◌||◌, length, take, drop, get_or}
+use Rattle.std.proofs.lemmas.List.{take_more, at_drop_more}
 use Rattle.std.specs.Option.{is_some, option_or}
 use Rattle.std.specs.Ordering.{int_eq}
 use Rattle.sgt_model.specs.Contents.{Key, key_eq, Contents}
 use Rattle.sgt_smallbank.specs.declared.account.Account.{Account}
 use Rattle.sgt_smallbank.specs.declared.errors.OpeningFault.{OpeningFault}
 use Rattle.sgt_smallbank.specs.declared.errors.OpeningFault.TheVariants.{SameName, SameCustomer, Range}
-use Rattle.sgt_smallbank.specs.Accounts.{name_key, saving_key, checking_key, with_account, with_accounts, opened, fault_among, fault_after, first_fault, fault_of, has_name, has_customer, IsInRange, is_in_range}
+use Rattle.sgt_smallbank.specs.Accounts.{name_key, saving_key, checking_key, with_account, with_accounts, opened, fault_among, fault_after, first_fault, fault_of, has_name, has_customer, is_in_range}
 use Rattle.sgt_smallbank.specs.Tables.{account, saving}
-use Rattle.sgt_smallbank.proofs.Values.{Decides-is_value}
 
 -- ---- one account
 
@@ -42,23 +40,6 @@ or_none : (b : Bool) → b ≡ (b || false)
 or_none true = refl
 or_none false = refl
 
--- ---- accounts without a fault
-
-in_range_where : (b : Bool) (o : Option OpeningFault) → cond b o (Some Range) ≡ None → b ≡ true
-in_range_where true o none = refl
-in_range_where false o none = absurd cc
-
-account_in_range : (a : Account) → is_in_range a ≡ true → IsInRange a
-account_in_range a fits =
-    let values =
-    (Decides-and _ _ (Decides-is_value a.name) (Decides-and _ _ (Decides-is_value a.customer)
-    (Decides-and _ _ (Decides-is_value a.saving) (Decides-is_value a.checking)))).0 fits in
-    record { name = values.0; customer = values.1.0; saving = values.1.1.0; checking = values.1.1.1 }
-
--- an account without a fault among rows is in range
-pub faultless_in_range : (m : Contents) (a : Account) → fault_among m a ≡ None → IsInRange a
-faultless_in_range m a none = account_in_range a (in_range_where (is_in_range a) _ none)
-
 -- ---- names and customers among the rows
 
 -- a value that is put, or was there
@@ -89,7 +70,8 @@ module _ (accounts : List Account) (i : ℕ) (d : Account) (rows : Contents) (wi
   same_fault a =
       ap (λ b. cond (is_in_range a) (cond b (Some SameName) (cond (is_some (rows (saving_key a))) (Some SameCustomer) None)) (Some Range))
       (ap is_some (same (name_key a)) ∙ names_among (λ key. None) (take i accounts) a.name)
-      ∙ ap (λ b. cond (is_in_range a) (cond (has_name (take i accounts) a.name) (Some SameName) (cond b (Some SameCustomer) None)) (Some Range))
+      ∙ ap (λ b. cond (is_in_range a) (cond (has_name (take i accounts) a.name) (Some SameName) (cond b (Some SameCustomer) None))
+      (Some Range))
       (ap is_some (same (saving_key a)) ∙ customers_among (λ key. None) (take i accounts) a.customer)
 
   here : (a : Account) → a ≡ get_or accounts i d
@@ -110,8 +92,3 @@ module _ (accounts : List Account) (i : ℕ) (d : Account) (rows : Contents) (wi
   pub fault_later : (a : Account) → a ≡ get_or accounts i d → fault_among rows a ≡ None
       → first_fault (take (i + 1) accounts) (drop (i + 1) accounts) ≡ fault_of accounts
   fault_later a is none = sym (ap (λ o. option_or o (first_fault (take (i + 1) accounts) (drop (i + 1) accounts))) none) ∙ here a is
-
--- after the last there is none
-pub fault_nowhere : (accounts : List Account) (i : ℕ) → length accounts ≤ i
-    → first_fault (take i accounts) (drop i accounts) ≡ fault_of accounts → fault_of accounts ≡ None
-fault_nowhere accounts i past so_far = sym so_far ∙ at_drop_all (first_fault (take i accounts)) accounts i past

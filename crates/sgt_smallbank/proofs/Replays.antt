@@ -108,11 +108,13 @@ module _ (replay_is_serial : ReplayIsSerial) (admitted : CommittedAreAdmitted) (
 
   agrees : (c : Call) (before : List Call) (answers : List ℤ) → IsAdmitted the_configuration c
       → result_of (outcome_in the_configuration.rules c (run_in_turn the_configuration before).last) ≡ GaveAnswers answers
-      → c.procedure < 5 → with_accesses c.caller_accesses (bank c.procedure c.args (run_in_turn the_configuration before).last) ≡ Done answers
+      → c.procedure < 5 → with_accesses c.caller_accesses (bank c.procedure c.args (run_in_turn the_configuration before).last)
+      ≡ Done answers
       (run_in_turn the_configuration (c ∷ before)).last
   agrees c before answers fits gives below =
       let m : Contents = (run_in_turn the_configuration before).last in
-      ap (with_accesses c.caller_accesses) (sym (does c before fits below)) ∙ done_with (outcome_in the_configuration.rules c m) m answers gives
+      ap (with_accesses c.caller_accesses) (sym (does c before fits below))
+      ∙ done_with (outcome_in the_configuration.rules c m) m answers gives
 
   asks : (c : Call) (before : List Call) (code : ℕ) → IsAdmitted the_configuration c → c.caller_accesses ≡ []
       → result_of (outcome_in the_configuration.rules c (run_in_turn the_configuration before).last) ≡ RaisedCode code
@@ -120,7 +122,8 @@ module _ (replay_is_serial : ReplayIsSerial) (admitted : CommittedAreAdmitted) (
       × ((run_in_turn the_configuration (c ∷ before)).last ≡ (run_in_turn the_configuration before).last)
   asks c before code fits none gives below =
       let m : Contents = (run_in_turn the_configuration before).last in
-      let requested : outcome_in the_configuration.rules c m ≡ Asked code = raised_with (outcome_in the_configuration.rules c m) code gives in
+      let requested : outcome_in the_configuration.rules c m ≡ Asked code = raised_with (outcome_in the_configuration.rules c m)
+      code gives in
       let own : outcome_in the_configuration.rules c m ≡ serial (run_of the_configuration.rules c) m =
       ap (λ xs. with_accesses xs (serial (run_of the_configuration.rules c) m)) none in
       (sym (does c before fits below) ∙ (sym own ∙ requested), ap (λ o. contents_after o m) requested)

@@ -43,16 +43,11 @@
 
 mod account;
 mod account_rows;
-mod amalgamate;
-mod balance;
-mod deposit_checking;
 mod errors;
 mod five_procedures;
 mod laws;
 mod statements;
 mod tables;
-mod transact_saving;
-mod write_check;
 
 pub use account::{Account, opening};
 pub use errors::{BadOpening, OpeningFault};

@@ -61,7 +61,8 @@ source_commits h well recoverable i j x w r apart f (c, at) none = elim (cases_l
   ]
 ]
 
-module _ (number : Key → ℕ) (injective : IsNumbering number) (s : Configuration) (past : List Entry) (legal : Legal s past) (more : List Operation)
+module _ (number : Key → ℕ) (injective : IsNumbering number) (s : Configuration) (past : List Entry) (legal : Legal s past)
+    (more : List Operation)
     (well : IsWellFormed (textbook number past ++ more)) (recoverable : IsRecoverable (textbook number past ++ more)) where
   -- along reads from t to one that commits, all commit
   source_along : (t : ℕ) (path : List ℕ) → PathOf (Feeds past) t path → Commits (textbook number past ++ more) (last_of t path)
@@ -76,11 +77,13 @@ module _ (number : Key → ℕ) (injective : IsNumbering number) (s : Configurat
 pub cascades_are_needed : CascadesAreNeeded
 cascades_are_needed number injective s past legal t fell falls more well aborts u m commits recoverable =
     let (path, p, e) = (falls.each u m).2 in
-    source_along number injective s past legal more well recoverable t path p (subst (Commits (textbook number past ++ more)) (sym e) commits)
+    source_along number injective s past legal more well recoverable t path p
+    (subst (Commits (textbook number past ++ more)) (sym e) commits)
     (λ ct. elim (cases_lt ct.0 aborts.0) [
       | inl less ↦ well aborts.0 t action.Abort aborts.1 (ct.0, less, inl ct.1)
       | inr ge ↦ elim (cases_eq ct.0 aborts.0) [
-        | inl same ↦ let both : Some (does t action.Commit) ≡ Some (does t action.Abort) = sym ct.1 ∙ ap (λ n. slice_get (textbook number past ++ more) n) same
+        | inl same ↦ let both : Some (does t action.Commit) ≡ Some (does t action.Abort) = sym ct.1
+            ∙ ap (λ n. slice_get (textbook number past ++ more) n) same
             ∙ aborts.1 in
             let action_is : action.Commit ≡ action.Abort = ap (λ (o : Operation). o.action) (some_is _ _ both) in cc action_is
         | inr other ↦ well ct.0 t action.Commit ct.1 (aborts.0, omega arith, inr aborts.1)

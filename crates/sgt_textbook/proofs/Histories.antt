@@ -96,7 +96,8 @@ commits_in_turn in_line number s (e ∷ past) h t u c b at = go (λ b old. commi
 
 -- of conflicts
 
-reported_access : (number : Key → ℕ) (event : Event) (r : Reply) (j t : ℕ) (kind : Kind) (x : ℕ) → Reported number event r j t (action_on kind x)
+reported_access : (number : Key → ℕ) (event : Event) (r : Reply) (j t : ℕ) (kind : Kind) (x : ℕ)
+    → Reported number event r j t (action_on kind x)
     → IsAccess number event r j t kind x
 reported_access number event r j t Look x reported = reported
 reported_access number event r j t Store x reported = reported
@@ -161,7 +162,8 @@ conflict_precedes number injective past i j t u earlier c = go c.3 c.1 c.2
     go (inr write) (inr first) second = uses_in_turn number injective past i j t u c.0 Store Store refl earlier first write
 
 -- of two that commit, the one with the earlier of two operations that conflict commits first
-pub conflict_commits : CommitsAlwaysInOrder → (number : Key → ℕ) → IsNumbering number → (s : Configuration) (past : List Entry) → Legal s past
+pub conflict_commits : CommitsAlwaysInOrder → (number : Key → ℕ) → IsNumbering number → (s : Configuration) (past : List Entry)
+    → Legal s past
     → (i j t u c d : ℕ) → t ≢ u → i < j → Conflict (textbook number past) i t j u → Does (textbook number past) c t action.Commit
     → Does (textbook number past) d u action.Commit → CommitsBefore past t u
 conflict_commits in_order number injective s past h i j t u c d apart earlier conflict commits_first commits_second =

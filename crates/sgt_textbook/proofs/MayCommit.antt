@@ -61,8 +61,10 @@ each_at a (u ∷ l) (suc j) t at = each_at a l j t at
 rising_once : (l : List ℕ) → Rising l → (i j u : ℕ) → slice_get l i ≡ Some u → slice_get l j ≡ Some u → i ≡ j
 rising_once [] r i j u at also = absurd (cc)
 rising_once (v ∷ l) r zero zero u at also = refl
-rising_once (v ∷ l) r zero (suc j) u at also = let e : v ≡ u = cc in let less = rising_below v l r u (at_member l j u also) in absurd (omega arith)
-rising_once (v ∷ l) r (suc i) zero u at also = let e : v ≡ u = cc in let less = rising_below v l r u (at_member l i u at) in absurd (omega arith)
+rising_once (v ∷ l) r zero (suc j) u at also = let e : v ≡ u = cc in let less = rising_below v l r u (at_member l j u also) in
+    absurd (omega arith)
+rising_once (v ∷ l) r (suc i) zero u at also = let e : v ≡ u = cc in let less = rising_below v l r u (at_member l i u at) in absurd
+    (omega arith)
 rising_once (v ∷ l) r (suc i) (suc j) u at also = let same = rising_once l (rising_rest v l r) i j u at also in omega arith
 
 -- an edge from a live transaction leads to a live one
@@ -75,7 +77,8 @@ next_live s past h t u alive p = elim (status past u (precedes-started s past h 
 
 -- a history whose edges have no cycle, followed by commits of such as stand, is serializable
 module _ (number : Key → ℕ) (injective : IsNumbering number) (whole : List Entry) (ones : List ℕ)
-    (stood : (t : ℕ) → Commits (textbook number whole) t → aborted whole t ≡ false) (stand : (u : ℕ) → Member u ones → aborted whole u ≡ false) where
+    (stood : (t : ℕ) → Commits (textbook number whole) t → aborted whole t ≡ false)
+    (stand : (u : ℕ) → Member u ones → aborted whole u ≡ false) where
   abbrev all : List Operation
   all = textbook number whole ++ each_does action.Commit ones
 
@@ -119,7 +122,8 @@ module _ (number : Key → ℕ) (injective : IsNumbering number) (whole : List E
       let long : length (others ++ t ∷ []) ≡ length others + 1 = length-append others (t ∷ []) in
       acyclic t (others ++ t ∷ []) (omega arith) (path_of t others t p) (last_of-append t others (t ∷ [])))
 
-committed_stood : (number : Key → ℕ) (s : Configuration) (past : List Entry) → Legal s past → (t : ℕ) → Commits (textbook number past) t → aborted past t ≡ false
+committed_stood : (number : Key → ℕ) (s : Configuration) (past : List Entry) → Legal s past → (t : ℕ)
+    → Commits (textbook number past) t → aborted past t ≡ false
 committed_stood number s past h t c = committed-stands past t (commit_committed number s past h c.0 t c.1)
 
 pub live_ones_may_commit : LiveOnesMayCommit
@@ -127,7 +131,8 @@ live_ones_may_commit number injective s past h ones alive = completed number inj
     (λ u m. live-stands past u (alive u m)) (no_cycle s past h)
 
 -- a path from a live transaction is of live ones
-live_path : (s : Configuration) (past : List Entry) → Legal s past → (t : ℕ) → live past t ≡ true → (rest : List ℕ) → PathOf (Pair past) t rest
+live_path : (s : Configuration) (past : List Entry) → Legal s past → (t : ℕ) → live past t ≡ true → (rest : List ℕ)
+    → PathOf (Pair past) t rest
     → (u : ℕ) → Member u (t ∷ rest) → live past u ≡ true
 live_path s past h t alive rest p u (inl e) = subst (λ x. live past x ≡ true) (sym e) alive
 live_path s past h t alive [] p u (inr m) = absurd m
@@ -136,7 +141,8 @@ live_path s past h t alive (v ∷ rest) p u (inr m) = live_path s past h v (next
 pub cycles_are_live : CyclesAreLive
 cycles_are_live s past h t alive k kind rest c u m = live_path s past h t alive rest c.pairs u m
 
-module _ (number : Key → ℕ) (injective : IsNumbering number) (s : Configuration) (past : List Entry) (h : Legal s past) (t : ℕ) (alive : live past t ≡ true)
+module _ (number : Key → ℕ) (injective : IsNumbering number) (s : Configuration) (past : List Entry) (h : Legal s past) (t : ℕ)
+    (alive : live past t ≡ true)
     (k : Key) (kind : Kind) (e : Entry) (is : IsAccessBy (access_of e) t k kind) where
   abbrev with_it : List Operation
   with_it = textbook number (e ∷ past)
@@ -196,11 +202,13 @@ module _ (number : Key → ℕ) (injective : IsNumbering number) (s : Configurat
 
   well_with_it : (i u : ℕ) (a : Action) → Does with_it i u a → (j : ℕ) → j < i → Ends with_it j u → ⊥
   well_with_it i u a at j less ends = elim (split_at (textbook number past) (operations_of number e) i _ at) [
-    | inl old ↦ well_formed aborts_have_cause number injective s past h i u a old.1 (j, less, ends_in j u ends (let w = old.0 in omega arith))
+    | inl old ↦ well_formed aborts_have_cause number injective s past h i u a old.1
+        (j, less, ends_in j u ends (let w = old.0 in omega arith))
     | inr new ↦ ended_over j u ends (subst (λ x. live past x ≡ true) (sym (is_by_t new.0 u a new.2)) alive)
   ]
 
-  done_before : (j u : ℕ) → Ends done j u → (j < length with_it) ⊎ ((n : ℕ) × (j ≡ length with_it + n) × (slice_get (live_ones past) n ≡ Some u))
+  done_before : (j u : ℕ) → Ends done j u → (j < length with_it) ⊎
+      ((n : ℕ) × (j ≡ length with_it + n) × (slice_get (live_ones past) n ≡ Some u))
   done_before j u (inl at) = elim (split_at with_it (each_does action.Commit (live_ones past)) j _ at) [
     | inl old ↦ inl old.0
     | inr new ↦ inr (new.0, new.1, (each_is action.Commit (live_ones past) new.0 u action.Commit new.2).1)
@@ -224,16 +232,22 @@ module _ (number : Key → ℕ) (injective : IsNumbering number) (s : Configurat
 
   commits_done : (u : ℕ) → live past u ≡ true → Commits done u
   commits_done u lives = let m = member_at (live_ones past) u (live-listed past u lives) in
-      let p = in_second with_it (each_does action.Commit (live_ones past)) m.0 _ (each_at action.Commit (live_ones past) m.0 u m.1) in (p.0, p.2)
+      let p = in_second with_it (each_does action.Commit (live_ones past)) m.0 _
+      (each_at action.Commit (live_ones past) m.0 u m.1) in (p.0, p.2)
 
-  closed_done : (a : ℕ) → live past a ≡ true → (path : List ℕ) → PathOf (Pair past) a path → IsEdge done (last_of a path) t → IsPath done a path t
+  closed_done : (a : ℕ) → live past a ≡ true → (path : List ℕ) → PathOf (Pair past) a path → IsEdge done (last_of a path) t
+      → IsPath done a path t
   closed_done a la [] p back = back
-  closed_done a la (b ∷ path) p back = let lb = next_live s past h a b la p.0 in
-      (edge_more number (e ∷ past) (each_does action.Commit (live_ones past)) a b p.0.apart (commits_done a la) (commits_done b lb) (inr p.0.precedes), closed_done b lb path p.1 back)
+  closed_done a la (b ∷ path) p back = let lb = next_live s past h a b la p.0 in (
+    edge_more number (e ∷ past) (each_does action.Commit (live_ones past)) a b p.0.apart (commits_done a la) (commits_done b lb)
+        (inr p.0.precedes),
+    closed_done b lb path p.1 back,
+  )
 
   pub closing_not : (rest : List ℕ) → Closes past t k kind rest → ¬ IsSerializable done
   closing_not rest c serializable =
-      let back = edge_more number (e ∷ past) (each_does action.Commit (live_ones past)) (last_of t rest) t (apart_from_last past t k kind rest c)
+      let back = edge_more number (e ∷ past) (each_does action.Commit (live_ones past)) (last_of t rest) t
+      (apart_from_last past t k kind rest c)
       (commits_done (last_of t rest) (live_path s past h t alive rest c.pairs (last_of t rest) (last_member t rest))) (commits_done t alive)
       (closing_precedes past t k kind (last_of t rest) c.conflict e is) in
       (serializability_theorem done well_done).0 serializable t rest (closed_done t alive rest c.pairs back)
@@ -243,10 +257,11 @@ module _ (number : Key → ℕ) (injective : IsNumbering number) (s : Configurat
       (λ u m. access_aborts e past t k kind is u ∙ live-stands past u (listed_live u m)) (free_acyclic s past h t k kind e is free)
 
 pub rejects_exactly : RejectsExactly
-rejects_exactly number injective s past h event t k kind r e at = elim (rejected_or_free s past event t k kind r at.is_live at.asks at.legal) [
-  | inl (is, (rest, closes)) ↦ (λ _. closing_not number injective s past h t at.is_live k kind e at.makes rest closes, λ _. is)
-  | inr (is, free) ↦ (
-    λ rejected. absurd (both_ways _ is rejected),
-    λ none. absurd (none (free_serializable number injective s past h t at.is_live k kind e at.makes free)),
-  )
-]
+rejects_exactly number injective s past h event t k kind r e at = elim
+    (rejected_or_free s past event t k kind r at.is_live at.asks at.legal) [
+      | inl (is, (rest, closes)) ↦ (λ _. closing_not number injective s past h t at.is_live k kind e at.makes rest closes, λ _. is)
+      | inr (is, free) ↦ (
+        λ rejected. absurd (both_ways _ is rejected),
+        λ none. absurd (none (free_serializable number injective s past h t at.is_live k kind e at.makes free)),
+      )
+    ]

@@ -173,7 +173,8 @@ last_write number injective (e ∷ past) counts k w by =
         }
 
 -- who has read from another reads from it in the textbook's history
-reads_back : (number : Key → ℕ) → IsNumbering number → (s : Configuration) (past : List Entry) → Legal s past → (w r : ℕ) → ReadFrom past r w
+reads_back : (number : Key → ℕ) → IsNumbering number → (s : Configuration) (past : List Entry) → Legal s past → (w r : ℕ)
+    → ReadFrom past r w
     → ReadsSomewhere (textbook number past) w r
 reads_back number injective s [] h w r from = absurd from
 reads_back number injective s (e ∷ past) h w r (inr before) = let o = reads_back number injective s past h.0 w r before in

@@ -36,7 +36,8 @@ orders_keep_real_time in_order in_line number injective s past h =
           let m = (serial.are_committed t).0 ct in
           let n = (serial.are_committed u).0 cu in
           order_before (textbook number past) (commit_order past) m.0 n.0 t u serial.once
-          (listed_in_turn in_line number s past h m.0 n.0 t u (commits_first in_line number s past h t u apart ct cu wholly) m.1 n.1) m.1 n.1;
+          (listed_in_turn in_line number s past h m.0 n.0 t u (commits_first in_line number s past h t u apart ct cu wholly) m.1
+          n.1) m.1 n.1;
     }
 
 pub are_strictly_serializable : CommitsAlwaysInOrder → CommitsAlwaysInLine → AreStrictlySerializable

@@ -18,7 +18,8 @@ use Rattle.sgt_textbook.specs.NeededAborts.{RejectionsAreNeeded}
 use Rattle.sgt_progress.proofs.Needed.{apart_from_last, last_member}
 
 -- an edge stays, however the history goes on
-pub edge_more : (number : Key → ℕ) (whole : List Entry) (more : List Operation) (a b : ℕ) → a ≢ b → Commits (textbook number whole ++ more) a
+pub edge_more : (number : Key → ℕ) (whole : List Entry) (more : List Operation) (a b : ℕ) → a ≢ b
+    → Commits (textbook number whole ++ more) a
     → Commits (textbook number whole ++ more) b → Precedes whole a b → IsEdge (textbook number whole ++ more) a b
 edge_more number whole more a b apart ca cb p =
     let o = in_turn number whole a b p in

@@ -61,7 +61,8 @@ placed number s e past h i t at = elim (split_at (commit_order past) (committed_
   | inr new ↦ let now = now_commits number e new.0 t new.2 in inr ((let p = new.1 in let z = now.0 in omega (arith, p, z)), now.1)
 ]
 
-listed_once : (number : Key → ℕ) (s : Configuration) (past : List Entry) → Legal s past → (i j t : ℕ) → slice_get (commit_order past) i ≡ Some t
+listed_once : (number : Key → ℕ) (s : Configuration) (past : List Entry) → Legal s past → (i j t : ℕ)
+    → slice_get (commit_order past) i ≡ Some t
     → slice_get (commit_order past) j ≡ Some t → i ≡ j
 listed_once number s [] h i j t first second = absurd (cc)
 listed_once number s (e ∷ past) h i j t first second = go (λ a b. listed_once number s past h.0 i j t a b)

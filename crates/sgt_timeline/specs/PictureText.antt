@@ -1,11 +1,12 @@
 -- The text of a picture, in SVG 1.1.
-use Rattle.std.specs.Prelude.{ℕ, ◌+◌, ◌==◌, if◌then◌else◌, List, [], ◌∷◌, ◌++◌, Option, Some, None, slice_get, codes}
+use Rattle.std.specs.Prelude.{ℕ, ◌+◌, ◌==◌, if◌then◌else◌, List, [], ◌∷◌, ◌++◌, Option, Some, None, slice_get, map, codes}
 use Rattle.std.specs.Option.{option_map_or}
 use Rattle.std.specs.List.{flat_map}
 use Rattle.std.specs.Fmt.{decimal}
 use Rattle.sgt_classes.specs.declared.operation.Operation.{Operation}
 use Rattle.sgt_classes.specs.declared.operation.Action.{Action}
 use Rattle.sgt_classes.specs.declared.operation.Action.TheVariants.{Read, Write, Commit, Abort}
+use Rattle.sgt_format.specs.Templates.{filled}
 use Rattle.sgt_notation.specs.declared.history.History.{History}
 use Rattle.sgt_notation.specs.Spellings.{text_at}
 use Rattle.sgt_notation.specs.Readings.{shown_byte, texts}
@@ -25,11 +26,6 @@ abbrev pub escaped_byte : ℕ → List ℕ
 escaped_byte b = if b == 38 then codes "&amp;" else (if b == 60 then codes "&lt;" else (if b == 62 then codes "&gt;"
     else (if b == 34 then codes "&quot;" else (if b == 39 then codes "&#39;" else shown_byte b ∷ []))))
 
--- texts one after another
-abbrev pub joined : List (List ℕ) → List ℕ
-joined [] = []
-joined (t ∷ ts) = t ++ joined ts
-
 -- bytes as the text of an element
 abbrev pub escaped : List ℕ → List ℕ
 escaped bytes = flat_map escaped_byte bytes
@@ -43,7 +39,7 @@ letter_text Abort = codes "a"
 
 -- the item of this number in brackets
 unfoldable pub item_text : History → ℕ → List ℕ
-item_text h x = joined (codes "[" ∷ escaped (text_at (texts h) x) ∷ codes "]" ∷ [])
+item_text h x = codes "[" ++ escaped (text_at (texts h) x) ++ codes "]"
 
 -- the item of a read or a write
 abbrev pub label_text : History → Action → List ℕ
@@ -76,17 +72,15 @@ kind_text kind.Violation = codes "violation"
 
 -- the beginning of a mark: its class, and the letter and the transaction of its operation
 unfoldable pub mark_head : Mark → Operation → List ℕ
-mark_head m op =
-    joined (codes "<g class=\"" ∷ class_text op.action ∷ ends_text m.ends ∷ codes "\"><title>" ∷ letter_text op.action ∷
-    decimal op.transaction ∷ [])
+mark_head m op = codes "<g class=\"" ++ class_text op.action ++ ends_text m.ends ++ codes "\"><title>" ++ letter_text op.action
+    ++ decimal op.transaction
 
 -- its number, and its box
 unfoldable pub box_text : Mark → ℕ → List ℕ
 box_text m number =
-    joined (codes "</title><text class=\"place\" x=\"" ∷ decimal m.middle ∷ codes "\" y=\"22\">" ∷ decimal number ∷
-    codes "</text><rect x=\"" ∷ decimal m.left ∷ codes "\" y=\"" ∷ decimal m.top ∷ codes "\" width=\"" ∷
-    decimal m.width ∷ codes "\" height=\"26\" rx=\"5\"/><text x=\"" ∷ decimal m.middle ∷ codes "\" y=\"" ∷ decimal m.base ∷
-    codes "\">" ∷ [])
+    filled (codes "</title><text class=\"place\" x=\"#\" y=\"22\">#</text><rect x=\"#\" y=\"#\" width=\"#\" height=\"26\" rx=\"5\"/>")
+    (map decimal (m.middle ∷ number ∷ m.left ∷ m.top ∷ m.width ∷ []))
+    ++ filled (codes "<text x=\"#\" y=\"#\">") (map decimal (m.middle ∷ m.base ∷ []))
 
 -- the mark of an operation: the operation in full as its title, its number, and a box with the operation
 unfoldable pub operation_mark : History → Mark → ℕ → Operation → List ℕ
@@ -100,45 +94,39 @@ mark_text h m = option_map_or (operation_mark h m (m.place + 1)) (slice_get h.op
 -- a row: the transaction, a guide across the picture, and the span from the first operation to the last
 unfoldable pub row_text : ℕ → Row → List ℕ
 row_text width r =
-    joined (codes "<text class=\"name\" x=\"12\" y=\"" ∷ decimal r.base ∷ codes "\">T<tspan class=\"sub\" dy=\"3\">" ∷
-    decimal r.transaction ∷ codes "</tspan></text><path class=\"guide\" d=\"M" ∷ decimal r.first ∷ codes "," ∷ decimal r.y ∷
-    codes " H" ∷ decimal width ∷ codes "\"/><path class=\"span\" d=\"M" ∷ decimal r.first ∷ codes "," ∷ decimal r.y ∷
-    codes " H" ∷ decimal r.last ∷ codes "\"/>\n" ∷ [])
+    filled (codes "<text class=\"name\" x=\"12\" y=\"#\">T<tspan class=\"sub\" dy=\"3\">#</tspan></text>")
+    (map decimal (r.base ∷ r.transaction ∷ []))
+    ++ filled (codes "<path class=\"guide\" d=\"M#,# H#\"/><path class=\"span\" d=\"M#,# H#\"/>\n")
+    (map decimal (r.first ∷ r.y ∷ width ∷ r.first ∷ r.y ∷ r.last ∷ []))
 
 -- a line: from its start to its lane, along the lane, and to its end
 unfoldable pub line_text : Line → List ℕ
-line_text l =
-    joined (codes "<polyline class=\"" ∷ kind_text l.kind ∷ codes "\" points=\"" ∷ decimal l.from_x ∷ codes "," ∷
-    decimal l.from_y ∷ codes " " ∷ decimal l.from_x ∷ codes "," ∷ decimal l.lane ∷ codes " " ∷ decimal l.to_x ∷ codes "," ∷
-    decimal l.lane ∷ codes " " ∷ decimal l.to_x ∷ codes "," ∷ decimal l.to_y ∷ codes "\"/>\n" ∷ [])
+line_text l = codes "<polyline class=\"" ++ kind_text l.kind ++ filled (codes "\" points=\"#,# #,# #,# #,#\"/>\n")
+    (map decimal (l.from_x ∷ l.from_y ∷ l.from_x ∷ l.lane ∷ l.to_x ∷ l.lane ∷ l.to_x ∷ l.to_y ∷ []))
 
 -- a line of words below the picture
 unfoldable pub note_text : Note → List ℕ
-note_text n =
-    joined (codes "<text x=\"12\" y=\"" ∷ decimal n.base ∷ codes "\">" ∷ escaped n.words.items ∷ codes "</text>\n" ∷ [])
+note_text n = filled (codes "<text x=\"12\" y=\"#\">") (map decimal (n.base ∷ [])) ++ escaped n.words.items ++ codes "</text>\n"
 
 -- the same in the description
 unfoldable pub description_text : Note → List ℕ
-description_text n =
-    joined (escaped n.words.items ∷ codes "\n" ∷ [])
+description_text n = escaped n.words.items ++ codes "\n"
 
 -- the size and the title
 unfoldable pub title_text : Picture → List ℕ
 title_text p =
-    joined (codes "<svg xmlns=\"http://www.w3.org/2000/svg\" version=\"1.1\" role=\"img\" width=\"" ∷ decimal p.width ∷
-    codes "\" height=\"" ∷ decimal p.height ∷ codes "\" viewBox=\"0 0 " ∷ decimal p.width ∷ codes " " ∷ decimal p.height ∷
-    codes "\">\n<title>A history of " ∷ decimal p.operations ∷ codes " operations</title>\n<desc>" ∷ [])
+    filled (codes "<svg xmlns=\"http://www.w3.org/2000/svg\" version=\"1.1\" role=\"img\" width=\"#\" height=\"#\" viewBox=\"0 0 # #\">\n")
+    (map decimal (p.width ∷ p.height ∷ p.width ∷ p.height ∷ []))
+    ++ filled (codes "<title>A history of # operations</title>\n<desc>") (map decimal (p.operations ∷ []))
 
 -- the style and the paper
 unfoldable pub paper_text : Picture → List ℕ
-paper_text p =
-    joined (codes "</desc>\n" ∷ STYLE.now ∷ codes "<rect class=\"paper\" width=\"" ∷ decimal p.width ∷ codes "\" height=\"" ∷
-    decimal p.height ∷ codes "\"/>\n" ∷ [])
+paper_text p = codes "</desc>\n" ++ STYLE.now
+    ++ filled (codes "<rect class=\"paper\" width=\"#\" height=\"#\"/>\n") (map decimal (p.width ∷ p.height ∷ []))
 
 -- the start of the legend, which stands here
 unfoldable pub legend_start : ℕ → List ℕ
-legend_start y =
-    joined (codes "<g transform=\"translate(12," ∷ decimal y ∷ codes ")\">\n" ∷ [])
+legend_start y = filled (codes "<g transform=\"translate(12,#)\">\n") (map decimal (y ∷ []))
 
 -- a part of the legend
 abbrev pub part_text : Part → List ℕ

@@ -72,13 +72,10 @@ impl Pairs {
 
     /// Whether the violation stands out already.
     fn has_violation(&self, violation: &Violation) -> bool {
-        for pair in &self.places {
+        self.places.iter().any(|pair| {
             let is_same = pair.earlier == violation.earlier && pair.later == violation.later;
-            if is_same && matches!(pair.kind, LineKind::Violation) {
-                return true;
-            }
-        }
-        false
+            is_same && matches!(pair.kind, LineKind::Violation)
+        })
     }
 
     /// Adds a pair, if there are not too many.

@@ -168,12 +168,7 @@ impl Layout {
 fn row_of(rows: &[Row], transaction: u32) -> Option<usize>
     ensures { IfSome result (λ at. at < length rows.now) }
 {
-    for at in 0..rows.len() {
-        if rows[at].transaction == transaction {
-            return Some(at);
-        }
-    }
-    None
+    rows.iter().position(|row| row.transaction == transaction)
 }
 
 /// The width that the numbers of the transactions take on the left.

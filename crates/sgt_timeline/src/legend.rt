@@ -31,24 +31,15 @@ pub(crate) fn legend_parts(
 
 /// Whether one of the marks is explained by the part.
 fn has_mark(history: &[Operation], marks: &[Mark], part: Part) -> bool {
-    for mark in marks {
-        if let Some(operation) = history.get(mark.place) {
-            if part_of_action(operation.action) == part {
-                return true;
-            }
-        }
-    }
-    false
+    marks.iter().any(|mark| match history.get(mark.place) {
+        Some(operation) => part_of_action(operation.action) == part,
+        None => false,
+    })
 }
 
 /// Whether one of the lines is explained by the part.
 fn has_line(lines: &[Line], part: Part) -> bool {
-    for line in lines {
-        if part_of_kind(line.kind) == part {
-            return true;
-        }
-    }
-    false
+    lines.iter().any(|line| part_of_kind(line.kind) == part)
 }
 
 /// The part that explains the marks of an action.

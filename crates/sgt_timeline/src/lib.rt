@@ -24,7 +24,6 @@ mod legend;
 mod lines;
 mod notes;
 mod picture;
-mod piece;
 mod style;
 mod svg;
 

@@ -126,12 +126,7 @@ fn line_of(marks: &[Mark], kind: LineKind, earlier: usize, later: usize) -> Opti
 
 /// The mark of the operation at the place.
 fn mark_at(marks: &[Mark], place: usize) -> Option<Mark> {
-    for mark in marks {
-        if mark.place == place {
-            return Some(*mark);
-        }
-    }
-    None
+    marks.iter().find(|mark| mark.place == place).copied()
 }
 
 /// The way from one mark to another: along the column of the first, in which no other mark stands, to a lane beside the row of the

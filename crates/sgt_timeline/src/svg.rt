@@ -5,12 +5,13 @@ ghost use Rattle.sgt_notation.specs.Readings.{texts};
 ghost use Rattle.sgt_notation.specs.Spellings.{text_at};
 ghost use Rattle.sgt_timeline.specs.PictureText.{title_text, description_text, paper_text, row_text, line_text, mark_head, box_text, item_text, label_text, operation_mark, mark_text, legend_start, part_text, legend_text, note_text, picture_text, letter_text, class_text, ends_text, kind_text};
 
+use crate::escape::append_escaped;
 use crate::picture::{Line, LineKind, Mark, Note, Part, Picture, Row};
-use crate::piece::{Piece, append_pieces};
 use crate::style::{
     ABORTS, COMMITS, CYCLE, READS, READS_FROM, READS_FROM_ABORTED, STYLE, VIOLATION, WRITES,
 };
 use sgt_classes::{Action, Operation};
+use sgt_format::{append_filled, append_number};
 use sgt_model::NoMemory;
 use sgt_notation::History;
 
@@ -43,23 +44,15 @@ pub fn append_picture(
 fn append_title(text: &mut Vec<u8>, picture: &Picture) -> Result<(), NoMemory>
     ensures { OnOk result (text.new.items ≡ text.old.items ++ title_text picture.now) }
 {
-    append_pieces(
+    append_filled(
         text,
-        &[
-            Piece::Markup(
-                b"<svg xmlns=\"http://www.w3.org/2000/svg\" version=\"1.1\" role=\"img\" width=\"",
-            ),
-            Piece::Number(picture.width),
-            Piece::Markup(b"\" height=\""),
-            Piece::Number(picture.height),
-            Piece::Markup(b"\" viewBox=\"0 0 "),
-            Piece::Number(picture.width),
-            Piece::Markup(b" "),
-            Piece::Number(picture.height),
-            Piece::Markup(b"\">\n<title>A history of "),
-            Piece::Number(picture.operations),
-            Piece::Markup(b" operations</title>\n<desc>"),
-        ],
+        b"<svg xmlns=\"http://www.w3.org/2000/svg\" version=\"1.1\" role=\"img\" width=\"#\" height=\"#\" viewBox=\"0 0 # #\">\n",
+        &[picture.width, picture.height, picture.width, picture.height],
+    )?;
+    append_filled(
+        text,
+        b"<title>A history of # operations</title>\n<desc>",
+        &[picture.operations],
     )
 }
 
@@ -69,10 +62,8 @@ fn append_description(text: &mut Vec<u8>, notes: &[Note]) -> Result<(), NoMemory
     ensures { OnOk result (text.new.items ≡ text.old.items ++ flat_map description_text notes.now) }
 {
     for note in notes {
-        append_pieces(
-            text,
-            &[Piece::Words(note.words.as_slice()), Piece::Markup(b"\n")],
-        )?;
+        append_escaped(text, note.words.as_slice())?;
+        text.extend_from_slice(b"\n")?;
     }
     Ok(())
 }
@@ -82,17 +73,12 @@ fn append_description(text: &mut Vec<u8>, notes: &[Note]) -> Result<(), NoMemory
 fn append_paper(text: &mut Vec<u8>, picture: &Picture) -> Result<(), NoMemory>
     ensures { OnOk result (text.new.items ≡ text.old.items ++ paper_text picture.now) }
 {
-    append_pieces(
+    text.extend_from_slice(b"</desc>\n")?;
+    text.extend_from_slice(STYLE)?;
+    append_filled(
         text,
-        &[
-            Piece::Markup(b"</desc>\n"),
-            Piece::Markup(STYLE),
-            Piece::Markup(b"<rect class=\"paper\" width=\""),
-            Piece::Number(picture.width),
-            Piece::Markup(b"\" height=\""),
-            Piece::Number(picture.height),
-            Piece::Markup(b"\"/>\n"),
-        ],
+        b"<rect class=\"paper\" width=\"#\" height=\"#\"/>\n",
+        &[picture.width, picture.height],
     )
 }
 
@@ -111,27 +97,15 @@ fn append_rows(text: &mut Vec<u8>, rows: &[Row], width: usize) -> Result<(), NoM
 fn append_row(text: &mut Vec<u8>, row: &Row, width: usize) -> Result<(), NoMemory>
     ensures { OnOk result (text.new.items ≡ text.old.items ++ row_text width row.now) }
 {
-    append_pieces(
+    append_filled(
         text,
-        &[
-            Piece::Markup(b"<text class=\"name\" x=\"12\" y=\""),
-            Piece::Number(row.base),
-            Piece::Markup(b"\">T<tspan class=\"sub\" dy=\"3\">"),
-            Piece::Number(row.transaction as usize),
-            Piece::Markup(b"</tspan></text><path class=\"guide\" d=\"M"),
-            Piece::Number(row.first),
-            Piece::Markup(b","),
-            Piece::Number(row.y),
-            Piece::Markup(b" H"),
-            Piece::Number(width),
-            Piece::Markup(b"\"/><path class=\"span\" d=\"M"),
-            Piece::Number(row.first),
-            Piece::Markup(b","),
-            Piece::Number(row.y),
-            Piece::Markup(b" H"),
-            Piece::Number(row.last),
-            Piece::Markup(b"\"/>\n"),
-        ],
+        b"<text class=\"name\" x=\"12\" y=\"#\">T<tspan class=\"sub\" dy=\"3\">#</tspan></text>",
+        &[row.base, row.transaction as usize],
+    )?;
+    append_filled(
+        text,
+        b"<path class=\"guide\" d=\"M#,# H#\"/><path class=\"span\" d=\"M#,# H#\"/>\n",
+        &[row.first, row.y, width, row.first, row.y, row.last],
     )
 }
 
@@ -150,28 +124,20 @@ fn append_lines(text: &mut Vec<u8>, lines: &[Line]) -> Result<(), NoMemory>
 fn append_line(text: &mut Vec<u8>, line: &Line) -> Result<(), NoMemory>
     ensures { OnOk result (text.new.items ≡ text.old.items ++ line_text line.now) }
 {
-    append_pieces(
+    text.extend_from_slice(b"<polyline class=\"")?;
+    text.extend_from_slice(kind_name(line.kind))?;
+    append_filled(
         text,
+        b"\" points=\"#,# #,# #,# #,#\"/>\n",
         &[
-            Piece::Markup(b"<polyline class=\""),
-            Piece::Markup(kind_name(line.kind)),
-            Piece::Markup(b"\" points=\""),
-            Piece::Number(line.from_x),
-            Piece::Markup(b","),
-            Piece::Number(line.from_y),
-            Piece::Markup(b" "),
-            Piece::Number(line.from_x),
-            Piece::Markup(b","),
-            Piece::Number(line.lane),
-            Piece::Markup(b" "),
-            Piece::Number(line.to_x),
-            Piece::Markup(b","),
-            Piece::Number(line.lane),
-            Piece::Markup(b" "),
-            Piece::Number(line.to_x),
-            Piece::Markup(b","),
-            Piece::Number(line.to_y),
-            Piece::Markup(b"\"/>\n"),
+            line.from_x,
+            line.from_y,
+            line.from_x,
+            line.lane,
+            line.to_x,
+            line.lane,
+            line.to_x,
+            line.to_y,
         ],
     )
 }
@@ -221,17 +187,13 @@ fn append_operation_mark(
 fn append_mark_head(text: &mut Vec<u8>, mark: &Mark, operation: &Operation) -> Result<(), NoMemory>
     ensures { OnOk result (text.new.items ≡ text.old.items ++ mark_head mark.now operation.now) }
 {
-    append_pieces(
-        text,
-        &[
-            Piece::Markup(b"<g class=\""),
-            Piece::Markup(class_name(operation.action)),
-            Piece::Markup(ends_name(mark.ends)),
-            Piece::Markup(b"\"><title>"),
-            Piece::Markup(letter(operation.action)),
-            Piece::Number(operation.transaction as usize),
-        ],
-    )
+    text.extend_from_slice(b"<g class=\"")?;
+    text.extend_from_slice(class_name(operation.action))?;
+    text.extend_from_slice(ends_name(mark.ends))?;
+    text.extend_from_slice(b"\"><title>")?;
+    text.extend_from_slice(letter(operation.action))?;
+    append_number(text, operation.transaction)?;
+    Ok(())
 }
 
 /// Adds the number of a mark, and its box.
@@ -239,26 +201,12 @@ fn append_mark_head(text: &mut Vec<u8>, mark: &Mark, operation: &Operation) -> R
 fn append_box(text: &mut Vec<u8>, mark: &Mark, number: usize) -> Result<(), NoMemory>
     ensures { OnOk result (text.new.items ≡ text.old.items ++ box_text mark.now number) }
 {
-    append_pieces(
+    append_filled(
         text,
-        &[
-            Piece::Markup(b"</title><text class=\"place\" x=\""),
-            Piece::Number(mark.middle),
-            Piece::Markup(b"\" y=\"22\">"),
-            Piece::Number(number),
-            Piece::Markup(b"</text><rect x=\""),
-            Piece::Number(mark.left),
-            Piece::Markup(b"\" y=\""),
-            Piece::Number(mark.top),
-            Piece::Markup(b"\" width=\""),
-            Piece::Number(mark.width),
-            Piece::Markup(b"\" height=\"26\" rx=\"5\"/><text x=\""),
-            Piece::Number(mark.middle),
-            Piece::Markup(b"\" y=\""),
-            Piece::Number(mark.base),
-            Piece::Markup(b"\">"),
-        ],
-    )
+        b"</title><text class=\"place\" x=\"#\" y=\"22\">#</text><rect x=\"#\" y=\"#\" width=\"#\" height=\"26\" rx=\"5\"/>",
+        &[mark.middle, number, mark.left, mark.top, mark.width],
+    )?;
+    append_filled(text, b"<text x=\"#\" y=\"#\">", &[mark.middle, mark.base])
 }
 
 /// Adds the item of a read or a write in brackets.
@@ -276,14 +224,10 @@ fn append_label(text: &mut Vec<u8>, history: &History, action: Action) -> Result
 fn append_item(text: &mut Vec<u8>, history: &History, item: u32) -> Result<(), NoMemory>
     ensures { OnOk result (text.new.items ≡ text.old.items ++ item_text history.now item) }
 {
-    append_pieces(
-        text,
-        &[
-            Piece::Markup(b"["),
-            Piece::Words(name_of(history, item)),
-            Piece::Markup(b"]"),
-        ],
-    )
+    text.extend_from_slice(b"[")?;
+    append_escaped(text, name_of(history, item))?;
+    text.extend_from_slice(b"]")?;
+    Ok(())
 }
 
 /// The text of the item.
@@ -311,14 +255,7 @@ fn append_legend(text: &mut Vec<u8>, picture: &Picture) -> Result<(), NoMemory>
 fn append_legend_start(text: &mut Vec<u8>, legend: usize) -> Result<(), NoMemory>
     ensures { OnOk result (text.new.items ≡ text.old.items ++ legend_start legend) }
 {
-    append_pieces(
-        text,
-        &[
-            Piece::Markup(b"<g transform=\"translate(12,"),
-            Piece::Number(legend),
-            Piece::Markup(b")\">\n"),
-        ],
-    )
+    append_filled(text, b"<g transform=\"translate(12,#)\">\n", &[legend])
 }
 
 /// Adds the parts of the legend.
@@ -362,16 +299,10 @@ fn append_notes(text: &mut Vec<u8>, notes: &[Note]) -> Result<(), NoMemory>
 fn append_note(text: &mut Vec<u8>, note: &Note) -> Result<(), NoMemory>
     ensures { OnOk result (text.new.items ≡ text.old.items ++ note_text note.now) }
 {
-    append_pieces(
-        text,
-        &[
-            Piece::Markup(b"<text x=\"12\" y=\""),
-            Piece::Number(note.base),
-            Piece::Markup(b"\">"),
-            Piece::Words(note.words.as_slice()),
-            Piece::Markup(b"</text>\n"),
-        ],
-    )
+    append_filled(text, b"<text x=\"12\" y=\"#\">", &[note.base])?;
+    append_escaped(text, note.words.as_slice())?;
+    text.extend_from_slice(b"</text>\n")?;
+    Ok(())
 }
 
 /// The class of a line.

@@ -14,7 +14,8 @@ returns c =
     (grow c.args.text.now.items c.append_recoverable.new.text.items c.append_avoiding.new.text.items _
     (class_text (codes "avoids cascading aborts") (avoiding_why c.args.history.now) c.args.report.now.avoiding)
     (grow c.args.text.now.items c.append_serial.new.text.items c.append_recoverable.new.text.items _
-    (class_text (codes "recoverable") (recoverable_why c.args.history.now c.args.report.now.dirty_write c.args.report.now.dirty_abort) c.args.report.now.recoverable)
+    (class_text (codes "recoverable") (recoverable_why c.args.history.now c.args.report.now.dirty_write
+    c.args.report.now.dirty_abort) c.args.report.now.recoverable)
     (grow c.args.text.now.items c.append_counts.new.text.items c.append_serial.new.text.items _
     (serial_text c.args.history.now c.args.report.now.serializability)
     c.in_ok-append_counts.ensures

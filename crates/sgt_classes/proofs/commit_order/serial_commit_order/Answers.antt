@@ -23,7 +23,8 @@ loop-place-preserved c =
           (subst (λ v. IsCommitOrder h (p + 1) v.items (entry_of w.remove.new.self)) (sym w.order-is)
           (subst (λ l. IsCommitOrder h (p + 1) l (entry_of w.remove.new.self)) (sym w.in_ok-push.ensures.items)
           (order_grows h p op.transaction one.0 c.loop-place.order.items (entry_of c.loop-place.left) (entry_of w.remove.new.self)
-          c.requires (done_at h p Commit c.loop-place-test.true (search rules)) one.1 w.remove.ensures.at w.remove.ensures.others c.loop-place.invariant)))
+          c.requires (done_at h p Commit c.loop-place-test.true (search rules)) one.1 w.remove.ensures.at w.remove.ensures.others
+          c.loop-place.invariant)))
       | else-eq w ↦
           subst (λ m. IsCommitOrder h (p + 1) c.if-eq.order.items (entry_of m)) (sym w.left-is)
           (subst (λ v. IsCommitOrder h (p + 1) v.items (entry_of c.loop-place.left)) (sym w.order-is)

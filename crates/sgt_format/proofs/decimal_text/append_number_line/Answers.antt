@@ -14,7 +14,8 @@ write_words-start-requires c = (omega (arith, length-decimal-le 20 c.args.number
 pub returns-clause-ok : goal.returns-clause-ok
 returns-clause-ok c =
     let following : List ℕ = drop 64 (replicate 96 0) in
-    adds_three c.append_written.result c.args.lines.now.items c.write_words-start.new.text _ _ _ following c.append_written.new.lines.items c.write_words-start.result
+    adds_three c.append_written.result c.args.lines.now.items c.write_words-start.new.text _ _ _ following
+    c.append_written.new.lines.items c.write_words-start.result
     c.append_written.ensures.ok
     (c.write_words-start.ensures.written ∙ ap (λ more. c.args.words.now ++ more)
     (c.write_digits-start.ensures.written ∙ ap (λ more. decimal c.args.number ++ more) c.write_byte-start.ensures.written))

@@ -10,7 +10,8 @@ pub returns-clause-ok : goal.returns-clause-ok
 returns-clause-ok c =
     let same : to_z w64 (of_z w64 c.args.answer) ≡ c.args.answer = sym (from_bits c.args.answer (search rules)) in
     let following : List ℕ = drop 64 (replicate 96 0) in
-    adds_three c.append_written.result c.args.lines.now.items c.write_words-start.new.text (codes "committed ") (signed_decimal c.args.answer) (codes "\n") following c.append_written.new.lines.items c.write_words-start.result
+    adds_three c.append_written.result c.args.lines.now.items c.write_words-start.new.text (codes "committed ")
+    (signed_decimal c.args.answer) (codes "\n") following c.append_written.new.lines.items c.write_words-start.result
     c.append_written.ensures.ok
     (c.write_words-start.ensures.written ∙ ap (λ more. codes "committed " ++ more) (c.write_signed-start.ensures.written
     ∙ ap (λ n. signed_decimal n ++ drop c.write_byte-start.result c.write_byte-start.new.text) same

@@ -10,7 +10,8 @@ pub returns-clause-ok : goal.returns-clause-ok
 returns-clause-ok c =
     let same : to_z w64 (of_z w64 c.args.value) ≡ c.args.value = sym (from_bits c.args.value (search rules)) in
     let following : List ℕ = drop 64 (replicate 96 0) in
-    adds_grouped c.append_written.result c.args.lines.now.items c.write_words-start.new.text (codes "read ") (record_text c.args.key c.args.value) (codes "\n") following c.append_written.new.lines.items c.write_words-start.result
+    adds_grouped c.append_written.result c.args.lines.now.items c.write_words-start.new.text (codes "read ")
+    (record_text c.args.key c.args.value) (codes "\n") following c.append_written.new.lines.items c.write_words-start.result
     c.append_written.ensures.ok
     (c.write_words-start.ensures.written ∙ ap (λ more. codes "read " ++ more) (c.write_record-start.ensures.written
     ∙ ap (λ n. record_text c.args.key n ++ drop c.write_byte-start.result c.write_byte-start.new.text) same

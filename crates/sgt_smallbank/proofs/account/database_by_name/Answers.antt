@@ -38,7 +38,8 @@ pub returns-clause-contents : goal.returns-clause-contents
 returns-clause-contents c =
     let xs = c.args.accounts.now in
     subst (λ o. IfSome o (λ d. (k : Key) → contents_of d k ≡ opened xs k)) (sym c.ok-2.ensures.value)
-    (contents_kept xs c.as_slice.result.now (moved c) c.database_in_turn.result c.database_in_turn.ensures.contents c.database_in_turn.ensures.no_fault)
+    (contents_kept xs c.as_slice.result.now (moved c) c.database_in_turn.result c.database_in_turn.ensures.contents
+    c.database_in_turn.ensures.no_fault)
 
 pub returns-clause-no_fault : goal.returns-clause-no_fault
 returns-clause-no_fault c =

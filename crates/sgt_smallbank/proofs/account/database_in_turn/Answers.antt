@@ -10,7 +10,8 @@ none = record { name = pos 0; customer = pos 0; saving = pos 0; checking = pos 0
 pub returns-in-Some-clause-fault : goal.returns-in-Some-clause-fault
 returns-in-Some-clause-fault c = λ is_fault.
     fault_here c.args.accounts.now c.loop-account.account-index none (rows_in c.loop-account.rows) c.loop-account-test.true
-    c.loop-account.invariant.contents c.loop-account.invariant.so_far _ c.in-Some.fault refl (sym c.in_ok-fault.ensures.fault ∙ c.in-Some.is)
+    c.loop-account.invariant.contents c.loop-account.invariant.so_far _ c.in-Some.fault refl
+    (sym c.in_ok-fault.ensures.fault ∙ c.in-Some.is)
 
 pub loop-account-preserved : goal.loop-account-preserved
 loop-account-preserved c =

@@ -6,7 +6,7 @@ pub loop-earlier-init : goal.loop-earlier-init
 loop-earlier-init c = c.requires.sources
 
 pub loop-earlier-preserved : goal.loop-earlier-preserved
-loop-earlier-preserved c = c.in_ok-note.ensures
+loop-earlier-preserved c = c.in_ok-record.ensures
 
 pub returns : goal.returns
 returns c = subst (λ n. KnowsSources c.args.history.now n c.loop-earlier.self)

@@ -1,5 +1,5 @@
 use Rattle.std.proofs.Common.{◌≡◌}
-use Rattle.sgt_classes.specs.declared.first_accesses.Kind.TheVariants.{Any, Writes}
+use Rattle.sgt_classes.specs.declared.first_accesses.Counted.TheVariants.{Any, Writes}
 use Rattle.sgt_classes.specs.FirstAccesses.{KnowsConflicts, KnowsFirsts}
 use Rattle.sgt_classes.proofs.conflicts.Conflicts.report_all.Given as goal
 

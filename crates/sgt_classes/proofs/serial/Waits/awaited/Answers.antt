@@ -4,7 +4,7 @@ use Rattle.sgt_classes.specs.Tables.{entry_of}
 use Rattle.std.proofs.lemmas.Grind.{common_steps}
 use Rattle.std.proofs.lemmas.Option.{slice_get-get_or, slice_get_within}
 use Rattle.sgt_classes.specs.declared.graph.Edge.{Edge}
-use Rattle.sgt_classes.specs.declared.chains.End.TheVariants.{To}
+use Rattle.sgt_classes.specs.declared.chains.EdgeEnd.TheVariants.{To}
 use Rattle.sgt_classes.specs.Links.{link_of}
 use Rattle.sgt_classes.specs.Sorting.{IsLastEdge, IsTopEdge}
 use Rattle.sgt_classes.proofs.EdgeChains.{same_at}

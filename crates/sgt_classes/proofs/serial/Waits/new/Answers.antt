@@ -6,7 +6,7 @@ use Rattle.sgt_classes.specs.Tables.{entry_of}
 use Rattle.sgt_classes.specs.declared.operation.Action.TheVariants.{Commit}
 use Rattle.sgt_classes.specs.Links.{link_of}
 use Rattle.sgt_classes.specs.Sorting.{AreChains}
-use Rattle.sgt_classes.specs.declared.chains.End.TheVariants.{To}
+use Rattle.sgt_classes.specs.declared.chains.EdgeEnd.TheVariants.{To}
 use Rattle.sgt_classes.proofs.Places.{there, does_at}
 use Rattle.sgt_classes.proofs.FirstWaits.{AreLookedAt, first_waits, first_wait, looked_at, passed_over, all_ready, all_watched}
 use Rattle.sgt_classes.proofs.serial.Waits.new.Goals.{then-eq+in_ok-update, else-eq}

@@ -2,7 +2,7 @@ use Rattle.std.proofs.Common.{rules, ◌≡◌, ◌∙◌, ◌<◌, ℕ, Option,
 use Rattle.std.specs.Prelude.{slice_get, length}
 use Rattle.std.proofs.lemmas.Option.{slice_get-get_or, slice_get_within}
 use Rattle.sgt_classes.specs.declared.graph.Edge.{Edge}
-use Rattle.sgt_classes.specs.declared.chains.End.TheVariants.{From}
+use Rattle.sgt_classes.specs.declared.chains.EdgeEnd.TheVariants.{From}
 use Rattle.sgt_classes.specs.Links.{link_of}
 use Rattle.sgt_classes.specs.Seen.{height}
 use Rattle.sgt_classes.specs.Sorting.{IsLastEdge, AllWaitBut}

@@ -7,13 +7,13 @@ use Rattle.sgt_classes.proofs.strict.Writes.unended.Goals.{then-writer-operation
 
 pub returns-in_err-item-clause-none : goal.returns-in_err-item-clause-none
 returns-in_err-item-clause-none c = λ _.
-    strict_no_item _ _ _ (there c.args.history.now c.args.place c.requires.within) (sym c.in_err-item.ensures) c.requires.strict
+    strict_no_item _ _ _ (there c.args.history.now c.args.place c.requires.within) (sym c.in_err-item.ensures)
 
 pub returns-in_err-earlier-clause-none : goal.returns-in_err-earlier-clause-none
 returns-in_err-earlier-clause-none c = λ _.
     strict_no_write _ _ _ c.in_ok-item.item (there c.args.history.now c.args.place c.requires.within) (sym c.in_ok-item.ensures)
     (subst (λ o. IsLastWrite c.args.history.now c.args.place c.in_ok-item.item o) (sym c.in_err-earlier.ensures)
-    (c.requires.last c.in_ok-item.item)) c.requires.strict
+    (c.requires.last c.in_ok-item.item))
 
 pub returns-then-writer-operation-clause-none : goal.returns-then-writer-operation-clause-none
 returns-then-writer-operation-clause-none c =

@@ -1,4 +1,0 @@
-use Rattle.sgt_classes.proofs.graph.Graph.of_projection.Goals as goal
-
-pub connect_all-requires-clause-uses : goal.connect_all-requires-clause-uses
-connect_all-requires-clause-uses c = c.new-seen.ensures _
