@@ -24,6 +24,19 @@ impl<I: Read + Drop, F: Read + Drop> Read for InputBytes<I, F> {
     }
 }
 
+impl<I: Read + Drop, F: Read + OpenFile + Drop> InputBytes<I, F> {
+    /// How many bytes the file has. Of standard input, and of a device, this is not known.
+    pub(crate) fn size(&self) -> Option<u64> {
+        match self {
+            InputBytes::Standard(_) => None,
+            InputBytes::File(file) => match file.metadata() {
+                Ok(about) if about.is_file() => Some(about.len()),
+                _ => None,
+            },
+        }
+    }
+}
+
 /// Why a file is not read.
 #[derive(Clone, Copy, Debug, PartialEq, Eq)]
 pub(crate) enum FileFlaw {

@@ -1,5 +1,5 @@
 //! The command `sgt bank`: one run of an input's jobs, with its options.
-ghost use Rattle.std.specs.Prelude.{◌≡◌, ◌≢◌, IfErr, OnOk, Err, ◌+◌, ◌^◌, ◌<◌};
+ghost use Rattle.std.specs.Prelude.{◌≡◌, ◌≢◌, IfErr, OnOk, Err, ◌+◌, ◌^◌, ◌<◌, ◌≤◌};
 ghost use Rattle.sgt_workers.specs.Banks.{AreWorkers, AreTries};
 ghost use Rattle.sgt_bank.specs.Outputs.{WritesAll, WritesPart, IsFirstFault, CountsReads, CountsWrites};
 
@@ -37,6 +37,8 @@ pub struct Options {
     pub workers: u32,
     /// How often a job is tried before it is abandoned, from 1 to `MOST_TRIES`.
     pub tries: u32,
+    /// How many bytes the input may have, at most `MOST_BYTES` of `sgt_input`.
+    pub most: usize,
     /// What is written.
     pub output: Output,
     /// What is explained beside it.
@@ -68,13 +70,14 @@ pub fn run_bank<S: Source, T: Sink, E: Sink, W: Threads + Wait + Clock + Eprint 
     requires explaining { E.failures errors.old + 1 < 2 ^ 64 }
     requires workers { AreWorkers options.workers }
     requires tries { AreTries options.tries }
+    requires most { options.most ≤ 4294967296 }
     ensures output { OnOk result
-        (WritesAll options.output options.workers options.tries (S.rest source.old) (T.held sink.old) (T.held sink.new)) }
+        (WritesAll options.output options.workers options.tries options.most (S.rest source.old) (T.held sink.old) (T.held sink.new)) }
     ensures part { result ≡ Err Fault.Writing →
-        WritesPart options.output options.workers options.tries (S.rest source.old) (T.held sink.old) (T.held sink.new) }
+        WritesPart options.output options.workers options.tries options.most (S.rest source.old) (T.held sink.old) (T.held sink.new) }
     ensures nothing { IfErr result (λ f. f ≢ Fault.Writing → sink.new ≡ sink.old) }
-    ensures fault { IfErr result (IsFirstFault options.workers (S.rest source.old)) }
-    ensures reads { CountsReads result (S.given source.old) (S.given source.new) (S.failures source.old) (S.failures source.new) }
+    ensures fault { IfErr result (IsFirstFault options.workers options.most (S.rest source.old)) }
+    ensures reads { CountsReads result options.most (S.given source.old) (S.given source.new) (S.failures source.old) (S.failures source.new) }
     ensures writes { CountsWrites result (T.failures sink.old) (T.failures sink.new) }
     ensures silent { options.explanations ≡ Explanations.Off → errors.new ≡ errors.old }
     ensures unexplained { IfErr result (λ _. errors.new ≡ errors.old) }
@@ -82,16 +85,21 @@ pub fn run_bank<S: Source, T: Sink, E: Sink, W: Threads + Wait + Clock + Eprint 
     let Options {
         workers,
         tries,
+        most,
         output,
         explanations,
         shows_progress,
     } = options;
     if !is_watched(&options) {
-        write_run(rt, alloc, source, sink, workers, tries, output, &OpenGate)?;
+        write_run(
+            rt, alloc, source, sink, workers, tries, output, most, &OpenGate,
+        )?;
         return Ok(());
     }
     let watch = Watch::new(rt, alloc, shows_progress);
-    let report = write_run(rt, alloc, source, sink, workers, tries, output, &watch)?;
+    let report = write_run(
+        rt, alloc, source, sink, workers, tries, output, most, &watch,
+    )?;
     if let Explanations::Tries = explanations {
         explain_tries(alloc, errors, watch.into_seen(), &report);
     }

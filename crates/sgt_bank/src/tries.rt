@@ -1,6 +1,6 @@
 //! The report of the jobs that were aborted, refused or tried more than once.
 use crate::watch::FailedTry;
-use sgt_explain::{append_refusal, refusal_of};
+use sgt_explain::{append_code, append_refusal, refusal_of};
 use sgt_format::append_numbered;
 use sgt_log::{EntryRef, History};
 use sgt_model::{Cause, Entry, Event, NoMemory, Reply, Tid};
@@ -18,9 +18,10 @@ enum End {
     With(Tid),
 }
 
-/// What is known of a transaction: how it ended, and the job that it was a try of.
+/// What is known of a transaction: its procedure, how it ended, and the job that it was a try of.
 #[derive(Clone, Copy)]
 struct Known {
+    procedure: u16,
     end: End,
     job: Option<usize>,
 }
@@ -132,6 +133,7 @@ fn ends_of(alloc: Global, history: &History) -> Result<Vec<Known>, NoMemory> {
         let entry = history.entry(place);
         if entry.started().is_some() {
             known.push(Known {
+                procedure: procedure_of(&entry.event()),
                 end: End::Own,
                 job: None,
             })?;
@@ -139,6 +141,14 @@ fn ends_of(alloc: Global, history: &History) -> Result<Vec<Known>, NoMemory> {
         note_ends(known.as_mut_slice(), place, &entry);
     }
     Ok(known)
+}
+
+// The procedure that the event starts.
+fn procedure_of(event: &Event) -> u16 {
+    match event {
+        Event::Start { procedure, .. } => *procedure,
+        _ => u16::MAX,
+    }
 }
 
 // Records which transactions the entry at a position aborts.
@@ -186,6 +196,17 @@ fn last_transaction<N>(history: &History, outcome: &Outcome<N>) -> Option<Tid> {
     }
 }
 
+// The procedure of that transaction.
+fn last_procedure<N>(history: &History, outcome: &Outcome<N>, known: &[Known]) -> u16 {
+    match last_transaction(history, outcome) {
+        Some(t) => match known.get(t.0 as usize) {
+            Some(known) => known.procedure,
+            None => u16::MAX,
+        },
+        None => u16::MAX,
+    }
+}
+
 // Appends the line of a job, if it did not commit at its first try.
 fn append_job<N>(
     text: &mut Vec<u8>,
@@ -199,7 +220,7 @@ fn append_job<N>(
         return Ok(());
     }
     append_numbered(text, b"job ", job)?;
-    append_outcome(text, failed.len(), outcome, history)?;
+    append_outcome(text, failed.len(), outcome, known, history)?;
     for (index, failed) in failed.iter().enumerate() {
         append_numbered(text, b"; try ", index.saturating_add(1))?;
         append_end(text, failed.tid, known, history)?;
@@ -213,6 +234,7 @@ fn append_outcome<N>(
     text: &mut Vec<u8>,
     failed: usize,
     outcome: &Outcome<N>,
+    known: &[Known],
     history: &History,
 ) -> Result<(), NoMemory> {
     match outcome {
@@ -222,7 +244,12 @@ fn append_outcome<N>(
             failed.saturating_add(1),
         )?,
         Outcome::Asked(number) => {
-            append_numbered(text, b": aborted with code ", code_at(history, *number))?;
+            text.extend_from_slice(b": aborted with ")?;
+            append_code(
+                text,
+                last_procedure(history, outcome, known),
+                code_at(history, *number),
+            )?;
             append_numbered(text, b" at try ", failed.saturating_add(1))?;
         }
         Outcome::Gave(_) => append_numbered(text, b": given up at try ", failed)?,

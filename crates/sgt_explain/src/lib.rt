@@ -1,6 +1,6 @@
 //! Explains aborts from a history. For an abort by a cycle it finds the accesses that make each edge of the cycle.
 //! For a cascading abort it finds the read from a transaction that was aborted. [`refusal_of`] says why an event was
-//! refused, and [`append_refusal`] writes that.
+//! refused, and [`append_refusal`] writes that. [`append_code_abort`] writes that a procedure aborted with a code.
 //!
 //! The reply of an abort names a cycle and the transactions that are aborted in cascade. This crate searches the
 //! history for the accesses that caused it. It names each by its position: the number of entries before it.
@@ -31,6 +31,7 @@
 #![tactic(auto)]
 
 mod bounds;
+mod code;
 mod edge;
 mod explanation;
 mod indexed_history;
@@ -43,6 +44,7 @@ mod source;
 mod text;
 mod writers;
 
+pub use code::{append_code, append_code_abort};
 pub use edge::{Earlier, Edge, cycle_edge};
 pub use explanation::{Pending, append_explanation};
 pub use indexed_history::IndexedHistory;

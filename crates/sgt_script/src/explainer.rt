@@ -2,6 +2,7 @@
 //! the end.
 ghost use Rattle.std.specs.Prelude.{◌+◌, ◌^◌, ◌<◌};
 
+use crate::coded::append_coded;
 use crate::live_text::append_live;
 use crate::observer::Observer;
 use crate::pending::pending_at;
@@ -17,7 +18,7 @@ use std::marker::Model;
 /// The line at the end if memory ran out for an explanation.
 const LEFT_OUT: &[u8] = b"explanations are left out: no memory\n";
 
-/// Writes to a sink why transactions are aborted, and which are live at the end. Explanations are gathered, and
+/// Writes to a sink why transactions are aborted and events refused, and which are live at the end. Explanations are gathered, and
 /// written after the answers that they belong to. After a failed write it writes no more.
 #[derive(Drop)]
 pub(crate) struct Explainer<'a, E: Sink> {
@@ -111,6 +112,15 @@ impl<'a, E: Sink> Explainer<'a, E> {
         }
     }
 
+    // Gathers which procedure aborted the transaction of the newest entry, of this line, with a code, if one did.
+    fn explain_code(&mut self, engine: &SgtEngine, line: u64) {
+        if let Some(newest) = engine.history().last() {
+            if append_coded(&mut self.text, &newest, &self.history, line).is_err() {
+                self.has_lost = true;
+            }
+        }
+    }
+
     // Gathers why the newest entry, of this line, is refused, if it is.
     fn explain_refusal(&mut self, engine: &SgtEngine, line: u64) {
         if append_refused(&mut self.text, engine, line).is_err() {
@@ -141,6 +151,7 @@ impl<E: Sink> Observer for Explainer<'_, E> {
         if entries > 0 {
             self.note_line(entries - 1, line);
             self.note_entry(engine.history(), entries - 1);
+            self.explain_code(engine, line);
             self.explain_at(engine, entries - 1);
             self.explain_refusal(engine, line);
         }
