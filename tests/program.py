@@ -550,6 +550,7 @@ def explains_each_input(sgt):
 # The line of a job that did not commit at its first try; why a try failed; and the summary.
 REPORTED_JOB = re.compile(r"job (\d+): (committed|aborted with code (\d+)(?: \([a-z ]+\))?|given up|refused: (.*)|no memory)(?: at try (\d+))?((?:; try \d+: [^;]*)*)")
 FAILED_TRY = re.compile(r"try (\d+): (?:cycle with job ([\d, ]+)|aborted in cascade with job (\d+))")
+REPORTED_CODE = re.compile(r"code (\d+)(?: \([a-z ]+\))? of (.*): (\d+) (jobs?)")
 SUMMARY = "{} jobs: {} committed, {} aborted with a code, {} given up, {} refused, {} without memory; {} tries"
 
 
@@ -558,7 +559,7 @@ def says_how_jobs_ended(sgt):
     out = "0 committed 1050\n1 asked 1\n2 refused 1\n3 committed 1550\n4 refused 2\n5 refused 2\n0/1 101\n1/101 500\n2/101 1050\n"
     err = "job 1: aborted with code 1 (the name is unknown) at try 1\njob 2: refused: there is no procedure 99\n"
     err += "job 4: refused: DepositChecking takes 2 arguments, found 1\n"
-    err += f"job 5: refused: argument 1 is 1000000000000000, {explained.RANGE}\n" + SUMMARY.format(6, 2, 1, 0, 3, 0, 3) + "\n"
+    err += f"job 5: refused: argument 1 is 1000000000000000, {explained.RANGE}\ncode 1 (the name is unknown) of Balance: 1 job\n" + SUMMARY.format(6, 2, 1, 0, 3, 0, 3) + "\n"
     sgt.expect("bank", "--explain", "--workers", "1", given=given, out=out, err=err)
     sgt.expect("bank", "--explain", given=OPENING, out=RECORDS, err=SUMMARY.format(0, 0, 0, 0, 0, 0, 0) + "\n")
     one = "1 job: 1 committed, 0 aborted with a code, 0 given up, 0 refused, 0 without memory; 1 try\n"
@@ -579,16 +580,58 @@ CODED = (
 
 
 def says_what_codes_mean(sgt):
-    """With the procedure that raised the code, in a script; with the job, in a bank."""
+    """With the procedure that raised the code, in a script; with the job, in a bank, which counts them."""
     opening = '{"limits":[8,100],"accounts":[[1,101,500,1000]],"procedures":[[0,[["ask",5]]],[0,[["answer",["quotient",1,0]]]]]}\n["record",0,7,107]\n'
     jobs = "".join(f'["job",{procedure},{args}]\n' for procedure, args, _, _ in CODED)
-    reported = "".join(f"job {job}: aborted with code {code}{words} at try 1\n" for job, (_, _, code, words) in enumerate(CODED))
-    same("bank", reported, sgt.run("bank", "--explain", "--workers", "1", given=opening + jobs)[2].removesuffix(SUMMARY.format(8, 0, 8, 0, 0, 0, 8) + "\n"))
+    reported = "".join(f"job {2 * job + again}: aborted with code {code}{words} at try 1\n" for job, (_, _, code, words) in enumerate(CODED) for again in (0, 1))
+    reported += "".join(f"code {code}{words} of {explained.name_of(procedure)}: 2 jobs\n" for procedure, _, code, words in sorted(CODED, key=lambda it: (it[0], it[2])))
+    twice = "".join(f"{job}\n" * 2 for job in jobs.splitlines())
+    same("bank", reported + SUMMARY.format(16, 0, 16, 0, 0, 0, 16) + "\n", sgt.run("bank", "--explain", "--workers", "1", given=opening + twice)[2])
     events = "".join(f'["start",{procedure},{args}]\n' + f'["step",{t}]\n' * 4 for t, (procedure, args, _, _) in enumerate(CODED))
     reported = [f"{explained.name_of(procedure)} aborted {t} with code {code}{words}" for t, (procedure, _, code, words) in enumerate(CODED)]
     for asks, ends in (("", ""), (",1", "".join(f'["commit",{t}]\n' for t in range(8)))):
         came = sgt.run("script", "--explain", given=opening.replace("100]", f"100{asks}]", 1) + events + ends)[2].splitlines()
         same(f"script{asks}", reported, [line.split(": ", 1)[1] for line in came if " aborted " in line])
+
+
+def takes_words_for_codes(sgt):
+    """A line each of a file: for the codes of one's own procedures, and in place of the program's words."""
+    opening = '{"limits":[8,100],"accounts":[],"procedures":[[0,[["ask",5]]],[0,[["ask",5]]],[0,[["ask",6]]]]}\n'
+    jobs = "".join(f'["job",{procedure},{args}]\n' for procedure, args in ((5, []), (6, []), (7, []), (0, [1])))
+    script = "".join(f'["start",{procedure},{args}]\n' + f'["step",{t}]\n' * 2 for t, (procedure, args) in enumerate(((5, []), (6, []), (7, []), (0, [1]))))
+    said = {5: " (too little money)", 6: "", 7: " (sch\u00f6n)", 0: " (nobody has this name)"}
+    named = {procedure: explained.name_of(procedure) for procedure in said}
+    codes = {5: 5, 6: 5, 7: 6, 0: 1}
+    with tempfile.TemporaryDirectory() as folder:
+        def words(text):
+            path = os.path.join(folder, "words of mine")
+            with open(path, "w", encoding="utf-8") as file:
+                file.write(text)
+            return path
+
+        given = words('[5,5,"too little money"]\n [ 7, 6, "sch\\u00f6n" ]\r\n[6,4,"not raised"]\n[0,1,"nobody has this name"]')
+        reported = "".join(f"job {job}: aborted with code {codes[procedure]}{said[procedure]} at try 1\n" for job, procedure in enumerate(said))
+        reported += "".join(f"code {codes[procedure]}{said[procedure]} of {named[procedure]}: 1 job\n" for procedure in sorted(said))
+        came = sgt.run("bank", "--explain", "--words", given, "--workers", "1", given=opening + jobs)
+        same("bank", (0, reported + SUMMARY.format(4, 0, 4, 0, 0, 0, 4) + "\n"), came[::2])
+        same("its output", sgt.run("bank", "--workers", "1", given=opening + jobs)[1], came[1])
+        came = sgt.run("script", "--words", given, "--explain", given=opening + script)
+        reported = [f"{named[procedure]} aborted {t} with code {codes[procedure]}{said[procedure]}" for t, procedure in enumerate(said)]
+        same("script", (0, reported), (came[0], [line.split(": ", 1)[1] for line in came[2].splitlines() if " aborted " in line]))
+        same("its output", sgt.run("script", given=opening + script)[1], came[1])
+        sgt.expect("script", "--explain", "--words", words(""), given=OPENING, out=RECORDS)
+        form = 'expected [procedure,code,"words"], as [5,10,"too little money"]'
+        good = '[5,5,"x"]\n'
+        for text, line in (("{}", 1), ("\n", 1), (f"{good}[5,6]", 2), (f'{good}{good.replace(",5", ",6")}[5,7,""]', 3), ('[5,5,"a\\nb"]', 1), ('["5",5,"x"]', 1),
+                           ('[5,-1,"x"]', 1), ('[65536,5,"x"]', 1), (f'[5,5,"{"x" * 201}"]', 1), ('[5,5,"x",1]', 1), ("\ufeff[5,5,\"x\"]", 1)):
+            sgt.expect("script", "--explain", "--words", words(text), given=OPENING, status=2, err=f"cannot read {words(text)}: line {line}: {form}\n")
+        sgt.expect("bank", "--explain", "--words", words(f'[5,5,"{"x" * 200}"]'), given=OPENING, err=SUMMARY.format(0, 0, 0, 0, 0, 0, 0) + "\n", out=RECORDS)
+        for text, why in ((good + good, "line 2: code 5 of procedure 5 has words already"), (good + " " * 65_536, "it has more than 65536 bytes")):
+            sgt.expect("bank", "--explain", "--words", words(text), given=OPENING, status=2, err=f"cannot read {words(text)}: {why}\n")
+        for path, why in ((os.path.join(folder, "none"), "no such file"), (folder, "it is a directory")):
+            sgt.expect("script", "--explain", "--words", path, given=OPENING, status=2, err=f"cannot read {path}: {why}\n")
+        for command in ("script", "bank"):
+            sgt.expect(command, "--words", given, given=OPENING, status=2, err=usage("words_alone").format(command=command))
 
 
 def says_why_events_are_refused(sgt):
@@ -646,7 +689,8 @@ def tried(report, lines, tally):
     outcomes = [line.split() for line in report if "/" not in line.split()[0]]
     counts, tries, last = Counter(), 0, -1
     silent = set(range(len(outcomes)))
-    for line in lines[:-1]:
+    codes = [REPORTED_CODE.fullmatch(line) for line in lines if line.startswith("code ")]
+    for line in lines[:-1 - len(codes)]:
         if not (reported := REPORTED_JOB.fullmatch(line)):
             raise Differs(f"came {line!r}")
         job, how, code, _, at, rest = reported.groups()
@@ -670,6 +714,8 @@ def tried(report, lines, tally):
         tally[0] += sum(cycle is not None for _, cycle, _ in failed)
         tally[1] += sum(cascade is not None for _, _, cascade in failed)
     same("who is silent", {"committed"}, {outcomes[job][1] for job in silent} | {"committed"})
+    same("the codes", codes, [code for code in codes if code and (code[3] == "1") == (code[4] == "job")])
+    same("how often", Counter(outcome[2] for outcome in outcomes if outcome[1] == "asked"), sum((Counter({code[1]: int(code[3])}) for code in codes), Counter()))
     counts = Counter(outcome[1] for outcome in outcomes)
     summary = [counts[kind] for kind in ("committed", "asked", "gave", "refused", "no")]
     same("the summary", SUMMARY.format(len(outcomes), *summary, tries + len(silent)), lines[-1])
@@ -1289,6 +1335,7 @@ CASES = [
     judges_drawn_scripts,
     says_how_jobs_ended,
     says_what_codes_mean,
+    takes_words_for_codes,
     says_why_events_are_refused,
     says_how_each_job_of_the_examples_ended,
     reports_by_whom_tries_were_aborted,

@@ -96,6 +96,8 @@ an event was refused. At the end it lists the live transactions:
   1 transaction is live at the end: 4
 
 Standard output and the status are as without --explain. It excludes --history and --records.
+--words names a file that says what codes mean. It has a line for each: a procedure, its code, and
+the words, as [5,44,"no such account"]
 
 With --json each reply is an object of JSON, and the records at the end are lines as --records
 writes them:
@@ -161,9 +163,12 @@ try how it ended, and which jobs aborted its tries. A summary comes last. All nu
   job 1: committed at try 3; try 1: cycle with job 0, 2; try 2: aborted in cascade with job 2
   job 4: aborted with code 1 (the name is unknown) at try 1
   job 5: refused: DepositChecking takes 2 arguments, found 1
+  code 1 (the name is unknown) of Balance: 1 job
   6 jobs: 4 committed, 1 aborted with a code, 0 given up, 1 refused, 0 without memory; 7 tries
 
 Standard output and the status are as without --explain. It excludes --history and --records.
+--words names a file that says what codes mean. It has a line for each: a procedure, its code, and
+the words, as [5,44,"no such account"]
 
 With --json each outcome is an object of JSON, with the number of tries, and the records at the end
 are lines as --records writes them:

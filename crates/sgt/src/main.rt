@@ -24,6 +24,7 @@ mod input_kind;
 mod operation_error;
 mod output;
 mod unjudged;
+mod words;
 
 ghost use Rattle.std.specs.Prelude.{◌≤◌};
 
@@ -38,6 +39,7 @@ use output::OutputBytes;
 use sgt_bank::{Explanations, MOST_TRIES, MOST_WORKERS, run_bank};
 use sgt_check::{CheckFault, Verdict, run_check};
 use sgt_clients::{Answer, ClientsFault, ClientsOutput, Hint, Level, Question, run_clients};
+use sgt_explain::Words;
 use sgt_input::{DEFAULT_BYTES, Fault, MOST_BYTES, Reader, Sink, Source, Writer};
 use sgt_line_errors::Remembering;
 use sgt_notation::NotationFault;
@@ -52,6 +54,7 @@ use std::sync::Wait;
 use std::thread::Threads;
 use std::time::Clock;
 use unjudged::active_ones;
+use words::{WORDS, read_words};
 
 const VERSION: &str = "0.1.0";
 
@@ -117,6 +120,15 @@ fn most_option<'a>(alloc: Global) -> Arg<'a> {
         .default_value(MOST)
 }
 
+/// The option that names the file of words.
+fn words_option<'a>(alloc: Global) -> Result<Arg<'a>, AllocError> {
+    Arg::new(alloc, WORDS)
+        .long(WORDS)
+        .value_name("FILE")
+        .help("A file that says what your codes mean, for --explain")
+        .requires_arg("explain")
+}
+
 /// An option that takes a number from 1 to `most`.
 fn number_option<'a>(
     alloc: Global,
@@ -169,6 +181,9 @@ fn add_run_options<'a>(
     for place in 0..RUN_OPTIONS.len() {
         let (name, others) = RUN_OPTIONS[place];
         options.push(run_option(alloc, name, helps[place], others)?)?;
+        if name == "explain" {
+            options.push(words_option(alloc)?)?;
+        }
     }
     Ok(())
 }
@@ -402,6 +417,7 @@ fn script<R: Print + Eprint + Files + Clock, I: Read + Drop>(
     alloc: Global,
     streams: Streams,
     options: &ArgMatches<'_>,
+    words: &Words,
     input: I,
     size: Option<u64>,
 ) -> Result<(), Failure<Fault>> {
@@ -420,7 +436,15 @@ fn script<R: Print + Eprint + Files + Clock, I: Read + Drop>(
     } else {
         None
     };
-    match sgt_script::run(rt, alloc, &mut source, &mut writer, chosen, explanations) {
+    match sgt_script::run(
+        rt,
+        alloc,
+        &mut source,
+        &mut writer,
+        chosen,
+        explanations,
+        words,
+    ) {
         Ok(()) => Ok(()),
         Err(Fault::Writing) => Err(writer.inner.failure(Fault::Writing)),
         Err(fault) => {
@@ -495,13 +519,22 @@ fn bank<R: Print + Eprint + Files + Clock + Threads + Wait + Sync, I: Read + Dro
     alloc: Global,
     streams: Streams,
     options: &ArgMatches<'_>,
+    words: &Words,
     input: I,
 ) -> Result<(), Failure<Fault>> {
     let chosen = read_bank_options(options, shows_progress(&streams, options));
     let mut source = Remembering::new(alloc, Reader::new(input));
     let mut writer = Writer::new(OutputBytes::new(io::writer(rt)));
     let mut errors = Writer::new(streams.stderr);
-    match run_bank(rt, alloc, &mut source, &mut writer, &mut errors, chosen) {
+    match run_bank(
+        rt,
+        alloc,
+        &mut source,
+        &mut writer,
+        &mut errors,
+        chosen,
+        words,
+    ) {
         Ok(()) => Ok(()),
         Err(Fault::Writing) => Err(writer.inner.failure(Fault::Writing)),
         Err(fault) => {
@@ -677,10 +710,16 @@ fn run_on<R: Print + Eprint + Files + Clock + Threads + Wait + Sync, I: Read + D
     input: I,
     size: Option<u64>,
 ) -> ExitCode {
+    if name == "check" {
+        return check(rt, alloc, options, input);
+    }
+    let words = match read_words(rt, alloc, options.get_str(WORDS)) {
+        Ok(words) => words,
+        Err(fault) => return report(rt, fault),
+    };
     match name {
-        "check" => check(rt, alloc, options, input),
-        "bank" => ended(rt, bank(rt, alloc, streams, options, input)),
-        _ => ended(rt, script(rt, alloc, streams, options, input, size)),
+        "bank" => ended(rt, bank(rt, alloc, streams, options, &words, input)),
+        _ => ended(rt, script(rt, alloc, streams, options, &words, input, size)),
     }
 }
 

@@ -8,6 +8,7 @@ use crate::output::Output;
 use crate::run::write_run;
 use crate::tries::append_tries;
 use crate::watch::{Seen, Watch};
+use sgt_explain::Words;
 use sgt_input::{Fault, Sink, Source, write_all};
 use sgt_model::NoMemory;
 use sgt_workers::Report;
@@ -50,8 +51,8 @@ pub struct Options {
 /// Runs the jobs of an input as `run_jobs` does, and writes the output that the options name.
 ///
 /// With explanations, the second sink gets a line for each job that did not commit at its first try, by number, after
-/// the output: how it ended, and which jobs aborted the tries that failed. A summary follows. Explanations do not
-/// affect the run. If memory runs out for them, one line says so. If a write of them fails, they end there. Neither
+/// the output: how it ended, with what the words say of its code, and which jobs aborted the tries that failed. A
+/// summary follows. Explanations do not affect the run. If memory runs out for them, one line says so. If a write of them fails, they end there. Neither
 /// is a fault.
 ///
 /// # Errors
@@ -64,6 +65,7 @@ pub fn run_bank<S: Source, T: Sink, E: Sink, W: Threads + Wait + Clock + Eprint 
     sink: &mut T,
     errors: &mut E,
     options: Options,
+    words: &Words,
 ) -> Result<(), Fault>
     requires reading { S.failures source.old + 1 < 2 ^ 64 }
     requires writing { T.failures sink.old + 1 < 2 ^ 64 }
@@ -101,7 +103,7 @@ pub fn run_bank<S: Source, T: Sink, E: Sink, W: Threads + Wait + Clock + Eprint 
         rt, alloc, source, sink, workers, tries, output, most, &watch,
     )?;
     if let Explanations::Tries = explanations {
-        explain_tries(alloc, errors, watch.into_seen(), &report);
+        explain_tries(alloc, errors, watch.into_seen(), &report, words);
     }
     Ok(())
 }
@@ -114,10 +116,16 @@ fn is_watched(options: &Options) -> bool {
 }
 
 /// Writes the lines of the tries.
-fn explain_tries<E: Sink>(alloc: Global, errors: &mut E, seen: Seen, report: &Report<Infallible>)
+fn explain_tries<E: Sink>(
+    alloc: Global,
+    errors: &mut E,
+    seen: Seen,
+    report: &Report<Infallible>,
+    words: &Words,
+)
     requires { E.failures errors.old + 1 < 2 ^ 64 }
 {
-    match tries_text(alloc, seen, report) {
+    match tries_text(alloc, seen, report, words) {
         Ok(text) => {
             let _ = write_all(errors, text.as_slice());
         }
@@ -128,7 +136,12 @@ fn explain_tries<E: Sink>(alloc: Global, errors: &mut E, seen: Seen, report: &Re
 }
 
 /// The lines of the tries.
-fn tries_text(alloc: Global, seen: Seen, report: &Report<Infallible>) -> Result<Vec<u8>, NoMemory> {
+fn tries_text(
+    alloc: Global,
+    seen: Seen,
+    report: &Report<Infallible>,
+    words: &Words,
+) -> Result<Vec<u8>, NoMemory> {
     let Seen {
         failed,
         has_lost,
@@ -145,6 +158,7 @@ fn tries_text(alloc: Global, seen: Seen, report: &Report<Infallible>) -> Result<
         &mut failed,
         &report.history,
         report.outcomes.as_slice(),
+        words,
     )?;
     Ok(text)
 }

@@ -10,8 +10,8 @@ use sgt_input::{Fault, Lines, Source, opening_of, read_records};
 use sgt_workers::Job;
 use std::alloc::Global;
 
-/// Reads an input of at most so many bytes: its opening, the records after it, and its jobs. The opening must allow as many live transactions
-/// as there are workers.
+/// Reads an input of at most so many bytes: its opening, the records after it, and its jobs. The opening must allow as
+/// many live transactions as there are workers.
 ///
 /// # Errors
 ///

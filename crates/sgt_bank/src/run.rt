@@ -118,7 +118,8 @@ fn write_text<T: Sink>(sink: &mut T, text: &[u8]) -> Result<(), Fault>
     Ok(())
 }
 
-/// Runs the jobs of an input of at most so many bytes and writes the output. The gate is called as by `run` of `sgt_workers`.
+/// Runs the jobs of an input of at most so many bytes and writes the output. The gate is called as by `run` of
+/// `sgt_workers`.
 ///
 /// # Errors
 ///

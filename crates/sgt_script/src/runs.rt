@@ -12,6 +12,7 @@ use crate::output::Output;
 use crate::progress::Progress;
 use crate::script::run_observed;
 use crate::watch::Watch;
+use sgt_explain::Words;
 use sgt_input::{DEFAULT_BYTES, Fault, Sink, Source};
 use std::alloc::Global;
 use std::io::Eprint;
@@ -75,16 +76,16 @@ pub fn run_script<S: Source, T: Sink>(
 /// With a sink for explanations, it writes there why transactions are aborted and events refused:
 ///
 /// - An abort by a cycle gets a line for each edge of the cycle, with its accesses.
-/// - An abort with a code gets a line that says which procedure raised it.
+/// - An abort with a code gets a line that says which procedure raised it, and what the words say of the code.
 /// - Each cascading abort gets a line that says which transaction it had read from, and what.
 /// - A refused event gets a line that says why.
 /// - A line at the end names the live transactions.
 ///
 /// The explanations of a line follow its answer, and name lines by their numbers.
 ///
-/// Explanations and progress lines do not affect the run. After a failed write no more are written. If memory runs out, some are left
-/// out, and a line at the end says so. Neither is a fault. An explanation costs passes over what its transactions did,
-/// not over the whole history.
+/// Explanations and progress lines do not affect the run. After a failed write no more are written. If memory runs
+/// out, some are left out, and a line at the end says so. Neither is a fault. An explanation costs passes over what its
+/// transactions did, not over the whole history.
 ///
 /// # Errors
 ///
@@ -97,6 +98,7 @@ pub fn run<S: Source, T: Sink, E: Sink, W: Clock + Eprint>(
     sink: &mut T,
     options: Options,
     explanations: Option<&mut E>,
+    words: &Words,
 ) -> Result<(), Fault>
     requires reading { S.failures source.old + 1 < 2 ^ 64 }
     requires writing { T.failures sink.old + 1 < 2 ^ 64 }
@@ -118,7 +120,7 @@ pub fn run<S: Source, T: Sink, E: Sink, W: Clock + Eprint>(
             None => run_observed(alloc, source, sink, output, most, &mut Unobserved),
         };
     };
-    let explainer = Explainer::new(alloc, errors);
+    let explainer = Explainer::new(alloc, errors, words);
     let mut watch = Watch {
         explainer,
         progress,
