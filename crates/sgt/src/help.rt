@@ -52,7 +52,9 @@ them is an event and gets one line of reply. The committed database comes last.
               code of the serial run, as in 'refused 5 fell none'. (In a bank, 'refused' means that
               a job was not started.)
   accounts    of each the name, the customer, the saving and the checking
-  procedures  your own, numbered from 5
+  procedures  your own, numbered from 5. [1,[["look",0,3,["arg",0],44],["answer",["reg",0]]]] takes
+              1 argument, reads this record of table 3 into register 0, or aborts with code 44 if
+              there is none, and answers it
   record      a table from 0 to 7, a number in it and a value; --records writes such lines
   start       a procedure's number and its arguments: 0 Balance (name),
               1 DepositChecking (name, amount), 2 TransactSaving (name, amount),
@@ -138,7 +140,8 @@ gives
   1/101 500
   2/101 1050
 
-  job         a procedure's number and its arguments, as at a start in a script
+  job         a procedure's number and its arguments, as at a start in a script: 0 is Balance
+              (name), 1 DepositChecking (name, amount), and line 1 has your own from 5 on
   committed   the answers of its procedure, or none
   asked       its procedure aborted with this code; it changed nothing
   gave        all its tries were aborted; the number of tries
