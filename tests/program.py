@@ -639,15 +639,17 @@ def says_why_events_are_refused(sgt):
     opening = '{"limits":[2,3],"accounts":[],"procedures":[[1,[["find",0,1,1,0],["answer",["arg",0]]]]]}\n'
     events = ['["step",7]', '["start",1,[1]]', '["start",5,[1,2]]', '["start",6,[]]', '["start",4,[1,-1000000000000000]]', '["begin"]',
               '["write",0,3,1,1000000000000000]', '["begin"]', '["begin"]', '["quit",0]', '["quit",1]', '["begin"]', '["begin"]', '["quit",2]', '["cut"]',
-              '["commit",0]', '["start",5,[1]]', '["commit",0]', '["read",0,1,1]', '["step",0]', '["commit",0]', '["commit",0]', '["step",0]']
+              '["commit",0]', '["start",5,[1]]', '["commit",0]', '["read",0,1,1]', '["step",0]', '["commit",0]', '["commit",0]', '["step",0]', '["step",4294967295]',
+              '["read",4294967295,0,1]', '["quit",4294967294]']
     replies = ["unknown", "bad args", "bad args", "no procedure", "bad args", "started 0", "bad args", "started 1", "full", "aborted quit fell none",
                "aborted quit fell none", "started 2", "spent", "aborted quit fell none", "cut 14", "unknown", "started 0", "not ended", "not ended", "read 1/1 none", "committed 1", "over committed",
-               "over committed"]
+               "over committed", "unknown", "unknown", "unknown"]
     reported = {2: "no transaction has started with the number 7", 3: "DepositChecking takes 2 arguments, found 1", 4: "procedure 5 takes 1 argument, found 2",
             5: "there is no procedure 6", 6: f"argument 1 is -1000000000000000, {explained.RANGE}", 8: f"the value is 1000000000000000, {explained.RANGE}",
             10: "as many are live as line 1 allows", 14: "as many have started as line 1 allows", 17: "no transaction has started with the number 0",
             19: "the procedure of 0 has not ended: it has another step", 20: "the procedure of 0 has not ended: it has another step",
-            23: "transaction 0 has ended", 24: "transaction 0 has ended"}
+            23: "transaction 0 has ended", 24: "transaction 0 has ended",
+            **{line: f"no transaction has started with the number {number}" for line, number in ((25, 4294967295), (26, 4294967295), (27, 4294967294))}}
     sgt.expect("script", "--explain", given=opening + "\n".join(events), out="".join(f"{reply}\n" for reply in replies),
                err="".join(f"line {line}: {words}\n" for line, words in reported.items()))
 
