@@ -956,8 +956,9 @@ def explains_no_opening_and_a_long_line(sgt):
 
 
 def says_how_to_go_on_from_what_is_too_long(sgt):
-    part = "split it, and begin the next part with what --records writes of the one before"
-    reports_more(sgt, ["script"], opening() + "\n" + '["step",0]\n' * 1_600_000, "input too long\n", f"an input has at most 16777216 bytes: {part}\n")
+    part = "split it, and begin the next part with the record lines of the one before (--records, --json)"
+    more = "take more with --most, or"
+    reports_more(sgt, ["script"], opening() + "\n" + '["step",0]\n' * 1_600_000, "input too long\n", f"an input has at most 16777216 bytes: {more} {part}\n")
     reports_more(sgt, ["bank"], opening("[4,9]") + "\n" + '["job",0,[]]\n' * 1_000_001, "too many jobs\n", f"a bank has at most 1000000 jobs: {part}\n")
 
 

@@ -38,6 +38,15 @@ EXPLANATIONS = EXPECTED / "explanations"
 # The most bytes that an input may have.
 LONGEST_INPUT = 16_777_216
 
+# The most bytes that an option can let an input have.
+MOST_BYTES = 4_294_967_296
+
+# What is said of an input that is too long.
+SPLIT = "take more with --most, or split it, and begin the next part with the record lines of the one before (--records, --json)"
+
+# An invocation of a client.
+CLIENT = '{"type":"invoke","process":1,"value":[["append",1,1]]}\n'
+
 OPENING = '{"limits":[4,100],"accounts":[[1,101,500,1000]],"procedures":[]}\n'
 EVENTS = '["start",0,[1]]\n["step",0]\n'
 REPLIES = "started 0\nread 0/1 101\n"
@@ -127,7 +136,8 @@ def refuses_words(sgt):
 
 
 def refuses_numbers(sgt):
-    for option, number, last in (("workers", "0", 16), ("workers", "17", 16), ("tries", "0", 1000), ("tries", "1001", 1000)):
+    for option, number, last in (("workers", "0", 16), ("workers", "17", 16), ("tries", "0", 1000), ("tries", "1001", 1000), ("most", "0", MOST_BYTES),
+                                 ("most", str(MOST_BYTES + 1), MOST_BYTES)):
         text = usage("bad_number").format(option=option, number=number, last=last)
         sgt.expect("bank", f"--{option}", number, given=OPENING, status=2, err=text)
 
@@ -538,34 +548,108 @@ def explains_each_input(sgt):
 
 
 # The line of a job that did not commit at its first try; why a try failed; and the summary.
-REPORTED_JOB = re.compile(r"job (\d+): (committed|aborted with code (\d+)|given up|refused: (.*)|no memory)(?: at try (\d+))?((?:; try \d+: [^;]*)*)")
+REPORTED_JOB = re.compile(r"job (\d+): (committed|aborted with code (\d+)(?: \([a-z ]+\))?|given up|refused: (.*)|no memory)(?: at try (\d+))?((?:; try \d+: [^;]*)*)")
 FAILED_TRY = re.compile(r"try (\d+): (?:cycle with job ([\d, ]+)|aborted in cascade with job (\d+))")
+REPORTED_CODE = re.compile(r"code (\d+)(?: \([a-z ]+\))? of (.*): (\d+) (jobs?)")
 SUMMARY = "{} jobs: {} committed, {} aborted with a code, {} given up, {} refused, {} without memory; {} tries"
 
 
 def says_how_jobs_ended(sgt):
     given = OPENING + '["job",1,[1,50]]\n["job",0,[9]]\n["job",99,[]]\n["job",0,[1]]\n["job",1,[1]]\n["job",4,[1,1000000000000000]]\n'
     out = "0 committed 1050\n1 asked 1\n2 refused 1\n3 committed 1550\n4 refused 2\n5 refused 2\n0/1 101\n1/101 500\n2/101 1050\n"
-    err = "job 1: aborted with code 1 at try 1\njob 2: refused: there is no procedure 99\n"
+    err = "job 1: aborted with code 1 (the name is unknown) at try 1\njob 2: refused: there is no procedure 99\n"
     err += "job 4: refused: DepositChecking takes 2 arguments, found 1\n"
-    err += f"job 5: refused: argument 1 is 1000000000000000, {explained.RANGE}\n" + SUMMARY.format(6, 2, 1, 0, 3, 0, 3) + "\n"
+    err += f"job 5: refused: argument 1 is 1000000000000000, {explained.RANGE}\ncode 1 (the name is unknown) of Balance: 1 job\n" + SUMMARY.format(6, 2, 1, 0, 3, 0, 3) + "\n"
     sgt.expect("bank", "--explain", "--workers", "1", given=given, out=out, err=err)
     sgt.expect("bank", "--explain", given=OPENING, out=RECORDS, err=SUMMARY.format(0, 0, 0, 0, 0, 0, 0) + "\n")
     one = "1 job: 1 committed, 0 aborted with a code, 0 given up, 0 refused, 0 without memory; 1 try\n"
     sgt.expect("bank", "--explain", given=OPENING + JOB, out=DEPOSITED, err=one)
 
 
+# Calls that abort, and what is said of their codes: of SmallBank's procedures what they mean.
+CODED = (
+    (0, [9], 1, " (the name is unknown)"),
+    (1, [1, -1], 2, " (the amount is negative)"),
+    (2, [1, -501], 3, " (the saving would be negative)"),
+    (3, [1, 1], 4, " (both names are the same)"),
+    (0, [7], 5, " (there is no saving or no checking)"),
+    (1, [1, 999999999999999], 1000, " (a result is not a value)"),
+    (5, [], 5, ""),
+    (6, [], 1000, " (a result is not a value)"),
+)
+
+
+def says_what_codes_mean(sgt):
+    """With the procedure that raised the code, in a script; with the job, in a bank, which counts them."""
+    opening = '{"limits":[8,100],"accounts":[[1,101,500,1000]],"procedures":[[0,[["ask",5]]],[0,[["answer",["quotient",1,0]]]]]}\n["record",0,7,107]\n'
+    jobs = "".join(f'["job",{procedure},{args}]\n' for procedure, args, _, _ in CODED)
+    reported = "".join(f"job {2 * job + again}: aborted with code {code}{words} at try 1\n" for job, (_, _, code, words) in enumerate(CODED) for again in (0, 1))
+    reported += "".join(f"code {code}{words} of {explained.name_of(procedure)}: 2 jobs\n" for procedure, _, code, words in sorted(CODED, key=lambda it: (it[0], it[2])))
+    twice = "".join(f"{job}\n" * 2 for job in jobs.splitlines())
+    same("bank", reported + SUMMARY.format(16, 0, 16, 0, 0, 0, 16) + "\n", sgt.run("bank", "--explain", "--workers", "1", given=opening + twice)[2])
+    events = "".join(f'["start",{procedure},{args}]\n' + f'["step",{t}]\n' * 4 for t, (procedure, args, _, _) in enumerate(CODED))
+    reported = [f"{explained.name_of(procedure)} aborted {t} with code {code}{words}" for t, (procedure, _, code, words) in enumerate(CODED)]
+    for asks, ends in (("", ""), (",1", "".join(f'["commit",{t}]\n' for t in range(8)))):
+        came = sgt.run("script", "--explain", given=opening.replace("100]", f"100{asks}]", 1) + events + ends)[2].splitlines()
+        same(f"script{asks}", reported, [line.split(": ", 1)[1] for line in came if " aborted " in line])
+
+
+def takes_words_for_codes(sgt):
+    """A line each of a file: for the codes of one's own procedures, and in place of the program's words."""
+    opening = '{"limits":[8,100],"accounts":[],"procedures":[[0,[["ask",5]]],[0,[["ask",5]]],[0,[["ask",6]]]]}\n'
+    jobs = "".join(f'["job",{procedure},{args}]\n' for procedure, args in ((5, []), (6, []), (7, []), (0, [1])))
+    script = "".join(f'["start",{procedure},{args}]\n' + f'["step",{t}]\n' * 2 for t, (procedure, args) in enumerate(((5, []), (6, []), (7, []), (0, [1]))))
+    said = {5: " (too little money)", 6: "", 7: " (sch\u00f6n)", 0: " (nobody has this name)"}
+    named = {procedure: explained.name_of(procedure) for procedure in said}
+    codes = {5: 5, 6: 5, 7: 6, 0: 1}
+    with tempfile.TemporaryDirectory() as folder:
+        def words(text):
+            path = os.path.join(folder, "words of mine")
+            with open(path, "w", encoding="utf-8") as file:
+                file.write(text)
+            return path
+
+        given = words('[5,5,"too little money"]\n [ 7, 6, "sch\\u00f6n" ]\r\n[6,4,"not raised"]\n[0,1,"nobody has this name"]')
+        reported = "".join(f"job {job}: aborted with code {codes[procedure]}{said[procedure]} at try 1\n" for job, procedure in enumerate(said))
+        reported += "".join(f"code {codes[procedure]}{said[procedure]} of {named[procedure]}: 1 job\n" for procedure in sorted(said))
+        came = sgt.run("bank", "--explain", "--words", given, "--workers", "1", given=opening + jobs)
+        same("bank", (0, reported + SUMMARY.format(4, 0, 4, 0, 0, 0, 4) + "\n"), came[::2])
+        same("its output", sgt.run("bank", "--workers", "1", given=opening + jobs)[1], came[1])
+        came = sgt.run("script", "--words", given, "--explain", given=opening + script)
+        reported = [f"{named[procedure]} aborted {t} with code {codes[procedure]}{said[procedure]}" for t, procedure in enumerate(said)]
+        same("script", (0, reported), (came[0], [line.split(": ", 1)[1] for line in came[2].splitlines() if " aborted " in line]))
+        same("its output", sgt.run("script", given=opening + script)[1], came[1])
+        sgt.expect("script", "--explain", "--words", words(""), given=OPENING, out=RECORDS)
+        form = 'expected [procedure,code,"words"], as [5,10,"too little money"]'
+        good = '[5,5,"x"]\n'
+        for text, line in (("{}", 1), ("\n", 1), (f"{good}[5,6]", 2), (f'{good}{good.replace(",5", ",6")}[5,7,""]', 3), ('[5,5,"a\\nb"]', 1), ('["5",5,"x"]', 1),
+                           ('[5,-1,"x"]', 1), ('[65536,5,"x"]', 1), (f'[5,5,"{"x" * 201}"]', 1), ('[5,5,"x",1]', 1), ("\ufeff[5,5,\"x\"]", 1)):
+            sgt.expect("script", "--explain", "--words", words(text), given=OPENING, status=2, err=f"cannot read {words(text)}: line {line}: {form}\n")
+        sgt.expect("bank", "--explain", "--words", words(f'[5,5,"{"x" * 200}"]'), given=OPENING, err=SUMMARY.format(0, 0, 0, 0, 0, 0, 0) + "\n", out=RECORDS)
+        for text, why in ((good + good, "line 2: code 5 of procedure 5 has words already"), (good + " " * 65_536, "it has more than 65536 bytes")):
+            sgt.expect("bank", "--explain", "--words", words(text), given=OPENING, status=2, err=f"cannot read {words(text)}: {why}\n")
+        for path, why in ((os.path.join(folder, "none"), "no such file"), (folder, "it is a directory")):
+            sgt.expect("script", "--explain", "--words", path, given=OPENING, status=2, err=f"cannot read {path}: {why}\n")
+        for command in ("script", "bank"):
+            sgt.expect(command, "--words", given, given=OPENING, status=2, err=usage("words_alone").format(command=command))
+
+
 def says_why_events_are_refused(sgt):
     """Each with the line of the event, also after a cut."""
-    opening = '{"limits":[2,3],"accounts":[],"procedures":[[1,[["answer",["arg",0]]]]]}\n'
+    opening = '{"limits":[2,3],"accounts":[],"procedures":[[1,[["find",0,1,1,0],["answer",["arg",0]]]]]}\n'
     events = ['["step",7]', '["start",1,[1]]', '["start",5,[1,2]]', '["start",6,[]]', '["start",4,[1,-1000000000000000]]', '["begin"]',
               '["write",0,3,1,1000000000000000]', '["begin"]', '["begin"]', '["quit",0]', '["quit",1]', '["begin"]', '["begin"]', '["quit",2]', '["cut"]',
-              '["commit",0]']
+              '["commit",0]', '["start",5,[1]]', '["commit",0]', '["read",0,1,1]', '["step",0]', '["commit",0]', '["commit",0]', '["step",0]', '["step",4294967295]',
+              '["read",4294967295,0,1]', '["quit",4294967294]']
     replies = ["unknown", "bad args", "bad args", "no procedure", "bad args", "started 0", "bad args", "started 1", "full", "aborted quit fell none",
-               "aborted quit fell none", "started 2", "spent", "aborted quit fell none", "cut 14", "unknown"]
+               "aborted quit fell none", "started 2", "spent", "aborted quit fell none", "cut 14", "unknown", "started 0", "not ended", "not ended", "read 1/1 none", "committed 1", "over committed",
+               "over committed", "unknown", "unknown", "unknown"]
     reported = {2: "no transaction has started with the number 7", 3: "DepositChecking takes 2 arguments, found 1", 4: "procedure 5 takes 1 argument, found 2",
             5: "there is no procedure 6", 6: f"argument 1 is -1000000000000000, {explained.RANGE}", 8: f"the value is 1000000000000000, {explained.RANGE}",
-            10: "as many are live as line 1 allows", 14: "as many have started as line 1 allows", 17: "no transaction has started with the number 0"}
+            10: "as many are live as line 1 allows", 14: "as many have started as line 1 allows", 17: "no transaction has started with the number 0",
+            19: "the procedure of 0 has not ended: it has another step", 20: "the procedure of 0 has not ended: it has another step",
+            23: "transaction 0 has ended", 24: "transaction 0 has ended",
+            **{line: f"no transaction has started with the number {number}" for line, number in ((25, 4294967295), (26, 4294967295), (27, 4294967294))}}
     sgt.expect("script", "--explain", given=opening + "\n".join(events), out="".join(f"{reply}\n" for reply in replies),
                err="".join(f"line {line}: {words}\n" for line, words in reported.items()))
 
@@ -607,7 +691,8 @@ def tried(report, lines, tally):
     outcomes = [line.split() for line in report if "/" not in line.split()[0]]
     counts, tries, last = Counter(), 0, -1
     silent = set(range(len(outcomes)))
-    for line in lines[:-1]:
+    codes = [REPORTED_CODE.fullmatch(line) for line in lines if line.startswith("code ")]
+    for line in lines[:-1 - len(codes)]:
         if not (reported := REPORTED_JOB.fullmatch(line)):
             raise Differs(f"came {line!r}")
         job, how, code, _, at, rest = reported.groups()
@@ -618,7 +703,7 @@ def tried(report, lines, tally):
         same(line, [str(number) for number in range(1, len(failed) + 1)], [number for number, _, _ in failed])
         outcome = outcomes[last]
         wanted = {"committed": "committed", "asked": f"aborted with code {outcome[-1]}", "gave": "given up", "refused": f"refused: {reported[4]}", "no": "no memory"}
-        same(line, wanted[outcome[1]], how)
+        same(line, wanted[outcome[1]], how.split(" (")[0])
         ends = outcome[1] in ("committed", "asked")
         if outcome[1] != "refused":
             same(line, str(len(failed) + ends), at)
@@ -631,6 +716,8 @@ def tried(report, lines, tally):
         tally[0] += sum(cycle is not None for _, cycle, _ in failed)
         tally[1] += sum(cascade is not None for _, _, cascade in failed)
     same("who is silent", {"committed"}, {outcomes[job][1] for job in silent} | {"committed"})
+    same("the codes", codes, [code for code in codes if code and (code[3] == "1") == (code[4] == "job")])
+    same("how often", Counter(outcome[2] for outcome in outcomes if outcome[1] == "asked"), sum((Counter({code[1]: int(code[3])}) for code in codes), Counter()))
     counts = Counter(outcome[1] for outcome in outcomes)
     summary = [counts[kind] for kind in ("committed", "asked", "gave", "refused", "no")]
     same("the summary", SUMMARY.format(len(outcomes), *summary, tries + len(silent)), lines[-1])
@@ -785,6 +872,23 @@ def refuses_a_history_that_is_too_long(sgt):
     sgt.expect("check", given=" " * (most - 4) + "c1c1", status=2, err="line 1: no operation: c1c1\n")
 
 
+def takes_longer_inputs_if_asked(sgt):
+    """Up to the bytes that an option says. A script does not read more than one byte behind them."""
+    event, job = '["step",9]\n', '["job",9,[]]      \n'
+    events, jobs = LONGEST_INPUT // len(event) + 1, LONGEST_INPUT // len(job) + 1
+    script, bank = OPENING + event * events, OPENING + job * jobs
+    refused = "".join(f"{number} refused 1\n" for number in range(jobs))
+    for words, given, replies, out in ((["script"], script, "unknown\n" * (events - 1), "unknown\n" * events + RECORDS), (["bank", "--workers", "1"], bank, "", refused + RECORDS)):
+        size = len(given)
+        sgt.expect(*words, "--most", str(size), given=given, out=out)
+        for limit, option in ((LONGEST_INPUT, []), (size - 1, ["--most", str(size - 1)])):
+            status, wrote, reported = sgt.run(*words, *option, given=given)
+            same(f"{words} {option}", (2, f"input too long\nan input has at most {limit} bytes: {SPLIT}\n"), (status, reported))
+        same(f"{words}: what was answered", replies, wrote)
+    sgt.expect("script", "--most", str(len(OPENING)), given=OPENING, out=RECORDS)
+    sgt.expect("script", "--most", "1", given=OPENING, status=2, err=f"input too long\nan input has at most 1 bytes: {SPLIT}\n")
+
+
 def says_what_an_operation_looks_like(sgt):
     """In a second line, with its column, and with a hint if it is plain what was meant."""
     form = "an operation is r1[x], w1[x], c1 or a1"
@@ -863,7 +967,7 @@ def says_how_many_are_not_judged(sgt):
 
 def says_more_of_each_other_error(sgt):
     """In a second line, which comes without an option."""
-    too_long = "an input has at most 16777216 bytes: split it, and begin the next part with what --records writes of the one before"
+    too_long = f"an input has at most 16777216 bytes: {SPLIT}"
     history = "a history has operations: r1[x], w1[x], c1 or a1"
     last = "the commit or abort of a transaction is its last operation"
     for words, given, reported in (
@@ -1014,11 +1118,12 @@ def line_of(one):
 
 
 def gives_signs_of_life(sgt):
-    """How many jobs of a bank have ended, at most once a second: on a terminal, or with an option."""
+    """How many jobs of a bank have ended, or events of a script are answered, at most once a second: on a terminal, or with an option."""
+    bank = OVERLAPPING + '["job",6,[]]\n' * 40_000
     for words, terminal, shows in ((["--progress"], False, True), ([], True, True), ([], False, False), (["--no-progress"], True, False)):
         ours, theirs = os.openpty() if terminal else os.pipe()
         with tempfile.TemporaryFile() as given:
-            given.write((OVERLAPPING + '["job",6,[]]\n' * 40_000).encode())
+            given.write(bank.encode())
             given.seek(0)
             began = time.monotonic()
             process = sgt.start("bank", *words, stdin=given, stdout=subprocess.DEVNULL, stderr=theirs)
@@ -1029,6 +1134,36 @@ def gives_signs_of_life(sgt):
         same(f"{words}, a terminal: {terminal}", [], [line for line in lines if not re.fullmatch("[0-9]+ jobs have ended", line)])
         if len(lines) > (seconds if shows else 0) or shows and seconds > 3 and not lines:
             raise Differs(f"{words}, a terminal: {terminal}: {len(lines)} lines in {seconds} seconds")
+
+
+def says_how_far_a_script_is(sgt):
+    """Events and bytes, of how many if it is a file: before a read that comes a second after the last line, on a terminal or with an option."""
+    for words, terminal, shows in ((["--progress"], False, True), (["--progress", "--explain"], False, True), ([], True, True), ([], False, False), (["--no-progress"], True, False)):
+        ours, theirs = os.openpty() if terminal else os.pipe()
+        process = sgt.start("script", *words, stdin=subprocess.PIPE, stdout=subprocess.DEVNULL, stderr=theirs)
+        os.close(theirs)
+        process.stdin.write((OPENING + EVENTS).encode())
+        process.stdin.flush()
+        time.sleep(1.2)
+        process.stdin.write(b'["commit",0]\n["cut"]\n["quit",0]\n')
+        process.stdin.close()
+        lines = read_terminal(ours).splitlines()
+        same("status", 0, process.wait(SECONDS))
+        size = len(OPENING + EVENTS) + 32
+        wanted = [f"4 events are answered: {size} bytes"] if shows else []
+        reasons = ["line 4: the procedure of 0 has not ended: it has another step"] if "--explain" in words else []
+        same(f"{words}, a terminal: {terminal}", reasons + wanted, [line for line in lines if "transaction" not in line])
+    with tempfile.TemporaryDirectory() as folder:
+        given = os.path.join(folder, "given")
+        with open(given, "w", encoding="ascii") as script:
+            script.write(OPENING + '["step",9]\n' * 1_400_000)
+        size = os.path.getsize(given)
+        began = time.monotonic()
+        lines = sgt.run("script", "--progress", given)[2].splitlines()
+        seconds = time.monotonic() - began
+        came = [re.fullmatch(f"([0-9]+) events are answered: ([0-9]+) of {size} bytes", line) for line in lines]
+        if None in came or len(came) > seconds or any(int(one[2]) != len(OPENING) + 11 * int(one[1]) for one in came):
+            raise Differs(f"{lines} in {seconds} seconds")
 
 
 def wants_an_opening(sgt):
@@ -1137,7 +1272,8 @@ def reports_a_full_disk(sgt):
     for words, given in ((["script"], OPENING + EVENTS), (["bank"], OPENING + JOB), (["script", "--records"], OPENING), (["bank", "--records"], OPENING + JOB), (["check"], HISTORY), (["check", "--graph"], HISTORY), (["check", "--timeline"], HISTORY), (["--help"], ""), (["--version"], ""), (["version"], "")):
         with open("/dev/full", "w", encoding="ascii") as full:
             status, _, reported = sgt.run(*words, given=given, out=full)
-        same(f"{words}: standard error", "writing failed\n", reported)
+        full = "writing failed\n" + ("no space is left where standard output goes\n" if words[0] in ("script", "bank", "check") else "")
+        same(f"{words}: standard error", full, reported)
         same(f"{words}: status", 2, status)
 
 
@@ -1200,6 +1336,8 @@ CASES = [
     explains_drawn_scripts,
     judges_drawn_scripts,
     says_how_jobs_ended,
+    says_what_codes_mean,
+    takes_words_for_codes,
     says_why_events_are_refused,
     says_how_each_job_of_the_examples_ended,
     reports_by_whom_tries_were_aborted,
@@ -1213,6 +1351,7 @@ CASES = [
     refuses_no_operations,
     names_the_fault_of_a_history,
     refuses_a_history_that_is_too_long,
+    takes_longer_inputs_if_asked,
     says_what_an_operation_looks_like,
     hints_at_the_kind_of_another_input,
     says_how_many_are_not_judged,
@@ -1224,6 +1363,7 @@ CASES = [
     writes_each_reply_as_an_object,
     counts_the_tries_in_json,
     gives_signs_of_life,
+    says_how_far_a_script_is,
     wants_an_opening,
     names_the_faulty_line,
     answers_before_it_reads_on,

@@ -69,7 +69,27 @@ def explanation(script, replies):
 
 
 NAMES = ("Balance", "DepositChecking", "TransactSaving", "Amalgamate", "WriteCheck")
+
+# What a code of those five means.
+MEANINGS = {
+    1: "the name is unknown",
+    2: "the amount is negative",
+    3: "the saving would be negative",
+    4: "both names are the same",
+    5: "there is no saving or no checking",
+}
+
 RANGE = "and has to be from -999999999999999 to 999999999999999"
+
+
+def name_of(procedure):
+    return NAMES[procedure] if procedure < 5 else f"procedure {procedure}"
+
+
+def code_text(procedure, code):
+    """A code with its words."""
+    meaning = "a result is not a value" if code == 1000 else MEANINGS.get(code) if procedure < 5 else None
+    return f"code {code} ({meaning})" if meaning else f"code {code}"
 
 
 def refusal(event, reply):
@@ -80,13 +100,14 @@ def refusal(event, reply):
     if reply == "bad args":
         procedure, args = rest
         if len(args) != ARGUMENTS[procedure]:
-            name = NAMES[procedure] if procedure < 5 else f"procedure {procedure}"
-            return f"{name} takes {ARGUMENTS[procedure]} argument{'s' * (ARGUMENTS[procedure] != 1)}, found {len(args)}"
+            return f"{name_of(procedure)} takes {ARGUMENTS[procedure]} argument{'s' * (ARGUMENTS[procedure] != 1)}, found {len(args)}"
         return next(f"argument {place} is {arg}, {RANGE}" for place, arg in enumerate(args) if abs(arg) >= 10**15)
     return {
         "no procedure": f"there is no procedure {rest[0] if rest else ''}",
         "spent": "as many have started as line 1 allows",
         "full": "as many are live as line 1 allows",
+        "not ended": f"the procedure of {rest[0] if rest else ''} has not ended: it has another step",
+        "over": f"transaction {rest[0] if rest else ''} has ended",
         "unknown": f"no transaction has started with the number {rest[0] if rest else ''}",
     }[reply]
 
@@ -110,14 +131,18 @@ class Part:
         elif match := re.fullmatch("(read|wrote|removed) ([0-9]+/-?[0-9]+)(?: (.*))?", reply):
             done = "read" if match[1] == "read" else "wrote"
             self.accesses.append((line, first, done, match[2], match[3], self.source(match[2])))
-        elif reply in ("bad args", "no procedure", "spent", "full", "unknown"):
+        elif reply in ("bad args", "no procedure", "spent", "full", "unknown", "not ended"):
             return [refusal(event, reply)]
+        elif reply.startswith("over "):
+            return [refusal(event, "over")]
         elif reply.startswith("committed "):
             self.live.remove(first)
         elif match := re.fullmatch("(?:aborted|refused) (.*) fell (.*)", reply):
             walk = [int(t) for t in match[1].split()[1:]] if match[1].startswith("cycle ") else []
             fell = [] if match[2] == "none" else [int(t) for t in match[2].split()]
-            texts = [self.edge(t, u) for t, u in zip(walk, walk[1:])] + ([self.pending(walk[-1], walk[0], event)] if walk else [])
+            codes = re.findall("^(?:asked )?([0-9]+)$", match[1])
+            texts = [f"{name_of(self.calls[first][0])} aborted {first} with {code_text(self.calls[first][0], int(code))}" for code in codes]
+            texts += [self.edge(t, u) for t, u in zip(walk, walk[1:])] + ([self.pending(walk[-1], walk[0], event)] if walk else [])
             texts += [self.fall(u, {first, *fell}) for u in fell]
             self.gone |= {first, *fell}
             self.live -= {first, *fell}

@@ -6,7 +6,7 @@ use crate::input::is_folder;
 use crate::operation_error::{WordError, index_of, word_at, word_error};
 use sgt_check::CheckFault;
 use sgt_clients::{ClientsFault, Hint};
-use sgt_input::{Fault, Source};
+use sgt_input::{Fault, MOST_BYTES, Source};
 use sgt_line_errors::{Command, Remembering, explain};
 use sgt_notation::{NotationFault, Shown};
 use std::alloc::Global;
@@ -29,6 +29,8 @@ pub(crate) enum Detail {
     Nothing,
     /// These words.
     Words(&'static str),
+    /// The input has more than so many bytes.
+    TooLong(usize),
     /// These words, about what stands at this column, in bytes from 1.
     At(usize, &'static str),
     /// At this column stands the character of this number, which is not ASCII.
@@ -46,6 +48,17 @@ impl Display for Detail {
         match self {
             Detail::Nothing => Ok(()),
             Detail::Words(words) => f.write_str(words),
+            Detail::TooLong(most) => {
+                let more = if *most < MOST_BYTES {
+                    "take more with --most, or "
+                } else {
+                    ""
+                };
+                write!(
+                    f,
+                    "an input has at most {most} bytes: {more}split it, and begin the next part with the record lines of the one before (--records, --json)"
+                )
+            }
             Detail::At(column, words) => write!(f, "column {column}: {words}"),
             Detail::Foreign(column, code) => {
                 write!(f, "column {column}: U+")?;
@@ -90,17 +103,20 @@ fn digit(code: u32, unit: u32) -> &'static str {
     DIGITS.get(place as usize).copied().unwrap_or("0")
 }
 
-/// The failure of a script or a bank that read from this source: from a file, or from standard input.
+/// The failure of a script or a bank that read at most so many bytes from this source: from a file, or from standard
+/// input.
 pub(crate) fn failure_of<R: Files, S: Source>(
     rt: &R,
     alloc: Global,
     command: Command,
     source: &Remembering<S>,
     file: Option<&str>,
+    most: usize,
     fault: Fault,
 ) -> Failure<Fault> {
     let detail = match fault {
         Fault::Reading => unread_detail(rt, file),
+        Fault::TooLong => Detail::TooLong(most),
         _ => match explain(alloc, &fault, command, source) {
             Some(text) => Detail::Text(text),
             None => words_or_nothing(advise(&fault)),

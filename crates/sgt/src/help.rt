@@ -12,8 +12,8 @@ A script and a bank are lines of JSON. A history is text in the notation of the 
 'sgt script --help', 'sgt bank --help' and 'sgt check --help' describe the inputs. If you type the
 input, ^D at the start of a line ends it. An error is one line on standard error, and mostly a
 second one that says what was expected; the exit status is then 2. If nobody reads the output any
-more, a run ends without a message, with that status. If a bank takes over a second, a terminal
-shows on standard error how many jobs have ended; --progress shows it elsewhere too.
+more, a run ends without a message, with that status. If a script or a bank takes over a second, a
+terminal shows on standard error how far it is; --progress shows it elsewhere too.
 
 Limits:
 
@@ -23,7 +23,7 @@ Limits:
   procedures    64 statements, 16 deep; 4 arguments, 16 registers, 8 answers;
                 no loops, no scans
   a line        65536 bytes
-  an input      16777216 bytes; a history 268435456
+  an input      16777216 bytes, with --most up to 4294967296; a history 268435456
   a bank        1000000 jobs, 16 workers, 1000 tries for each job
 
 Everything is in memory, nothing is on disk: the data are gone when the program ends."#;
@@ -52,12 +52,14 @@ them is an event and gets one line of reply. The committed database comes last.
               code of the serial run, as in 'refused 5 fell none'. (In a bank, 'refused' means that
               a job was not started.)
   accounts    of each the name, the customer, the saving and the checking
-  procedures  your own, numbered from 5
+  procedures  your own, numbered from 5. [1,[["look",0,3,["arg",0],44],["answer",["reg",0]]]] takes
+              1 argument, reads this record of table 3 into register 0, or aborts with code 44 if
+              there is none, and answers it
   record      a table from 0 to 7, a number in it and a value; --records writes such lines
   start       a procedure's number and its arguments: 0 Balance (name),
               1 DepositChecking (name, amount), 2 TransactSaving (name, amount),
               3 Amalgamate (name, name), 4 WriteCheck (name, amount)
-  step        makes the transaction's next access
+  step        makes the transaction's next access; without one, it ends, or aborts with its code
   commit      commits it, if its procedure has ended
   quit        aborts it
   begin       starts the empty procedure, 65535: the caller decides each access
@@ -82,19 +84,22 @@ The replies to these lines:
   cut 9
 
 Here 0/1 is record 1 of table 0, and 9 events were answered since line 1. A transaction is named by
-the number in the reply to its start.
+the number in the reply to its start. A start that is refused takes no number.
 
-With --explain, standard error says after each abort which accesses make the edges of the cycle, and
-which reads made other transactions abort in cascade. It says why an event was refused. At the end
-it lists the live transactions:
+With --explain, standard error says after each abort which accesses make the edges of the cycle, or
+which procedure raised a code, and which reads made other transactions abort in cascade. It says why
+an event was refused. At the end it lists the live transactions:
 
   line 9: 0 wrote 1/101 at line 8, which 1 read at line 6
   line 9: 1 would write 2/101, which 0 read at line 5
+  line 20: TransactSaving aborted 2 with code 3 (the saving would be negative)
   line 25: 3 read 2/101 of 2 at line 20
   line 26: DepositChecking takes 2 arguments, found 1
   1 transaction is live at the end: 4
 
 Standard output and the status are as without --explain. It excludes --history and --records.
+--words names a file that says what codes mean. It has a line for each: a procedure, its code, and
+the words, as [5,44,"no such account"]
 
 With --json each reply is an object of JSON, and the records at the end are lines as --records
 writes them:
@@ -109,8 +114,8 @@ on standard error, with a second line that explains it:
   line 27: bad line
   expected ["step",transaction], found ["step"]
 
-A line has at most 65536 bytes, the input 16777216. A value or a key is a whole number of at most 15
-digits.
+A line has at most 65536 bytes, the input 16777216, or what --most says. A value or a key is a whole
+number of at most 15 digits.
 In the repository: docs/FORMATS.md has every line and reply, docs/LANGUAGE.md the procedures, and
 examples/ has scripts."#;
 
@@ -135,12 +140,13 @@ gives
   1/101 500
   2/101 1050
 
-  job         a procedure's number and its arguments, as at a start in a script
+  job         a procedure's number and its arguments, as at a start in a script: 0 is Balance
+              (name), 1 DepositChecking (name, amount), and line 1 has your own from 5 on
   committed   the answers of its procedure, or none
   asked       its procedure aborted with this code; it changed nothing
   gave        all its tries were aborted; the number of tries
-  refused     it was not started: 1 no such procedure, 2 bad arguments, 3 no start is left,
-              4 too many are live. (In a script, 'refused' has the code of a procedure.)
+  refused     its start was refused: 1 no such procedure, 2 bad arguments, 3 no start is left, as
+              each try is one, 4 too many are live. (In a script it has the code of a procedure.)
   no memory   an allocation failed; it changed nothing
 
 With a third limit of 1, as in [32,1000,1], each code is the code of the serial run, as answers are.
@@ -148,20 +154,24 @@ If you act on codes, set the third limit to 1. Otherwise a code may rest on a va
 wrote and that was undone later.
 
 All jobs are read before the first one runs, at most 1000000. If a line is bad, it is reported with
-what was expected, and no job runs. A line has at most 65536 bytes, the input 16777216. A value or a
-key is a whole number of at most 15 digits. The first limit, from 1 to 32, must be at least the
-number of workers. The order of two jobs is not fixed. Run serially in commit order, the committed
-jobs give the same answers and the same database.
+what was expected, and no job runs. A line has at most 65536 bytes, the input 16777216, or what
+--most says. A value or a key is a whole number of at most 15 digits. The first limit, from 1 to 32,
+must be at least the number of workers. The order of two jobs is not fixed. Run serially in commit
+order, the committed jobs give the same answers and the same database. The exit status is 0 whatever
+the outcomes.
 
 With --explain, standard error says after the report of each job that did not commit at its first
 try how it ended, and which jobs aborted its tries. A summary comes last. All numbers are of jobs:
 
   job 1: committed at try 3; try 1: cycle with job 0, 2; try 2: aborted in cascade with job 2
-  job 4: aborted with code 1 at try 1
+  job 4: aborted with code 1 (the name is unknown) at try 1
   job 5: refused: DepositChecking takes 2 arguments, found 1
+  code 1 (the name is unknown) of Balance: 1 job
   6 jobs: 4 committed, 1 aborted with a code, 0 given up, 1 refused, 0 without memory; 7 tries
 
 Standard output and the status are as without --explain. It excludes --history and --records.
+--words names a file that says what codes mean. It has a line for each: a procedure, its code, and
+the words, as [5,44,"no such account"]
 
 With --json each outcome is an object of JSON, with the number of tries, and the records at the end
 are lines as --records writes them:
@@ -197,8 +207,8 @@ counted from 1:
   rigorous no: w2[x] (3) follows r1[x] (1), and 1 has not ended
   commit ordered no: 1 before 2 by r1[x] (1) w2[x] (3), and 2 committed first
 
-  serializable    yes: a serial order of the committed transactions; of those that may come next,
-                  the one that committed first. no: a cycle of conflicts
+  serializable    yes: a serial order of the committed transactions; others take no part; of those
+                  that may come next, the one that committed first. no: a cycle of conflicts
   recoverable     a transaction commits after all from which it reads
   avoids ..       transactions read from committed transactions, or from themselves
   strict          nobody reads or overwrites what another wrote, until that one has ended

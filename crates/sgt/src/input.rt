@@ -24,6 +24,19 @@ impl<I: Read + Drop, F: Read + Drop> Read for InputBytes<I, F> {
     }
 }
 
+impl<I: Read + Drop, F: Read + OpenFile + Drop> InputBytes<I, F> {
+    /// How many bytes the file has. Of standard input, and of a device, this is not known.
+    pub(crate) fn size(&self) -> Option<u64> {
+        match self {
+            InputBytes::Standard(_) => None,
+            InputBytes::File(file) => match file.metadata() {
+                Ok(about) if about.is_file() => Some(about.len()),
+                _ => None,
+            },
+        }
+    }
+}
+
 /// Why a file is not read.
 #[derive(Clone, Copy, Debug, PartialEq, Eq)]
 pub(crate) enum FileFlaw {
@@ -44,18 +57,20 @@ pub(crate) struct FileFault<'a> {
     flaw: FileFlaw,
 }
 
-impl Display for FileFault<'_> {
+impl Display for FileFlaw {
     fn fmt<W: fmt::Write>(&self, f: &mut Formatter<W>) -> fmt::Result {
-        let why = match self.flaw {
+        f.write_str(match self {
             FileFlaw::Missing => "no such file",
             FileFlaw::Directory => "it is a directory",
             FileFlaw::Forbidden => "no permission",
             FileFlaw::Closed => "it cannot be opened",
-        };
-        f.write_str("cannot read ")?;
-        f.write_str(self.name)?;
-        f.write_str(": ")?;
-        f.write_str(why)
+        })
+    }
+}
+
+impl Display for FileFault<'_> {
+    fn fmt<W: fmt::Write>(&self, f: &mut Formatter<W>) -> fmt::Result {
+        write!(f, "cannot read {}: {}", self.name, self.flaw)
     }
 }
 
@@ -78,7 +93,7 @@ pub(crate) fn open_input<'a, R: Input + Files>(
 }
 
 /// The file with this name, which is no directory.
-fn open_file<R: Files>(rt: &R, name: &str) -> Result<R::File, FileFlaw> {
+pub(crate) fn open_file<R: Files>(rt: &R, name: &str) -> Result<R::File, FileFlaw> {
     let file = match File::open(rt, name) {
         Ok(file) => file,
         Err(error) => return Err(flaw_of(error.kind())),

@@ -24,8 +24,9 @@ mod input_kind;
 mod operation_error;
 mod output;
 mod unjudged;
+mod words;
 
-ghost use Rattle.std.specs.Prelude.{◌≤◌, ◌<◌, ◌+◌, ◌^◌};
+ghost use Rattle.std.specs.Prelude.{◌≤◌};
 
 use clap::builder::ValueParser;
 use clap::error::ErrorKind;
@@ -38,7 +39,8 @@ use output::OutputBytes;
 use sgt_bank::{Explanations, MOST_TRIES, MOST_WORKERS, run_bank};
 use sgt_check::{CheckFault, Verdict, run_check};
 use sgt_clients::{Answer, ClientsFault, ClientsOutput, Hint, Level, Question, run_clients};
-use sgt_input::{Fault, Reader, Sink, Source, Writer};
+use sgt_explain::Words;
+use sgt_input::{DEFAULT_BYTES, Fault, MOST_BYTES, Reader, Sink, Source, Writer};
 use sgt_line_errors::Remembering;
 use sgt_notation::NotationFault;
 use sgt_script::Output;
@@ -52,6 +54,7 @@ use std::sync::Wait;
 use std::thread::Threads;
 use std::time::Clock;
 use unjudged::active_ones;
+use words::{WORDS, read_words};
 
 const VERSION: &str = "0.1.0";
 
@@ -105,6 +108,27 @@ fn flag<'a>(alloc: Global, name: &'a str, help: &'a str) -> Arg<'a> {
         .action(ArgAction::SetTrue)
 }
 
+/// How many bytes an input may have by default, as `clap` takes it.
+const MOST: &str = "16777216";
+
+/// The option that says how many bytes an input may have.
+fn most_option<'a>(alloc: Global) -> Arg<'a> {
+    Arg::new(alloc, "most")
+        .long("most")
+        .help("How many bytes the input may have, up to 4294967296")
+        .value_parser(ValueParser::unsigned(1, MOST_BYTES as u64))
+        .default_value(MOST)
+}
+
+/// The option that names the file of words.
+fn words_option<'a>(alloc: Global) -> Result<Arg<'a>, AllocError> {
+    Arg::new(alloc, WORDS)
+        .long(WORDS)
+        .value_name("FILE")
+        .help("A file that says what your codes mean, for --explain")
+        .requires_arg("explain")
+}
+
 /// An option that takes a number from 1 to `most`.
 fn number_option<'a>(
     alloc: Global,
@@ -120,12 +144,17 @@ fn number_option<'a>(
         .default_value(default)
 }
 
-/// The options that say what a run writes, and the one that explains it, each with those that it excludes.
-const RUN_OPTIONS: [(&str, &[&str]); 4] = [
+/// The help of an option that both runs have.
+const NO_PROGRESS: &str = "Does not say that on a terminal either";
+
+/// The options of a run, each with those before it that it excludes.
+const RUN_OPTIONS: [(&str, &[&str]); 6] = [
     ("history", &[]),
     ("records", &["history"]),
     ("explain", &["history", "records"]),
     ("json", &["history", "records"]),
+    ("progress", &[]),
+    ("no-progress", &["progress"]),
 ];
 
 /// An option that excludes others.
@@ -146,11 +175,15 @@ fn run_option<'a>(
 fn add_run_options<'a>(
     alloc: Global,
     options: &mut Vec<Arg<'a>>,
-    helps: [&'a str; 4],
+    helps: [&'a str; 6],
 ) -> Result<(), AllocError> {
+    options.push(most_option(alloc))?;
     for place in 0..RUN_OPTIONS.len() {
         let (name, others) = RUN_OPTIONS[place];
         options.push(run_option(alloc, name, helps[place], others)?)?;
+        if name == "explain" {
+            options.push(words_option(alloc)?)?;
+        }
     }
     Ok(())
 }
@@ -166,6 +199,8 @@ fn script_options<'a>(alloc: Global) -> Result<Vec<Arg<'a>>, AllocError> {
             "Writes the committed database as records, instead of the replies",
             "Explains on standard error why transactions are aborted and events refused",
             "Writes each reply as an object of JSON, and then the records",
+            "Says on standard error, once a second, how many events are answered",
+            NO_PROGRESS,
         ],
     )?;
     Ok(options)
@@ -196,19 +231,10 @@ fn bank_options<'a>(alloc: Global) -> Result<Vec<Arg<'a>>, AllocError> {
             "Writes the committed database as records, instead of the outcomes",
             "Reports on standard error how the jobs ended, and why",
             "Writes each outcome as an object of JSON, and then the records",
+            "Says on standard error, once a second, how many jobs have ended",
+            NO_PROGRESS,
         ],
     )?;
-    options.push(flag(
-        alloc,
-        "progress",
-        "Says on standard error, once a second, how many jobs have ended",
-    ))?;
-    options.push(flag(
-        alloc,
-        "no-progress",
-        "Does not say that on a terminal either",
-    )
-    .conflicts_with("progress")?)?;
     Ok(options)
 }
 
@@ -376,26 +402,52 @@ fn number(options: &ArgMatches<'_>, name: &str, most: u32) -> u32
     options.get_one::<u32>(name).unwrap_or(1).clamp(1, most)
 }
 
-/// Runs a script from the input to standard output.
-fn script<R: Print + Eprint + Files, I: Read + Drop>(
+/// How many bytes the input may have. `clap` supplies the default.
+fn most_bytes(options: &ArgMatches<'_>) -> usize
+    ensures { result ≤ 4294967296 }
+{
+    let most = options
+        .get_one::<u64>("most")
+        .unwrap_or(DEFAULT_BYTES as u64);
+    (most as usize).min(MOST_BYTES)
+}
+
+/// Runs a script from the input, which has so many bytes if that is known, to standard output.
+fn script<R: Print + Eprint + Files + Clock, I: Read + Drop>(
     rt: &R,
     alloc: Global,
-    stderr: Stderr,
+    streams: Streams,
     options: &ArgMatches<'_>,
+    words: &Words,
     input: I,
+    size: Option<u64>,
 ) -> Result<(), Failure<Fault>> {
+    let shows_progress = shows_progress(&streams, options);
+    let chosen = sgt_script::Options {
+        most: most_bytes(options),
+        output: output_of(options),
+        shows_progress,
+        size,
+    };
     let mut source = Remembering::new(alloc, Reader::new(input));
     let mut writer = Writer::new(OutputBytes::new(io::writer(rt)));
-    let mut errors = Writer::new(stderr);
+    let mut errors = Writer::new(streams.stderr);
     let explanations = if options.get_flag("explain") {
         Some(&mut errors)
     } else {
         None
     };
-    let output = output_of(options);
-    match sgt_script::run(alloc, &mut source, &mut writer, output, explanations) {
+    match sgt_script::run(
+        rt,
+        alloc,
+        &mut source,
+        &mut writer,
+        chosen,
+        explanations,
+        words,
+    ) {
         Ok(()) => Ok(()),
-        Err(Fault::Writing) if writer.inner.is_unread() => Err(Failure::Unread),
+        Err(Fault::Writing) => Err(writer.inner.failure(Fault::Writing)),
         Err(fault) => {
             let file = options.get_str(FILE);
             Err(failure_of(
@@ -404,14 +456,15 @@ fn script<R: Print + Eprint + Files, I: Read + Drop>(
                 sgt_line_errors::Command::Script,
                 &source,
                 file,
+                chosen.most,
                 fault,
             ))
         }
     }
 }
 
-/// Whether a bank says how many jobs have ended: if that is asked for, or else if standard error is a terminal and nobody types
-/// the input.
+/// Whether a run says how far it is: if that is asked for, or else if standard error is a terminal and nobody types the
+/// input.
 fn shows_progress(streams: &Streams, options: &ArgMatches<'_>) -> bool {
     let is_typed = streams.is_typed && options.get_str(FILE).is_none();
     let is_watched = streams.stderr.is_terminal() && !is_typed;
@@ -435,6 +488,7 @@ fn output_of(options: &ArgMatches<'_>) -> Output {
 fn read_bank_options(options: &ArgMatches<'_>, shows_progress: bool) -> sgt_bank::Options
     ensures workers { (1 ≤ result.workers) × (result.workers ≤ 16) }
     ensures tries { (1 ≤ result.tries) × (result.tries ≤ 1000) }
+    ensures most { result.most ≤ 4294967296 }
 {
     let output = if options.get_flag("history") {
         sgt_bank::Output::History
@@ -453,6 +507,7 @@ fn read_bank_options(options: &ArgMatches<'_>, shows_progress: bool) -> sgt_bank
     sgt_bank::Options {
         workers: number(options, "workers", MOST_WORKERS),
         tries: number(options, "tries", MOST_TRIES),
+        most: most_bytes(options),
         output,
         explanations,
         shows_progress,
@@ -465,41 +520,32 @@ fn bank<R: Print + Eprint + Files + Clock + Threads + Wait + Sync, I: Read + Dro
     alloc: Global,
     streams: Streams,
     options: &ArgMatches<'_>,
+    words: &Words,
     input: I,
 ) -> Result<(), Failure<Fault>> {
     let chosen = read_bank_options(options, shows_progress(&streams, options));
     let mut source = Remembering::new(alloc, Reader::new(input));
     let mut writer = Writer::new(OutputBytes::new(io::writer(rt)));
     let mut errors = Writer::new(streams.stderr);
-    match run_jobs(rt, alloc, &mut source, &mut writer, &mut errors, chosen) {
+    match run_bank(
+        rt,
+        alloc,
+        &mut source,
+        &mut writer,
+        &mut errors,
+        chosen,
+        words,
+    ) {
         Ok(()) => Ok(()),
-        Err(Fault::Writing) if writer.inner.is_unread() => Err(Failure::Unread),
+        Err(Fault::Writing) => Err(writer.inner.failure(Fault::Writing)),
         Err(fault) => {
             let command = sgt_line_errors::Command::Bank {
                 workers: chosen.workers,
             };
             let file = options.get_str(FILE);
-            Err(failure_of(rt, alloc, command, &source, file, fault))
+            Err(failure_of(rt, alloc, command, &source, file, chosen.most, fault))
         }
     }
-}
-
-/// Runs the jobs of a bank, whatever it reads from and writes to.
-fn run_jobs<S: Source, T: Sink, E: Sink, R: Print + Eprint + Clock + Threads + Wait + Sync>(
-    rt: &R,
-    alloc: Global,
-    source: &mut S,
-    sink: &mut T,
-    errors: &mut E,
-    options: sgt_bank::Options,
-) -> Result<(), Fault>
-    requires reading { S.failures source.old + 1 < 2 ^ 64 }
-    requires writing { T.failures sink.old + 1 < 2 ^ 64 }
-    requires explaining { E.failures errors.old + 1 < 2 ^ 64 }
-    requires workers { (1 ≤ options.workers) × (options.workers ≤ 16) }
-    requires tries { (1 ≤ options.tries) × (options.tries ≤ 1000) }
-{
-    run_bank(rt, alloc, source, sink, errors, options)
 }
 
 /// Checks a history from the input to standard output, and returns the exit status.
@@ -524,10 +570,7 @@ fn check<R: Print + Eprint + Files, I: Read + Drop>(
     let mut writer = Writer::new(OutputBytes::new(io::writer(rt)));
     match run_check(alloc, &mut source, &mut writer, check_output(options)) {
         Ok(verdict) => judged(rt, options, verdict),
-        Err(CheckFault::Writing) if writer.inner.is_unread() => failed(
-            rt,
-            Failure::<Fault>::Unread,
-        ),
+        Err(CheckFault::Writing) => failed(rt, writer.inner.failure(CheckFault::Writing)),
         Err(fault) => check_failed(rt, alloc, &source, options.get_str(FILE), fault),
     }
 }
@@ -559,22 +602,18 @@ fn check_clients<R: Print + Eprint + Files, I: Read + Drop>(
     let output = clients_output(options);
     match run_clients(alloc, &mut reader, &mut writer, output, question) {
         Ok(answer) => answered(answer),
-        Err(fault) => clients_failed(rt, options.get_str(FILE), writer.inner.is_unread(), fault),
+        Err(ClientsFault::Check(CheckFault::Writing)) => failed(
+            rt,
+            writer.inner.failure(CheckFault::Writing),
+        ),
+        Err(fault) => clients_failed(rt, options.get_str(FILE), fault),
     }
 }
 
 /// Reports why what clients saw could not be checked, and returns the exit status.
-fn clients_failed<R: Eprint + Files>(
-    rt: &R,
-    file: Option<&str>,
-    is_unread: bool,
-    fault: ClientsFault,
-) -> ExitCode {
+fn clients_failed<R: Eprint + Files>(rt: &R, file: Option<&str>, fault: ClientsFault) -> ExitCode {
     if matches!(fault, ClientsFault::Hinted(_, _, _, Hint::History)) {
         return report_hint(rt, fault, IS_TEXT);
-    }
-    if is_unread && fault == ClientsFault::Check(CheckFault::Writing) {
-        return failed(rt, Failure::<Fault>::Unread);
     }
     failed(rt, clients_failure(rt, file, fault))
 }
@@ -646,7 +685,10 @@ fn run<R: Print + Eprint + Input + Files + Clock + Threads + Wait + Sync>(
         report(rt, TYPED);
     }
     match open_input(rt, file) {
-        Ok(input) => run_on(rt, alloc, streams, name, options, input),
+        Ok(input) => {
+            let size = input.size();
+            run_on(rt, alloc, streams, name, options, input, size)
+        }
         Err(fault) => report(rt, fault),
     }
 }
@@ -659,7 +701,8 @@ fn print_version<R: Print + Eprint>(rt: &R) -> ExitCode {
     }
 }
 
-/// Runs the subcommand with this name on the input, and returns the exit status.
+/// Runs the subcommand with this name on the input, which has so many bytes if that is known, and returns the exit
+/// status.
 fn run_on<R: Print + Eprint + Files + Clock + Threads + Wait + Sync, I: Read + Drop>(
     rt: &R,
     alloc: Global,
@@ -667,11 +710,18 @@ fn run_on<R: Print + Eprint + Files + Clock + Threads + Wait + Sync, I: Read + D
     name: &str,
     options: &ArgMatches<'_>,
     input: I,
+    size: Option<u64>,
 ) -> ExitCode {
+    if name == "check" {
+        return check(rt, alloc, options, input);
+    }
+    let words = match read_words(rt, alloc, options.get_str(WORDS)) {
+        Ok(words) => words,
+        Err(fault) => return report(rt, fault),
+    };
     match name {
-        "check" => check(rt, alloc, options, input),
-        "bank" => ended(rt, bank(rt, alloc, streams, options, input)),
-        _ => ended(rt, script(rt, alloc, streams.stderr, options, input)),
+        "bank" => ended(rt, bank(rt, alloc, streams, options, &words, input)),
+        _ => ended(rt, script(rt, alloc, streams, options, &words, input, size)),
     }
 }
 

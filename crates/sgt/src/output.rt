@@ -1,12 +1,15 @@
 //! Standard output, which may be a pipe that nobody reads any more.
 
+use crate::failure::{Detail, Failure};
+use std::fmt::Display;
 use std::io::{self, ErrorKind, Write};
 
-/// Writes to another writer, and notes whether a write failed because nobody reads.
+/// Writes to another writer, and notes why the last write failed.
 #[derive(Drop)]
 pub(crate) struct OutputBytes<W: Write + Drop> {
     inner: W,
-    is_unread: bool,
+    /// Why the last write failed, if it did.
+    failed: Option<ErrorKind>,
 }
 
 impl<W: Write + Drop> OutputBytes<W> {
@@ -14,13 +17,20 @@ impl<W: Write + Drop> OutputBytes<W> {
     pub(crate) fn new(inner: W) -> Self {
         OutputBytes {
             inner,
-            is_unread: false,
+            failed: None,
         }
     }
 
-    /// Whether the last write failed because nobody reads.
-    pub(crate) fn is_unread(&self) -> bool {
-        self.is_unread
+    /// The failure of a run that ended with this fault because a write failed.
+    pub(crate) fn failure<F: Display + Drop>(&self, fault: F) -> Failure<F> {
+        match self.failed {
+            Some(ErrorKind::BrokenPipe) => Failure::Unread,
+            Some(ErrorKind::StorageFull) => Failure::Fault(
+                fault,
+                Detail::Words("no space is left where standard output goes"),
+            ),
+            _ => Failure::Fault(fault, Detail::Nothing),
+        }
     }
 }
 
@@ -29,9 +39,9 @@ impl<W: Write + Drop> Write for OutputBytes<W> {
 
     fn write(&mut self, bytes: &[u8]) -> io::Result<usize> {
         let wrote = self.inner.write(bytes);
-        self.is_unread = match &wrote {
-            Ok(_) => false,
-            Err(error) => error.kind() == ErrorKind::BrokenPipe,
+        self.failed = match &wrote {
+            Ok(_) => None,
+            Err(error) => Some(error.kind()),
         };
         wrote
     }

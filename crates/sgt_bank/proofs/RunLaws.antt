@@ -15,7 +15,7 @@ use Rattle.sgt_format.specs.RecordText.{record_lines}
 use Rattle.sgt_format.specs.declared.opening.Opening.{Opening}
 use Rattle.sgt_format.specs.declared.record_line.RecordLine.{RecordLine}
 use Rattle.sgt_audit.specs.declared.job.Job.{Job}
-use Rattle.sgt_input.specs.Lines.{Ending, cut}
+use Rattle.sgt_input.specs.Lines.{Ending, cut_within}
 use Rattle.sgt_bank.specs.Inputs.{InputRequests, LinesRequest}
 use Rattle.sgt_assembly.specs.Openings.{opened_configuration, OpenedIsBank}
 use Rattle.sgt_bank.specs.Banks.{HasRun, AreRun, IsHistory, IsJson, IsRecords, IsReport, IsRun}
@@ -77,12 +77,12 @@ opens-first workers [] ending o jobs asks = absurd asks
 opens-first workers (line ∷ later) ending o jobs asks = (line, leading_records later, asks.opens)
 
 -- jobs that were run are those of the input
-pub is-run : OpenedIsBank → (workers tries : ℕ) (rest : Option (List ℕ)) (o : Opening) (jobs : List Job) (history : List Entry)
-    (outcomes : List (Outcome Infallible)) (rows : List Row) → IfSome rest (λ bytes. InputRequests workers bytes o jobs)
-    → AreRun o jobs workers tries history outcomes rows → IfSome rest (λ bytes. IsRun workers tries bytes history outcomes rows)
-is-run bank workers tries None o jobs history outcomes rows asks run = tt
-is-run bank workers tries (Some bytes) o jobs history outcomes rows asks run =
-    let opens = opens-first workers (cut bytes).given (cut bytes).ending o jobs asks in
+pub is-run : OpenedIsBank → (workers tries most : ℕ) (rest : Option (List ℕ)) (o : Opening) (jobs : List Job) (history : List Entry)
+    (outcomes : List (Outcome Infallible)) (rows : List Row) → IfSome rest (λ bytes. InputRequests workers most bytes o jobs)
+    → AreRun o jobs workers tries history outcomes rows → IfSome rest (λ bytes. IsRun workers tries most bytes history outcomes rows)
+is-run bank workers tries most None o jobs history outcomes rows asks run = tt
+is-run bank workers tries most (Some bytes) o jobs history outcomes rows asks run =
+    let opens = opens-first workers (cut_within most bytes).given (cut_within most bytes).ending o jobs asks in
     record {
       opening = o;
       jobs = jobs;
@@ -92,10 +92,10 @@ is-run bank workers tries (Some bytes) o jobs history outcomes rows asks run =
     }
 
 -- the text of jobs that were run is a report
-is-report : (workers tries : ℕ) (bytes : List ℕ) (history : List Entry) (outcomes : List (Outcome Infallible)) (rows : List Row)
-    (out : List ℕ) → IsRun workers tries bytes history outcomes rows → out ≡ report_text history outcomes rows
-    → IsReport workers tries bytes out
-is-report workers tries bytes history outcomes rows out run text = record {
+is-report : (workers tries most : ℕ) (bytes : List ℕ) (history : List Entry) (outcomes : List (Outcome Infallible)) (rows : List Row)
+    (out : List ℕ) → IsRun workers tries most bytes history outcomes rows → out ≡ report_text history outcomes rows
+    → IsReport workers tries most bytes out
+is-report workers tries most bytes history outcomes rows out run text = record {
   history = history;
   outcomes = outcomes;
   rows = rows;
@@ -105,9 +105,9 @@ is-report workers tries bytes history outcomes rows out run text = record {
 }
 
 -- so does the text of its records
-is-records : (workers tries : ℕ) (bytes : List ℕ) (history : List Entry) (outcomes : List (Outcome Infallible)) (rows : List Row)
-    (out : List ℕ) → IsRun workers tries bytes history outcomes rows → out ≡ record_lines rows → IsRecords workers tries bytes out
-is-records workers tries bytes history outcomes rows out run text = record {
+is-records : (workers tries most : ℕ) (bytes : List ℕ) (history : List Entry) (outcomes : List (Outcome Infallible)) (rows : List Row)
+    (out : List ℕ) → IsRun workers tries most bytes history outcomes rows → out ≡ record_lines rows → IsRecords workers tries most bytes out
+is-records workers tries most bytes history outcomes rows out run text = record {
   history = history;
   outcomes = outcomes;
   rows = rows;
@@ -116,10 +116,10 @@ is-records workers tries bytes history outcomes rows out run text = record {
 }
 
 -- so does the text of their objects
-is-json : (workers tries : ℕ) (bytes : List ℕ) (failed : List ℕ) (history : List Entry) (outcomes : List (Outcome Infallible))
-    (rows : List Row) (out : List ℕ) → IsRun workers tries bytes history outcomes rows → out ≡ json_text failed history outcomes rows
-    → IsJson workers tries bytes out
-is-json workers tries bytes failed history outcomes rows out run text = record {
+is-json : (workers tries most : ℕ) (bytes : List ℕ) (failed : List ℕ) (history : List Entry) (outcomes : List (Outcome Infallible))
+    (rows : List Row) (out : List ℕ) → IsRun workers tries most bytes history outcomes rows → out ≡ json_text failed history outcomes rows
+    → IsJson workers tries most bytes out
+is-json workers tries most bytes failed history outcomes rows out run text = record {
   history = history;
   outcomes = outcomes;
   rows = rows;
@@ -129,10 +129,10 @@ is-json workers tries bytes failed history outcomes rows out run text = record {
 }
 
 -- the same if their operations are the output
-is-history : AreCommitOrdered → AreSerializable → AreRecoverable → TranscriptsSpellTextbooks → (workers tries : ℕ) (bytes : List ℕ)
+is-history : AreCommitOrdered → AreSerializable → AreRecoverable → TranscriptsSpellTextbooks → (workers tries most : ℕ) (bytes : List ℕ)
     (history : List Entry) (outcomes : List (Outcome Infallible)) (rows : List Row) (out : List ℕ)
-    → IsRun workers tries bytes history outcomes rows → out ≡ transcript (reverse history) → IsHistory workers tries bytes out
-is-history ordered serializable recoverable spelled workers tries bytes history outcomes rows out run text = record {
+    → IsRun workers tries most bytes history outcomes rows → out ≡ transcript (reverse history) → IsHistory workers tries most bytes out
+is-history ordered serializable recoverable spelled workers tries most bytes history outcomes rows out run text = record {
   history = history;
   outcomes = outcomes;
   rows = rows;
@@ -150,32 +150,32 @@ is-history ordered serializable recoverable spelled workers tries bytes history 
 module _ (ordered : AreCommitOrdered) (serializable : AreSerializable) (recoverable : AreRecoverable)
     (spelled : TranscriptsSpellTextbooks) where
   -- it is the requested output
-  is-output : (o : Output) (workers tries : ℕ) (bytes failed : List ℕ) (history : List Entry) (outcomes : List (Outcome Infallible))
-      (rows : List Row) (out : List ℕ) → IsRun workers tries bytes history outcomes rows
-      → out ≡ output_text o failed history outcomes rows → IsOutput o workers tries bytes out
-  is-output output.Report workers tries bytes failed history outcomes rows out run text =
-      is-report workers tries bytes history outcomes rows out run text
-  is-output output.History workers tries bytes failed history outcomes rows out run text =
-      is-history ordered serializable recoverable spelled workers tries bytes history outcomes rows out run text
-  is-output output.Records workers tries bytes failed history outcomes rows out run text =
-      is-records workers tries bytes history outcomes rows out run text
-  is-output output.Json workers tries bytes failed history outcomes rows out run text =
-      is-json workers tries bytes failed history outcomes rows out run text
+  is-output : (o : Output) (workers tries most : ℕ) (bytes failed : List ℕ) (history : List Entry) (outcomes : List (Outcome Infallible))
+      (rows : List Row) (out : List ℕ) → IsRun workers tries most bytes history outcomes rows
+      → out ≡ output_text o failed history outcomes rows → IsOutput o workers tries most bytes out
+  is-output output.Report workers tries most bytes failed history outcomes rows out run text =
+      is-report workers tries most bytes history outcomes rows out run text
+  is-output output.History workers tries most bytes failed history outcomes rows out run text =
+      is-history ordered serializable recoverable spelled workers tries most bytes history outcomes rows out run text
+  is-output output.Records workers tries most bytes failed history outcomes rows out run text =
+      is-records workers tries most bytes history outcomes rows out run text
+  is-output output.Json workers tries most bytes failed history outcomes rows out run text =
+      is-json workers tries most bytes failed history outcomes rows out run text
 
   -- all of it was written
-  pub writes-all : (o : Output) (workers tries : ℕ) (rest held held' : Option (List ℕ)) (failed : List ℕ) (history : List Entry)
+  pub writes-all : (o : Output) (workers tries most : ℕ) (rest held held' : Option (List ℕ)) (failed : List ℕ) (history : List Entry)
       (outcomes : List (Outcome Infallible)) (rows : List Row) (out : List ℕ)
-      → IfSome rest (λ bytes. IsRun workers tries bytes history outcomes rows) → out ≡ output_text o failed history outcomes rows
-      → Appends held held' out → WritesAll o workers tries rest held held'
-  writes-all o workers tries None held held' failed history outcomes rows out run text wrote = tt
-  writes-all o workers tries (Some bytes) held held' failed history outcomes rows out run text wrote =
-      (out, is-output o workers tries bytes failed history outcomes rows out run text, wrote)
+      → IfSome rest (λ bytes. IsRun workers tries most bytes history outcomes rows) → out ≡ output_text o failed history outcomes rows
+      → Appends held held' out → WritesAll o workers tries most rest held held'
+  writes-all o workers tries most None held held' failed history outcomes rows out run text wrote = tt
+  writes-all o workers tries most (Some bytes) held held' failed history outcomes rows out run text wrote =
+      (out, is-output o workers tries most bytes failed history outcomes rows out run text, wrote)
 
   -- a part of it was written
-  pub writes-part : (o : Output) (workers tries : ℕ) (rest held held' : Option (List ℕ)) (failed : List ℕ) (history : List Entry)
+  pub writes-part : (o : Output) (workers tries most : ℕ) (rest held held' : Option (List ℕ)) (failed : List ℕ) (history : List Entry)
       (outcomes : List (Outcome Infallible)) (rows : List Row) (out : List ℕ)
-      → IfSome rest (λ bytes. IsRun workers tries bytes history outcomes rows) → out ≡ output_text o failed history outcomes rows
-      → ((k : ℕ) × Appends held held' (take k out)) → WritesPart o workers tries rest held held'
-  writes-part o workers tries None held held' failed history outcomes rows out run text wrote = tt
-  writes-part o workers tries (Some bytes) held held' failed history outcomes rows out run text (k, wrote) =
-      (out, k, is-output o workers tries bytes failed history outcomes rows out run text, wrote)
+      → IfSome rest (λ bytes. IsRun workers tries most bytes history outcomes rows) → out ≡ output_text o failed history outcomes rows
+      → ((k : ℕ) × Appends held held' (take k out)) → WritesPart o workers tries most rest held held'
+  writes-part o workers tries most None held held' failed history outcomes rows out run text wrote = tt
+  writes-part o workers tries most (Some bytes) held held' failed history outcomes rows out run text (k, wrote) =
+      (out, k, is-output o workers tries most bytes failed history outcomes rows out run text, wrote)

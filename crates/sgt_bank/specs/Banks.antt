@@ -50,52 +50,52 @@ pub record AreRun (opening : Opening) (jobs : List Job) (workers tries : ℕ) (h
   pub database : (k : Key) → contents_of rows k ≡ (folded (opened_configuration opening) (reverse history)).last k
   pub by_key : IsByKey rows
 
--- an input of these bytes was run: its jobs, after its opening. Each committed or refused transaction of one of
+-- an input of these bytes, with this limit, was run: its jobs, after its opening. Each committed or refused transaction of one of
 -- SmallBank's five procedures did the bank's arithmetic, on what those before it left
-pub record IsRun (workers tries : ℕ) (bytes : List ℕ) (history : List Entry) (outcomes : List (Outcome Infallible)) (rows : List Row) : Type 0 where
+pub record IsRun (workers tries most : ℕ) (bytes : List ℕ) (history : List Entry) (outcomes : List (Outcome Infallible)) (rows : List Row) : Type 0 where
   pub opening : Opening
   pub jobs : List Job
-  pub asks : InputRequests workers bytes opening jobs
+  pub asks : InputRequests workers most bytes opening jobs
   pub are_run : AreRun opening jobs workers tries history outcomes rows
   pub bank : CommitsAreBank (opened_configuration opening) (reverse history)
 
 -- the output for an input of these bytes in the mode History: the transcript of the history of the jobs, which spells
 -- the operations of the textbook's history
-pub record IsHistory (workers tries : ℕ) (bytes out : List ℕ) : Type 0 where
+pub record IsHistory (workers tries most : ℕ) (bytes out : List ℕ) : Type 0 where
   pub history : List Entry
   pub outcomes : List (Outcome Infallible)
   pub rows : List Row
-  pub run : IsRun workers tries bytes history outcomes rows
+  pub run : IsRun workers tries most bytes history outcomes rows
   pub textbook : TextbookLaws (reverse history)
   pub text : out ≡ transcript (reverse history)
   pub spelled : TranscriptsSpellTextbooks
 
 -- the output for an input of these bytes in the mode Records: the record lines of the database that the serial run of
 -- the jobs leaves
-pub record IsRecords (workers tries : ℕ) (bytes out : List ℕ) : Type 0 where
+pub record IsRecords (workers tries most : ℕ) (bytes out : List ℕ) : Type 0 where
   pub history : List Entry
   pub outcomes : List (Outcome Infallible)
   pub rows : List Row
-  pub run : IsRun workers tries bytes history outcomes rows
+  pub run : IsRun workers tries most bytes history outcomes rows
   pub text : out ≡ record_lines rows
 
 -- the output for an input of these bytes in the mode Report: the text of a report on its jobs. Each `committed` line
 -- has the answers that the serial run gives the job's transaction. Each `requested` line of a transaction refused at its
 -- commit has the code
-pub record IsReport (workers tries : ℕ) (bytes out : List ℕ) : Type 0 where
+pub record IsReport (workers tries most : ℕ) (bytes out : List ℕ) : Type 0 where
   pub history : List Entry
   pub outcomes : List (Outcome Infallible)
   pub rows : List Row
-  pub run : IsRun workers tries bytes history outcomes rows
+  pub run : IsRun workers tries most bytes history outcomes rows
   pub text : out ≡ report_text history outcomes rows
   pub written : out ≡ serial_text (opened_configuration run.opening) history outcomes rows
 
 -- the output for an input of these bytes in the mode Json: the objects of the outcomes of its jobs, and then the record
 -- lines of the database. How often a job was tried in vain is what was seen of the run: these counts can be any
-pub record IsJson (workers tries : ℕ) (bytes out : List ℕ) : Type 0 where
+pub record IsJson (workers tries most : ℕ) (bytes out : List ℕ) : Type 0 where
   pub history : List Entry
   pub outcomes : List (Outcome Infallible)
   pub rows : List Row
-  pub run : IsRun workers tries bytes history outcomes rows
+  pub run : IsRun workers tries most bytes history outcomes rows
   pub failed : List ℕ
   pub text : out ≡ json_text failed history outcomes rows

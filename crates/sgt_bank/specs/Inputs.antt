@@ -8,7 +8,7 @@ use Rattle.sgt_format.specs.declared.errors.OpeningError.TheVariants as opening_
 use Rattle.sgt_audit.specs.declared.job.Job.{Job}
 use Rattle.sgt_input.specs.declared.fault.Fault.{Fault}
 use Rattle.sgt_input.specs.declared.fault.Fault.TheVariants as fault
-use Rattle.sgt_input.specs.Lines.{Ending, cut}
+use Rattle.sgt_input.specs.Lines.{Ending, cut_within}
 use Rattle.sgt_input.specs.Ends.{IsOfInput, fault_of_opening, no_opening}
 use Rattle.sgt_input.specs.Spelled.{spelled, end_of}
 use Rattle.sgt_bank.specs.Jobs.{job_at, numbered}
@@ -25,9 +25,10 @@ abbrev pub LinesRequest : ℕ → List (List ℕ) → Ending → Opening → Lis
 LinesRequest workers [] ending opening jobs = ⊥
 LinesRequest workers (line ∷ later) ending opening jobs = IsInput workers line later ending opening jobs
 
--- these bytes request these jobs after this opening
-abbrev pub InputRequests : ℕ → List ℕ → Opening → List Job → Type 0
-InputRequests workers bytes opening jobs = LinesRequest workers (cut bytes).given (cut bytes).ending opening jobs
+-- these bytes, with this limit, request these jobs after this opening
+abbrev pub InputRequests : ℕ → ℕ → List ℕ → Opening → List Job → Type 0
+InputRequests workers most bytes opening jobs =
+    LinesRequest workers (cut_within most bytes).given (cut_within most bytes).ending opening jobs
 
 -- line 1 is refused as an opening, with this fault
 pub record OpeningIsRefused (workers : ℕ) (line : List ℕ) (f : Fault) : Type 0 where
@@ -54,9 +55,9 @@ LinesFail workers [] ending f = no_opening ending ≡ Err f
 LinesFail workers (line ∷ later) ending f =
     OpeningIsRefused workers line f ⊎ RecordIsRefused workers line later f ⊎ IsAfter workers line later ending f
 
--- the first fault of these bytes
-abbrev pub InputFails : ℕ → List ℕ → Fault → Type 0
-InputFails workers bytes f = LinesFail workers (cut bytes).given (cut bytes).ending f
+-- the first fault of these bytes, with this limit
+abbrev pub InputFails : ℕ → ℕ → List ℕ → Fault → Type 0
+InputFails workers most bytes f = LinesFail workers (cut_within most bytes).given (cut_within most bytes).ending f
 
 -- a fault of the input, and not of what runs it
 abbrev pub IsOfText : Fault → Type 0

@@ -23,30 +23,30 @@ output_text output.Records failed history outcomes rows = record_lines rows
 output_text output.Json failed history outcomes rows = json_text failed history outcomes rows
 
 -- what is written for an input of these bytes
-abbrev pub IsOutput : Output → ℕ → ℕ → List ℕ → List ℕ → Type 0
-IsOutput output.Report workers tries bytes out = IsReport workers tries bytes out
-IsOutput output.History workers tries bytes out = IsHistory workers tries bytes out
-IsOutput output.Records workers tries bytes out = IsRecords workers tries bytes out
-IsOutput output.Json workers tries bytes out = IsJson workers tries bytes out
+abbrev pub IsOutput : Output → ℕ → ℕ → ℕ → List ℕ → List ℕ → Type 0
+IsOutput output.Report workers tries most bytes out = IsReport workers tries most bytes out
+IsOutput output.History workers tries most bytes out = IsHistory workers tries most bytes out
+IsOutput output.Records workers tries most bytes out = IsRecords workers tries most bytes out
+IsOutput output.Json workers tries most bytes out = IsJson workers tries most bytes out
 
 -- the whole output is appended to what a sink held, if the bytes of the input are known
-abbrev pub WritesAll : Output → ℕ → ℕ → Option (List ℕ) → Option (List ℕ) → Option (List ℕ) → Type 0
-WritesAll o workers tries rest held held' = IfSome rest (λ bytes.
-    (out : List ℕ) × IsOutput o workers tries bytes out × Appends held held' out)
+abbrev pub WritesAll : Output → ℕ → ℕ → ℕ → Option (List ℕ) → Option (List ℕ) → Option (List ℕ) → Type 0
+WritesAll o workers tries most rest held held' = IfSome rest (λ bytes.
+    (out : List ℕ) × IsOutput o workers tries most bytes out × Appends held held' out)
 
 -- a prefix of the output is appended
-abbrev pub WritesPart : Output → ℕ → ℕ → Option (List ℕ) → Option (List ℕ) → Option (List ℕ) → Type 0
-WritesPart o workers tries rest held held' = IfSome rest (λ bytes.
-    (out : List ℕ) × (k : ℕ) × IsOutput o workers tries bytes out × Appends held held' (take k out))
+abbrev pub WritesPart : Output → ℕ → ℕ → ℕ → Option (List ℕ) → Option (List ℕ) → Option (List ℕ) → Type 0
+WritesPart o workers tries most rest held held' = IfSome rest (λ bytes.
+    (out : List ℕ) × (k : ℕ) × IsOutput o workers tries most bytes out × Appends held held' (take k out))
 
 -- a fault of the input is the first one that the input has
-abbrev pub IsFirstFault : ℕ → Option (List ℕ) → Fault → Type 0
-IsFirstFault workers rest f = IsOfText f → IfSome rest (λ bytes. InputFails workers bytes f)
+abbrev pub IsFirstFault : ℕ → ℕ → Option (List ℕ) → Fault → Type 0
+IsFirstFault workers most rest f = IsOfText f → IfSome rest (λ bytes. InputFails workers most bytes f)
 
--- at most 16,777,217 bytes are read, and a read fails exactly if the run ends with `Reading`
-abbrev pub CountsReads : {A : Type 0} → Result A Fault → ℕ → ℕ → ℕ → ℕ → Type 0
-CountsReads result given given' failures failures' =
-    (given' ≤ given + 16777217)
+-- at most one byte more than the limit is read, and a read fails exactly if the run ends with `Reading`
+abbrev pub CountsReads : {A : Type 0} → Result A Fault → ℕ → ℕ → ℕ → ℕ → ℕ → Type 0
+CountsReads result most given given' failures failures' =
+    (given' ≤ given + (most + 1))
     × (result ≢ Err fault.Reading → failures' ≡ failures)
     × (result ≡ Err fault.Reading → failures' ≡ failures + 1)
 

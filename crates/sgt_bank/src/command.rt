@@ -1,5 +1,5 @@
 //! The command `sgt bank`: one run of an input's jobs, with its options.
-ghost use Rattle.std.specs.Prelude.{◌≡◌, ◌≢◌, IfErr, OnOk, Err, ◌+◌, ◌^◌, ◌<◌};
+ghost use Rattle.std.specs.Prelude.{◌≡◌, ◌≢◌, IfErr, OnOk, Err, ◌+◌, ◌^◌, ◌<◌, ◌≤◌};
 ghost use Rattle.sgt_workers.specs.Banks.{AreWorkers, AreTries};
 ghost use Rattle.sgt_bank.specs.Outputs.{WritesAll, WritesPart, IsFirstFault, CountsReads, CountsWrites};
 
@@ -8,6 +8,7 @@ use crate::output::Output;
 use crate::run::write_run;
 use crate::tries::append_tries;
 use crate::watch::{Seen, Watch};
+use sgt_explain::Words;
 use sgt_input::{Fault, Sink, Source, write_all};
 use sgt_model::NoMemory;
 use sgt_workers::Report;
@@ -37,6 +38,8 @@ pub struct Options {
     pub workers: u32,
     /// How often a job is tried before it is abandoned, from 1 to `MOST_TRIES`.
     pub tries: u32,
+    /// How many bytes the input may have, at most `MOST_BYTES` of `sgt_input`.
+    pub most: usize,
     /// What is written.
     pub output: Output,
     /// What is explained beside it.
@@ -48,8 +51,8 @@ pub struct Options {
 /// Runs the jobs of an input as `run_jobs` does, and writes the output that the options name.
 ///
 /// With explanations, the second sink gets a line for each job that did not commit at its first try, by number, after
-/// the output: how it ended, and which jobs aborted the tries that failed. A summary follows. Explanations do not
-/// affect the run. If memory runs out for them, one line says so. If a write of them fails, they end there. Neither
+/// the output: how it ended, with what the words say of its code, and which jobs aborted the tries that failed. A
+/// summary follows. Explanations do not affect the run. If memory runs out for them, one line says so. If a write of them fails, they end there. Neither
 /// is a fault.
 ///
 /// # Errors
@@ -62,19 +65,21 @@ pub fn run_bank<S: Source, T: Sink, E: Sink, W: Threads + Wait + Clock + Eprint 
     sink: &mut T,
     errors: &mut E,
     options: Options,
+    words: &Words,
 ) -> Result<(), Fault>
     requires reading { S.failures source.old + 1 < 2 ^ 64 }
     requires writing { T.failures sink.old + 1 < 2 ^ 64 }
     requires explaining { E.failures errors.old + 1 < 2 ^ 64 }
     requires workers { AreWorkers options.workers }
     requires tries { AreTries options.tries }
+    requires most { options.most ≤ 4294967296 }
     ensures output { OnOk result
-        (WritesAll options.output options.workers options.tries (S.rest source.old) (T.held sink.old) (T.held sink.new)) }
+        (WritesAll options.output options.workers options.tries options.most (S.rest source.old) (T.held sink.old) (T.held sink.new)) }
     ensures part { result ≡ Err Fault.Writing →
-        WritesPart options.output options.workers options.tries (S.rest source.old) (T.held sink.old) (T.held sink.new) }
+        WritesPart options.output options.workers options.tries options.most (S.rest source.old) (T.held sink.old) (T.held sink.new) }
     ensures nothing { IfErr result (λ f. f ≢ Fault.Writing → sink.new ≡ sink.old) }
-    ensures fault { IfErr result (IsFirstFault options.workers (S.rest source.old)) }
-    ensures reads { CountsReads result (S.given source.old) (S.given source.new) (S.failures source.old) (S.failures source.new) }
+    ensures fault { IfErr result (IsFirstFault options.workers options.most (S.rest source.old)) }
+    ensures reads { CountsReads result options.most (S.given source.old) (S.given source.new) (S.failures source.old) (S.failures source.new) }
     ensures writes { CountsWrites result (T.failures sink.old) (T.failures sink.new) }
     ensures silent { options.explanations ≡ Explanations.Off → errors.new ≡ errors.old }
     ensures unexplained { IfErr result (λ _. errors.new ≡ errors.old) }
@@ -82,18 +87,23 @@ pub fn run_bank<S: Source, T: Sink, E: Sink, W: Threads + Wait + Clock + Eprint 
     let Options {
         workers,
         tries,
+        most,
         output,
         explanations,
         shows_progress,
     } = options;
     if !is_watched(&options) {
-        write_run(rt, alloc, source, sink, workers, tries, output, &OpenGate)?;
+        write_run(
+            rt, alloc, source, sink, workers, tries, output, most, &OpenGate,
+        )?;
         return Ok(());
     }
     let watch = Watch::new(rt, alloc, shows_progress);
-    let report = write_run(rt, alloc, source, sink, workers, tries, output, &watch)?;
+    let report = write_run(
+        rt, alloc, source, sink, workers, tries, output, most, &watch,
+    )?;
     if let Explanations::Tries = explanations {
-        explain_tries(alloc, errors, watch.into_seen(), &report);
+        explain_tries(alloc, errors, watch.into_seen(), &report, words);
     }
     Ok(())
 }
@@ -106,10 +116,16 @@ fn is_watched(options: &Options) -> bool {
 }
 
 /// Writes the lines of the tries.
-fn explain_tries<E: Sink>(alloc: Global, errors: &mut E, seen: Seen, report: &Report<Infallible>)
+fn explain_tries<E: Sink>(
+    alloc: Global,
+    errors: &mut E,
+    seen: Seen,
+    report: &Report<Infallible>,
+    words: &Words,
+)
     requires { E.failures errors.old + 1 < 2 ^ 64 }
 {
-    match tries_text(alloc, seen, report) {
+    match tries_text(alloc, seen, report, words) {
         Ok(text) => {
             let _ = write_all(errors, text.as_slice());
         }
@@ -120,7 +136,12 @@ fn explain_tries<E: Sink>(alloc: Global, errors: &mut E, seen: Seen, report: &Re
 }
 
 /// The lines of the tries.
-fn tries_text(alloc: Global, seen: Seen, report: &Report<Infallible>) -> Result<Vec<u8>, NoMemory> {
+fn tries_text(
+    alloc: Global,
+    seen: Seen,
+    report: &Report<Infallible>,
+    words: &Words,
+) -> Result<Vec<u8>, NoMemory> {
     let Seen {
         failed,
         has_lost,
@@ -137,6 +158,7 @@ fn tries_text(alloc: Global, seen: Seen, report: &Report<Infallible>) -> Result<
         &mut failed,
         &report.history,
         report.outcomes.as_slice(),
+        words,
     )?;
     Ok(text)
 }

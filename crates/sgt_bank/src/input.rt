@@ -10,8 +10,8 @@ use sgt_input::{Fault, Lines, Source, opening_of, read_records};
 use sgt_workers::Job;
 use std::alloc::Global;
 
-/// Reads an input: its opening, the records after it, and its jobs. The opening must allow as many live transactions
-/// as there are workers.
+/// Reads an input of at most so many bytes: its opening, the records after it, and its jobs. The opening must allow as
+/// many live transactions as there are workers.
 ///
 /// # Errors
 ///
@@ -20,22 +20,24 @@ pub fn read_input<S: Source>(
     alloc: Global,
     source: &mut S,
     workers: u32,
+    most: usize,
 ) -> Result<(Opening, Vec<Job>), Fault>
-    requires { S.failures source.old + 1 < 2 ^ 64 }
+    requires countable { S.failures source.old + 1 < 2 ^ 64 }
+    requires most { most ≤ 4294967296 }
     ensures input { IfOk result (λ input. IfSome (S.rest source.old) (λ bytes.
-        InputRequests workers bytes input.0 input.1.items)) }
+        InputRequests workers most bytes input.0 input.1.items)) }
     ensures limits { IfOk result (λ input. AreLimitsFor workers input.0.limits) }
     ensures numbered { IfOk result (λ input. AreJobs input.1.items) }
     ensures fault { IfErr result (λ f. IsOfInput f → IfSome (S.rest source.old) (λ bytes.
-        InputFails workers bytes f)) }
-    ensures bounded { S.given source.new ≤ S.given source.old + 16777217 }
+        InputFails workers most bytes f)) }
+    ensures bounded { S.given source.new ≤ S.given source.old + (most + 1) }
     ensures writing { result ≢ Err Fault.Writing }
     ensures well { result ≢ Err Fault.Reading →
         S.failures source.new ≡ S.failures source.old }
     ensures failed { result ≡ Err Fault.Reading →
         S.failures source.new ≡ S.failures source.old + 1 }
 {
-    let mut lines = Lines::new(alloc)?;
+    let mut lines = Lines::new(alloc, most)?;
     if !lines.next_line(source)? {
         return Err(Fault::NoOpening);
     }

@@ -34,7 +34,7 @@ fn next_call<S: Source>(
     ensures number { IfOk result (λ next. IfSome next (λ _. lines.new.number ≡ lines.old.number + 1)) }
     ensures nearer { IfOk result (λ next. IfSome next (λ _. lines.new.within < lines.old.within)) }
     ensures come { S.given source.new + come lines.old ≤ S.given source.old + come lines.new }
-    ensures few { come lines.new ≤ 16777217 }
+    ensures few { come lines.new ≤ 4294967297 }
     ensures writing { result ≢ Err Fault.Writing }
     ensures well { result ≢ Err Fault.Reading →
         S.failures source.new ≡ S.failures source.old }
@@ -61,14 +61,14 @@ pub(crate) fn read_jobs<S: Source>(
     source: &mut S,
 ) -> Result<Vec<Job>, Fault>
     requires reading { S.failures source.old + 1 < 2 ^ 64 }
-    requires few { come lines.old ≤ 16777217 }
+    requires few { come lines.old ≤ 4294967297 }
     ensures jobs { IfOk result (λ jobs. IfSome (cut_left lines.old (S.rest source.old)) (λ c.
         (jobs.items ≡ numbered 0 (spelled (job_at (lines.old.number + 1)) (lines.old.number + 1) c.given))
         × (end_of (job_at (lines.old.number + 1)) (lines.old.number + 1) c.given c.ending ≡ Ok tt))) }
     ensures numbered { IfOk result (λ jobs. AreJobs jobs.items) }
     ensures fault { IfErr result (λ f. IsOfInput f →
         EndsWith (lines.old.number + 1) (lines.old.number + 1) (Err f) (cut_left lines.old (S.rest source.old))) }
-    ensures bounded { S.given source.new + come lines.old ≤ S.given source.old + 16777217 }
+    ensures bounded { S.given source.new + come lines.old ≤ S.given source.old + 4294967297 }
     ensures writing { result ≢ Err Fault.Writing }
     ensures well { result ≢ Err Fault.Reading →
         S.failures source.new ≡ S.failures source.old }

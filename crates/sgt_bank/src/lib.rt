@@ -17,6 +17,7 @@
 #![tactic(auto)]
 
 mod bank;
+mod codes;
 mod command;
 mod gate;
 mod input;

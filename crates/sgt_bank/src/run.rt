@@ -12,7 +12,7 @@ use crate::input::read_input;
 use crate::output::{Output, output_text};
 use sgt_assembly::{SgtAccesses, SgtGraph, SgtRecords, opened_is_bank};
 use sgt_format::Opening;
-use sgt_input::{Fault, Sink, Source, write_all};
+use sgt_input::{DEFAULT_BYTES, Fault, Sink, Source, write_all};
 use sgt_model::NoMemory;
 use sgt_notation::transcripts_spell_textbooks;
 use sgt_textbook::{legal_are_commit_ordered, legal_are_recoverable, legal_are_serializable};
@@ -58,7 +58,7 @@ fn run_after_opening<G: Gate<Note = Infallible> + Sync, W: Threads + Wait + Sync
     }
 }
 
-/// Runs the jobs of an input. The gate is called as by `run` of `sgt_workers`.
+/// Runs the jobs of an input of at most so many bytes. The gate is called as by `run` of `sgt_workers`.
 ///
 /// # Errors
 ///
@@ -69,21 +69,23 @@ fn run_input<S: Source, G: Gate<Note = Infallible> + Sync, W: Threads + Wait + S
     source: &mut S,
     workers: u32,
     tries: u32,
+    most: usize,
     gate: &G,
 ) -> Result<Report<Infallible>, Fault>
     requires reading { S.failures source.old + 1 < 2 ^ 64 }
+    requires most { most ≤ 4294967296 }
     requires workers { AreWorkers workers }
     requires tries { AreTries tries }
     ensures run { IfOk result (λ r. IfSome (S.rest source.old) (λ bytes.
-        IsRun workers tries bytes r.history.entries r.outcomes.items r.database)) }
+        IsRun workers tries most bytes r.history.entries r.outcomes.items r.database)) }
     ensures few { IfOk result (λ r. length r.outcomes.items ≤ 1000000) }
-    ensures fault { IfErr result (IsFirstFault workers (S.rest source.old)) }
-    ensures reads { CountsReads result (S.given source.old) (S.given source.new) (S.failures source.old) (S.failures source.new) }
+    ensures fault { IfErr result (IsFirstFault workers most (S.rest source.old)) }
+    ensures reads { CountsReads result most (S.given source.old) (S.given source.new) (S.failures source.old) (S.failures source.new) }
     ensures writing { result ≢ Err Fault.Writing }
 {
     // In every legal history after the opening SmallBank's procedures did the bank's arithmetic.
     opened_is_bank();
-    let (opening, jobs) = read_input(alloc, source, workers)?;
+    let (opening, jobs) = read_input(alloc, source, workers, most)?;
     let report = run_after_opening(rt, alloc, opening, jobs.as_slice(), workers, tries, gate)?;
     Ok(report)
 }
@@ -116,7 +118,8 @@ fn write_text<T: Sink>(sink: &mut T, text: &[u8]) -> Result<(), Fault>
     Ok(())
 }
 
-/// Runs the jobs of an input and writes the output. The gate is called as by `run` of `sgt_workers`.
+/// Runs the jobs of an input of at most so many bytes and writes the output. The gate is called as by `run` of
+/// `sgt_workers`.
 ///
 /// # Errors
 ///
@@ -134,21 +137,23 @@ pub(crate) fn write_run<
     workers: u32,
     tries: u32,
     output: Output,
+    most: usize,
     gate: &G,
 ) -> Result<Report<Infallible>, Fault>
     requires reading { S.failures source.old + 1 < 2 ^ 64 }
     requires writing { T.failures sink.old + 1 < 2 ^ 64 }
+    requires most { most ≤ 4294967296 }
     requires workers { AreWorkers workers }
     requires tries { AreTries tries }
-    ensures output { OnOk result (WritesAll output workers tries (S.rest source.old) (T.held sink.old) (T.held sink.new)) }
+    ensures output { OnOk result (WritesAll output workers tries most (S.rest source.old) (T.held sink.old) (T.held sink.new)) }
     ensures part { result ≡ Err Fault.Writing →
-        WritesPart output workers tries (S.rest source.old) (T.held sink.old) (T.held sink.new) }
+        WritesPart output workers tries most (S.rest source.old) (T.held sink.old) (T.held sink.new) }
     ensures nothing { IfErr result (λ f. f ≢ Fault.Writing → sink.new ≡ sink.old) }
-    ensures fault { IfErr result (IsFirstFault workers (S.rest source.old)) }
-    ensures reads { CountsReads result (S.given source.old) (S.given source.new) (S.failures source.old) (S.failures source.new) }
+    ensures fault { IfErr result (IsFirstFault workers most (S.rest source.old)) }
+    ensures reads { CountsReads result most (S.given source.old) (S.given source.new) (S.failures source.old) (S.failures source.new) }
     ensures writes { CountsWrites result (T.failures sink.old) (T.failures sink.new) }
 {
-    let report = run_input(rt, alloc, source, workers, tries, gate)?;
+    let report = run_input(rt, alloc, source, workers, tries, most, gate)?;
     // The laws of every legal history in the textbook's own classes; and that its transcript spells it.
     legal_are_commit_ordered();
     legal_are_serializable();
@@ -191,12 +196,12 @@ pub fn run_jobs<S: Source, T: Sink, W: Threads + Wait + Sync>(
     requires writing { T.failures sink.old + 1 < 2 ^ 64 }
     requires workers { AreWorkers workers }
     requires tries { AreTries tries }
-    ensures report { OnOk result (WritesAll Output.Report workers tries (S.rest source.old) (T.held sink.old) (T.held sink.new)) }
+    ensures report { OnOk result (WritesAll Output.Report workers tries 16777216 (S.rest source.old) (T.held sink.old) (T.held sink.new)) }
     ensures part { result ≡ Err Fault.Writing →
-        WritesPart Output.Report workers tries (S.rest source.old) (T.held sink.old) (T.held sink.new) }
+        WritesPart Output.Report workers tries 16777216 (S.rest source.old) (T.held sink.old) (T.held sink.new) }
     ensures nothing { IfErr result (λ f. f ≢ Fault.Writing → sink.new ≡ sink.old) }
-    ensures fault { IfErr result (IsFirstFault workers (S.rest source.old)) }
-    ensures reads { CountsReads result (S.given source.old) (S.given source.new) (S.failures source.old) (S.failures source.new) }
+    ensures fault { IfErr result (IsFirstFault workers 16777216 (S.rest source.old)) }
+    ensures reads { CountsReads result 16777216 (S.given source.old) (S.given source.new) (S.failures source.old) (S.failures source.new) }
     ensures writes { CountsWrites result (T.failures sink.old) (T.failures sink.new) }
 {
     write_run(
@@ -207,6 +212,7 @@ pub fn run_jobs<S: Source, T: Sink, W: Threads + Wait + Sync>(
         workers,
         tries,
         Output::Report,
+        DEFAULT_BYTES,
         &OpenGate,
     )?;
     Ok(())

@@ -1,6 +1,7 @@
 //! The report of the jobs that were aborted, refused or tried more than once.
+use crate::codes::{Coded, append_codes};
 use crate::watch::FailedTry;
-use sgt_explain::{append_refusal, refusal_of};
+use sgt_explain::{Words, append_code, append_refusal, refusal_of};
 use sgt_format::append_numbered;
 use sgt_log::{EntryRef, History};
 use sgt_model::{Cause, Entry, Event, NoMemory, Reply, Tid};
@@ -18,9 +19,10 @@ enum End {
     With(Tid),
 }
 
-/// What is known of a transaction: how it ended, and the job that it was a try of.
+/// What is known of a transaction: its procedure, how it ended, and the job that it was a try of.
 #[derive(Clone, Copy)]
 struct Known {
+    procedure: u16,
     end: End,
     job: Option<usize>,
 }
@@ -37,8 +39,8 @@ struct Tally {
 }
 
 /// Appends a line for each job that did not commit at its first try, by number, and a summary. An example is
-/// `job 2: committed at try 3; try 1: cycle with job 3, 4; try 2: aborted in cascade with job 7`. The failed attempts
-/// are sorted by job.
+/// `job 2: committed at try 3; try 1: cycle with job 3, 4; try 2: aborted in cascade with job 7`. Before the
+/// summary comes a line for each code. The failed attempts are sorted by job.
 ///
 /// `NoMemory` if an allocation failed.
 pub(crate) fn append_tries<N>(
@@ -47,17 +49,33 @@ pub(crate) fn append_tries<N>(
     failed: &mut Vec<FailedTry>,
     history: &History,
     outcomes: &[Outcome<N>],
+    words: &Words,
 ) -> Result<(), NoMemory> {
     failed.sort_by_key(|failed| failed.job)?;
     let known = known_of(alloc, history, failed.as_slice(), outcomes)?;
     let mut tally = Tally::new();
+    let mut codes = Vec::new(alloc);
     let mut rest = failed.as_slice();
     for job in 0..outcomes.len() {
         let (own, others) = split_job(rest, job);
         tally.count(&outcomes[job], own.len());
-        append_job(text, job, own, &outcomes[job], known.as_slice(), history)?;
+        let coded = coded_of(history, &outcomes[job], known.as_slice());
+        if let Some(coded) = coded {
+            codes.push(coded)?;
+        }
+        append_job(
+            text,
+            job,
+            own,
+            &outcomes[job],
+            coded,
+            known.as_slice(),
+            history,
+            words,
+        )?;
         rest = others;
     }
+    append_codes(text, words, &mut codes)?;
     tally.append(text, outcomes.len())?;
     Ok(())
 }
@@ -132,6 +150,7 @@ fn ends_of(alloc: Global, history: &History) -> Result<Vec<Known>, NoMemory> {
         let entry = history.entry(place);
         if entry.started().is_some() {
             known.push(Known {
+                procedure: procedure_of(&entry.event()),
                 end: End::Own,
                 job: None,
             })?;
@@ -139,6 +158,14 @@ fn ends_of(alloc: Global, history: &History) -> Result<Vec<Known>, NoMemory> {
         note_ends(known.as_mut_slice(), place, &entry);
     }
     Ok(known)
+}
+
+// The procedure that the event starts.
+fn procedure_of(event: &Event) -> u16 {
+    match event {
+        Event::Start { procedure, .. } => *procedure,
+        _ => u16::MAX,
+    }
 }
 
 // Records which transactions the entry at a position aborts.
@@ -186,20 +213,40 @@ fn last_transaction<N>(history: &History, outcome: &Outcome<N>) -> Option<Tid> {
     }
 }
 
+// The code with which a job's procedure aborted, if it did.
+fn coded_of<N>(history: &History, outcome: &Outcome<N>, known: &[Known]) -> Option<Coded> {
+    let Outcome::Asked(number) = outcome else {
+        return None;
+    };
+    let known = match last_transaction(history, outcome) {
+        Some(t) => known.get(t.0 as usize),
+        None => None,
+    };
+    Some(Coded {
+        procedure: known.map_or(u16::MAX, |known| known.procedure),
+        code: code_at(history, *number),
+    })
+}
+
 // Appends the line of a job, if it did not commit at its first try.
 fn append_job<N>(
     text: &mut Vec<u8>,
     job: usize,
     failed: &[FailedTry],
     outcome: &Outcome<N>,
+    coded: Option<Coded>,
     known: &[Known],
     history: &History,
+    words: &Words,
 ) -> Result<(), NoMemory> {
     if failed.is_empty() && matches!(outcome, Outcome::Done(_)) {
         return Ok(());
     }
     append_numbered(text, b"job ", job)?;
-    append_outcome(text, failed.len(), outcome, history)?;
+    match coded {
+        Some(coded) => append_coded(text, failed.len(), coded, words)?,
+        None => append_outcome(text, failed.len(), outcome, history)?,
+    }
     for (index, failed) in failed.iter().enumerate() {
         append_numbered(text, b"; try ", index.saturating_add(1))?;
         append_end(text, failed.tid, known, history)?;
@@ -208,7 +255,20 @@ fn append_job<N>(
     Ok(())
 }
 
-// Appends how the job ended, after so many failed tries.
+// Appends the code with which the job aborted, after so many failed tries.
+fn append_coded(
+    text: &mut Vec<u8>,
+    failed: usize,
+    coded: Coded,
+    words: &Words,
+) -> Result<(), NoMemory> {
+    text.extend_from_slice(b": aborted with ")?;
+    append_code(text, words, coded.procedure, coded.code)?;
+    append_numbered(text, b" at try ", failed.saturating_add(1))?;
+    Ok(())
+}
+
+// Appends how the job ended in another way, after so many failed tries.
 fn append_outcome<N>(
     text: &mut Vec<u8>,
     failed: usize,
@@ -221,10 +281,6 @@ fn append_outcome<N>(
             b": committed at try ",
             failed.saturating_add(1),
         )?,
-        Outcome::Asked(number) => {
-            append_numbered(text, b": aborted with code ", code_at(history, *number))?;
-            append_numbered(text, b" at try ", failed.saturating_add(1))?;
-        }
         Outcome::Gave(_) => append_numbered(text, b": given up at try ", failed)?,
         Outcome::Refused(number) => {
             text.extend_from_slice(b": refused: ")?;

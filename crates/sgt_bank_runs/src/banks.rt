@@ -5,7 +5,7 @@ use sgt_access::{Accesses, PerKey};
 use sgt_bank::{bank_of, read_input, report_text};
 use sgt_format::{Opening, append_numbered, append_reply};
 use sgt_graph::{BitGraph, Graph};
-use sgt_input::Reader;
+use sgt_input::{DEFAULT_BYTES, Reader};
 use sgt_log::History;
 use sgt_model::{Event, Key, Request, Tid};
 use sgt_records::{Records, SlabRecords};
@@ -47,7 +47,7 @@ pub fn run_input_bank<W: Print + Input + Threads + Wait + Sync>(
     gates: &Gates,
 ) -> io::Result<()> {
     let mut reader = Reader::new(rt.reader());
-    match read_input(alloc, &mut reader, pool.workers) {
+    match read_input(alloc, &mut reader, pool.workers, DEFAULT_BYTES) {
         Ok((opening, jobs)) => print_bank(rt, alloc, opening, jobs.as_slice(), pool, gates),
         Err(_) => Err(io::Error::from(ErrorKind::InvalidInput)),
     }

@@ -21,7 +21,7 @@ use Rattle.sgt_model.specs.ReadFrom.{IsBy}
 use Rattle.sgt_model.specs.ShortReplies.{fell_in}
 use Rattle.sgt_model.specs.Paths.{Member}
 use Rattle.sgt_explain.specs.Places.{placed_access}
-use Rattle.sgt_explain.specs.Indexes.{IsNamedIn, IsUntouched, IsIndex}
+use Rattle.sgt_explain.specs.Indexes.{HasPart, part_at, part_in, IsUntouched, IsIndex}
 use Rattle.sgt_explain.proofs.Endings.{by_abort, ends_no_other}
 
 -- one entry
@@ -34,13 +34,18 @@ access_named (Commit u) k kind v t by = absurd by
 access_named (Quit u) k kind v t by = absurd by
 
 -- an access is by the transaction that its event names
-pub by_named : (event : Event) (r : Reply) (t : ℕ) → IsBy (access_in event r) t → named_by event ≡ Some t
+by_named : (event : Event) (r : Reply) (t : ℕ) → IsBy (access_in event r) t → named_by event ≡ Some t
 by_named event (reply.Looked k v) t by = access_named event k _ v t by
 by_named event (reply.Wrote k v) t by = access_named event k _ v t by
 by_named event _ t by = absurd by
 
-pub by_is_named : (e : Entry) (a : Access) → Some a ≡ access_of e → named_by e.event ≡ Some a.by
-by_is_named e a is = by_named e.event e.reply a.by (subst (λ o. IsBy o a.by) is refl)
+by_part : (event : Event) (r : Reply) (t : ℕ) → IsBy (access_in event r) t → part_at event r ≡ Some t
+by_part event (reply.Looked k v) t by = by_named event (reply.Looked k v) t by
+by_part event (reply.Wrote k v) t by = by_named event (reply.Wrote k v) t by
+by_part event _ t by = absurd by
+
+pub by_is_part : (e : Entry) (a : Access) → Some a ≡ access_of e → part_in e ≡ Some a.by
+by_is_part e a is = by_part e.event e.reply a.by (subst (λ o. IsBy o a.by) is refl)
 
 -- the one by which an access is
 pub by_is : (e : Entry) (a : Access) (t : ℕ) → Some a ≡ access_of e → IsBy (access_of e) t → a.by ≡ t
@@ -53,22 +58,29 @@ no_fate : (o : Option Fate) → None ≡ by_abort o → o ≡ None
 no_fate None h = refl
 no_fate (Some f) h = absurd (cc)
 
--- what an entry does not name has no part in it
-unnamed : (e : Entry) (t : ℕ) → (IsNamedIn e t → ⊥) → (IsBy (access_of e) t → ⊥) × (ending_in e.event e.reply t ≡ None)
-unnamed e t other = (
-  λ by. other (inl (by_named e.event e.reply t by)),
-  no_fate _ (ends_no_other e.event e.reply t (λ named. other (inl named)) (λ fell. other (inr fell))),
+ends_no_part : (event : Event) (r : Reply) (t : ℕ) → (part_at event r ≡ Some t → ⊥) → (Member t (fell_in r) → ⊥)
+    → None ≡ by_abort (ending_in event r t)
+ends_no_part event (reply.Committed answers) t other out = ends_no_other event (reply.Committed answers) t other out
+ends_no_part event (reply.Aborted why fell) t other out = ends_no_other event (reply.Aborted why fell) t other out
+ends_no_part event (reply.Refused code fell) t other out = ends_no_other event (reply.Refused code fell) t other out
+ends_no_part event _ t other out = refl
+
+-- an entry without a part in a transaction is neither an access nor an end of it
+without_part : (e : Entry) (t : ℕ) → (HasPart e t → ⊥) → (IsBy (access_of e) t → ⊥) × (ending_in e.event e.reply t ≡ None)
+without_part e t other = (
+  λ by. other (inl (by_part e.event e.reply t by)),
+  no_fate _ (ends_no_part e.event e.reply t (λ part. other (inl part)) (λ fell. other (inr fell))),
 )
 
 pub is_by_cases : (o : Option Access) (t : ℕ) → IsBy o t ⊎ (IsBy o t → ⊥)
 is_by_cases None t = inr (λ by. by)
 is_by_cases (Some a) t = cases_eq a.by t
 
--- whom an entry names is covered, if it is both as the one of its event and as one that it aborts in cascade
-pub names_covered : {T E : Type 0} (r : Result T E) (e : Entry) (few many : ℕ) → few ≤ many
-    → ((u : ℕ) → named_by e.event ≡ Some u → u < few) → OnOk r ((u : ℕ) → Member u (fell_in e.reply) → u < many)
-    → OnOk r ((u : ℕ) → IsNamedIn e u → u < many)
-names_covered r e few many more named = on_ok_weaker r (λ fell u is. elim is [
+-- whoever has a part in an entry is covered, if it is both as the one of its event and as one that it aborts in cascade
+pub parts_covered : {T E : Type 0} (r : Result T E) (e : Entry) (few many : ℕ) → few ≤ many
+    → ((u : ℕ) → part_in e ≡ Some u → u < few) → OnOk r ((u : ℕ) → Member u (fell_in e.reply) → u < many)
+    → OnOk r ((u : ℕ) → HasPart e u → u < many)
+parts_covered r e few many more named = on_ok_weaker r (λ fell u is. elim is [
   | inl one ↦ let below = named u one in omega (arith, below, more)
   | inr other ↦ fell u other
 ])
@@ -146,7 +158,7 @@ index_same entries firsts ends links firsts' ends' count is index same_first sam
 
 -- one entry more, whose transactions have their place in the lists
 module _ (entries : List Entry) (e : Entry) (firsts ends ends' links : List ℕ) (link : ℕ) (index : IsIndex entries firsts ends links)
-    (named : (u : ℕ) → IsNamedIn e u → u < length firsts) (link_within : link ≤ length entries)
+    (named : (u : ℕ) → HasPart e u → u < length firsts) (link_within : link ≤ length entries)
     (link_is : (t : ℕ) → IsBy (access_of e) t → link ≡ get_or ends t 0)
     (at : (t : ℕ) → IsBy (access_of e) t → get_or ends' t 0 ≡ length entries + 1)
     (others : (t : ℕ) → (IsBy (access_of e) t → ⊥) → get_or ends' t 0 ≡ get_or ends t 0) where
@@ -163,10 +175,10 @@ module _ (entries : List Entry) (e : Entry) (firsts ends ends' links : List ℕ)
         subst (λ o. option_and_then (λ (x : Entry). ending_in x.event x.reply t) o ≡ None) same none.1,
       )
 
-  untouched_new : (t place : ℕ) → place ≡ length entries → (IsNamedIn e t → ⊥) → IsUntouched more t place
+  untouched_new : (t place : ℕ) → place ≡ length entries → (HasPart e t → ⊥) → IsUntouched more t place
   untouched_new t place here other =
       let is = sym (ap (slice_get more) here ∙ slice_new entries e) in
-      let none = unnamed e t other in (
+      let none = without_part e t other in (
         subst (λ o. IsBy (option_and_then access_of o) t → ⊥) is none.0,
         subst (λ o. option_and_then (λ (x : Entry). ending_in x.event x.reply t) o ≡ None) is none.1,
       )

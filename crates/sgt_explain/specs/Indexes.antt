@@ -1,18 +1,30 @@
 -- The index of a history: numbers that bound where a transaction's entries are.
-use Rattle.std.specs.Prelude.{◌≡◌, ◌⊎◌, ◌≤◌, ◌<◌, ℕ, List, Option, Some, None, length, get_or, slice_get}
+use Rattle.std.specs.Prelude.{◌≡◌, ◌⊎◌, ◌≤◌, ◌<◌, ℕ, cond, List, Option, Some, None, length, get_or, slice_get}
 use Rattle.std.specs.Option.{option_and_then}
+use Rattle.sgt_model.specs.declared.event.Event.{Event}
+use Rattle.sgt_model.specs.declared.reply.Reply.{Reply}
 use Rattle.sgt_model.specs.declared.entry.Entry.{Entry}
 use Rattle.sgt_model.specs.declared.reply.Fate.{Fate}
 use Rattle.sgt_model.specs.Fates.{ending_in}
-use Rattle.sgt_model.specs.Questions.{named_by}
+use Rattle.sgt_model.specs.Questions.{named_by, is_ending}
 use Rattle.sgt_model.specs.ReadFrom.{IsBy}
 use Rattle.sgt_model.specs.ShortReplies.{fell_in}
 use Rattle.sgt_model.specs.Paths.{Member}
+use Rattle.sgt_log.specs.EntryParts.{is_access}
 use Rattle.sgt_explain.specs.Places.{placed_access}
 
--- an entry names a transaction by its event, or as one that it aborts in cascade
-abbrev pub IsNamedIn : Entry → ℕ → Type 0
-IsNamedIn e t = (named_by e.event ≡ Some t) ⊎ Member t (fell_in e.reply)
+-- the transaction that an event names, if this reply makes it an access or an end of it. A refused event may name any
+-- number
+abbrev pub part_at : Event → Reply → Option ℕ
+part_at event r = cond (is_access r) (named_by event) (cond (is_ending r) (named_by event) None)
+
+-- the transaction of which an entry is an access or its own end
+abbrev pub part_in : Entry → Option ℕ
+part_in e = part_at e.event e.reply
+
+-- an entry has a part in a transaction: it is its access or its end, or it aborts it in cascade
+abbrev pub HasPart : Entry → ℕ → Type 0
+HasPart e t = (part_in e ≡ Some t) ⊎ Member t (fell_in e.reply)
 
 -- how the entry at this position ends t, if it does
 abbrev pub placed_ending : List Entry → (t place : ℕ) → Option Fate

@@ -1,5 +1,5 @@
 -- Why an event is refused.
-use Rattle.std.specs.Prelude.{◌≡◌, ◌≢◌, ℕ, ℤ, List, length, Option, Some, slice_get}
+use Rattle.std.specs.Prelude.{⊤, ◌≡◌, ◌≢◌, ℕ, ℤ, List, length, Option, Some, slice_get}
 use Rattle.sgt_model.specs.Numbers.{IsValue}
 use Rattle.sgt_model.specs.declared.event.Event.{Event}
 use Rattle.sgt_model.specs.declared.event.Event.TheVariants as event
@@ -38,6 +38,11 @@ abbrev pub WritesValue : Event → ℤ → Type 0
 WritesValue (event.Access t requested) v = IsWriteOf requested v
 WritesValue _ v = ⊥
 
+-- the reply says that the transaction has ended
+abbrev pub SaysOver : Reply → Type 0
+SaysOver (reply.Over fate) = ⊤
+SaysOver _ = ⊥
+
 -- the reason fits an event that got this reply
 abbrev pub IsRefusal : Event → Reply → Option ℕ → Refusal → Type 0
 IsRefusal e r takes (refusal.NoProcedure p) = (r ≡ reply.NoProcedure) × Starts e p
@@ -45,4 +50,6 @@ IsRefusal e r takes (refusal.Value v) = (r ≡ reply.BadArgs) × WritesValue e v
 IsRefusal e r takes refusal.Spent = r ≡ reply.Spent
 IsRefusal e r takes refusal.Full = r ≡ reply.Full
 IsRefusal e r takes (refusal.Unknown t) = (r ≡ reply.Unknown) × (named_by e ≡ Some t)
+IsRefusal e r takes (refusal.Over t) = SaysOver r × (named_by e ≡ Some t)
+IsRefusal e r takes (refusal.NotEnded t) = (r ≡ reply.NotEnded) × (named_by e ≡ Some t)
 IsRefusal e r takes bad = (r ≡ reply.BadArgs) × CallsBadly e takes bad

@@ -2,16 +2,15 @@
 ghost use Rattle.std.specs.Prelude.{◌≡◌, ◌≤◌, ◌<◌, ℕ, Some, length, get_or, OnOk};
 ghost use Rattle.sgt_model.specs.ReadFrom.{IsBy};
 ghost use Rattle.sgt_model.specs.Accesses.{access_of};
-ghost use Rattle.sgt_model.specs.Questions.{named_by};
 ghost use Rattle.sgt_model.specs.Paths.{Member};
-ghost use Rattle.sgt_explain.specs.Indexes.{IsNamedIn};
+ghost use Rattle.sgt_explain.specs.Indexes.{HasPart, part_in};
 
 use crate::made::made_in;
 use sgt_log::EntryRef;
 use sgt_model::{NoMemory, Tid};
 
-/// Makes both lists long enough for the transactions that an entry names. What they say of any transaction stays: in the
-/// first list one that is missing has the number of entries, in the second it has 0.
+/// Makes both lists long enough for the transactions in which an entry has a part. What they say of any transaction
+/// stays: in the first list one that is missing has the number of entries, in the second it has 0.
 ///
 /// `NoMemory` if an allocation failed.
 pub(crate) fn cover_entry(
@@ -22,14 +21,25 @@ pub(crate) fn cover_entry(
 ) -> Result<(), NoMemory>
     ensures firsts { (u : ℕ) → get_or firsts.new.items u len ≡ get_or firsts.old.items u len }
     ensures ends { (u : ℕ) → get_or ends.new.items u 0 ≡ get_or ends.old.items u 0 }
-    ensures named { OnOk result ((u : ℕ) → IsNamedIn entry.now u → u < length firsts.new.items) }
-    ensures by { OnOk result ((u : ℕ) → named_by entry.now.event ≡ Some u → u < length ends.new.items) }
+    ensures part { OnOk result ((u : ℕ) → HasPart entry.now u → u < length firsts.new.items) }
+    ensures by { OnOk result ((u : ℕ) → part_in entry.now ≡ Some u → u < length ends.new.items) }
 {
-    if let Some(t) = entry.named() {
+    if let Some(t) = part_of(entry) {
         cover(firsts, t, len)?;
         cover(ends, t, 0)?;
     }
     cover_all(firsts, entry.fell(), len)
+}
+
+/// The transaction of which an entry is an access or its own end. A refused event may name any number, and has no part.
+fn part_of(entry: &EntryRef<'_>) -> Option<Tid>
+    ensures { result ≡ part_in entry.now }
+{
+    if entry.is_access() || entry.is_ending() {
+        entry.named()
+    } else {
+        None
+    }
 }
 
 /// Makes a list long enough for a transaction: it appends this number.
@@ -73,9 +83,9 @@ pub(crate) fn last_end(ends: &[usize], entry: &EntryRef<'_>) -> usize
 }
 
 /// Records that the accesses of the transaction whose access the entry is now end at this position.
-#[tactic(auto, using(crate::proofs::IndexSteps::by_is_named, crate::proofs::IndexSteps::by_is, crate::proofs::IndexSteps::by_none))]
+#[tactic(auto, using(crate::proofs::IndexSteps::by_is_part, crate::proofs::IndexSteps::by_is, crate::proofs::IndexSteps::by_none))]
 pub(crate) fn move_end(ends: &mut Vec<usize>, entry: &EntryRef<'_>, end: usize)
-    requires { (u : ℕ) → named_by entry.now.event ≡ Some u → u < length ends.old.items }
+    requires { (u : ℕ) → part_in entry.now ≡ Some u → u < length ends.old.items }
     ensures at { (t : ℕ) → IsBy (access_of entry.now) t → get_or ends.new.items t 0 ≡ end }
     ensures others { (t : ℕ) → (IsBy (access_of entry.now) t → ⊥) → get_or ends.new.items t 0 ≡ get_or ends.old.items t 0 }
 {

@@ -1,6 +1,6 @@
 //! Explains aborts from a history. For an abort by a cycle it finds the accesses that make each edge of the cycle.
 //! For a cascading abort it finds the read from a transaction that was aborted. [`refusal_of`] says why an event was
-//! refused, and [`append_refusal`] writes that.
+//! refused, and [`append_refusal`] writes that. [`append_code_abort`] writes that a procedure aborted with a code, and what [`Words`] says of it.
 //!
 //! The reply of an abort names a cycle and the transactions that are aborted in cascade. This crate searches the
 //! history for the accesses that caused it. It names each by its position: the number of entries before it.
@@ -31,6 +31,7 @@
 #![tactic(auto)]
 
 mod bounds;
+mod code;
 mod edge;
 mod explanation;
 mod indexed_history;
@@ -41,8 +42,10 @@ mod requested;
 mod search;
 mod source;
 mod text;
+mod words;
 mod writers;
 
+pub use code::{append_code, append_code_abort, append_code_of};
 pub use edge::{Earlier, Edge, cycle_edge};
 pub use explanation::{Pending, append_explanation};
 pub use indexed_history::IndexedHistory;
@@ -51,3 +54,4 @@ pub use refusal::{Refusal, append_refusal, refusal_of};
 pub use requested::requested_at;
 pub use source::{Source, fall_source};
 pub use text::{append_edge, append_source};
+pub use words::Words;

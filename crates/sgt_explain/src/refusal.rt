@@ -26,6 +26,10 @@ pub enum Refusal {
     Full,
     /// No transaction was started with this number.
     Unknown(Tid),
+    /// This transaction has ended.
+    Over(Tid),
+    /// The procedure of this transaction has not ended.
+    NotEnded(Tid),
 }
 
 /// Why the event is refused, if this reply refuses it. How many arguments its procedure takes, if that is known.
@@ -44,11 +48,12 @@ pub fn refusal_of(event: &Event, reply: &Reply, takes: Option<u8>) -> Option<Ref
         }
         (Reply::Spent, _) => Some(Refusal::Spent),
         (Reply::Full, _) => Some(Refusal::Full),
-        (
-            Reply::Unknown,
-            Event::Step(t) | Event::Access(t, _) | Event::Commit(t) | Event::Quit(t),
-        ) => { Some(Refusal::Unknown(*t)) }
-        _ => None,
+        _ => match (reply, event.named()) {
+            (Reply::Unknown, Some(t)) => Some(Refusal::Unknown(t)),
+            (Reply::Over(_), Some(t)) => Some(Refusal::Over(t)),
+            (Reply::NotEnded, Some(t)) => Some(Refusal::NotEnded(t)),
+            _ => None,
+        },
     }
 }
 
@@ -117,6 +122,14 @@ fn append_words(text: &mut Vec<u8>, refusal: &Refusal) -> Result<(), AllocError>
             b"no transaction has started with the number ",
             t.0,
         ),
+        Refusal::Over(t) => {
+            append_number(text, b"transaction ", t.0)?;
+            text.extend_from_slice(b" has ended")
+        }
+        Refusal::NotEnded(t) => {
+            append_number(text, b"the procedure of ", t.0)?;
+            text.extend_from_slice(b" has not ended: it has another step")
+        }
     }
 }
 
@@ -150,7 +163,7 @@ fn append_out_of_range(text: &mut Vec<u8>, words: &[u8], number: i64) -> Result<
 }
 
 /// The names of SmallBank's procedures, by number.
-const NAMES: [&str; 5] = [
+pub(crate) const NAMES: [&str; 5] = [
     "Balance",
     "DepositChecking",
     "TransactSaving",
@@ -159,7 +172,7 @@ const NAMES: [&str; 5] = [
 ];
 
 // Appends the name of the procedure, or its number if it has no name.
-fn append_name(text: &mut Vec<u8>, procedure: u16) -> Result<(), AllocError> {
+pub(crate) fn append_name(text: &mut Vec<u8>, procedure: u16) -> Result<(), AllocError> {
     match NAMES.get(usize::from(procedure)) {
         Some(name) => text.extend_from_slice(name.as_bytes()),
         None => append_number(text, b"procedure ", procedure),

@@ -15,17 +15,17 @@ pub record Intake : Type 0 where
   pub within : ℕ
   pub ended : Bool
 
--- the state before the first byte
-abbrev pub before_input : Intake
-before_input = record { line = []; number = 0; held = []; within = 16777216; ended = false }
+-- the state before the first byte of an input with this limit
+abbrev pub before_input : ℕ → Intake
+before_input most = record { line = []; number = 0; held = []; within = most; ended = false }
 
 -- whether a whole line within the input's limit is held
 abbrev pub has_whole_line : Intake → Bool
 has_whole_line i = has_break (take i.within i.held)
 
--- how many bytes were read
+-- how many bytes were read, counted from what any limit leaves of 4,294,967,296: only differences of it count
 abbrev pub come : Intake → ℕ
-come i = (16777216 - i.within) + length i.held
+come i = (4294967296 - i.within) + length i.held
 
 -- the bytes of lines not returned yet, if they are known: those held, and those that the source has still to give
 abbrev pub bytes_left : Intake → Option (List ℕ) → Option (List ℕ)
@@ -56,7 +56,7 @@ work i = (i.within + 1 - length i.held) + (if i.ended then 0 else 1)
 -- the invariant between two calls: lines and bytes are counted; at most one byte past the limit was read; it is known how many
 -- bytes held are whole lines; and after the end of the source there is at most one last line
 pub record AtRest (number within : ℕ) (ended : Bool) (held : List ℕ) (whole : ℕ) : Type 0 where
-  pub counts : number + within ≤ 16777216
+  pub counts : number + within ≤ 4294967296
   pub few : length held ≤ within + 1
   pub are : AreWhole (take within held) whole
   pub last : IsTrue ended → (whole ≡ 0) × (length held ≤ within) × (length held ≤ 65536)

@@ -81,7 +81,3 @@ cut_within most text = record {
   given = before_long (counted most text);
   ending = ending_of (nat_le (length text) most) (counted most text);
 }
-
--- the lines of an input, whose limit is 16,777,216 bytes
-abbrev pub cut : List ℕ → Cut
-cut = cut_within 16777216

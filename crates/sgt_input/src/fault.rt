@@ -28,7 +28,7 @@ pub enum Fault {
     ProcFlaw(u64, Flaw),
     /// The line has more than 65,536 bytes before its newline.
     LongLine(u64),
-    /// The input is longer than 16,777,216 bytes.
+    /// The input is longer than its limit.
     TooLong,
     /// There are more than 1,000,000 jobs.
     TooManyJobs,

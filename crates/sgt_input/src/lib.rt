@@ -12,7 +12,7 @@
 //!
 //! ```
 //! let mut source = Reader::new(rt.reader());
-//! let mut lines = Lines::new(alloc)?;
+//! let mut lines = Lines::new(alloc, DEFAULT_BYTES)?;
 //! while lines.next_line(&mut source)? {
 //!     write_all(&mut sink, lines.line())?;
 //! }
@@ -31,7 +31,7 @@ mod source;
 
 pub use fault::Fault;
 pub use line_fault::at_line;
-pub use lines::Lines;
+pub use lines::{DEFAULT_BYTES, Lines, MOST_BYTES};
 pub use opening::opening_of;
 pub use records::read_records;
 pub use shape_error::ShapeError;

@@ -17,8 +17,11 @@ use std::simd::prelude::*;
 /// The most bytes that a line may have, without its newline.
 const LONGEST_LINE: usize = 65_536;
 
-/// The most bytes that an input may have.
-const LONGEST_INPUT: usize = 16_777_216;
+/// The most bytes that any limit lets an input have.
+pub const MOST_BYTES: usize = 4_294_967_296;
+
+/// The most bytes that an input may have where no other limit is given.
+pub const DEFAULT_BYTES: usize = 16_777_216;
 
 /// How many bytes [`Lines::window`] returns.
 const WINDOW: usize = 64;
@@ -97,18 +100,19 @@ impl Model for Lines {
 }
 
 impl Lines {
-    /// The state before the first byte.
+    /// The state before the first byte of an input that may have so many bytes, at most `MOST_BYTES`.
     ///
     /// # Errors
     ///
     /// `NoMemory` if the buffer cannot be allocated.
-    pub fn new(alloc: Global) -> Result<Self, NoMemory>
-        ensures { IfOk result (λ l. l ≡ before_input) }
+    pub fn new(alloc: Global, most: usize) -> Result<Self, NoMemory>
+        requires { most ≤ 4294967296 }
+        ensures { IfOk result (λ l. l ≡ before_input most) }
     {
         Ok(Lines {
             buffer: Buffer::new(alloc)?,
             whole: 0,
-            within: LONGEST_INPUT,
+            within: most,
             number: 0,
             ended: false,
         })
@@ -126,6 +130,13 @@ impl Lines {
         ensures { result ≡ self.now.number }
     {
         self.number
+    }
+
+    /// How many bytes the lines that are not returned yet may have: the limit, less the bytes of those returned.
+    pub fn left(&self) -> usize
+        ensures { result ≡ self.now.within }
+    {
+        self.within
     }
 
     /// Whether the whole next line has already been read, so that `next_line` does not read.
@@ -167,7 +178,7 @@ impl Lines {
         ensures going { result ≡ Err Fault.Reading → self.new.ended ≡ false }
         ensures ended { self.new.ended ≡ false → self.old.ended ≡ false }
         ensures come { S.given source.new + come self.old ≤ S.given source.old + come self.new }
-        ensures few { come self.new ≤ 16777217 }
+        ensures few { come self.new ≤ 4294967297 }
         ensures untouched { IsReady self.old → source.new ≡ source.old }
         ensures well { result ≢ Err Fault.Reading →
             S.failures source.new ≡ S.failures source.old }
@@ -192,7 +203,7 @@ impl Lines {
         ensures bytes { Keeps
             (bytes_left self.old (S.rest source.old)) (bytes_left self.new (S.rest source.new)) }
         ensures come { S.given source.new + come self.old ≤ S.given source.old + come self.new }
-        ensures few { come self.new ≤ 16777217 }
+        ensures few { come self.new ≤ 4294967297 }
         ensures nearer { OnOk result (work self.new < work self.old) }
         ensures no_line { OnErr result (whole_lines self.new.held ≡ []) }
         ensures going { OnErr result (self.new.ended ≡ false) }
@@ -228,7 +239,7 @@ impl Lines {
         ensures no_line { result ≡ Err Fault.Reading → whole_lines self.new.held ≡ [] }
         ensures going { result ≡ Err Fault.Reading → self.new.ended ≡ false }
         ensures ended { self.new.ended ≡ false → self.old.ended ≡ false }
-        ensures few { come self.new ≤ 16777217 }
+        ensures few { come self.new ≤ 4294967297 }
         ensures untouched { IsReady self.old → source.new ≡ source.old }
         ensures well { result ≢ Err Fault.Reading →
             S.failures source.new ≡ S.failures source.old }
@@ -288,7 +299,7 @@ impl Lines {
         ensures err { OnErr result (self.new ≡ self.old) }
         ensures nearer { IfOk result (λ more. IsTrue more → self.new.within < self.old.within) }
         ensures ended { self.new.ended ≡ self.old.ended }
-        ensures limit { self.old.within ≤ 16777216 }
+        ensures limit { self.old.within ≤ 4294967296 }
         ensures few { length self.new.held ≤ self.new.within + 1 }
     {
         match self.first_break() {
@@ -324,7 +335,7 @@ impl Lines {
             (self.new ≡ self.old) × (self.old.held ≡ []) × (self.old.ended ≡ true) }
         ensures nearer { IsTrue result → self.new.within < self.old.within }
         ensures ended { self.new.ended ≡ self.old.ended }
-        ensures limit { self.old.within ≤ 16777216 }
+        ensures limit { self.old.within ≤ 4294967296 }
         ensures few { length self.new.held ≤ self.new.within + 1 }
     {
         let len = self.buffer.held().len();
@@ -357,7 +368,7 @@ impl Lines {
         ensures given { IsGiven self.old self.new }
         ensures line { self.new.line ≡ take len self.old.held }
         ensures nearer { self.new.within < self.old.within }
-        ensures limit { self.old.within ≤ 16777216 }
+        ensures limit { self.old.within ≤ 4294967296 }
         ensures few { length self.new.held ≤ self.new.within + 1 }
     {
         self.buffer.take(len, 1);

@@ -33,7 +33,7 @@ fn record_ahead<S: Source>(
     ensures unread { result ≡ Err Fault.Reading →
         NoLineCame lines.old (S.rest source.old) lines.new (S.rest source.new) }
     ensures come { S.given source.new + come lines.old ≤ S.given source.old + come lines.new }
-    ensures few { come lines.new ≤ 16777217 }
+    ensures few { come lines.new ≤ 4294967297 }
     ensures own { IfErr result (λ f. ¬ IsOfInput f) }
     ensures writing { result ≢ Err Fault.Writing }
     ensures well { result ≢ Err Fault.Reading → S.failures source.new ≡ S.failures source.old }
@@ -75,7 +75,7 @@ fn next_record<S: Source>(
     ensures unread { result ≡ Err Fault.Reading →
         NoLineCame lines.old (S.rest source.old) lines.new (S.rest source.new) }
     ensures come { S.given source.new + come lines.old ≤ S.given source.old + come lines.new }
-    ensures few { come lines.new ≤ 16777217 }
+    ensures few { come lines.new ≤ 4294967297 }
     ensures own { IfErr result (λ f. IsOfInput f →
         cut_left lines.old (S.rest source.old) ≡ None) }
     ensures writing { result ≢ Err Fault.Writing }
@@ -126,7 +126,7 @@ pub fn read_records<S: Source>(
     opening: Opening,
 ) -> Result<Opening, Fault>
     requires countable { S.failures source.old + 1 < 2 ^ 64 }
-    requires few { come lines.old ≤ 16777217 }
+    requires few { come lines.old ≤ 4294967297 }
     ensures limits { IfOk result (λ o. o.limits ≡ opening.limits) }
     ensures procedures { IfOk result (λ o. o.procedures ≡ opening.procedures) }
     ensures filled { IfOk result (λ o. Leaves
@@ -141,7 +141,7 @@ pub fn read_records<S: Source>(
         × ReadsRecords (bytes_left lines.old (S.rest source.old)) (S.rest source.new) }
     ensures ended { lines.new.ended ≡ false → lines.old.ended ≡ false }
     ensures come { S.given source.new + come lines.old ≤ S.given source.old + come lines.new }
-    ensures few { come lines.new ≤ 16777217 }
+    ensures few { come lines.new ≤ 4294967297 }
     ensures writing { result ≢ Err Fault.Writing }
     ensures well { result ≢ Err Fault.Reading → S.failures source.new ≡ S.failures source.old }
     ensures failed { result ≡ Err Fault.Reading →

@@ -17,7 +17,7 @@ use Rattle.sgt_format.specs.declared.script_line.ScriptLine.{ScriptLine}
 use Rattle.sgt_assembly.specs.Openings.{opened_configuration}
 use Rattle.sgt_input.specs.declared.fault.Fault.{Fault}
 use Rattle.sgt_input.specs.declared.fault.Fault.TheVariants as fault
-use Rattle.sgt_input.specs.Lines.{Cut, cut, has_break}
+use Rattle.sgt_input.specs.Lines.{Cut, cut_within, has_break}
 use Rattle.sgt_input.specs.Intake.{Intake, bytes_left, cut_left, taken}
 use Rattle.sgt_script.specs.Opened.{HasOpened}
 use Rattle.sgt_input.specs.Records.{Passes, ReadsRecords}
@@ -371,16 +371,16 @@ fails-last w s n (Some c) q gathered held held' held'' (all, present) is part = 
 -- from the first line
 
 -- a whole run after an opening is one of the script
-of-script : (w : Output) (s : Configuration) (bytes line : List ℕ) (n : ℕ) (c : Cut) (o : Opening) (answered : List Answer) (out : List ℕ)
-    → HaveBegun 1 bytes line o n c → s ≡ opened_configuration o → Begins (LineRuns w s n c) answered out
-    → Begins (ScriptRuns w bytes) answered out
-of-script w s bytes line n c o answered out opened is begun = record {
+of-script : (w : Output) (most : ℕ) (s : Configuration) (bytes line : List ℕ) (n : ℕ) (c : Cut) (o : Opening) (answered : List Answer) (out : List ℕ)
+    → HaveBegun 1 most bytes line o n c → s ≡ opened_configuration o → Begins (LineRuns w s n c) answered out
+    → Begins (ScriptRuns w most bytes) answered out
+of-script w most s bytes line n c o answered out opened is begun = record {
   run = begun.run;
   newer = begun.newer;
   begins = begun.begins;
   rest = begun.rest;
   end = begun.end;
-  whole = subst (λ (ls : List (List ℕ)). ScriptOf w ls (cut bytes).ending (Some begun.run) (out ++ begun.rest) begun.end) (sym opened.given)
+  whole = subst (λ (ls : List (List ℕ)). ScriptOf w ls (cut_within most bytes).ending (Some begun.run) (out ++ begun.rest) begun.end) (sym opened.given)
       (record {
         opening = o;
         opens = opened.opens;
@@ -399,10 +399,10 @@ pub no-answers : (w : Output) (answers : List Answer) → w ≡ Records → answ
 no-answers w answers is = subst (λ (mode : Output). answers_text mode answers ≡ []) (sym is) (answers-unwritten answers)
 
 -- before an opening nothing is written
-pub stops-nothing : (w : Output) (rest to held : Option (List ℕ)) (end : End) → (end ≡ Err fault.Reading → AnswersScriptRead rest to [])
-    → IsStopped w rest to held held end
-stops-nothing w None to held end read = tt
-stops-nothing w (Some bytes) to held end read = record {
+pub stops-nothing : (w : Output) (most : ℕ) (rest to held : Option (List ℕ)) (end : End) → (end ≡ Err fault.Reading → AnswersScriptRead rest to [])
+    → IsStopped w most rest to held held end
+stops-nothing w most None to held end read = tt
+stops-nothing w most (Some bytes) to held end read = record {
   answered = [];
   appends = appends-none held;
   begins = inl refl;
@@ -411,42 +411,42 @@ stops-nothing w (Some bytes) to held end read = record {
 }
 
 -- nor after a failed read or a failed allocation after line 1
-pub stops-records : (w : Output) (input : Option (List ℕ)) (i : Intake) (rest to held : Option (List ℕ)) (o : Opening) (end : End)
-    → HasOpened 1 input i rest o → (end ≡ Err fault.Reading → (i.ended ≡ false) × ReadsRecords (bytes_left i rest) to)
-    → IsStopped w input to held held end
-stops-records w None i rest to held o end opened read = tt
-stops-records w (Some bytes) i rest to held o end opened read = record {
+pub stops-records : (w : Output) (most : ℕ) (input : Option (List ℕ)) (i : Intake) (rest to held : Option (List ℕ)) (o : Opening) (end : End)
+    → HasOpened 1 most input i rest o → (end ≡ Err fault.Reading → (i.ended ≡ false) × ReadsRecords (bytes_left i rest) to)
+    → IsStopped w most input to held held end
+stops-records w most None i rest to held o end opened read = tt
+stops-records w most (Some bytes) i rest to held o end opened read = record {
   answered = [];
   appends = appends-none held;
   begins = inl refl;
-  read = λ reading. read-opened i bytes rest to o [] opened (read reading).0 (only-records (bytes_left i rest) to (read reading).1);
+  read = λ reading. read-opened most i bytes rest to o [] opened (read reading).0 (only-records (bytes_left i rest) to (read reading).1);
   nothing = λ is. appends-none held;
 }
 
 -- after an opening
-pub stops-opened : (w : Output) (i k : Intake) (s : Configuration) (input rest rest' to old new : Option (List ℕ)) (known : Option Cut)
-    (first o : Opening) (end : End) → HasOpened 1 input i rest first → Begun 1 input i.line o (k.number + 1) known
+pub stops-opened : (w : Output) (most : ℕ) (i k : Intake) (s : Configuration) (input rest rest' to old new : Option (List ℕ)) (known : Option Cut)
+    (first o : Opening) (end : End) → HasOpened 1 most input i rest first → Begun 1 most input i.line o (k.number + 1) known
     → s ≡ opened_configuration o
     → (k.ended ≡ false → (i.ended ≡ false) × Passes i.number (bytes_left i rest) k.number (bytes_left k rest'))
     → (end ≡ Err fault.Reading → k.ended ≡ false) → Stops w s (k.number + 1) known (bytes_left k rest') to old new end
-    → IsStopped w input to old new end
-stops-opened w i k s None rest rest' to old new known first o end opened begun is passes going stops = tt
-stops-opened w i k s (Some bytes) rest rest' to old new None first o end opened begun is passes going stops = absurd begun
-stops-opened w i k s (Some bytes) rest rest' to old new (Some c) first o end opened begun is passes going
+    → IsStopped w most input to old new end
+stops-opened w most i k s None rest rest' to old new known first o end opened begun is passes going stops = tt
+stops-opened w most i k s (Some bytes) rest rest' to old new None first o end opened begun is passes going stops = absurd begun
+stops-opened w most i k s (Some bytes) rest rest' to old new (Some c) first o end opened begun is passes going
     (answered, wrote, begins, read) = record {
       answered = answered;
       appends = wrote;
-      begins = inr (of-script w s bytes i.line (k.number + 1) c o answered (answers_text w answered) begun is begins);
+      begins = inr (of-script w most s bytes i.line (k.number + 1) c o answered (answers_text w answered) begun is begins);
       read = λ reading.
           let still = passes (going reading) in
-          read-opened i bytes rest to first answered opened still.0
+          read-opened most i bytes rest to first answered opened still.0
           (following-records (bytes_left i rest) (bytes_left k rest') to i.number k.number answered opened.number still.1 (read reading));
       nothing = λ records. subst (Appends old new) (no-answers w answered records) wrote;
     }
 
-pub fails-opened : (w : Output) (s : Configuration) (rest old new : Option (List ℕ)) (line : List ℕ) (n : ℕ) (known : Option Cut) (o : Opening)
-    → Begun 1 rest line o n known → s ≡ opened_configuration o → Fails w s n known old new → IsCutOff w rest old new
-fails-opened w s None old new line n known o begun is fails = tt
-fails-opened w s (Some bytes) old new line n None o begun is fails = absurd begun
-fails-opened w s (Some bytes) old new line n (Some c) o begun is (answered, out, wrote, begins) =
-    record { answered = answered; out = out; appends = wrote; begins = of-script w s bytes line n c o answered out begun is begins }
+pub fails-opened : (w : Output) (most : ℕ) (s : Configuration) (rest old new : Option (List ℕ)) (line : List ℕ) (n : ℕ) (known : Option Cut) (o : Opening)
+    → Begun 1 most rest line o n known → s ≡ opened_configuration o → Fails w s n known old new → IsCutOff w most rest old new
+fails-opened w most s None old new line n known o begun is fails = tt
+fails-opened w most s (Some bytes) old new line n None o begun is fails = absurd begun
+fails-opened w most s (Some bytes) old new line n (Some c) o begun is (answered, out, wrote, begins) =
+    record { answered = answered; out = out; appends = wrote; begins = of-script w most s bytes line n c o answered out begun is begins }

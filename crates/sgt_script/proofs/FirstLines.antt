@@ -4,7 +4,7 @@ use Rattle.std.specs.Prelude.{Option, None, Some, IfSome, Err}
 use Rattle.std.specs.Io.KnownBytes.{Appends}
 use Rattle.sgt_model.specs.Configurations.{Configuration}
 use Rattle.sgt_format.specs.declared.opening.Opening.{Opening}
-use Rattle.sgt_input.specs.Lines.{Cut, Ending, cut}
+use Rattle.sgt_input.specs.Lines.{Cut, Ending, cut_within}
 use Rattle.sgt_input.specs.Ends.{End}
 use Rattle.sgt_script.specs.Opened.{IsRefused, LinesRefused}
 use Rattle.sgt_script.specs.declared.output.Output.{Output}
@@ -16,9 +16,9 @@ use Rattle.sgt_script.proofs.Answers.{RunWrote}
 use Rattle.sgt_input.specs.declared.fault.Fault.{Fault}
 
 -- what a run wrote over bytes that are known, before its laws are shown
-abbrev pub Wrote : Output → Option (List ℕ) → Option (List ℕ) → Option (List ℕ) → End → Type 0
-Wrote w rest held held' r =
-    IfSome rest (λ bytes. (run : Option Execution) × (out : List ℕ) × Appends held held' out × Script w bytes run out r)
+abbrev pub Wrote : Output → ℕ → Option (List ℕ) → Option (List ℕ) → Option (List ℕ) → End → Type 0
+Wrote w most rest held held' r =
+    IfSome rest (λ bytes. (run : Option Execution) × (out : List ℕ) × Appends held held' out × Script w most bytes run out r)
 
 -- nothing written
 pub appends-none : (held : Option (List ℕ)) → Appends held held []
@@ -26,18 +26,18 @@ appends-none None = tt
 appends-none (Some xs) = sym (append-nil xs)
 
 -- line 1 is refused, or there is none
-pub wrote-refused : (w : Output) (rest held : Option (List ℕ)) (f : Fault) (r : End) → IsRefused 1 rest f → r ≡ Err f
-    → IsWhole w rest held held r
-wrote-refused w None held f r refused is = tt
-wrote-refused w (Some bytes) held f r refused is = record {
+pub wrote-refused : (w : Output) (most : ℕ) (rest held : Option (List ℕ)) (f : Fault) (r : End) → IsRefused 1 most rest f → r ≡ Err f
+    → IsWhole w most rest held held r
+wrote-refused w most None held f r refused is = tt
+wrote-refused w most (Some bytes) held f r refused is = record {
   run = None;
   out = [];
   appends = appends-none held;
-  script = go (cut bytes).given refused;
+  script = go (cut_within most bytes).given refused;
   laws = tt;
 }
   where
-    go : (ls : List (List ℕ)) → LinesRefused 1 ls (cut bytes).ending f → ScriptOf w ls (cut bytes).ending None [] r
+    go : (ls : List (List ℕ)) → LinesRefused 1 ls (cut_within most bytes).ending f → ScriptOf w ls (cut_within most bytes).ending None [] r
     go [] none = (refl, is ∙ sym none)
     go (line ∷ later) (e, refuses, known, fault-is) = inl (record {
       error = e;
@@ -48,14 +48,14 @@ wrote-refused w (Some bytes) held f r refused is = record {
     })
 
 -- a record line after line 1 is refused
-pub wrote-bad-record : (w : Output) (rest held : Option (List ℕ)) (line : List ℕ) (f : Fault) (r : End) → HasBadRecord 1 rest line f
-    → r ≡ Err f → IsWhole w rest held held r
-wrote-bad-record w None held line f r refused is = tt
-wrote-bad-record w (Some bytes) held line f r (later, given, bad, refuses, fault-is) is = record {
+pub wrote-bad-record : (w : Output) (most : ℕ) (rest held : Option (List ℕ)) (line : List ℕ) (f : Fault) (r : End) → HasBadRecord 1 most rest line f
+    → r ≡ Err f → IsWhole w most rest held held r
+wrote-bad-record w most None held line f r refused is = tt
+wrote-bad-record w most (Some bytes) held line f r (later, given, bad, refuses, fault-is) is = record {
   run = None;
   out = [];
   appends = appends-none held;
-  script = subst (λ (ls : List (List ℕ)). ScriptOf w ls (cut bytes).ending None [] r) (sym given)
+  script = subst (λ (ls : List (List ℕ)). ScriptOf w ls (cut_within most bytes).ending None [] r) (sym given)
       (inr (record { bad = bad; refuses = refuses; nothing = refl; end_is = is ∙ ap (λ (g : Fault). Err g) fault-is }));
   laws = tt;
 }
@@ -66,15 +66,15 @@ pub output-same : (w : Output) (run : Execution) (m n : ℕ) (ls ls' : List (Lis
 output-same w run m n ls ls' e e' out end number lines ending output = rw (number, lines, ending) output
 
 -- they open
-pub wrote-opened : (w : Output) (s : Configuration) (rest held held' : Option (List ℕ)) (line : List ℕ) (n : ℕ) (new : Option Cut) (o : Opening)
-    (r : End) → Begun 1 rest line o n new → s ≡ opened_configuration o → RunWrote w s n new held held' r → Wrote w rest held held' r
-wrote-opened w s None held held' line n new o r begun is output = tt
-wrote-opened w s (Some bytes) held held' line n None o r begun is output = absurd begun
-wrote-opened w s (Some bytes) held held' line n (Some c) o r begun is (run, from, out, wrote, output) = (
+pub wrote-opened : (w : Output) (most : ℕ) (s : Configuration) (rest held held' : Option (List ℕ)) (line : List ℕ) (n : ℕ) (new : Option Cut) (o : Opening)
+    (r : End) → Begun 1 most rest line o n new → s ≡ opened_configuration o → RunWrote w s n new held held' r → Wrote w most rest held held' r
+wrote-opened w most s None held held' line n new o r begun is output = tt
+wrote-opened w most s (Some bytes) held held' line n None o r begun is output = absurd begun
+wrote-opened w most s (Some bytes) held held' line n (Some c) o r begun is (run, from, out, wrote, output) = (
   Some run,
   out,
   wrote,
-  subst (λ (ls : List (List ℕ)). ScriptOf w ls (cut bytes).ending (Some run) out r) (sym begun.given)
+  subst (λ (ls : List (List ℕ)). ScriptOf w ls (cut_within most bytes).ending (Some run) out r) (sym begun.given)
       (record {
         opening = o;
         opens = begun.opens;

@@ -5,7 +5,7 @@ use Rattle.sgt_model.specs.StoredValues.{CommittedAreValues}
 use Rattle.sgt_model.specs.Laws.{HeadlineHolds}
 use Rattle.sgt_smallbank.specs.Replays.{ReplayIsBank}
 use Rattle.sgt_assembly.specs.Openings.{OpenedHoldValues}
-use Rattle.sgt_input.specs.Lines.{Ending, cut}
+use Rattle.sgt_input.specs.Lines.{Ending, cut_within}
 use Rattle.sgt_input.specs.Ends.{End}
 use Rattle.sgt_textbook.specs.Laws.{AreCommitOrdered, AreSerializable, AreRecoverable}
 use Rattle.sgt_notation.specs.Transcripts.{TranscriptsSpellTextbooks}
@@ -28,12 +28,12 @@ module _ (headline : HeadlineHolds) (opened : OpenedHoldValues) (committed : Com
   laws-hold Records ls ending run out end script = record-laws headline opened committed bank ls ending run out end script
   laws-hold Json ls ending run out end script = json-laws headline opened committed bank ls ending run out end script
 
-  pub with-laws : (w : Output) (rest held held' : Option (List ℕ)) (end : End) → Wrote w rest held held' end → IsWhole w rest held held' end
-  with-laws w None held held' end wrote = tt
-  with-laws w (Some bytes) held held' end (run, out, appended, script) = record {
+  pub with-laws : (w : Output) (most : ℕ) (rest held held' : Option (List ℕ)) (end : End) → Wrote w most rest held held' end → IsWhole w most rest held held' end
+  with-laws w most None held held' end wrote = tt
+  with-laws w most (Some bytes) held held' end (run, out, appended, script) = record {
     run = run;
     out = out;
     appends = appended;
     script = script;
-    laws = laws-hold w (cut bytes).given (cut bytes).ending run out end script;
+    laws = laws-hold w (cut_within most bytes).given (cut_within most bytes).ending run out end script;
   }

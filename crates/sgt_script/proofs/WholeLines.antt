@@ -124,10 +124,10 @@ AnswersAfter None to answers = ⊤
 AnswersAfter (Some old) to answers = (read : List ℕ) × Consumes (Some old) to read × AreAfterRecords (whole_lines read) answers
 
 -- after line 1
-pub read-opened : (i : Intake) (bytes : List ℕ) (rest to : Option (List ℕ)) (o : Opening) (answers : List Answer)
-    → HasOpened 1 (Some bytes) i rest o → i.ended ≡ false → AnswersAfter (bytes_left i rest) to answers
+pub read-opened : (most : ℕ) (i : Intake) (bytes : List ℕ) (rest to : Option (List ℕ)) (o : Opening) (answers : List Answer)
+    → HasOpened 1 most (Some bytes) i rest o → i.ended ≡ false → AnswersAfter (bytes_left i rest) to answers
     → AnswersScriptRead (Some bytes) to answers
-read-opened i bytes rest to o answers opened going following =
+read-opened most i bytes rest to o answers opened going following =
     go (bytes_left i rest) (subst (Consumes (Some bytes) (bytes_left i rest)) line opened.took) following
   where
     line : taken i ≡ i.line ++ 10 ∷ []

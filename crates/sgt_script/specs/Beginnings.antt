@@ -31,8 +31,8 @@ pub record Begins (Whole : Wholes) (answered : List Answer) (out : List ℕ) : T
   pub whole : Whole run (out ++ rest) end
 
 -- the whole runs of a script over these bytes that have a valid opening
-abbrev pub ScriptRuns : Output → List ℕ → Wholes
-ScriptRuns w bytes run out end = Script w bytes (Some run) out end
+abbrev pub ScriptRuns : Output → ℕ → List ℕ → Wholes
+ScriptRuns w most bytes run out end = Script w most bytes (Some run) out end
 
 -- the whole runs after an opening, over these lines, from number n on
 abbrev pub LineRuns : Output → Configuration → ℕ → Cut → Wholes

@@ -15,7 +15,7 @@ use Rattle.sgt_format.specs.declared.errors.OpeningError.TheVariants as opening_
 use Rattle.sgt_assembly.specs.Openings.{opened_configuration}
 use Rattle.sgt_input.specs.declared.fault.Fault.{Fault}
 use Rattle.sgt_input.specs.declared.fault.Fault.TheVariants as fault
-use Rattle.sgt_input.specs.Lines.{Ending, cut}
+use Rattle.sgt_input.specs.Lines.{Ending, cut_within}
 use Rattle.sgt_input.specs.Ends.{End, fault_of_opening, no_opening}
 use Rattle.sgt_input.specs.Spelled.{at_line, spelled, end_of}
 use Rattle.sgt_script.specs.declared.output.Output.{Output}
@@ -87,6 +87,6 @@ ScriptOf w [] ending (Some run) out end = ⊥
 ScriptOf w (line ∷ later) ending None out end = Refused line out end ⊎ RefusedRecord line later out end
 ScriptOf w (line ∷ later) ending (Some run) out end = Opened w line later ending run out end
 
--- what a script's run over these bytes writes, and how it ends
-abbrev pub Script : Output → List ℕ → Option Execution → List ℕ → End → Type 0
-Script w bytes run out end = ScriptOf w (cut bytes).given (cut bytes).ending run out end
+-- what a script's run over these bytes writes, and how it ends. So many bytes are its limit
+abbrev pub Script : Output → ℕ → List ℕ → Option Execution → List ℕ → End → Type 0
+Script w most bytes run out end = ScriptOf w (cut_within most bytes).given (cut_within most bytes).ending run out end

@@ -2,12 +2,13 @@
 //! the end.
 ghost use Rattle.std.specs.Prelude.{◌+◌, ◌^◌, ◌<◌};
 
+use crate::coded::append_coded;
 use crate::live_text::append_live;
 use crate::observer::Observer;
 use crate::pending::pending_at;
 use crate::refused::append_refused;
 use sgt_assembly::SgtEngine;
-use sgt_explain::{IndexedHistory, append_explanation};
+use sgt_explain::{IndexedHistory, Words, append_explanation};
 use sgt_input::{Lines, Sink, write_all};
 use sgt_log::History;
 use sgt_model::NoMemory;
@@ -17,12 +18,14 @@ use std::marker::Model;
 /// The line at the end if memory ran out for an explanation.
 const LEFT_OUT: &[u8] = b"explanations are left out: no memory\n";
 
-/// Writes to a sink why transactions are aborted, and which are live at the end. Explanations are gathered, and
-/// written after the answers that they belong to. After a failed write it writes no more.
+/// Writes to a sink why transactions are aborted and events refused, and which are live at the end. Explanations are
+/// gathered, and written after the answers that they belong to. After a failed write it writes no more.
 #[derive(Drop)]
 pub(crate) struct Explainer<'a, E: Sink> {
     alloc: Global,
     errors: &'a mut E,
+    /// What codes mean.
+    words: &'a Words,
     /// Whether a write has failed.
     has_failed: bool,
     /// Whether memory ran out for an explanation.
@@ -46,13 +49,14 @@ impl<'a, E: Sink> Model for Explainer<'a, E> {
 }
 
 impl<'a, E: Sink> Explainer<'a, E> {
-    /// An explainer that writes to this sink.
-    pub(crate) fn new(alloc: Global, errors: &'a mut E) -> Self
+    /// An explainer that writes to this sink, with these words for codes.
+    pub(crate) fn new(alloc: Global, errors: &'a mut E, words: &'a Words) -> Self
         requires { E.failures errors.old + 1 < 2 ^ 64 }
     {
         Explainer {
             alloc,
             errors,
+            words,
             has_failed: false,
             has_lost: false,
             history: IndexedHistory::new(alloc),
@@ -111,6 +115,15 @@ impl<'a, E: Sink> Explainer<'a, E> {
         }
     }
 
+    // Gathers which procedure aborted the transaction of the newest entry, of this line, with a code, if one did.
+    fn explain_code(&mut self, engine: &SgtEngine, line: u64) {
+        if let Some(newest) = engine.history().last() {
+            if append_coded(&mut self.text, &newest, &self.history, self.words, line).is_err() {
+                self.has_lost = true;
+            }
+        }
+    }
+
     // Gathers why the newest entry, of this line, is refused, if it is.
     fn explain_refusal(&mut self, engine: &SgtEngine, line: u64) {
         if append_refused(&mut self.text, engine, line).is_err() {
@@ -141,6 +154,7 @@ impl<E: Sink> Observer for Explainer<'_, E> {
         if entries > 0 {
             self.note_line(entries - 1, line);
             self.note_entry(engine.history(), entries - 1);
+            self.explain_code(engine, line);
             self.explain_at(engine, entries - 1);
             self.explain_refusal(engine, line);
         }

@@ -7,10 +7,16 @@ ghost use Rattle.sgt_script.specs.Outcomes.{CountsReads, CountsWrites, IsCutOff,
 
 use crate::explainer::Explainer;
 use crate::observer::Unobserved;
+use crate::options::Options;
 use crate::output::Output;
+use crate::progress::Progress;
 use crate::script::run_observed;
-use sgt_input::{Fault, Sink, Source};
+use crate::watch::Watch;
+use sgt_explain::Words;
+use sgt_input::{DEFAULT_BYTES, Fault, Sink, Source};
 use std::alloc::Global;
+use std::io::Eprint;
+use std::time::Clock;
 
 /// Runs a script on the program's engine. Writes the replies, and then the committed database.
 ///
@@ -38,18 +44,26 @@ pub fn run_script<S: Source, T: Sink>(
 ) -> Result<(), Fault>
     requires reading { S.failures source.old + 1 < 2 ^ 64 }
     requires writing { T.failures sink.old + 1 < 2 ^ 64 }
-    ensures script { IsExact result → IsWhole Replies (S.rest source.old) (T.held sink.old) (T.held sink.new) result }
+    ensures script { IsExact result → IsWhole Replies 16777216 (S.rest source.old) (T.held sink.old) (T.held sink.new) result }
     ensures stops { IsStop result →
-        IsStopped Replies (S.rest source.old) (S.rest source.new) (T.held sink.old) (T.held sink.new) result }
-    ensures part { result ≡ Err Fault.Writing → IsCutOff Replies (S.rest source.old) (T.held sink.old) (T.held sink.new) }
+        IsStopped Replies 16777216 (S.rest source.old) (S.rest source.new) (T.held sink.old) (T.held sink.new) result }
+    ensures part { result ≡ Err Fault.Writing → IsCutOff Replies 16777216 (S.rest source.old) (T.held sink.old) (T.held sink.new) }
     ensures bounded { S.given source.new ≤ S.given source.old + 16777217 }
     ensures reads { CountsReads result (S.failures source.old) (S.failures source.new) }
     ensures writes { CountsWrites result (T.failures sink.old) (T.failures sink.new) }
 {
-    run_observed(alloc, source, sink, Output::Replies, &mut Unobserved)
+    run_observed(
+        alloc,
+        source,
+        sink,
+        Output::Replies,
+        DEFAULT_BYTES,
+        &mut Unobserved,
+    )
 }
 
-/// Runs a script as [`run_script`] does, and writes what the output mode says.
+/// Runs a script as [`run_script`] does, of as many bytes as the options say, and writes what their output mode says.
+/// It reads one byte more at most.
 ///
 /// - `Replies`: what [`run_script`] writes.
 /// - `History`: the run as a history in the notation of Bernstein, Hadzilacos and Goodman (1987), chapter 2. Each
@@ -62,43 +76,56 @@ pub fn run_script<S: Source, T: Sink>(
 /// With a sink for explanations, it writes there why transactions are aborted and events refused:
 ///
 /// - An abort by a cycle gets a line for each edge of the cycle, with its accesses.
+/// - An abort with a code gets a line that says which procedure raised it, and what the words say of the code.
 /// - Each cascading abort gets a line that says which transaction it had read from, and what.
 /// - A refused event gets a line that says why.
 /// - A line at the end names the live transactions.
 ///
 /// The explanations of a line follow its answer, and name lines by their numbers.
 ///
-/// Explanations do not affect the run. After a failed write no more are written. If memory runs out, some are left
-/// out, and a line at the end says so. Neither is a fault. An explanation costs passes over what its transactions did,
-/// not over the whole history.
+/// Explanations and progress lines do not affect the run. After a failed write no more are written. If memory runs
+/// out, some are left out, and a line at the end says so. Neither is a fault. An explanation costs passes over what its
+/// transactions did, not over the whole history.
 ///
 /// # Errors
 ///
 /// As [`run_script`], with the text of the output mode in place of the replies. The explanations of all answered
 /// lines are written too.
-pub fn run<S: Source, T: Sink, E: Sink>(
+pub fn run<S: Source, T: Sink, E: Sink, W: Clock + Eprint>(
+    rt: &W,
     alloc: Global,
     source: &mut S,
     sink: &mut T,
-    output: Output,
+    options: Options,
     explanations: Option<&mut E>,
+    words: &Words,
 ) -> Result<(), Fault>
     requires reading { S.failures source.old + 1 < 2 ^ 64 }
     requires writing { T.failures sink.old + 1 < 2 ^ 64 }
+    requires most { options.most ≤ 4294967296 }
     requires explaining { IfSome explanations (λ errors. E.failures errors.now + 1 < 2 ^ 64) }
-    ensures script { IsExact result → IsWhole output (S.rest source.old) (T.held sink.old) (T.held sink.new) result }
+    ensures script { IsExact result → IsWhole options.output options.most (S.rest source.old) (T.held sink.old) (T.held sink.new) result }
     ensures stops { IsStop result →
-        IsStopped output (S.rest source.old) (S.rest source.new) (T.held sink.old) (T.held sink.new) result }
-    ensures part { result ≡ Err Fault.Writing → IsCutOff output (S.rest source.old) (T.held sink.old) (T.held sink.new) }
-    ensures bounded { S.given source.new ≤ S.given source.old + 16777217 }
+        IsStopped options.output options.most (S.rest source.old) (S.rest source.new) (T.held sink.old) (T.held sink.new) result }
+    ensures part { result ≡ Err Fault.Writing → IsCutOff options.output options.most (S.rest source.old) (T.held sink.old) (T.held sink.new) }
+    ensures bounded { S.given source.new ≤ S.given source.old + (options.most + 1) }
     ensures reads { CountsReads result (S.failures source.old) (S.failures source.new) }
     ensures writes { CountsWrites result (T.failures sink.old) (T.failures sink.new) }
 {
+    let Options { most, output, .. } = options;
+    let progress = Progress::of(rt, options);
     let Some(errors) = explanations else {
-        return run_observed(alloc, source, sink, output, &mut Unobserved);
+        return match progress {
+            Some(mut progress) => run_observed(alloc, source, sink, output, most, &mut progress),
+            None => run_observed(alloc, source, sink, output, most, &mut Unobserved),
+        };
     };
-    let mut explainer = Explainer::new(alloc, errors);
-    let ran = run_observed(alloc, source, sink, output, &mut explainer);
-    explainer.finish();
+    let explainer = Explainer::new(alloc, errors, words);
+    let mut watch = Watch {
+        explainer,
+        progress,
+    };
+    let ran = run_observed(alloc, source, sink, output, most, &mut watch);
+    watch.finish();
     ran
 }

@@ -46,7 +46,7 @@ fn takes_event_ahead(lines: &mut Lines, event: &mut Event) -> bool
     ensures event { IsTrue result → script_line_of lines.new.line ≡ Ok (ScriptLine.Event event.new) }
     ensures nearer { IsTrue result → lines.new.within < lines.old.within }
     ensures come { IsTrue result → come lines.new ≡ come lines.old }
-    ensures few { IsTrue result → come lines.new ≤ 16777217 }
+    ensures few { IsTrue result → come lines.new ≤ 4294967297 }
     ensures kept { IsFalse result → lines.new ≡ lines.old }
 {
     let Some(window) = lines.window() else {
@@ -88,7 +88,7 @@ fn next_script_line<S: Source>(
         NoLine (lines.old.number + 1) (cut_left lines.old (S.rest source.old)) (Err f)) }
     ensures nearer { IfOk result (λ next. IsSome next → lines.new.within < lines.old.within) }
     ensures come { S.given source.new + come lines.old ≤ S.given source.old + come lines.new }
-    ensures few { come lines.new ≤ 16777217 }
+    ensures few { come lines.new ≤ 4294967297 }
     ensures writing { result ≢ Err Fault.Writing }
     ensures well { result ≢ Err Fault.Reading →
         S.failures source.new ≡ S.failures source.old }
@@ -337,8 +337,8 @@ fn answer_lines<S: Source, T: Sink, X: Observer>(
     requires reading { S.failures source.old + 1 < 2 ^ 64 }
     requires writing { T.failures sink.old + 1 < 2 ^ 64 }
     requires fresh { engine.old.past ≡ [] }
-    requires few { come lines.old ≤ 16777217 }
-    ensures bounded { S.given source.new + come lines.old ≤ S.given source.old + 16777217 }
+    requires few { come lines.old ≤ 4294967297 }
+    ensures bounded { S.given source.new + come lines.old ≤ S.given source.old + 4294967297 }
     ensures all { OnOk result (
         (all : AnswersAll output (configuration_of engine.old) (lines.old.number + 1)
         (cut_left lines.old (S.rest source.old)) (T.held sink.old) (T.held sink.new) (Ok tt))
@@ -420,7 +420,7 @@ pub(crate) fn run_opened<S: Source, T: Sink, X: Observer>(
     requires reading { S.failures source.old + 1 < 2 ^ 64 }
     requires writing { T.failures sink.old + 1 < 2 ^ 64 }
     requires fresh { engine.old.past ≡ [] }
-    requires few { come lines.old ≤ 16777217 }
+    requires few { come lines.old ≤ 4294967297 }
     ensures output { IsExact result → IfSome (cut_left lines.old (S.rest source.old)) (λ c.
         (run : Execution) × (run.configuration ≡ configuration_of engine.old)
         × (out : List ℕ) × Appends (T.held sink.old) (T.held sink.new) out
@@ -435,7 +435,7 @@ pub(crate) fn run_opened<S: Source, T: Sink, X: Observer>(
         IfSome (cut_left lines.old (S.rest source.old)) (λ c.
         (answered : List Answer) × (out : List ℕ) × Appends (T.held sink.old) (T.held sink.new) out
         × Begins (LineRuns output (configuration_of engine.old) (lines.old.number + 1) c) answered out) }
-    ensures bounded { S.given source.new + come lines.old ≤ S.given source.old + 16777217 }
+    ensures bounded { S.given source.new + come lines.old ≤ S.given source.old + 4294967297 }
     ensures read_well { IsExact result → S.failures source.new ≡ S.failures source.old }
     ensures read_failed { result ≡ Err Fault.Reading →
         S.failures source.new ≡ S.failures source.old + 1 }
@@ -452,22 +452,29 @@ pub(crate) fn run_opened<S: Source, T: Sink, X: Observer>(
     flush(sink, &mut text)
 }
 
-/// Reads line 1 and returns the opening that it spells. Line 1 is then the line given last.
-fn open_input<S: Source>(alloc: Global, source: &mut S) -> Result<(Lines, Opening), Fault>
-    requires { S.failures source.old + 1 < 2 ^ 64 }
+/// Reads line 1 of an input of at most so many bytes, and returns the opening that it spells. Line 1 is then the line
+/// given last.
+fn open_input<S: Source>(
+    alloc: Global,
+    source: &mut S,
+    most: usize,
+) -> Result<(Lines, Opening), Fault>
+    requires countable { S.failures source.old + 1 < 2 ^ 64 }
+    requires most { most ≤ 4294967296 }
     ensures opened { IfOk result (λ input.
-        HasOpened 1 (S.rest source.old) input.0 (S.rest source.new) input.1) }
-    ensures fault { IfErr result (λ f. IsOfInput f → IsRefused 1 (S.rest source.old) f) }
+        HasOpened 1 most (S.rest source.old) input.0 (S.rest source.new) input.1) }
+    ensures fault { IfErr result (λ f. IsOfInput f → IsRefused 1 most (S.rest source.old) f) }
     ensures unread { result ≡ Err Fault.Reading → ReadsNoLine (S.rest source.old) (S.rest source.new) }
-    ensures come { IfOk result (λ input. (S.given source.new ≤ S.given source.old + come input.0)
-        × (come input.0 ≤ 16777217)) }
-    ensures bounded { S.given source.new ≤ S.given source.old + 16777217 }
+    ensures come { IfOk result (λ input.
+        (S.given source.new + 4294967296 ≤ S.given source.old + come input.0 + most)
+        × (come input.0 ≤ 4294967297)) }
+    ensures bounded { S.given source.new ≤ S.given source.old + (most + 1) }
     ensures writing { result ≢ Err Fault.Writing }
     ensures well { result ≢ Err Fault.Reading → S.failures source.new ≡ S.failures source.old }
     ensures failed { result ≡ Err Fault.Reading →
         S.failures source.new ≡ S.failures source.old + 1 }
 {
-    let mut lines = Lines::new(alloc)?;
+    let mut lines = Lines::new(alloc, most)?;
     if !lines.next_line(source)? {
         return Err(Fault::NoOpening);
     }
@@ -475,8 +482,8 @@ fn open_input<S: Source>(alloc: Global, source: &mut S) -> Result<(Lines, Openin
     Ok((lines, opening))
 }
 
-/// Runs a script. Line 1 and the record lines after it make the initial database. Each later line is an event or a
-/// cut, and is answered. The output mode says what is written. The observer follows the run.
+/// Runs a script of at most so many bytes. Line 1 and the record lines after it make the initial database. Each later
+/// line is an event or a cut, and is answered. The output mode says what is written. The observer follows the run.
 ///
 /// # Errors
 ///
@@ -491,15 +498,17 @@ pub(crate) fn run_observed<S: Source, T: Sink, X: Observer>(
     source: &mut S,
     sink: &mut T,
     output: Output,
+    most: usize,
     observer: &mut X,
 ) -> Result<(), Fault>
     requires reading { S.failures source.old + 1 < 2 ^ 64 }
     requires writing { T.failures sink.old + 1 < 2 ^ 64 }
-    ensures script { IsExact result → IsWhole output (S.rest source.old) (T.held sink.old) (T.held sink.new) result }
+    requires most { most ≤ 4294967296 }
+    ensures script { IsExact result → IsWhole output most (S.rest source.old) (T.held sink.old) (T.held sink.new) result }
     ensures stops { IsStop result →
-        IsStopped output (S.rest source.old) (S.rest source.new) (T.held sink.old) (T.held sink.new) result }
-    ensures part { result ≡ Err Fault.Writing → IsCutOff output (S.rest source.old) (T.held sink.old) (T.held sink.new) }
-    ensures bounded { S.given source.new ≤ S.given source.old + 16777217 }
+        IsStopped output most (S.rest source.old) (S.rest source.new) (T.held sink.old) (T.held sink.new) result }
+    ensures part { result ≡ Err Fault.Writing → IsCutOff output most (S.rest source.old) (T.held sink.old) (T.held sink.new) }
+    ensures bounded { S.given source.new ≤ S.given source.old + (most + 1) }
     ensures reads { CountsReads result (S.failures source.old) (S.failures source.new) }
     ensures writes { CountsWrites result (T.failures sink.old) (T.failures sink.new) }
 {
@@ -514,7 +523,7 @@ pub(crate) fn run_observed<S: Source, T: Sink, X: Observer>(
     opened_hold_values();
     replays_hold_values();
     replay_is_bank();
-    let (mut lines, opening) = open_input(alloc, source)?;
+    let (mut lines, opening) = open_input(alloc, source, most)?;
     let opening = read_records(alloc, &mut lines, source, opening)?;
     let mut engine = open_engine(alloc, opening)?;
     run_opened(

@@ -10,41 +10,41 @@ use Rattle.sgt_bank.proofs.input.read_input.Goals as goal
 pub returns-in_err-next_line-clause-fault : goal.returns-in_err-next_line-clause-fault
 returns-in_err-next_line-clause-fault g c =
     let failed : c.from_residual-in_err-next_line.result ≡ Err c.in_err-next_line.field-0.0 = search rules in
-    subst (λ r. IfErr r (λ f. IsOfInput f → Fails c.args.workers (g.S.Source.rest c.args.source.now) f)) (sym failed)
-    (fails-long c.args.workers c.in_ok-lines.lines
+    subst (λ r. IfErr r (λ f. IsOfInput f → Fails c.args.workers c.args.most (g.S.Source.rest c.args.source.now) f)) (sym failed)
+    (fails-long c.args.workers c.args.most c.in_ok-lines.lines
     (g.S.Source.rest c.args.source.now) _ c.in_ok-lines.ensures c.in_err-next_line.ensures.fault)
 
 pub returns-then-not-branch-clause-fault : goal.returns-then-not-branch-clause-fault
 returns-then-not-branch-clause-fault g c = λ exact.
-    fails-empty c.args.workers c.in_ok-lines.lines (g.S.Source.rest c.args.source.now) AtEnd _ c.in_ok-lines.ensures (search rules) refl
+    fails-empty c.args.workers c.args.most c.in_ok-lines.lines (g.S.Source.rest c.args.source.now) AtEnd _ c.in_ok-lines.ensures (search rules) refl
 
 pub returns-in_err-opening-clause-fault : goal.returns-in_err-opening-clause-fault
 returns-in_err-opening-clause-fault g c =
     let failed : c.from_residual-in_err-opening.result ≡ Err c.in_err-opening.field-0.0 = search rules in
-    subst (λ r. IfErr r (λ f. IsOfInput f → Fails c.args.workers (g.S.Source.rest c.args.source.now) f)) (sym failed)
+    subst (λ r. IfErr r (λ f. IsOfInput f → Fails c.args.workers c.args.most (g.S.Source.rest c.args.source.now) f)) (sym failed)
     (λ exact.
     let explained = c.in_err-opening.ensures.fault exact in
-    fails-refused c.args.workers c.in_ok-lines.lines (g.S.Source.rest c.args.source.now) c.next_line.new.self.line
+    fails-refused c.args.workers c.args.most c.in_ok-lines.lines (g.S.Source.rest c.args.source.now) c.next_line.new.self.line
     (cut_left c.next_line.new.self (g.S.Source.rest c.next_line.new.source))
     explained.0 _ c.in_ok-lines.ensures (search rules) explained.1 explained.2 explained.3)
 
 pub returns-in_err-opening-2-clause-fault : goal.returns-in_err-opening-2-clause-fault
 returns-in_err-opening-2-clause-fault g c =
     let failed : c.from_residual-in_err-opening-2.result ≡ Err c.in_err-opening-2.field-0.0 = search rules in
-    subst (λ r. IfErr r (λ f. IsOfInput f → Fails c.args.workers (g.S.Source.rest c.args.source.now) f)) (sym failed)
-    (λ exact. fails-record c.args.workers (g.S.Source.rest c.args.source.now) c.next_line.new.self.line _
-    (bad-record c.args.workers c.in_ok-lines.lines (g.S.Source.rest c.args.source.now) c.next_line.new.self.line
+    subst (λ r. IfErr r (λ f. IsOfInput f → Fails c.args.workers c.args.most (g.S.Source.rest c.args.source.now) f)) (sym failed)
+    (λ exact. fails-record c.args.workers c.args.most (g.S.Source.rest c.args.source.now) c.next_line.new.self.line _
+    (bad-record c.args.workers c.args.most c.in_ok-lines.lines (g.S.Source.rest c.args.source.now) c.next_line.new.self.line
     (cut_left c.next_line.new.self (g.S.Source.rest c.next_line.new.source)) c.in_ok-opening.opening c.next_line.new.self.number
     _ c.in_ok-lines.ensures (search rules) c.in_ok-opening.ensures.opening (search rules) (c.in_err-opening-2.ensures.fault exact)))
 
 pub returns-in_err-jobs-clause-fault : goal.returns-in_err-jobs-clause-fault
 returns-in_err-jobs-clause-fault g c =
     let failed : c.from_residual-in_err-jobs.result ≡ Err c.in_err-jobs.field-0.0 = search rules in
-    subst (λ r. IfErr r (λ f. IsOfInput f → Fails c.args.workers (g.S.Source.rest c.args.source.now) f)) (sym failed)
-    (λ exact. fails-following c.args.workers (g.S.Source.rest c.args.source.now) c.next_line.new.self.line
+    subst (λ r. IfErr r (λ f. IsOfInput f → Fails c.args.workers c.args.most (g.S.Source.rest c.args.source.now) f)) (sym failed)
+    (λ exact. fails-following c.args.workers c.args.most (g.S.Source.rest c.args.source.now) c.next_line.new.self.line
     (c.read_records.new.lines.number + 1) (cut_left c.read_records.new.lines (g.S.Source.rest c.read_records.new.source))
     c.in_ok-opening-2.opening _
-    (begun c.args.workers c.in_ok-lines.lines (g.S.Source.rest c.args.source.now) c.next_line.new.self.line
+    (begun c.args.workers c.args.most c.in_ok-lines.lines (g.S.Source.rest c.args.source.now) c.next_line.new.self.line
     (cut_left c.next_line.new.self (g.S.Source.rest c.next_line.new.source))
     (cut_left c.read_records.new.lines (g.S.Source.rest c.read_records.new.source)) c.in_ok-opening.opening c.in_ok-opening-2.opening
     c.next_line.new.self.number c.read_records.new.lines.number c.in_ok-lines.ensures (search rules) c.in_ok-opening.ensures.opening
@@ -53,10 +53,10 @@ returns-in_err-jobs-clause-fault g c =
 
 pub returns-clause-input : goal.returns-clause-input
 returns-clause-input g c =
-    asks-all c.args.workers (g.S.Source.rest c.args.source.now) c.next_line.new.self.line
+    asks-all c.args.workers c.args.most (g.S.Source.rest c.args.source.now) c.next_line.new.self.line
     (c.read_records.new.lines.number + 1) (cut_left c.read_records.new.lines (g.S.Source.rest c.read_records.new.source))
     c.in_ok-opening-2.opening c.in_ok-jobs.jobs.items
-    (begun c.args.workers c.in_ok-lines.lines (g.S.Source.rest c.args.source.now) c.next_line.new.self.line
+    (begun c.args.workers c.args.most c.in_ok-lines.lines (g.S.Source.rest c.args.source.now) c.next_line.new.self.line
     (cut_left c.next_line.new.self (g.S.Source.rest c.next_line.new.source))
     (cut_left c.read_records.new.lines (g.S.Source.rest c.read_records.new.source)) c.in_ok-opening.opening c.in_ok-opening-2.opening
     c.next_line.new.self.number c.read_records.new.lines.number c.in_ok-lines.ensures (search rules) c.in_ok-opening.ensures.opening

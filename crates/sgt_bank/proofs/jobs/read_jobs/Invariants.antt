@@ -11,7 +11,7 @@ invariant-loop-jobs g l = record {
       × TakesCalls
       (l.fn.lines.number + 1) (cut_left l.fn.lines (g.S.Source.rest l.fn.source)) cs (cut_left l.lines (g.S.Source.rest l.source));
   counted : g.S.Source.given l.source + come l.fn.lines ≤ g.S.Source.given l.fn.source + come l.lines;
-  few : come l.lines ≤ 16777217;
+  few : come l.lines ≤ 4294967297;
   reading : g.S.Source.failures l.source ≡ g.S.Source.failures l.fn.source;
 }
 

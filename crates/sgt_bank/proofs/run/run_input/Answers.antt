@@ -6,7 +6,7 @@ use Rattle.sgt_bank.proofs.run.run_input.Goals as goal
 
 pub returns-clause-run : goal.returns-clause-run
 returns-clause-run g c =
-    is-run c.opened_is_bank.ensures c.args.workers c.args.tries (g.S.Source.rest c.args.source.now)
+    is-run c.opened_is_bank.ensures c.args.workers c.args.tries c.args.most (g.S.Source.rest c.args.source.now)
     c.in_ok-opening.opening c.in_ok-opening.jobs.items c.in_ok-report.report.history.entries c.in_ok-report.report.outcomes.items
     c.in_ok-report.report.database
     c.in_ok-opening.ensures.input

@@ -12,7 +12,7 @@ invariant-loop-rows g l = record {
   passed : l.lines.ended ≡ false → Passes l.fn.lines.number (bytes_left l.fn.lines (g.S.Source.rest l.fn.source))
       l.lines.number (bytes_left l.lines (g.S.Source.rest l.source));
   counted : g.S.Source.given l.source + come l.fn.lines ≤ g.S.Source.given l.fn.source + come l.lines;
-  few : come l.lines ≤ 16777217;
+  few : come l.lines ≤ 4294967297;
   ended : l.lines.ended ≡ false → l.fn.lines.ended ≡ false;
   well : g.S.Source.failures l.source ≡ g.S.Source.failures l.fn.source;
 }

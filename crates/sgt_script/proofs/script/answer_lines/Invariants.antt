@@ -12,7 +12,7 @@ invariant-loop-gathered g l = record {
       (g.T.Sink.held l.sink) l.gathered.items (part_at l.engine);
   ended : l.lines.ended ≡ false → l.fn.lines.ended ≡ false;
   counted : g.S.Source.given l.source + come l.fn.lines ≤ g.S.Source.given l.fn.source + come l.lines;
-  few : come l.lines ≤ 16777217;
+  few : come l.lines ≤ 4294967297;
   reading : g.S.Source.failures l.source ≡ g.S.Source.failures l.fn.source;
   writing : g.T.Sink.failures l.sink ≡ g.T.Sink.failures l.fn.sink;
 }

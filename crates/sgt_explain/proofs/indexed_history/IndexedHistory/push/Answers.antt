@@ -23,7 +23,7 @@ invariant_of-self-2 c =
     let within : link ≤ length entries = c.last_end-link.ensures.within (length entries)
     (λ u. subst (λ l. get_or l u 0 ≤ length entries) (sym c.as_slice.ensures.value) (index.end_within u)) in
     rw (longer, pushed) (index_more entries e c.cover_entry.new.firsts.items c.cover_entry.new.ends.items c.move_end.new.ends.items links link
-    index c.in_ok-cover_entry.ensures.named within
+    index c.in_ok-cover_entry.ensures.part within
     (λ t by. c.last_end-link.ensures.end t by ∙ ap (λ l. get_or l t 0) c.as_slice.ensures.value)
     (λ t by. c.move_end.ensures.at t by ∙ after)
     c.move_end.ensures.others)
