@@ -746,6 +746,39 @@ def raises_what_a_hook_raises(_):
         same("a drain of an engine that stores none", "refused", refusal(lambda: bank.drain(timeout=0)))
 
 
+def reads_before_a_cut_in_python(_):
+    """The hook of a cut reads what is cut off. If it raises, or is interrupted, there is no cut, and the call that cuts raises it."""
+    sgt = module()
+    read, lent, raises = [], [], [OSError("full disk"), Interrupted()]
+
+    def hook(engine, part):
+        lent.append(engine)
+        same("a call from the hook", "misuse", what(sgt.Misuse, bank.live, "misuse"))
+        if raises:
+            raise raises.pop(0)
+        calls, _ = engine.calls()
+        read.append((part, len(engine), [call.args for call in calls], engine.get(2, 101)))
+
+    with sgt.SharedEngine(limits=(8, 1000, 1), accounts=[(1, 101, 0, 0)], cutting=hook) as bank:
+        bank.run(1, 1, 7)
+        bank.run(0, 1)
+        entries = bank.entries()
+        same("a cut whose hook raises", "full disk", what(OSError, bank.cut, "full disk"))
+        same("one that is interrupted", "interrupted", what(Interrupted, bank.cut, "interrupted"))
+        same("the entries", entries, bank.entries())
+        bank.cut()
+        same("what was read", [(0, entries, [(1, 7), (1,)], 7)], read)
+        same("the entries after the cut", 0, bank.entries())
+        same("the engine after the hook", "closed", what(sgt.Closed, lambda: lent[-1].get(2, 101), "closed"))
+    raises[:] = [OSError("full disk")]
+    with sgt.SharedEngine.take(sgt.Engine.bare(8, 1000), cutting=hook, cut_after=3) as bank:
+        same("a run that cuts", "full disk", what(OSError, lambda: bank.transact(lambda t: t.write(2, 101, 5)), "full disk"))
+        same("that it was carried out", (5, 3), (bank.get(2, 101), bank.entries()))
+        for _ in range(2):
+            bank.transact(lambda t: t.read(2, 101))
+        same("the parts that were read", [0, 0, 1], [part for part, *_ in read])
+
+
 def refuses_another_version(scratch):
     """Each binding compares the version of the library with its own."""
     source = scratch / "version.c"
@@ -819,6 +852,7 @@ CASES = [
     loses_nothing_at_signals,
     keeps_the_place_of_a_wait,
     raises_what_a_hook_raises,
+    reads_before_a_cut_in_python,
     refuses_another_version,
     refuses_a_forked_child,
 ]

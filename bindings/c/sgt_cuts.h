@@ -42,6 +42,7 @@ static void break_cut_off(void *hook)
 static void report_cut(sgt_shared *s)
 {
     struct hook hook;
+    s->allows_cut = s->config.asks_to_cut != 1;
     begin_hook(&hook, s);
     pthread_cleanup_push(break_cut_off, &hook);
     s->config.cutting(s->config.context, &s->engine, s->part);
@@ -57,6 +58,7 @@ static uint32_t cut_turn(sgt_shared *s, sgt_ask *ask)
     if (cuts && s->config.cutting) {
         sgt_desk_leave(&s->desk, ask, &wakes);
         report_cut(s);
+        if (!s->allows_cut) return put_off(s), SGT_NONE;
     }
     const uint32_t turn = sgt_desk_cut(&s->engine, &s->desk, ask, time_for(ask), &wakes);
     if (turn == SGT_OK && cuts) {

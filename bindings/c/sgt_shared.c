@@ -265,6 +265,14 @@ uint32_t sgt_shared_cut(sgt_shared *shared, int64_t wait_ns)
     return leave(shared, status == SGT_TIMED_OUT ? late : status);
 }
 
+uint32_t sgt_shared_allow_cut(sgt_shared *shared)
+{
+    if (!shared) return SGT_CLOSED;
+    if (is_in_child(shared) || !is_in_hook(shared)) return SGT_MISUSE;
+    shared->allows_cut = true;
+    return SGT_OK;
+}
+
 uint32_t sgt_shared_get(sgt_shared *shared, uint64_t table, int64_t number, int64_t *value)
 {
     uint32_t status = value ? enter(shared) : (uint32_t)SGT_BAD_CALL;

@@ -88,7 +88,7 @@ typedef struct sgt_live {
  * The configuration of a shared engine. Begin with SGT_SHARED_CONFIG, which asks for nothing, and set the fields that you need.
  *
  * The hooks are called under the lock, so nothing else happens meanwhile. A call from a hook to the same engine is SGT_MISUSE, but for
- * sgt_shared_abandon and sgt_shared_accesses. A hook may call another engine. If hooks of that one call back, so that each waits for the
+ * sgt_shared_abandon, sgt_shared_accesses and sgt_shared_allow_cut. A hook may call another engine. If hooks of that one call back, so that each waits for the
  * other, one of the calls is SGT_MISUSE.
  *
  * A hook of another language may throw an exception, or end its thread: the lock is released, and the exception reaches whoever made the
@@ -101,7 +101,7 @@ typedef struct sgt_shared_config {
     void (*ended)(void *context, const sgt_ended *ended);
 
     /*
-     * Called before each cut with the engine itself, so that its history can be read: by sgt_entries, sgt_entry, sgt_rows and sgt_get
+     * Called before each cut with the engine itself, so that its history can be read, by the calls of sgt.h that take a const sgt_engine
      * alone. May be null. If memory is short the cut fails, and the hook is called again for the same part later.
      */
     void (*cutting)(void *context, sgt_engine *engine, uint64_t part);
@@ -109,7 +109,7 @@ typedef struct sgt_shared_config {
     void *context;      /* what both hooks are passed */
 
     uint32_t keeps_ended; /* 1: committed and refused calls are stored until sgt_shared_drain takes them */
-    uint32_t spare;
+    uint32_t asks_to_cut; /* 1: there is a cut only if `cutting` has called sgt_shared_allow_cut, and else it is put off */
 
     /*
      * Cuts by itself: as soon as the history has `cut_after` entries and no transaction is live. SGT_NEVER: never. 0: if there is a hook
@@ -358,9 +358,15 @@ uint32_t sgt_shared_live(sgt_shared *shared, sgt_live *rows, size_t capacity, ui
 /*
  * Cuts the history off, as sgt_cut does. New transactions wait meanwhile, until the live ones have ended.
  *
- * SGT_TIMED_OUT if the deadline comes before they have; SGT_SELF_WAIT; SGT_NO_MEMORY.
+ * SGT_TIMED_OUT if the deadline comes before they have; SGT_SELF_WAIT; SGT_NO_MEMORY; SGT_NONE if the hook `cutting` did not allow it.
  */
 uint32_t sgt_shared_cut(sgt_shared *shared, int64_t wait_ns);
+
+/*
+ * Allows the cut before which the hook `cutting` was called. It is for hooks whose exceptions cannot pass through C, and counts only if
+ * `asks_to_cut` is 1. SGT_MISUSE outside a hook of the engine.
+ */
+uint32_t sgt_shared_allow_cut(sgt_shared *shared);
 
 /* The committed value of a record, as by sgt_get. SGT_NONE; SGT_BAD_CALL if the table is over 7 or the number out of range. */
 uint32_t sgt_shared_get(sgt_shared *shared, uint64_t table, int64_t number, int64_t *value);

@@ -60,6 +60,7 @@ struct sgt_shared {
     bool is_alone;               /* whether the live one is to stay alone */
     uint32_t asked;              /* threads that are asked whether they are interrupted */
     bool abandons;               /* whether a live transaction is abandoned */
+    bool allows_cut;             /* whether the hook before a cut has not refused it */
     uint64_t cut_at;             /* so many entries make a cut due */
     uint64_t before_cut;         /* so many turns at least have to be made before it is */
     bool pauses;                 /* starts wait for a cut that is due, until `pause` */

@@ -520,6 +520,43 @@ static void hooks_are_called(void)
     closes(heard.other);
 }
 
+/* A cut that its hook has to allow. */
+
+struct asked {
+    sgt_shared *shared;
+    bool allows;
+    uint32_t times;
+};
+
+static void may_allow(void *context, sgt_engine *engine, uint64_t part)
+{
+    struct asked *asked = context;
+    (void)engine, (void)part;
+    asked->times++;
+    if (asked->allows) CHECK(sgt_shared_allow_cut(asked->shared) == SGT_OK);
+}
+
+static void cuts_are_allowed(void)
+{
+    struct asked asked = {.allows = false};
+    sgt_shared_config config = SGT_SHARED_CONFIG;
+    config.cutting = may_allow, config.context = &asked, config.asks_to_cut = 1;
+    sgt_shared *shared = asked.shared = bank(&config);
+    sgt_shared_outcome outcome = SGT_SHARED_OUTCOME;
+    uint64_t count = 0, part = 77;
+    CHECK(sgt_shared_allow_cut(0) == SGT_CLOSED && sgt_shared_allow_cut(shared) == SGT_MISUSE);
+    CHECK(sgt_shared_run(shared, 1, deposit, 2, 0, &outcome) == SGT_OK);
+    CHECK(sgt_shared_cut(shared, 0) == SGT_NONE && asked.times == 1);
+    CHECK(sgt_shared_entries(shared, &count, &part) == SGT_OK && count > 0 && part == 0);
+    asked.allows = true;
+    CHECK(sgt_shared_cut(shared, 0) == SGT_OK && asked.times == 2);
+    CHECK(sgt_shared_entries(shared, &count, &part) == SGT_OK && count == 0 && part == 1);
+    CHECK(sgt_shared_run(shared, 1, deposit, 2, 0, &outcome) == SGT_OK);
+    asked.allows = false; /* what allowed one cut does not allow the next */
+    CHECK(sgt_shared_cut(shared, SGT_FOREVER) == SGT_NONE && asked.times == 3);
+    closes(shared);
+}
+
 /* Threads that pay in as quickly as they can. */
 
 enum { PAYERS = 4, PAYMENTS = 2000 };
@@ -807,6 +844,7 @@ int main(void)
     a_full_engine_is_waited_for();
     the_history_is_cut_off();
     hooks_are_called();
+    cuts_are_allowed();
     hooks_are_called_for_all_threads();
     all_get_their_turn();
     ended_calls_are_drained();

@@ -19,7 +19,7 @@ The library is the file that SGT_LIBRARY names, or libsgt.so in the folder that 
 bindings/out, then where the system has libraries.
 """
 
-from ._engine import Engine
+from ._engine import Engine, EngineReads
 from ._ended import Ended, Ticket
 from ._errors import (
     Aborted,
@@ -66,6 +66,7 @@ __all__ = [
     "Closed",
     "Ended",
     "Engine",
+    "EngineReads",
     "Error",
     "Event",
     "Kind",

@@ -81,7 +81,108 @@ def _record(table: int, number: int) -> tuple[ctypes.c_uint64, ctypes.c_int64]:
     return ctypes.c_uint64(whole(table, 0, 7)), ctypes.c_int64(whole(number, LEAST, MOST))
 
 
-class Engine(Uncopied):
+class EngineReads(Uncopied):
+    """What can be read of an engine: its history, and the committed database."""
+
+    _engine: CEngine
+
+    def procedure_text(self, number: int) -> Optional[str]:
+        """Returns the JSON text of a procedure, as `procedure` takes it, or None if there is no procedure of that number."""
+        number, length = whole(number, 0, 2**64 - 1), ctypes.c_uint64()
+        status = HELD.sgt_procedure_text(self._engine, number, None, 0, length)
+        if status == NONE:
+            return None
+        check(status)
+        return written(HELD.sgt_procedure_text, self._engine, number)
+
+    def accesses(self, tid: int) -> list[Access]:
+        """Returns the accesses that the caller of a transaction decided, in their order."""
+        tid = _tid(tid)
+        return all_accesses(lambda reported, space, count: check(HELD.sgt_accesses(self._engine, tid, reported, space, count)))
+
+    def get(self, table: int, number: int) -> Optional[int]:
+        """Returns the committed value of a record, or None if there is no such record."""
+        value = ctypes.c_int64()
+        status = HELD.sgt_get(self._engine, whole(table, 0, 7), whole(number, LEAST, MOST), value)
+        if status == NONE:
+            return None
+        check(status)
+        return value.value
+
+    def rows(self, table: int = 0, number: int = LEAST) -> list[Row]:
+        """Returns the committed database from a record on, in order of tables and then of numbers."""
+        table, number = whole(table, 0, 7), whole(number, LEAST, MOST)
+        return rows_of(*all_rows(lambda reported, space, count: HELD.sgt_rows(self._engine, table, number, reported, space, count)))
+
+    def rows_bytes(self) -> bytes:
+        """Returns the committed database as bytes, for `put_bytes`: 24 for each row, laid out as `sgt_row`. About ten times as fast as `rows`."""
+        reported, count = all_rows(lambda reported, space, count: HELD.sgt_rows(self._engine, 0, LEAST, reported, space, count))
+        return bytes(bytes_of(reported, count))
+
+    def records(self) -> int:
+        """The number of records of the committed database."""
+        count = ctypes.c_uint64()
+        check(HELD.sgt_records(self._engine, count))
+        return count.value
+
+    def live(self) -> list[int]:
+        """Returns the numbers of the live transactions, rising."""
+        tids, count = (ctypes.c_uint32 * 32)(), ctypes.c_uint64()  # no more are ever live
+        check(HELD.sgt_live_tids(self._engine, tids, count))
+        return tids[: count.value]
+
+    def part(self) -> int:
+        """How often the history was cut. With this number, the number of a transaction is unique."""
+        part = ctypes.c_uint64()
+        check(HELD.sgt_part(self._engine, part))
+        return part.value
+
+    def __len__(self) -> int:
+        """The number of entries of the history."""
+        count = ctypes.c_uint64()
+        check(HELD.sgt_entries(self._engine, count))
+        return count.value
+
+    def __bool__(self) -> bool:
+        """True, even if the history has no entries."""
+        return True
+
+    def entry(self, place: int) -> tuple[Event, Reply]:
+        """Returns the entry of the history at an index, oldest first. Raises NoSuchEntry if the history is shorter."""
+        if not 0 <= place < 2**64:
+            raise NoSuchEntry()
+        asked, reported = CEvent(), CReply()
+        status = HELD.sgt_entry(self._engine, place, asked, reported)
+        if status == NONE:
+            raise NoSuchEntry()
+        check(status)
+        return event_of(asked), reply_of(reported, reported)
+
+    def calls(self, start: int = 0, most: int = 1024) -> tuple[list[Call], int]:
+        """Returns the committed and refused calls of the history from an index on, in reply order, at most `most`, and the index to go
+        on from. Run one after another, these calls give the same answers. Raises NoSuchEntry if the history is shorter.
+        """
+        if not 0 <= start < 2**64:
+            raise NoSuchEntry()
+        calls, count, after = (CCall * whole(most, 1, 2**24))(), ctypes.c_uint64(), ctypes.c_uint64()
+        status = HELD.sgt_calls(self._engine, start, calls, most, count, after)
+        if status == NONE:
+            raise NoSuchEntry()
+        check(status)
+        return [call_of(call) for call in calls[: count.value]], after.value
+
+
+class LentEngine(EngineReads):
+    """The engine that the hook `cutting` is passed. After the hook its calls raise Closed."""
+
+    def __init__(self, engine: CEngine) -> None:
+        self._engine = engine
+
+    def give_back(self) -> None:
+        self._engine = CEngine()
+
+
+class Engine(EngineReads):
     """An engine. It is closed at the end of a `with` block, by `close`, or when it is collected.
 
     Each call holds the interpreter's lock, so calls of several threads run one after another. For threads use `SharedEngine`. An engine
@@ -182,15 +283,6 @@ class Engine(Uncopied):
             raise procedure_refused(status, fault, text)
         check(status)
         return number.value
-
-    def procedure_text(self, number: int) -> Optional[str]:
-        """Returns the JSON text of a procedure, as `procedure` takes it, or None if there is no procedure of that number."""
-        number, length = whole(number, 0, 2**64 - 1), ctypes.c_uint64()
-        status = HELD.sgt_procedure_text(self._engine, number, None, 0, length)
-        if status == NONE:
-            return None
-        check(status)
-        return written(HELD.sgt_procedure_text, self._engine, number)
 
     def start(self, procedure: int, *args: int) -> Reply:
         """Starts a transaction of the procedure, with at most 4 arguments."""
@@ -297,82 +389,6 @@ class Engine(Uncopied):
         reply = reply_of(to.reported, to.fields)
         free_buffers(to)
         return reply
-
-    def accesses(self, tid: int) -> list[Access]:
-        """Returns the accesses that the caller of a transaction decided, in their order."""
-        tid = _tid(tid)
-        return all_accesses(lambda reported, space, count: check(HELD.sgt_accesses(self._engine, tid, reported, space, count)))
-
-    def get(self, table: int, number: int) -> Optional[int]:
-        """Returns the committed value of a record, or None if there is no such record."""
-        value = ctypes.c_int64()
-        status = HELD.sgt_get(self._engine, whole(table, 0, 7), whole(number, LEAST, MOST), value)
-        if status == NONE:
-            return None
-        check(status)
-        return value.value
-
-    def rows(self, table: int = 0, number: int = LEAST) -> list[Row]:
-        """Returns the committed database from a record on, in order of tables and then of numbers."""
-        table, number = whole(table, 0, 7), whole(number, LEAST, MOST)
-        return rows_of(*all_rows(lambda reported, space, count: HELD.sgt_rows(self._engine, table, number, reported, space, count)))
-
-    def rows_bytes(self) -> bytes:
-        """Returns the committed database as bytes, for `put_bytes`: 24 for each row, laid out as `sgt_row`. About ten times as fast as `rows`."""
-        reported, count = all_rows(lambda reported, space, count: HELD.sgt_rows(self._engine, 0, LEAST, reported, space, count))
-        return bytes(bytes_of(reported, count))
-
-    def records(self) -> int:
-        """The number of records of the committed database."""
-        count = ctypes.c_uint64()
-        check(HELD.sgt_records(self._engine, count))
-        return count.value
-
-    def live(self) -> list[int]:
-        """Returns the numbers of the live transactions, rising."""
-        tids, count = (ctypes.c_uint32 * 32)(), ctypes.c_uint64()  # no more are ever live
-        check(HELD.sgt_live_tids(self._engine, tids, count))
-        return tids[: count.value]
-
-    def part(self) -> int:
-        """How often the history was cut. With this number, the number of a transaction is unique."""
-        part = ctypes.c_uint64()
-        check(HELD.sgt_part(self._engine, part))
-        return part.value
-
-    def __len__(self) -> int:
-        """The number of entries of the history."""
-        count = ctypes.c_uint64()
-        check(HELD.sgt_entries(self._engine, count))
-        return count.value
-
-    def __bool__(self) -> bool:
-        """True, even if the history has no entries."""
-        return True
-
-    def entry(self, place: int) -> tuple[Event, Reply]:
-        """Returns the entry of the history at an index, oldest first. Raises NoSuchEntry if the history is shorter."""
-        if not 0 <= place < 2**64:
-            raise NoSuchEntry()
-        asked, reported = CEvent(), CReply()
-        status = HELD.sgt_entry(self._engine, place, asked, reported)
-        if status == NONE:
-            raise NoSuchEntry()
-        check(status)
-        return event_of(asked), reply_of(reported, reported)
-
-    def calls(self, start: int = 0, most: int = 1024) -> tuple[list[Call], int]:
-        """Returns the committed and refused calls of the history from an index on, in reply order, at most `most`, and the index to go
-        on from. Run one after another, these calls give the same answers. Raises NoSuchEntry if the history is shorter.
-        """
-        if not 0 <= start < 2**64:
-            raise NoSuchEntry()
-        calls, count, after = (CCall * whole(most, 1, 2**24))(), ctypes.c_uint64(), ctypes.c_uint64()
-        status = HELD.sgt_calls(self._engine, start, calls, most, count, after)
-        if status == NONE:
-            raise NoSuchEntry()
-        check(status)
-        return [call_of(call) for call in calls[: count.value]], after.value
 
     def reserve(self, entries: int) -> None:
         """Allocates memory for this many more entries."""

@@ -138,16 +138,17 @@ class CLive(ctypes.Structure):
 
 
 INTERRUPTED_HOOK = ctypes.CFUNCTYPE(ctypes.c_uint32, ctypes.c_void_p)
+CUTTING_HOOK = ctypes.CFUNCTYPE(None, ctypes.c_void_p, ctypes.POINTER(CEngine), ctypes.c_uint64)
 
 
 class CSharedConfig(ctypes.Structure):
     _fields_ = [
         ("size", ctypes.c_size_t),
         ("ended", ctypes.c_void_p),
-        ("cutting", ctypes.c_void_p),
+        ("cutting", CUTTING_HOOK),
         ("context", ctypes.c_void_p),
         ("keeps_ended", ctypes.c_uint32),
-        ("spare", ctypes.c_uint32),
+        ("asks_to_cut", ctypes.c_uint32),
         ("cut_after", ctypes.c_uint64),
         ("cut_wait_ns", ctypes.c_int64),
     ]
@@ -244,6 +245,7 @@ _SHARED_CALLS = {
     "sgt_transaction_quit": [_transaction],
     "sgt_shared_live": [_shared, ctypes.POINTER(CLive), _size, _count],
     "sgt_shared_cut": [_shared, _i64],
+    "sgt_shared_allow_cut": [_shared],
     "sgt_shared_get": [_shared, _u64, _i64, ctypes.POINTER(_i64)],
     "sgt_shared_rows": [_shared, _u64, _i64, _row, _size, _count],
     "sgt_shared_entries": [_shared, _count, _count],

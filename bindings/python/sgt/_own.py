@@ -101,7 +101,9 @@ class OwnTransaction:
     def _ask(self, function: Callable[..., int], *words: object) -> int:
         """Makes a call for it and returns its status."""
         self._engine._check_place()
-        return function(self._reported, *words)
+        status = function(self._reported, *words)
+        self._engine._check_cut()
+        return status
 
     def _check(self, status: int) -> None:
         """Raises what the status says, unless it is OK."""
@@ -143,6 +145,7 @@ class OwnTransaction:
         """Commits it. False if it was aborted by a conflict. Raises Aborted if another caller aborted it."""
         self._engine._check_place()
         status = interruptible(FREE.sgt_transaction_commit, self._reported, wait_ns)
+        self._engine._check_cut()
         if status == UNDONE:
             return False
         check(status)

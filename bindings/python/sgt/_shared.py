@@ -9,6 +9,7 @@ import time
 import weakref
 from typing import Callable, NamedTuple, Optional, Sequence, TypeVar, Union, overload
 
+from ._cutting import NO_HOOK, Cutter, Hook
 from ._errors import BadCall, Busy, Error, Misuse, NotStarted
 from ._ended import Ended, Stored, Teller, Ticket, ended_of, ticket_of
 from ._engine import Engine
@@ -51,6 +52,7 @@ _Result = TypeVar("_Result")
 
 MOST_LIVE = 32
 NEVER_ALONE = 2**32 - 1  # tries: it has but one
+_OPEN_HOOKS: list[Optional[Cutter]] = []  # of engines that were collected, but could not be closed
 
 
 class Live(NamedTuple):
@@ -87,6 +89,7 @@ class SharedEngine(Uncopied):
         rows: Sequence[AnyRow] = (),
         *,
         ended: Optional[Callable[[Ended], None]] = None,
+        cutting: Optional[Hook] = None,
         keeps_ended: bool = False,
         cut_after: int = 0,
         cut_wait: float = 0,
@@ -97,13 +100,18 @@ class SharedEngine(Uncopied):
         not call the engine. If it raises an Exception, that is raised by the call that ended, which has been carried out. If it raises
         a KeyboardInterrupt or the like, that is raised at once, and the next call calls it again for the same `sequence`.
 
+        `cutting` is called before each cut with the engine and the number of the part that is cut off, to read its history and database. It is
+        called by the call that cuts, on its thread, and nothing else happens meanwhile; it may not call the shared engine. If it raises,
+        there is no cut, and that is raised by this call, which has been carried out, unless it was `cut`. If memory is short the cut fails,
+        and the hook is called again for the same part later. Calls may be cut off before `ended` is called for them.
+
         With `keeps_ended` such calls are stored until `drain` takes them. Once the history has `cut_after` entries and no transaction
-        is live, it is cut off; new transactions wait at most `cut_wait` seconds for that. NEVER: it never is. 0: never with `ended` or
-        `keeps_ended`, and else after a million entries, or after four for each record of the opening if these are more.
+        is live, it is cut off; new transactions wait at most `cut_wait` seconds for that. NEVER: it never is. 0: never with a hook
+        or `keeps_ended`, and else after a million entries, or after four for each record of the opening if these are more.
 
         If there are two limits, the third one is 1: codes are reported at the commit, so that they are true in the serial order.
         """
-        config = self._configured(ended, keeps_ended, cut_after, cut_wait)
+        config = self._configured(ended, cutting, keeps_ended, cut_after, cut_wait)
         limits = (*limits, 1) if len(limits) == 2 else limits
         line, fault = opening_of(limits, accounts, procedures), CFault()
         status = FREE.sgt_shared_open(self._shared, line, len(line), rows_for(rows), len(rows), config, fault)
@@ -117,6 +125,7 @@ class SharedEngine(Uncopied):
         engine: Engine,
         *,
         ended: Optional[Callable[[Ended], None]] = None,
+        cutting: Optional[Hook] = None,
         keeps_ended: bool = False,
         cut_after: int = 0,
         cut_wait: float = 0,
@@ -127,20 +136,28 @@ class SharedEngine(Uncopied):
         Raises Begun if it has a history; then it is as before.
         """
         taker = cls.__new__(cls)
-        config = taker._configured(ended, keeps_ended, cut_after, cut_wait)
+        config = taker._configured(ended, cutting, keeps_ended, cut_after, cut_wait)
         check(HELD.sgt_shared_take(taker._shared, engine._engine, config))
         return taker
 
     def _configured(
-        self, ended: Optional[Callable[[Ended], None]], keeps_ended: bool, cut_after: int, cut_wait: float
+        self,
+        ended: Optional[Callable[[Ended], None]],
+        cutting: Optional[Hook],
+        keeps_ended: bool,
+        cut_after: int,
+        cut_wait: float,
     ) -> CSharedConfig:
         """Sets all but the engine, and returns the configuration in the library's form."""
         self._shared = ctypes.c_void_p()
         self._keeps = bool(keeps_ended)
         self._stored = Stored()
         self._teller = Teller(self._shared, ended, self._stored if keeps_ended else None) if ended else None
+        self._cutter = Cutter(self._shared, cutting) if cutting else None
         return CSharedConfig(
             size=ctypes.sizeof(CSharedConfig),
+            cutting=self._cutter.for_c if self._cutter else NO_HOOK,
+            asks_to_cut=1,
             keeps_ended=self._keeps or self._teller is not None,
             cut_after=whole(cut_after, 0, 2**64 - 1),
             cut_wait_ns=nanoseconds(cut_wait),
@@ -149,22 +166,32 @@ class SharedEngine(Uncopied):
     def _ask(self, function: Callable[..., int], *words: object) -> int:
         """Makes a call and returns its status."""
         self._check_place()
-        return function(self._shared, *words)
+        status = function(self._shared, *words)
+        self._check_cut()
+        return status
 
     def _wait(self, function: Callable[..., int], *words: object) -> int:
         """The same for a call that may wait."""
         self._check_place()
-        return interruptible(function, self._shared, *words)
+        status = interruptible(function, self._shared, *words)
+        self._check_cut()
+        return status
 
     def _check_place(self) -> None:
         """Raises Misuse in the hook of the engine."""
         if self._teller and self._teller.is_here():
             raise Misuse()
 
+    def _check_cut(self) -> None:
+        """Raises what the hook `cutting` raised in a call of this thread."""
+        if self._cutter:
+            self._cutter.check()
+
     def _report(self, ticket: CTicket) -> None:
-        """Calls the hook, if there is one, after a call for this transaction."""
+        """Calls the hook `ended`, if there is one, after a call for this transaction."""
         if self._teller:
             self._teller.report(ticket_of(ticket))
+            self._check_cut()
 
     def run(self, procedure: int, *args: int, timeout: Optional[float] = None, tries: int = 0) -> Outcome:
         """Runs a procedure from its start to its commit. It waits and tries again as often as needed, or up to `tries` times.
@@ -349,8 +376,8 @@ class SharedEngine(Uncopied):
         if getattr(self, "_shared", None):
             try:
                 self.close()
-            except (Busy, Misuse):
-                pass  # a call is under way, or this is a forked child: then it stays open
+            except (Busy, Misuse):  # a call is under way, or this is a forked child: then it stays open, and so do its hooks
+                _OPEN_HOOKS.append(self._cutter)
 
 
 class Transaction:

@@ -325,7 +325,7 @@ fn configured(with: Configuration) -> (Inner, c::SharedConfig) {
         cutting: cutting.then_some(report_cut as c::CuttingHook),
         context: hooks.cast(),
         keeps_ended: with.keeps_ended.into(),
-        spare: 0,
+        asks_to_cut: 0,
         cut_after: with.cut_after,
         cut_wait_ns: nanoseconds(Some(with.cut_wait)),
     };

@@ -183,7 +183,7 @@ pub struct SharedConfig {
     pub cutting: Option<CuttingHook>,
     pub context: *mut c_void,
     pub keeps_ended: u32,
-    pub spare: u32,
+    pub asks_to_cut: u32,
     pub cut_after: u64,
     pub cut_wait_ns: i64,
 }
