@@ -399,12 +399,14 @@ def bytes_of(reported: ctypes.Array[CRow], count: int) -> memoryview:
     return memoryview(reported).cast("B")[: count * ctypes.sizeof(CRow)]
 
 
-def rows_in(data: Union[bytes, bytearray, memoryview]) -> tuple[ctypes.Array[CRow], int]:
-    """Returns the rows in these bytes as an array for a call, and their number. Raises BadCall if the last one is incomplete."""
-    data = memoryview(data).cast("B")
-    count, rest = divmod(len(data), ctypes.sizeof(CRow))
+def rows_in(data: Union[bytes, bytearray, memoryview]) -> tuple[Union[ctypes.Array[CRow], ctypes._Pointer[CRow]], int]:
+    """Returns the rows in these bytes for a call, and their number. Raises BadCall if the last one is incomplete."""
+    count, rest = divmod(memoryview(data).nbytes, ctypes.sizeof(CRow))
     if rest:
         raise BadCall(f"a row takes {ctypes.sizeof(CRow)} bytes")
+    if isinstance(data, bytes):
+        return ctypes.cast(data, _row), count  # which keeps them
+    data = memoryview(data).cast("B")
     rows = (CRow * max(1, count))()
     memoryview(rows).cast("B")[: len(data)] = data
     return rows, count
