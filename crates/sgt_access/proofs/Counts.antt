@@ -1,5 +1,5 @@
 -- How many accesses pass a test: after a change of the list, and what it says of whether some do.
-use Rattle.std.proofs.Common.{◌≡◌, ℕ, ◌+◌, ◌<◌, ◌≤◌, suc, Bool, true, false, ◌||◌, ◌&&◌, not, cond, nat_eq, nat_lt, count_by, List, [], ◌∷◌, ◌++◌, length, get_or, filter, swap_remove, arith, refl, sym, ap, ◌∙◌}
+use Rattle.std.proofs.Common.{◌≡◌, ℕ, ◌+◌, ◌<◌, ◌≤◌, suc, zero, Bool, true, false, ◌||◌, ◌&&◌, not, cond, nat_eq, nat_lt, count_by, List, [], ◌∷◌, ◌++◌, length, get_or, filter, swap_remove, arith, refl, sym, ap, ◌∙◌}
 use Rattle.std.specs.List.{list_any, AllWithin}
 use Rattle.std.proofs.lemmas.Bool.{true≢false, lt-ltb, or_from}
 use Rattle.std.proofs.lemmas.List.Sums.{sum_by-cons, sum_by-append, sum_by-swap_remove}
@@ -94,6 +94,18 @@ module _ {X : Type 0} (p q : X → Bool) where
 pub any_same : (list accesses : List ListedAccess) → StandsFor list accesses → (p : ListedAccess → Bool) → list_any p accesses ≡ list_any p list
 any_same list accesses stands p = any_counted p accesses ∙ ap (nat_lt 0) (stands p) ∙ sym (any_counted p list)
 
+-- two lists
+pub count_beside : {X : Type 0} (p : X → Bool) (xs ys : List X) → count_by p (xs ++ ys) ≡ count_by p xs + count_by p ys
+count_beside p xs ys = sum_by-append (λ y. bit (p y)) xs ys
+
+-- one less, beside other accesses
+pub one_less_beside : (a : ListedAccess) (old new rest : List ListedAccess) → IsOneLess a old new → IsOneLess a (old ++ rest) (new ++ rest)
+one_less_beside a old new rest less p =
+    let now : count_by p (new ++ rest) ≡ count_by p new + count_by p rest = count_beside p new rest in
+    let was : count_by p (old ++ rest) ≡ count_by p old + count_by p rest = count_beside p old rest in
+    let one : count_by p new + bit (p a) ≡ count_by p old = less p in
+    omega (arith, now, was, one)
+
 -- one more
 pub stands_noted : (list accesses : List ListedAccess) (a : ListedAccess) → StandsFor list accesses → StandsFor (list ++ a ∷ []) (accesses ++ a ∷ [])
 stands_noted list accesses a stands p = count_noted p accesses a ∙ ap (λ n. n + bit (p a)) (stands p) ∙ sym (count_noted p list a)
@@ -133,3 +145,27 @@ others_taken old new a t by test less p =
 -- two reads of the same index
 pub same_read : (xs : List ListedAccess) (i : ℕ) (x y : ListedAccess) → i < length xs → x ≡ get_or xs i x → y ≡ get_or xs i y → x ≡ y
 same_read xs i x y short first second = first ∙ get_or_default xs i x y short ∙ sym second
+
+-- neither of two
+pub or_parts : (a b : Bool) → (a || b) ≡ false → (a ≡ false) × (b ≡ false)
+or_parts true b h = absurd (true≢false h)
+or_parts false b h = (refl, h)
+
+-- none is of the transaction
+pub none_within : (t : ℕ) (xs : List ListedAccess) → list_any (λ (a : ListedAccess). nat_eq a.by t) xs ≡ false
+    → AllWithin (λ (a : ListedAccess). nat_eq a.by t ≡ false) xs 0 (length xs)
+none_within t [] none k d low high = absurd (omega (arith, high))
+none_within t (x ∷ xs) none zero d low high = (or_parts (nat_eq x.by t) (list_any (λ (a : ListedAccess). nat_eq a.by t) xs) none).0
+none_within t (x ∷ xs) none (suc k) d low high =
+    none_within t xs (or_parts (nat_eq x.by t) (list_any (λ (a : ListedAccess). nat_eq a.by t) xs) none).1 k d (omega arith) (omega (arith, high))
+
+-- other accesses beside both lists
+pub stands_beside : (xs ys rest : List ListedAccess) → StandsFor xs ys → StandsFor (xs ++ rest) (ys ++ rest)
+stands_beside xs ys rest stands p =
+    let one : count_by p (ys ++ rest) ≡ count_by p ys + count_by p rest = count_beside p ys rest in
+    let other : count_by p (xs ++ rest) ≡ count_by p xs + count_by p rest = count_beside p xs rest in
+    let same : count_by p ys ≡ count_by p xs = stands p in
+    omega (arith, one, other, same)
+
+pub stands_back : (xs ys : List ListedAccess) → StandsFor xs ys → StandsFor ys xs
+stands_back xs ys stands p = sym (stands p)

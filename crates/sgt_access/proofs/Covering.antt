@@ -220,6 +220,14 @@ masks_left taken tids spots accesses t bits taken' tids' same fewer none masks =
         let parts = at_parts taken' tids u i h in
         at_from taken tids u i (and_parts (is_set taken i) (not (is_at taken tids t i)) (sym (left i) ∙ parts.0)).0 parts.1
 
+-- if no place is taken, there is no access
+pub idle_none : (taken : ℕ) (tids : List ℕ) (spots : List Spot) (accesses : List ListedAccess) → ((i : ℕ) → is_set taken i ≡ false)
+    → AreMasks taken tids spots accesses → accesses ≡ []
+idle_none taken tids spots [] free masks = refl
+idle_none taken tids spots (a ∷ accesses) free masks =
+    let (i, at) = masks.places.listed a.by (or_left (nat_eq a.by a.by) (is_listed accesses a.by) (eq-eqb a.by a.by refl)) in
+    absurd (both_ways (is_set taken i) (free i) (at_parts taken tids a.by i at).0)
+
 -- what a spot says of the rivals of an access of its key
 module _ (taken : ℕ) (tids : List ℕ) (accesses : List ListedAccess) (spot : Spot) (t : ℕ) (key : Key) (kind : Kind) (all : ℕ)
     (places : ArePlaces taken tids accesses) (knows : IsSpotOf taken tids accesses (spot_at key) spot)

@@ -2,9 +2,12 @@ pub mod Collected
 pub mod Counts
 pub mod Covering
 pub mod Guesses
+pub mod Held
 pub mod Keys
 pub mod Marks
+pub mod NumberLists
 pub mod Owned
+pub mod Reordered
 pub mod RisingLists
 pub mod Rivals
 pub mod Spots

@@ -9,7 +9,7 @@ use Rattle.sgt_cycle.specs.Indices.{is_set}
 use Rattle.sgt_cycle.proofs.Bits.{none_in}
 use Rattle.sgt_access.specs.declared.masks.Masks.{Masks}
 use Rattle.sgt_access.specs.Masks.{StandsFor, Covers, Knows, AreRivalsAt, is_of_other}
-use Rattle.sgt_access.proofs.Counts.{any_counted, stands_forgotten}
+use Rattle.sgt_access.proofs.Counts.{any_counted, or_parts, stands_forgotten}
 use Rattle.sgt_access.proofs.Marks.{any_implied, any_cases}
 
 -- an access of the transaction is of no other
@@ -58,11 +58,6 @@ module _ (t : ℕ) (accesses : List ListedAccess) (owned : list_any (is_of_other
       (λ p. sym (zero_counted (count_by (λ (a : ListedAccess). p a && not (nat_eq a.by t)) accesses)
       (sym (any_counted (λ (a : ListedAccess). p a && not (nat_eq a.by t)) accesses) ∙ none_passes p)))
       (λ k d low high. absurd (omega (arith, high)))
-
--- none is of another transaction
-or_parts : (a b : Bool) → (a || b) ≡ false → (a ≡ false) × (b ≡ false)
-or_parts true b h = absurd (true≢false h)
-or_parts false b h = (refl, h)
 
 owned_apart : (only t : ℕ) (xs : List ListedAccess) → only ≢ t → list_any (is_of_other only) xs ≡ false
     → AllWithin (λ (a : ListedAccess). nat_eq a.by t ≡ false) xs 0 (length xs)

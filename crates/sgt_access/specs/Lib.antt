@@ -1,3 +1,4 @@
 pub mod Masks
+pub mod NumberLists
 pub mod Places
 pub mod WholeLists

@@ -1,6 +1,6 @@
 -- Accesses in any order that represent a list, and the masks in front of them: for each hash of a key, the places of the
 -- transactions that have read and written such keys.
-use Rattle.std.specs.Prelude.{◌≡◌, ◌≢◌, ℕ, ◌+◌, ◌*◌, ◌/◌, ◌%◌, ◌^◌, ◌<◌, ◌↔◌, Bool, true, false, not, ◌&&◌, cond, nat_eq, count_by, unsigned_abs, List, [], length, slice_index, slice_index_or, Option, Some, None}
+use Rattle.std.specs.Prelude.{◌≡◌, ◌≢◌, ℕ, ◌+◌, ◌*◌, ◌/◌, ◌%◌, ◌^◌, ◌<◌, ◌↔◌, Bool, true, false, not, ◌&&◌, cond, nat_eq, count_by, unsigned_abs, List, [], ◌++◌, length, slice_index, slice_index_or, Option, Some, None, IsSome}
 use Rattle.std.specs.List.{list_any}
 use Rattle.sgt_model.specs.declared.kind.Kind.{Kind}
 use Rattle.sgt_model.specs.Contents.{Key, key_eq}
@@ -75,6 +75,12 @@ is_of_other t a = not (nat_eq a.by t)
 abbrev pub Knows : Option ℕ → Masks → List ListedAccess → Type 0
 Knows (Some t) m accesses = (list_any (is_of_other t) accesses ≡ false) × Covers m []
 Knows None m accesses = Covers m accesses
+
+-- accesses in two lists represent a list, of which this is known; while all are of one transaction, the second has none
+pub record Holds (list : List ListedAccess) (only : Option ℕ) (masks : Masks) (accesses others : List ListedAccess) : Type 0 where
+  pub stands : StandsFor list (accesses ++ others)
+  pub knows : Knows only masks list
+  pub alone : IsSome only → others ≡ []
 
 -- the transactions at these places are exactly the rivals of an access
 abbrev pub AreRivalsAt : List ListedAccess → List ℕ → ℕ → Key → Kind → ℕ → Type 0

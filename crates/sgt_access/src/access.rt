@@ -1,5 +1,5 @@
 //! One access, and which others it conflicts with.
-ghost use Rattle.std.specs.Prelude.{◌≡◌, ◌≢◌, true, ◌↔◌, IsTrue, nat_eq};
+ghost use Rattle.std.specs.Prelude.{◌≡◌, ◌≢◌, true, ◌↔◌, IsTrue};
 ghost use Rattle.sgt_model.specs.AccessList.{is_conflicting};
 
 use sgt_model::{Key, Kind, Tid};
@@ -24,14 +24,6 @@ impl Model for Access {
 }
 
 impl Access {
-    /// Whether its transaction is t.
-    #[inline(always)]
-    pub fn is_of(&self, t: Tid) -> bool
-        ensures { result ≡ nat_eq self.now.by t }
-    {
-        self.by == t
-    }
-
     /// Whether its transaction is not t and it conflicts with an access of this kind of the key.
     pub fn is_rival_of(&self, t: Tid, key: Key, kind: Kind) -> bool
         ensures { IsTrue result

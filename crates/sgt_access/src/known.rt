@@ -1,12 +1,13 @@
 //! What is known of the accesses by key.
-ghost use Rattle.std.specs.Prelude.{◌≡◌, ◌<◌, ◌≤◌, ◌+◌, false, nat_eq, length, List, [], ◌∷◌, ◌++◌, OnOk};
-ghost use Rattle.std.specs.List.{AllWithin};
+ghost use Rattle.std.specs.Prelude.{◌≡◌, ◌<◌, List, [], ◌∷◌, ◌++◌, IsSome, OnOk};
 ghost use Rattle.std.specs.Vec.{vec_len, vec_capacity};
-ghost use Rattle.sgt_model.specs.AccessList.{ListedAccess, is_listed, forgotten};
-ghost use Rattle.sgt_access.specs.Masks.{StandsFor, Covers, Knows, IsLeaving, IsSaid};
+ghost use Rattle.sgt_model.specs.AccessList.{ListedAccess, forgotten};
+ghost use Rattle.sgt_access.specs.Masks.{StandsFor, Covers, Knows, Holds, IsSaid};
 
 use crate::access::Access;
 use crate::masks::{Masks, Rivals};
+use crate::number_lists::NumberLists;
+use crate::taking::take_out;
 use sgt_model::{Key, Kind, NoMemory, Tid};
 use std::alloc::Global;
 
@@ -30,15 +31,18 @@ impl Known {
         }
     }
 
-    /// The rivals of an access of t.
+    /// The rivals of an access of t. The accesses are these, if all are of one transaction.
     #[inline(always)]
-    pub fn rivals(&self, t: Tid, key: Key, kind: Kind) -> Rivals
-        ensures { (accesses : List ListedAccess) → Knows self.now.only self.now.masks accesses
-            → IsSaid accesses self.now.masks.places.tids t key kind result }
+    pub fn rivals(&self, t: Tid, key: Key, kind: Kind, accesses: &[Access]) -> Rivals
+        ensures { (list : List ListedAccess) → Knows self.now.only self.now.masks list
+            → (IsSome self.now.only → StandsFor list accesses.now)
+            → IsSaid list self.now.masks.places.tids t key kind result }
     {
         match self.only {
             Some(only) => {
                 if only == t {
+                    Rivals::At(0)
+                } else if accesses.is_empty() {
                     Rivals::At(0)
                 } else {
                     Rivals::Unknown
@@ -48,11 +52,13 @@ impl Known {
         }
     }
 
-    /// Adds an access to the others.
+    /// Adds an access. The others are these, if all are of one transaction.
     #[inline(always)]
     pub fn add(&mut self, access: Access, others: &[Access])
-        ensures { Knows self.old.only self.old.masks others.now
-            → Knows self.new.only self.new.masks (others.now ++ access ∷ []) }
+        ensures known { (list : List ListedAccess) → Knows self.old.only self.old.masks list
+            → (IsSome self.old.only → StandsFor list others.now)
+            → Knows self.new.only self.new.masks (list ++ access ∷ []) }
+        ensures alone { IsSome self.new.only → IsSome self.old.only }
     {
         match self.only {
             Some(only) => {
@@ -67,7 +73,8 @@ impl Known {
     // The same, if the masks have none of the others and the access is of another transaction.
     #[inline(never)]
     fn add_of_another(&mut self, access: Access, others: &[Access])
-        ensures { Covers self.old.masks [] → Knows self.new.only self.new.masks (others.now ++ access ∷ []) }
+        ensures { (list : List ListedAccess) → Covers self.old.masks [] → StandsFor list others.now
+            → Knows self.new.only self.new.masks (list ++ access ∷ []) }
     {
         if others.is_empty() {
             self.only = Some(access.by);
@@ -90,25 +97,68 @@ fn add_all(masks: &mut Masks, accesses: &[Access])
 
 /// Provides capacity for one more access.
 #[inline(never)]
-pub fn grow(accesses: &mut Vec<Access>, known: &mut Known) -> Result<(), NoMemory>
-    ensures items { accesses.new.items ≡ accesses.old.items }
+pub fn grow(
+    accesses: &mut Vec<Access>,
+    lists: &mut NumberLists,
+    known: &mut Known,
+) -> Result<(), NoMemory>
     ensures enough { OnOk result (vec_len accesses.new < vec_capacity accesses.new) }
-    ensures known { Knows known.old.only known.old.masks accesses.old.items
-        → Knows known.new.only known.new.masks accesses.new.items }
+    ensures known { (list : List ListedAccess) → Holds list known.old.only known.old.masks accesses.old.items lists.old
+        → Holds list known.new.only known.new.masks accesses.new.items lists.new }
 {
-    if accesses.is_empty() {
-        known.masks.fill()?;
-    }
+    prepare(accesses.as_slice(), lists, known)?;
+    lists.grow()?;
     accesses.reserve(1)?;
     Ok(())
 }
 
+// Makes masks and lists, if none were made.
+fn prepare(accesses: &[Access], lists: &mut NumberLists, known: &mut Known) -> Result<(), NoMemory>
+    ensures { (list : List ListedAccess) → Holds list known.old.only known.old.masks accesses.now lists.old
+        → Holds list known.new.only known.new.masks accesses.now lists.new }
+{
+    if !accesses.is_empty() {
+        return Ok(());
+    }
+    if !lists.is_unmade() {
+        return Ok(());
+    }
+    begin(lists, known)
+}
+
+// Makes masks and lists, where there is no access.
+fn begin(lists: &mut NumberLists, known: &mut Known) -> Result<(), NoMemory>
+    requires { lists.old ≡ [] }
+    ensures lists { lists.new ≡ [] }
+    ensures only { known.new.only ≡ known.old.only }
+    ensures covers { Covers known.new.masks [] }
+{
+    known.masks.fill()?;
+    lists.make()
+}
+
+/// Stores an access in the list of its transaction. If that is full, or while all accesses are of one transaction, it is stored
+/// with the others. It allocates nothing.
+#[inline(always)]
+pub fn store(accesses: &mut Vec<Access>, lists: &mut NumberLists, only: Option<Tid>, access: Access)
+    requires { vec_len accesses.old < vec_capacity accesses.old }
+    ensures stands { StandsFor ((accesses.old.items ++ lists.old) ++ access ∷ []) (accesses.new.items ++ lists.new) }
+    ensures alone { IsSome only → lists.new ≡ lists.old }
+{
+    if only.is_some() {
+        accesses.push_reserved(access);
+        return;
+    }
+    if lists.add(access) {
+        return;
+    }
+    accesses.push_reserved(access);
+}
+
 /// Removes the accesses of a transaction.
-pub fn remove_all(accesses: &mut Vec<Access>, known: &mut Known, t: Tid)
-    ensures rest { (list : List ListedAccess) → Knows known.old.only known.old.masks accesses.old.items
-        → StandsFor list accesses.old.items → StandsFor (forgotten t list) accesses.new.items }
-    ensures known { Knows known.old.only known.old.masks accesses.old.items
-        → Knows known.new.only known.new.masks accesses.new.items }
+pub fn remove_all(accesses: &mut Vec<Access>, lists: &mut NumberLists, known: &mut Known, t: Tid)
+    ensures { (list : List ListedAccess) → Holds list known.old.only known.old.masks accesses.old.items lists.old
+        → Holds (forgotten t list) known.new.only known.new.masks accesses.new.items lists.new }
 {
     if let Some(only) = known.only {
         if only == t {
@@ -117,56 +167,10 @@ pub fn remove_all(accesses: &mut Vec<Access>, known: &mut Known, t: Tid)
         return;
     }
     let places = known.masks.places_of(t);
+    lists.take_out(&mut known.masks, t, places);
     take_out(accesses, &mut known.masks, t, places);
     known.masks.free(places);
-    if accesses.is_empty() {
+    if known.masks.is_idle() {
         known.only = Some(t);
     }
-}
-
-// Removes the accesses of t, which is at these places, from the list and from the masks.
-fn take_out(accesses: &mut Vec<Access>, masks: &mut Masks, t: Tid, places: u32)
-    ensures rest { (list : List ListedAccess) → StandsFor list accesses.old.items
-        → StandsFor (forgotten t list) accesses.new.items }
-    ensures none { is_listed accesses.new.items t ≡ false }
-    ensures leaving { IsLeaving masks.old t places accesses.old.items → IsLeaving masks.new t places accesses.new.items }
-{
-    let mut index = pass_others(accesses.as_slice(), accesses.len(), t);
-    while 0 < index {
-        index -= 1;
-        if accesses[index].by == t {
-            let access = accesses.swap_remove(index);
-            masks.remove(places, access);
-            let left = accesses.as_slice();
-            index = pass_others(left, index, t);
-        }
-    }
-}
-
-// Passes over accesses that are not of t, four at once, from this index towards the front. It returns the index it reached.
-fn pass_others(accesses: &[Access], from: usize, t: Tid) -> usize
-    requires { from ≤ length accesses.now }
-    ensures within { result ≤ from }
-    ensures others { AllWithin (λ (a : ListedAccess). nat_eq a.by t ≡ false) accesses.now result from }
-{
-    let mut index = from;
-    while 4 <= index {
-        if is_among_four(accesses, index - 4, t) {
-            return index;
-        }
-        index -= 4;
-    }
-    index
-}
-
-// Whether one of the four accesses from this index on is of t.
-#[inline(always)]
-fn is_among_four(accesses: &[Access], index: usize, t: Tid) -> bool
-    requires { index + 4 ≤ length accesses.now }
-    ensures { result ≡ false → AllWithin (λ (a : ListedAccess). nat_eq a.by t ≡ false) accesses.now index (index + 4) }
-{
-    accesses[index].is_of(t)
-        || accesses[index + 1].is_of(t)
-        || accesses[index + 2].is_of(t)
-        || accesses[index + 3].is_of(t)
 }

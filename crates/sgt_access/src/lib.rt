@@ -2,7 +2,7 @@
 //!
 //! It stores no value and no history, and it decides nothing. It names the rivals of an access, and the scheduler makes
 //! edges of them. `Accesses` is the contract. `OneList`, one list for all keys, is the plain implementation that tests compare
-//! with. `PerKey` has masks by key in front of them.
+//! with. `PerKey` has lists by transaction, and masks by key in front of them.
 //!
 //! ```
 //! let mut accesses = OneList::empty(alloc);
@@ -17,11 +17,13 @@ mod accesses;
 mod conflicts;
 mod known;
 mod masks;
+mod number_lists;
 mod one_list;
 mod per_key;
 mod places;
 mod rising;
 mod spot;
+mod taking;
 mod whole_list;
 
 pub use accesses::Accesses;

@@ -148,6 +148,16 @@ impl Masks {
     {
         self.places.free(places);
     }
+
+    /// Whether the masks say that there is no access.
+    pub fn is_idle(&self) -> bool
+        ensures { result ≡ true → (accesses : List ListedAccess) → Covers self.now accesses → accesses ≡ [] }
+    {
+        if self.spots.is_empty() {
+            return false;
+        }
+        self.places.is_free()
+    }
 }
 
 // The index of a key's spot.

@@ -82,6 +82,14 @@ impl Places {
         Some(place)
     }
 
+    /// Whether no place is taken.
+    #[inline(always)]
+    pub fn is_free(&self) -> bool
+        ensures { result ≡ true → (i : ℕ) → is_set self.now.taken i ≡ false }
+    {
+        least(self.taken).is_none()
+    }
+
     /// Frees places.
     pub fn free(&mut self, places: u32)
         ensures taken { (i : ℕ) → is_set self.new.taken i ≡ (is_set self.old.taken i && not (is_set places i)) }

@@ -1,51 +1,15 @@
-use Rattle.std.proofs.Common.{◌≡◌, ◌↔◌, ◌⊎◌, ◌<◌, ℕ, length, get_or, ap, sym, subst, refl}
-use Rattle.std.proofs.lemmas.Bool.{true≢false}
-use Rattle.std.proofs.lemmas.List.{take_all}
-use Rattle.sgt_model.specs.AccessList.{ListedAccess, is_listed}
-use Rattle.sgt_model.specs.Paths.{Member}
-use Rattle.sgt_access.proofs.RisingLists.{capacity_left}
-use Rattle.sgt_access.proofs.Rivals.{AreRivals, rival_added, no_rival_added, rival_listed, listed_at}
+use Rattle.std.proofs.Common.{sym, subst}
+use Rattle.sgt_access.proofs.Rivals.{AddRivals, AreRivals, fit_first, rivals_alone}
 use Rattle.sgt_access.proofs.conflicts.rivals_among.Goals as goal
-use Rattle.sgt_access.proofs.conflicts.rivals_among.Goals.{then-is_rival_of, else-is_rival_of}
 
-pub add_rising-requires-clause-capacity : goal.add_rising-requires-clause-capacity
-add_rising-requires-clause-capacity c =
-    let list = c.args.accesses.now in
-    let rivals = c.loop-access.rivals.items in
-    let short : c.loop-access.access-index < length list = c.loop-access-test.true in
-    let is : c.access-item.result ≡ get_or list c.loop-access.access-index c.access-item.result = c.access-item.is in
-    subst (λ t. ¬ Member t rivals → length rivals < 32) (sym (ap (λ (a : ListedAccess). a.by) c.access.view_is))
-    (capacity_left 32 (is_listed list) rivals _ c.requires.few c.loop-access.invariant.rising
-    (λ u m. rival_listed list c.loop-access.access-index u c.args.key c.args.kind ((c.loop-access.invariant.exact u).0 m).1)
-    (listed_at list c.loop-access.access-index c.access-item.result short is))
-
-pub loop-access-preserved : goal.loop-access-preserved
-loop-access-preserved c =
-    let list = c.args.accesses.now in
-    let at = c.loop-access.access-index in
-    let old = c.loop-access.rivals.items in
-    let short : at < length list = c.loop-access-test.true in
-    let is : c.access-item.result ≡ get_or list at c.access-item.result = c.access-item.is in
-    elim c.if-is_rival_of.branch [
-      | then-is_rival_of w ↦
-          let members : (u : ℕ) → Member u c.if-is_rival_of.rivals.items ↔ ((u ≡ c.access-item.result.by) ⊎ Member u old) =
-          rw (w.rivals-is, ← ap (λ (a : ListedAccess). a.by) c.access.view_is) w.add_rising.ensures.members in
-          record {
-            exact = rival_added _ _ _ list at _ short is old _ (w.if-is_rival_of.ensures.0 refl) members
-                c.loop-access.invariant.exact;
-            rising = rw w.rivals-is w.add_rising.ensures.rising;
-          }
-      | else-is_rival_of w ↦ rw w.rivals-is record {
-        exact =
-            no_rival_added _ _ _ list at _ short is old (λ rival. absurd (true≢false (sym (w.if-is_rival_of.ensures.1 rival))))
-            c.loop-access.invariant.exact;
-        rising = c.loop-access.invariant.rising;
-      }
-    ]
+pub add_rivals-requires : goal.add_rivals-requires
+add_rivals-requires c = record {
+  few = rw c.new-rivals.ensures (fit_first c.args.accesses.now c.requires.few);
+  rising = rw c.new-rivals.ensures tt;
+}
 
 pub returns-clause-exact : goal.returns-clause-exact
-returns-clause-exact c =
-    let whole = take_all c.loop-access.access-index c.args.accesses.now c.loop-access-test.false in
-    let exact : AreRivals c.args.t c.args.key c.args.kind c.args.accesses.now c.loop-access.rivals.items =
-    subst (λ list. AreRivals c.args.t c.args.key c.args.kind list c.loop-access.rivals.items) whole c.loop-access.invariant.exact in
-    rw (c.in-Some.ensures.items, c.as_slice.ensures.value) exact
+returns-clause-exact c = subst (AreRivals c.args.t c.args.key c.args.kind c.args.accesses.now) (sym c.tids_of.ensures)
+    (rivals_alone c.args.t c.args.key c.args.kind c.args.accesses.now _ (subst
+    (λ first. AddRivals c.args.t c.args.key c.args.kind c.args.accesses.now first c.add_rivals.new.rivals.items) c.new-rivals.ensures
+    c.add_rivals.ensures.exact))

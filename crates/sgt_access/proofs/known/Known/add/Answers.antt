@@ -1,14 +1,14 @@
-use Rattle.std.proofs.Common.{rules, ◌≡◌, Some, None, ◌++◌, ◌∷◌, [], sym, subst}
+use Rattle.std.proofs.Common.{rules, ◌≡◌, Some, None, IsSome, ◌++◌, ◌∷◌, [], refl, sym, subst}
 use Rattle.sgt_access.specs.Masks.{Knows}
 use Rattle.sgt_access.proofs.known.Known.add.Goals as goal
 
-pub returns-then-ne : goal.returns-then-ne
-returns-then-ne c knows =
+pub returns-then-ne-clause-known : goal.returns-then-ne-clause-known
+returns-then-ne-clause-known c list knows stands =
     let is : c.args.self.now.only ≡ Some c.in-Some.only = search rules in
-    c.add_of_another.ensures (subst (λ o. Knows o c.args.self.now.masks c.args.others.now) is knows).1
+    c.add_of_another.ensures list (subst (λ o. Knows o c.args.self.now.masks list) is knows).1 (stands (subst IsSome (sym is) refl))
 
-pub returns-in-None : goal.returns-in-None
-returns-in-None c knows =
+pub returns-in-None-clause-known : goal.returns-in-None-clause-known
+returns-in-None-clause-known c list knows stands =
     let is : c.args.self.now.only ≡ None = search rules in
-    subst (λ o. Knows o c.add.new.self (c.args.others.now ++ c.args.access ∷ [])) (sym is)
-    (c.add.ensures c.args.others.now (subst (λ o. Knows o c.args.self.now.masks c.args.others.now) is knows))
+    subst (λ o. Knows o c.add.new.self (list ++ c.args.access ∷ [])) (sym is)
+    (c.add.ensures list (subst (λ o. Knows o c.args.self.now.masks list) is knows))

@@ -1,10 +1,11 @@
-use Rattle.std.proofs.Common.{sym}
-use Rattle.sgt_access.proofs.Counts.{stands_noted}
+use Rattle.sgt_access.proofs.Held.{first_stands, held_noted}
 use Rattle.sgt_access.proofs.per_key.PerKeyAccesses.note.Goals as goal
 
 pub invariant_of-self : goal.invariant_of-self
-invariant_of-self c = (
-  rw (c.push_reserved.ensures.items, c.note.ensures)
-      (stands_noted c.self.inside.whole c.self.inside.accesses.items _ c.self.invariant.0),
-  rw c.push_reserved.ensures.items (rw (sym c.as_slice.ensures.value) (c.add.ensures (rw c.as_slice.ensures.value c.self.invariant.1))),
-)
+invariant_of-self c = rw c.note.ensures
+    (held_noted c.self.inside.whole c.self.inside.known.only c.add.new.self.only c.self.inside.known.masks c.add.new.self.masks
+    c.self.inside.accesses.items c.self.inside.lists c.store.new.accesses.items c.store.new.lists _ c.self.invariant
+    c.store.ensures.stands c.store.ensures.alone c.add.ensures.alone
+    (c.add.ensures.known c.self.inside.whole c.self.invariant.knows (λ some. rw c.as_slice.ensures.value
+    (first_stands c.self.inside.whole c.self.inside.known.only c.self.inside.known.masks c.self.inside.accesses.items c.self.inside.lists
+    c.self.invariant some))))

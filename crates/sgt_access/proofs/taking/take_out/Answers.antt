@@ -1,20 +1,20 @@
-use Rattle.std.proofs.Common.{rules, ◌≡◌, ◌-◌, ◌<◌, ◌+◌, ℕ, true, false, nat_eq, List, length, get_or, vec_len, arith, sym, subst, ap, ◌∙◌, ⊎_elim, inl, inr}
+use Rattle.std.proofs.Common.{rules, ◌≡◌, ◌-◌, ◌<◌, ◌+◌, ℕ, true, false, nat_eq, List, ◌++◌, length, get_or, vec_len, arith, sym, subst, ap, ◌∙◌, ⊎_elim}
 use Rattle.std.specs.List.{AllWithin}
-use Rattle.std.proofs.lemmas.Bool.{cases_eq, cases_lt, eqb-true}
+use Rattle.std.proofs.lemmas.Bool.{cases_eq, eqb-true}
 use Rattle.std.proofs.lemmas.List.{get_or_default}
 use Rattle.sgt_model.specs.AccessList.{ListedAccess}
 use Rattle.sgt_access.specs.Masks.{IsOneLess}
-use Rattle.sgt_access.proofs.Counts.{one_taken, others_taken, stands_forgotten, none_listed, same_read}
-use Rattle.sgt_access.proofs.known.take_out.Goals as goal
+use Rattle.sgt_access.proofs.Counts.{one_taken, one_less_beside, others_taken, none_listed, same_read}
+use Rattle.sgt_access.proofs.taking.take_out.Goals as goal
 
 pub loop-index-preserved-then-eq : goal.loop-index-preserved-then-eq
 loop-index-preserved-then-eq c =
     record {
-      within = let within = c.loop-index.invariant.within in let passed = c.pass_others-index-then-eq.ensures.within in
-          omega (arith, within, long, passed);
-      none = λ k d low high. elim (cases_lt k at) [ inl below ↦ passed_over k d low below | inr above ↦ none k d above high ];
+      within = let within = c.loop-index.invariant.within in omega (arith, within, long);
+      none = none;
       others = λ p. others_taken old new x c.args.t (eqb-true x.by c.args.t test) test less p ∙ c.loop-index.invariant.others p;
-      leaving = λ start. c.remove.ensures c.args.t old new (eqb-true x.by c.args.t test) (c.loop-index.invariant.leaving start) less;
+      leaving = λ rest start. c.remove.ensures c.args.t (old ++ rest) (new ++ rest) (eqb-true x.by c.args.t test)
+          (c.loop-index.invariant.leaving rest start) (one_less_beside x old new rest less);
     }
   where
     x : ListedAccess
@@ -52,12 +52,6 @@ loop-index-preserved-then-eq c =
     sized : vec_len c.loop-index.accesses ≡ length old
     sized = search rules
 
-    -- those that were passed over, and those that come after them
-    passed_over : AllWithin (λ (a : ListedAccess). nat_eq a.by c.args.t ≡ false) new c.pass_others-index-then-eq.result at
-    passed_over = subst
-        (λ (xs : List ListedAccess). AllWithin (λ (a : ListedAccess). nat_eq a.by c.args.t ≡ false) xs c.pass_others-index-then-eq.result at)
-        c.as_slice-left.ensures.value c.pass_others-index-then-eq.ensures.others
-
     none : AllWithin (λ (a : ListedAccess). nat_eq a.by c.args.t ≡ false) new at (length new)
     none k d low high = ⊎_elim
         (λ e. subst (λ (a : ListedAccess). nat_eq a.by c.args.t ≡ false)
@@ -94,16 +88,7 @@ loop-index-preserved c =
     short : at < length old
     short = let within = c.loop-index.invariant.within in omega (arith, within, some)
 
-pub returns-clause-rest : goal.returns-clause-rest
-returns-clause-rest c list stands =
-    let done = c.loop-index-test.false in
-    stands_forgotten list c.args.accesses.now.items c.loop-index.accesses.items c.args.t stands c.loop-index.invariant.others
-    (λ k d low high. c.loop-index.invariant.none k d (omega (arith, done)) high)
-
 pub returns-clause-none : goal.returns-clause-none
 returns-clause-none c =
     let done = c.loop-index-test.false in
     none_listed c.args.t c.loop-index.accesses.items (λ k d low high. c.loop-index.invariant.none k d (omega (arith, done)) high)
-
-pub returns-clause-leaving : goal.returns-clause-leaving
-returns-clause-leaving c start = c.loop-index.invariant.leaving start
