@@ -17,6 +17,12 @@ pub trait Gate {
     /// gate says so.
     type Note: Drop + Send;
 
+    /// The most jobs that a worker takes from the queue at once. Those that it has not begun when it leaves stay untaken, so
+    /// a gate that makes workers leave must not return more than 1, the default.
+    fn most_at_once(&self) -> usize {
+        1
+    }
+
     /// Whether the worker goes on. The workers are numbered from 0; `calls` is how many calls this one has made.
     fn pass(&self, worker: u8, calls: u64) -> Pass<Self::Note>;
 
