@@ -521,6 +521,15 @@ uint32_t sgt_calls(const sgt_engine *engine, uint64_t from, sgt_call *calls, siz
 uint32_t sgt_accesses(const sgt_engine *engine, uint32_t tid, sgt_access *accesses, size_t capacity, uint64_t *count);
 
 /*
+ * Whether the transaction `tid`, live or not, has written or removed a record, by a step or for its caller: `wrote` is 1 if it has, and
+ * else 0. A committed call that did not write has changed nothing, and a journal may leave it out. The cost grows with the entries back to
+ * the transaction's last write, or to its start.
+ *
+ * SGT_CLOSED. If the result is not SGT_OK, `wrote` is unchanged.
+ */
+uint32_t sgt_wrote(const sgt_engine *engine, uint32_t tid, uint32_t *wrote);
+
+/*
  * Allocates memory for `entries` more entries, of 40 bytes each, so that the history is not moved until then. The lists of
  * arguments, answers and transactions in the entries are not counted in. Nothing else changes.
  *
@@ -598,13 +607,13 @@ uint32_t sgt_explain_procedure(uint64_t number, const char *procedure, size_t le
  * The rest takes no engine and is not proved. The version is that of this header. sgt_version returns that of the linked
  * library, so that a program can compare the two. sgt_status_text returns a sentence for a status. Do not free either text.
  *
- * Since 0.1.0, sgt_shared_outcome and sgt_transaction have one member more, and a shared engine cuts its history by itself
- * unless its configuration says otherwise: compile your program anew.
+ * Since 0.2.0, sgt_ended says whether its call wrote. Since 0.1.0, sgt_shared_outcome and sgt_transaction have one member more, and a
+ * shared engine cuts its history by itself unless its configuration says otherwise. So compile your program anew.
  */
 #define SGT_VERSION_MAJOR 0
-#define SGT_VERSION_MINOR 2
+#define SGT_VERSION_MINOR 3
 #define SGT_VERSION_PATCH 0
-#define SGT_VERSION "0.2.0"
+#define SGT_VERSION "0.3.0"
 
 const char *sgt_version(void);
 const char *sgt_status_text(uint32_t status);

@@ -757,7 +757,7 @@ def reads_before_a_cut_in_python(_):
         if raises:
             raise raises.pop(0)
         calls, _ = engine.calls()
-        read.append((part, len(engine), [call.args for call in calls], engine.get(2, 101)))
+        read.append((part, len(engine), [call.args for call in calls], engine.get(2, 101), [engine.has_written(call.tid) for call in calls]))
 
     with sgt.SharedEngine(limits=(8, 1000, 1), accounts=[(1, 101, 0, 0)], cutting=hook) as bank:
         bank.run(1, 1, 7)
@@ -767,7 +767,7 @@ def reads_before_a_cut_in_python(_):
         same("one that is interrupted", "interrupted", what(Interrupted, bank.cut, "interrupted"))
         same("the entries", entries, bank.entries())
         bank.cut()
-        same("what was read", [(0, entries, [(1, 7), (1,)], 7)], read)
+        same("what was read", [(0, entries, [(1, 7), (1,)], 7, [True, False])], read)
         same("the entries after the cut", 0, bank.entries())
         same("the engine after the hook", "closed", what(sgt.Closed, lambda: lent[-1].get(2, 101), "closed"))
     raises[:] = [OSError("full disk")]
@@ -777,6 +777,18 @@ def reads_before_a_cut_in_python(_):
         for _ in range(2):
             bank.transact(lambda t: t.read(2, 101))
         same("the parts that were read", [0, 0, 1], [part for part, *_ in read])
+
+
+def says_who_wrote_in_python(_):
+    """Whether a call wrote is said of each that ended."""
+    sgt = module()
+    with sgt.SharedEngine(limits=(8, 1000, 1), accounts=[(1, 101, 0, 0)], keeps_ended=True) as bank:
+        bank.run(1, 1, 7)
+        bank.run(0, 1)
+        bank.run(1, 9, 7)
+        bank.transact(lambda t: t.read(2, 101))
+        bank.transact(lambda t: t.remove(2, 101))
+        same("who wrote", [True, False, False, False, True], [ended.wrote for ended in bank.drain()])
 
 
 def refuses_another_version(scratch):
@@ -853,6 +865,7 @@ CASES = [
     keeps_the_place_of_a_wait,
     raises_what_a_hook_raises,
     reads_before_a_cut_in_python,
+    says_who_wrote_in_python,
     refuses_another_version,
     refuses_a_forked_child,
 ]

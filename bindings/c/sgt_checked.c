@@ -30,6 +30,7 @@ uint32_t proved_sgt_entries(sgt_engine *, uint64_t *);
 uint32_t proved_sgt_entry(sgt_engine *, uint64_t, sgt_event *, sgt_reply *);
 uint32_t proved_sgt_calls(sgt_engine *, uint64_t, sgt_call *, size_t, uint64_t *, uint64_t *);
 uint32_t proved_sgt_accesses(sgt_engine *, uint32_t, sgt_access *, size_t, uint64_t *);
+uint32_t proved_sgt_wrote(sgt_engine *, uint32_t, uint32_t *);
 uint32_t proved_sgt_reserve(sgt_engine *, uint64_t);
 uint32_t proved_sgt_cut(sgt_engine *, uint64_t *);
 uint32_t proved_sgt_part(sgt_engine *, uint64_t *);
@@ -210,6 +211,12 @@ uint32_t sgt_accesses(const sgt_engine *engine, uint32_t tid, sgt_access *access
     if (!engine) return SGT_CLOSED;
     if (!is_list(accesses, capacity) || !count) return SGT_BAD_CALL;
     return proved_sgt_accesses(read_from(engine), tid, accesses ? accesses : &none.access, capacity, count);
+}
+
+uint32_t sgt_wrote(const sgt_engine *engine, uint32_t tid, uint32_t *wrote)
+{
+    if (!engine) return SGT_CLOSED;
+    return wrote ? proved_sgt_wrote(read_from(engine), tid, wrote) : (uint32_t)SGT_BAD_CALL;
 }
 
 uint32_t sgt_reserve(sgt_engine *engine, uint64_t entries) { return engine ? proved_sgt_reserve(engine, entries) : (uint32_t)SGT_CLOSED; }

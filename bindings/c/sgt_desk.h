@@ -59,6 +59,18 @@ typedef struct sgt_run_ask {
     uint32_t attempt, has_attempt; /* the attempt that rests in its commit, if one does */
 } sgt_run_ask;
 
+/* What is noted of a transaction that was live between two calls, and may have ended since. The engine knows who is live. */
+typedef struct sgt_note {
+    uint32_t tid;
+    uint32_t procedure;
+    uint32_t waits;        /* 1: a thread waits in its commit */
+    uint32_t is_abandoned; /* 1: it is aborted as soon as the hook that abandoned it has returned */
+    uint32_t rests;        /* why its thread rests without a deadline: the reason of an sgt_ask. 0: it does not */
+    uint32_t first;        /* the transaction that its thread waits for, if that is SGT_WAITS_TURN */
+    uint64_t thread;       /* that made the last call for it */
+    int64_t since;
+} sgt_note;
+
 #pragma GCC visibility push(hidden)
 
 uint32_t sgt_desk_start(sgt_engine *engine, sgt_desk *desk, sgt_ask *ask, uint64_t procedure, const int64_t *args, size_t count, uint64_t now,
@@ -78,6 +90,12 @@ void sgt_desk_leave(sgt_desk *desk, sgt_ask *ask, uint32_t *wakes);
 /* Asks an event of a transaction that never rests: SGT_STEP, SGT_QUIT, SGT_READ, SGT_WRITE or SGT_REMOVE. */
 uint32_t sgt_desk_make(sgt_engine *engine, sgt_desk *desk, uint64_t part, uint32_t tid, uint32_t kind, uint64_t table, int64_t number,
                        int64_t value, sgt_reply *reply, uint32_t *wakes);
+
+/*
+ * 1 if a call of this thread, which rests without a deadline as the notes say, waits for itself: for transactions that never end, since each
+ * waits for another of them. `cuts` is 1 if a cut rests without a deadline, `is_cut` 1 if it is this call. The notes are at most 32.
+ */
+uint32_t sgt_desk_waits_for_itself(const sgt_note *notes, size_t count, uint64_t thread, uint32_t cuts, uint32_t is_cut);
 
 #pragma GCC visibility pop
 

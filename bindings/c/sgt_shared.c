@@ -7,7 +7,7 @@
  *   sgt_lock.h      the lock, with its line, and sleeping
  *   sgt_state.h     what an engine holds here; deadlines, and how a thread rests
  *   sgt_entering.h  entering and leaving; forks, hooks and calls from inside hooks
- *   sgt_owners.h    which thread a transaction is of, and whether a call would wait for its own thread
+ *   sgt_owners.h    which thread a transaction is of, and why it rests
  *   sgt_turns.h     the turns of a call; the calls that are stored until they are drained
  *   sgt_cuts.h      turns of a cut, and the cuts that the configuration asks for
  *   sgt_starts.h    turns of a start and of a run; tries that are made alone
@@ -156,7 +156,7 @@ uint32_t sgt_shared_abandon(sgt_shared *shared, const sgt_ticket *ticket)
     }
     if (ticket->engine != shared->number) return SGT_MISUSE;
     if (ticket->part != shared->part) return SGT_STALE;
-    struct note *it = find(shared, ticket->tid);
+    sgt_note *it = find(shared, ticket->tid);
     if (it) it->is_abandoned = shared->abandons = true;
     return SGT_OK;
 }
@@ -176,7 +176,7 @@ uint32_t sgt_shared_live(sgt_shared *shared, sgt_live *rows, size_t capacity, ui
     const int64_t at = now();
     refresh(shared);
     for (uint32_t i = 0; i < shared->notes && i < capacity; i++) {
-        const struct note *it = &shared->note[i];
+        const sgt_note *it = &shared->note[i];
         rows[i] = (sgt_live){ticket_of(shared, it->tid), at - it->since, it->procedure, it->waits};
     }
     *count = shared->notes;

@@ -68,12 +68,15 @@ typedef struct sgt_ticket {
 /*
  * A call that was committed or refused, with its answers or its code, as sgt_calls returns it. `sequence` counts these calls from 0
  * in reply order, over all parts. Run one after another in this order, from the opening database, each with the accesses that its caller
- * decided, they give the same answers and end in the committed database. `call.accesses` is the number of these accesses.
+ * decided, they give the same answers and end in the committed database. `call.accesses` is the number of these accesses. A call that
+ * did not write changes nothing there, and a journal may leave it out.
  */
 typedef struct sgt_ended {
     uint64_t sequence;
     sgt_ticket ticket;
     sgt_call call;
+    uint32_t wrote;     /* 1: it was committed, and has written or removed a record */
+    uint32_t spare;
 } sgt_ended;
 
 /* A live transaction. */

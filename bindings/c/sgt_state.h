@@ -21,18 +21,6 @@ struct deadline {
     int64_t at;
 };
 
-/* What is noted of a transaction that was live between two calls, and may have ended since. The engine knows who is live. */
-struct note {
-    uint32_t tid;
-    uint32_t procedure;
-    bool waits;        /* whether a thread waits in its commit */
-    bool is_abandoned; /* it is aborted as soon as the hook that abandoned it has returned */
-    uint32_t rests;    /* why its thread rests without a deadline: the reason of an sgt_ask. 0: it does not */
-    uint32_t first;    /* the transaction that its thread waits for, if that is SGT_WAITS_TURN */
-    uint64_t thread;   /* that made the last call for it */
-    int64_t since;
-};
-
 /* The calls that ended and were not drained yet: `count` of them, from `first` on. */
 struct queue {
     sgt_ended *at;
@@ -53,7 +41,7 @@ struct sgt_shared {
     sgt_shared_config config;
     uint64_t part;               /* cuts so far: that of sgt_part */
     uint64_t read;               /* the place of the history up to which calls that ended were handed on */
-    struct note note[MOST_LIVE]; /* by rising numbers: of all live ones but a run's that does not rest, and of some that have ended */
+    sgt_note note[MOST_LIVE]; /* by rising numbers: of all live ones but a run's that does not rest, and of some that have ended */
     uint32_t notes;
     uint32_t cuts;               /* cuts that rest without a deadline */
     uint32_t loners;             /* threads that wait until nobody is live, to start one alone */

@@ -37,6 +37,7 @@ static void deliver(sgt_shared *s, uint64_t sequence)
     uint64_t count = 0;
     sgt_calls(&s->engine, s->read, &ended.call, 1, &count, &s->read);
     ended.ticket = ticket_of(s, ended.call.tid);
+    if (ended.call.kind == SGT_COMMITTED) sgt_wrote(&s->engine, ended.call.tid, &ended.wrote);
     if (s->config.keeps_ended) {
         s->queue.at[s->queue.first + s->queue.count++] = ended;
         announce(&s->lock, &s->queued);
@@ -123,7 +124,7 @@ static uint32_t sleep_for(sgt_shared *s, sgt_ask *ask, struct deadline *until)
         return SGT_SELF_WAIT;
     }
     const bool is_cut = until->never && ask->reason == SGT_IS_BUSY, commits = ask->reason == SGT_WAITS_TURN;
-    struct note *it = commits ? find(s, ask->turn) : 0;
+    sgt_note *it = commits ? find(s, ask->turn) : 0;
     if (it) it->waits = true;
     s->cuts += is_cut;
     rest(s, &s->changed, until);

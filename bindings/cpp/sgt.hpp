@@ -342,6 +342,14 @@ public:
         return count;
     }
 
+    // Whether a transaction, live or not, has written or removed a record.
+    bool has_written(std::uint32_t tid) const
+    {
+        std::uint32_t wrote = 0;
+        check(sgt_wrote(&engine, tid, &wrote));
+        return wrote == 1;
+    }
+
     // Returns the numbers of the live transactions, rising.
     std::vector<std::uint32_t> live() const
     {

@@ -456,6 +456,12 @@ static void a_run_goes_to_its_end(void)
     sgt_close(&engine);
 }
 
+static int has_written(const sgt_engine *engine, uint32_t tid, uint32_t wrote)
+{
+    uint32_t found = 77;
+    return sgt_wrote(engine, tid, &found) == 0 && found == wrote;
+}
+
 static void many_calls_are_run(void)
 {
     const sgt_call asked[] = {
@@ -483,6 +489,7 @@ static void many_calls_are_run(void)
     CHECK(sgt_run_many(&engine, asked, 3, outcomes, 4, &done) == 0);
     CHECK(done == 3 && outcomes[3].tid == 99 && outcomes[3].reply.kind == 0);
     CHECK(is_committed(&outcomes[0].reply, 1100) && outcomes[0].tid == 0);
+    CHECK(has_written(&engine, 0, 1) && has_written(&engine, 1, 0) && has_written(&engine, 77, 0));
     CHECK(outcomes[0].wrote == 1 && outcomes[1].wrote == 0 && outcomes[2].wrote == 0);
     CHECK(outcomes[1].reply.kind == 14 && outcomes[1].reply.cause == 2 && outcomes[1].reply.code == 1 && outcomes[1].tid == 1);
     CHECK(outcomes[2].reply.kind == 2);
@@ -776,6 +783,7 @@ static void null_pointers_are_reported(void)
     CHECK(sgt_entries(0, &count) == 2 && sgt_entries(&engine, 0) == 5);
     uint32_t tids[32];
     CHECK(sgt_live_tids(0, tids, &count) == 2 && sgt_live_tids(&engine, 0, &count) == 5 && sgt_live_tids(&engine, tids, 0) == 5);
+    CHECK(sgt_wrote(0, 0, &t) == 2 && sgt_wrote(&engine, 0, 0) == 5);
     CHECK(sgt_entry(0, 0, &event, &reported) == 2);
     CHECK(sgt_entry(&engine, 0, 0, &reported) == 5 && sgt_entry(&engine, 0, &event, 0) == 5);
     CHECK(sgt_calls(0, 0, &call, 1, &count, &next) == 2);
@@ -856,6 +864,7 @@ static void a_busy_engine_is_left_alone(void)
     CHECK(sgt_rows(&engine, 0, 0, &row, 1, &count) == 10);
     CHECK(sgt_records(&engine, &count) == 10);
     CHECK(sgt_live_tids(&engine, (uint32_t[32]){0}, &count) == 10);
+    CHECK(sgt_wrote(&engine, 0, &t) == 10);
     CHECK(sgt_entries(&engine, &count) == 10);
     CHECK(sgt_entry(&engine, 0, &event, &reported) == 10);
     CHECK(sgt_calls(&engine, 0, &call, 1, &count, &next) == 10);
@@ -918,6 +927,7 @@ static void an_engine_is_opened_bare(void)
     CHECK(sgt_open_bare(&engine, (UINT64_C(1) << 32) + 8, 100, 1) == 18);
     CHECK(sgt_records(&engine, &count) == 2);
     CHECK(sgt_live_tids(&engine, (uint32_t[32]){0}, &count) == 2);
+    CHECK(sgt_wrote(&engine, 0, &t) == 2);
     CHECK(!engine.is_open && count == 77);
     CHECK(sgt_open_bare(&engine, 8, 2, 1) == 0);
     CHECK(sgt_open_bare(&engine, 0, 100, 1) == 3);

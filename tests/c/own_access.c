@@ -340,6 +340,9 @@ static void a_journal_is_run_again(void)
     CHECK(writes(&engine, b, 3, 5, 8) && writes(&engine, a, 2, 101, 990));
     CHECK(sgt_quit(&engine, c, &reported) == 0 && reported.kind == 14);
     CHECK(commits(&engine, a) && commits(&engine, b));
+    uint32_t d = begins(&engine), wrote[3] = {0};
+    CHECK(reads(&engine, d, 3, 5, 8) && sgt_wrote(&engine, d, &wrote[0]) == 0 && sgt_quit(&engine, d, &reported) == 0);
+    CHECK(sgt_wrote(&engine, a, &wrote[1]) == 0 && sgt_wrote(&engine, c, &wrote[2]) == 0 && !wrote[0] && wrote[1] && wrote[2]);
     CHECK(sgt_run(&engine, 1, deposit, 2, &tid, &reported) == 0 && reported.kind == 13 && reported.answer[0] == 1090);
     CHECK(sgt_start(&engine, 1, deposit, 2, &reported) == 0 && reported.kind == 1);
     tid = reported.tid;

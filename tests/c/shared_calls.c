@@ -504,10 +504,11 @@ static void hooks_are_called(void)
     CHECK(sgt_shared_run(shared, 1, deposit, 2, 0, &outcome) == SGT_OK && heard.calls == 1 && heard.misuses == 3);
     CHECK(heard.last.sequence == 0 && heard.last.call.kind == SGT_COMMITTED && heard.last.call.procedure == 1 && heard.last.call.args == 2);
     CHECK(outcome.sequence == 0);
-    CHECK(heard.last.call.arg[1] == 100 && heard.last.call.answers == 1 && heard.last.call.answer[0] == 1100);
+    CHECK(heard.last.call.arg[1] == 100 && heard.last.call.answers == 1 && heard.last.call.answer[0] == 1100 && heard.last.wrote == 1);
     CHECK(memcmp(&heard.last.ticket, &outcome.ticket, sizeof outcome.ticket) == 0);
     CHECK(sgt_shared_run(shared, 1, unknown, 2, 0, &outcome) == SGT_OK && heard.calls == 2);
     CHECK(heard.last.call.kind == SGT_REFUSED && heard.last.call.code == 1 && heard.last.call.answers == 0 && heard.last.sequence == 1);
+    CHECK(heard.last.wrote == 0);
     CHECK(outcome.sequence == 1);
     sgt_ticket ticket = begins(shared, 1);
     CHECK(sgt_shared_quit(shared, &ticket, &reply) == SGT_OK && heard.calls == 2); /* an abort is not told */

@@ -49,6 +49,7 @@ fn reads_before_a_cut() -> Result<(), sgt::Error> {
             panic!("full disk");
         }
         assert!(engine.entry(0).is_some() && engine.rows(7, 0).is_ok_and(|rows| rows.len() == 1));
+        assert!(engine.has_written(0).is_ok_and(|wrote| wrote));
         reads.lock().expect("no panic").push((part, engine.entries(), engine.get(7, 1).expect("it is open")));
     });
     let bank = SharedEngine::open_with(OPENING, &[], Configuration { cutting: Some(cutting), ..Configuration::default() })?;

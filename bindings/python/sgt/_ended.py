@@ -24,11 +24,13 @@ class Ticket(NamedTuple):
 
 
 class Ended(NamedTuple):
-    """A call that was committed or refused. `sequence` counts these calls from 0 in reply order, over all parts."""
+    """A call that was committed or refused. `sequence` counts these calls from 0 in reply order, over all parts. `wrote` says whether it
+    was committed and has written: a call that did not write changes nothing."""
 
     sequence: int
     ticket: Ticket
     call: Call
+    wrote: bool
 
 
 def ticket_of(ticket: CTicket) -> Ticket:
@@ -36,7 +38,7 @@ def ticket_of(ticket: CTicket) -> Ticket:
 
 
 def ended_of(reported: CEnded) -> Ended:
-    return Ended(reported.sequence, ticket_of(reported.ticket), call_of(reported.call))
+    return Ended(reported.sequence, ticket_of(reported.ticket), call_of(reported.call), reported.wrote == 1)
 
 
 class Stored:

@@ -171,6 +171,12 @@ class EngineReads(Uncopied):
         check(status)
         return [call_of(call) for call in calls[: count.value]], after.value
 
+    def has_written(self, tid: int) -> bool:
+        """Whether a transaction, live or not, has written or removed a record."""
+        wrote = ctypes.c_uint32()
+        check(HELD.sgt_wrote(self._engine, _tid(tid), wrote))
+        return wrote.value == 1
+
 
 class LentEngine(EngineReads):
     """The engine that the hook `cutting` is passed. After the hook its calls raise Closed."""

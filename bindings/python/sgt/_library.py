@@ -31,7 +31,7 @@ from ._errors import (
 )
 
 # The version of the headers that this package is for.
-VERSION = "0.2.0"
+VERSION = "0.3.0"
 
 # The least and the greatest value, argument and record number.
 LEAST, MOST = -999_999_999_999_999, 999_999_999_999_999
@@ -130,7 +130,12 @@ class COutcome(ctypes.Structure):
 
 
 class CEnded(ctypes.Structure):
-    _fields_ = [("sequence", ctypes.c_uint64), ("ticket", CTicket), ("call", CCall)]
+    _fields_ = [
+        ("sequence", ctypes.c_uint64),
+        ("ticket", CTicket),
+        ("call", CCall),
+        *((name, ctypes.c_uint32) for name in ("wrote", "spare")),
+    ]
 
 
 class CLive(ctypes.Structure):
@@ -213,6 +218,7 @@ _ENGINE_CALLS = {
     "sgt_rows": [_engine, _u64, _i64, _row, _size, _count],
     "sgt_records": [_engine, _count],
     "sgt_live_tids": [_engine, ctypes.POINTER(_u32), _count],
+    "sgt_wrote": [_engine, _u32, ctypes.POINTER(_u32)],
     "sgt_part": [_engine, _count],
     "sgt_entries": [_engine, _count],
     "sgt_entry": [_engine, _u64, ctypes.POINTER(CEvent), _reply],

@@ -206,6 +206,12 @@ impl Engine {
         done(unsafe { c::sgt_records(self.inner.get(), &mut count) }).map(|()| count)
     }
 
+    /// Whether a transaction, live or not, has written or removed a record.
+    pub fn has_written(&self, tid: u32) -> Result<bool, Error> {
+        let mut wrote = 0;
+        done(unsafe { c::sgt_wrote(self.inner.get(), tid, &mut wrote) }).map(|()| wrote == 1)
+    }
+
     /// Returns the numbers of the live transactions, rising.
     pub fn live(&self) -> Result<Vec<u32>, Error> {
         let (mut tids, mut count) = ([0; 32], 0); // no more are ever live

@@ -15,6 +15,8 @@ pub struct Ended {
     pub sequence: u64,
     pub ticket: Ticket,
     pub call: Call,
+    /// Whether it was committed, and has written or removed a record. A call that did not write changes nothing.
+    pub wrote: bool,
 }
 
 /// A live transaction, as [`SharedEngine::live`] returns it.
@@ -365,5 +367,5 @@ fn live_of(live: &c::Live) -> Live {
 }
 
 fn ended_of(ended: &c::Ended) -> Ended {
-    Ended { sequence: ended.sequence, ticket: ended.ticket, call: call_of(&ended.call) }
+    Ended { sequence: ended.sequence, ticket: ended.ticket, call: call_of(&ended.call), wrote: ended.wrote == 1 }
 }

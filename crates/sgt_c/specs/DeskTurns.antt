@@ -1,5 +1,5 @@
 -- What a turn of a desk's call does, as `sgt_desk` has it, with its numbers for C.
-use Rattle.std.specs.Prelude.{◌≡◌, ◌≢◌, ◌⊎◌, ◌↔◌, ℕ, ℤ, pos, ◌≤◌, ◌<◌, Bool, true, false, not, ◌&&◌, cond, is_some, List, Result, Ok, Err, Option, Some, None, IfSome, IsSome}
+use Rattle.std.specs.Prelude.{◌≡◌, ◌≢◌, ◌⊎◌, ◌↔◌, ℕ, ℤ, pos, ◌≤◌, ◌<◌, Bool, true, false, not, ◌&&◌, cond, is_some, nat_eq, List, Result, Ok, Err, Option, Some, None, IfSome, IsSome}
 use Rattle.sgt_model.specs.declared.entry.Entry.{Entry}
 use Rattle.sgt_model.specs.declared.errors.NoMemory.{NoMemory}
 use Rattle.sgt_model.specs.declared.event.Event.TheVariants.{Start, Commit}
@@ -19,7 +19,10 @@ use Rattle.sgt_desk.specs.Desks.{DeskState, Adds, AddsEntry, IsCutOff, MayAdd, M
 use Rattle.sgt_desk.specs.Runs.{RequestsOnly, Begins, IsOutcome, LeavesOnly, RunsWhy, is_conflict, is_over, named}
 use Rattle.sgt_c.specs.declared.held.Held.{Held}
 use Rattle.sgt_c.specs.declared.reply_struct.SgtReply.{SgtReply}
-use Rattle.sgt_c.specs.DeskStructs.{asked_in}
+use Rattle.sgt_c.specs.declared.shared.ask_struct.SgtAsk.{SgtAsk}
+use Rattle.sgt_c.specs.declared.shared.desk_struct.SgtDesk.{SgtDesk}
+use Rattle.sgt_c.specs.declared.shared.run_struct.SgtRun.{SgtRun}
+use Rattle.sgt_c.specs.DeskStructs.{IsAsk, IsRun, ask_in, asked_in, desk_in, run_in}
 use Rattle.sgt_c.specs.ReplyStructs.{HoldsReply}
 
 -- ---- numbers
@@ -47,6 +50,26 @@ OfBoth (Some h) (Some h') of = of h h'
 -- the next turn of a cut would cut the history off
 abbrev pub cuts_now : Ask → DeskState → Bool
 cuts_now a d = not (saw_cut a.reason d.part) && not (is_busy d)
+
+-- the same of the desks of the engines that they hold
+abbrev pub OfDesks : Option Held → SgtDesk → Option Held → SgtDesk → (DeskState → DeskState → Type 0) → Type 0
+OfDesks h d h' d' of = OfBoth h h' (λ e e'. of (desk_in d e) (desk_in d' e'))
+
+-- the status of a call that makes no turn: there is no engine, another call is in it, or the numbers are out of their ranges
+abbrev pub IsRefused : ℕ → Type 0
+IsRefused status = (status ≡ 2) ⊎ (status ≡ 5) ⊎ (status ≡ 10)
+
+-- the status of any other call
+abbrev pub IsTurn : ℕ → Type 0
+IsTurn status = (status ≢ 2) × (status ≢ 5) × (status ≢ 10)
+
+-- the number says whether all that rest are to be woken
+abbrev pub WakesBy : ℕ → DeskState → DeskState → Type 0
+WakesBy wakes before after = Wakes before after (nat_eq wakes 1)
+
+-- the newest reply is returned
+abbrev pub Reports : SgtReply → DeskState → DeskState → Type 0
+Reports reported before after = ReportsNewest reported after.past
 
 -- the numbers ask something of a transaction
 abbrev pub IsRunnable : ℕ → ℕ → ℤ → Type 0
@@ -126,3 +149,25 @@ pub record MakeTurn (ticket : Ticket) (requested : Asked) (before : DeskState) (
   pub done : turn ≡ Ok Done → Adds (event_of requested ticket.tid) before short after
   pub stale : (turn ≡ Ok Stale) ↔ (ticket.part ≢ before.part)
   pub unchanged : turn ≢ Ok Done → after ≡ before
+
+-- ---- turns, as the structs say them
+
+abbrev pub MakesStart : ℕ → List ℤ → ℕ → ℕ → SgtAsk → SgtAsk → DeskState → DeskState → Type 0
+MakesStart procedure args now status ask to before after = (turn : Result Turn NoMemory) × (next : Ask) × (status ≡ status_of turn)
+    × IsAsk to next × StartTurn procedure args now before (ask_in ask) after next turn
+
+abbrev pub MakesCommit : Ticket → ℕ → ℕ → SgtAsk → SgtAsk → DeskState → DeskState → Type 0
+MakesCommit ticket now status ask to before after = (turn : Result Turn NoMemory) × (next : Ask) × (status ≡ status_of turn)
+    × IsAsk to next × CommitTurn ticket now before (ask_in ask) after next turn
+
+abbrev pub MakesRun : ℕ → List ℤ → ℕ → ℕ → SgtRun → SgtRun → DeskState → DeskState → Type 0
+MakesRun procedure args now status run to before after = (turn : Result Turn NoMemory) × (next : Run) × (status ≡ status_of turn)
+    × IsRun to next × RunTurn procedure args now before (run_in run) after next turn
+
+abbrev pub MakesCut : ℕ → ℕ → SgtAsk → SgtAsk → DeskState → DeskState → Type 0
+MakesCut now status ask to before after = (turn : Result Turn NoMemory) × (next : Ask) × (status ≡ status_of turn)
+    × IsAsk to next × CutTurn now before (ask_in ask) after next turn
+
+abbrev pub Makes : Ticket → Asked → ℕ → DeskState → DeskState → Type 0
+Makes ticket requested status before after = (turn : Result Turn NoMemory) × (short : ShortReply) × (status ≡ status_of turn)
+    × MakeTurn ticket requested before short after turn

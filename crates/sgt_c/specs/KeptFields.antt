@@ -1,5 +1,5 @@
 -- Which fields count for a reply, an event or a fault, as C reads it. The others keep their old values.
-use Rattle.std.specs.Prelude.{◌≡◌, ℕ, Bool, true, false, ◌&&◌, ◌||◌, cond, nat_eq, drop, List, [], ◌∷◌}
+use Rattle.std.specs.Prelude.{◌≡◌, ◌≢◌, ℕ, Bool, true, false, ◌&&◌, ◌||◌, cond, nat_eq, drop, List, [], ◌∷◌}
 use Rattle.sgt_model.specs.Contents.{Key}
 use Rattle.sgt_c.specs.declared.event_struct.SgtEvent.{SgtEvent}
 use Rattle.sgt_c.specs.declared.fault_struct.SgtFault.{SgtFault}
@@ -66,6 +66,10 @@ pub record KeepsOtherFields (old new : SgtReply) : Type 0 where
   pub answer : KeepsAfter (has_answers new) new.answers old.answer new.answer
   pub walk : KeepsAfter (has_walk new) new.walked old.walk new.walk
   pub fell : KeepsAfter (has_fallen new) new.fallen old.fell new.fell
+
+-- a call writes its reply, or, if its status is not 0, it does not
+abbrev pub WritesReply : ℕ → SgtReply → SgtReply → Type 0
+WritesReply status old new = (status ≡ 0 → KeepsOtherFields old new) × (status ≢ 0 → new ≡ old)
 
 -- so does the reply of each outcome
 abbrev pub KeepOtherFields : List SgtOutcome → List SgtOutcome → Type 0

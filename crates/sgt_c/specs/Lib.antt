@@ -13,6 +13,7 @@ pub mod SlotOwnership
 pub mod Asked
 pub mod Entries
 pub mod ReplayedCalls
+pub mod Writes
 pub mod Calls
 pub mod Rows
 pub mod Runs
@@ -26,3 +27,4 @@ pub mod ProcedureTexts
 -- turns of a desk
 pub mod DeskStructs
 pub mod DeskTurns
+pub mod SelfWaits

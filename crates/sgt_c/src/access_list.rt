@@ -1,8 +1,8 @@
 //! The accesses on which a transaction's caller decided.
-ghost use Rattle.std.specs.Prelude.{◌≡◌, ◌≢◌, ◌≤◌, ◌<◌, ◌^◌, ◌+◌, ◌↔◌, [], drop, length, map, reverse};
+ghost use Rattle.std.specs.Prelude.{◌≡◌, ◌≢◌, ◌≤◌, ◌<◌, ◌^◌, ◌+◌, [], drop, length, map, reverse};
 ghost use Rattle.sgt_model.specs.Progress.{caller_access_in, caller_accesses};
 ghost use Rattle.sgt_c.specs.AccessStructs.{AddsAccess, HoldAccesses, ReturnsAccesses, accesses_of, kinded, listed, said};
-ghost use Rattle.sgt_c.specs.Handles.{IsBusy, IsClosed};
+ghost use Rattle.sgt_c.specs.Handles.{Visits};
 ghost use Rattle.sgt_c.specs.ReplayedCalls.{IsLegal, past_at};
 
 use crate::access_struct::SgtAccess;
@@ -30,13 +30,10 @@ pub extern "C" fn sgt_accesses(
     ensures returned { result ≡ 0 → ReturnsAccesses engine.old.slot.held t accesses.new count.new }
     ensures rest { drop count.new accesses.new ≡ drop count.new accesses.old }
     ensures capacity { length accesses.new ≡ length accesses.old }
-    ensures busy { (result ≡ 10) ↔ IsBusy engine.old.state }
-    ensures closed { (result ≡ 2) ↔ IsClosed engine.old.state engine.old.slot.held }
+    ensures visits { Visits result engine.old.state engine.old.slot.held engine.new.state }
     ensures statuses { result ≢ 10 → result ≢ 0 → result ≡ 2 }
     ensures unwritten { result ≢ 0 → (accesses.new ≡ accesses.old) × (count.new ≡ count.old) }
     ensures same { engine.new.slot.held ≡ engine.old.slot.held }
-    ensures leaves { IsBusy engine.new.state → IsBusy engine.old.state }
-    ensures stays { IsBusy engine.old.state → engine.new.state ≡ engine.old.state }
 {
     if engine.is_busy() {
         return status::BUSY;

@@ -3,7 +3,7 @@ ghost use Rattle.std.specs.Prelude.{◌≡◌, ◌+◌, ◌≢◌, ◌≤◌, �
 ghost use Rattle.sgt_model.specs.Fates.{live_ones};
 ghost use Rattle.sgt_engine.specs.Cuts.{NobodyLive};
 ghost use Rattle.sgt_c.specs.Cuts.{Cut, HasNoPart, IsCut, IsLastPart, IsSomeoneLive, IsTooEarly, ReportsLive};
-ghost use Rattle.sgt_c.specs.Handles.{IsBusy, IsClosed};
+ghost use Rattle.sgt_c.specs.Handles.{Visits};
 
 use crate::handle::Handle;
 use crate::held::Held;
@@ -27,12 +27,9 @@ pub extern "C" fn sgt_cut(alloc: Global, engine: &mut Handle, live: &mut u64) ->
     ensures still_live { (result ≡ 6) ↔ IsSomeoneLive engine.old.slot.held }
     ensures live { result ≡ 6 → ReportsLive engine.old.slot.held live.new }
     ensures kept { result ≢ 6 → live.new ≡ live.old }
-    ensures busy { (result ≡ 10) ↔ IsBusy engine.old.state }
-    ensures closed { (result ≡ 2) ↔ IsClosed engine.old.state engine.old.slot.held }
+    ensures visits { Visits result engine.old.state engine.old.slot.held engine.new.state }
     ensures too_many { (result ≡ 9) ↔ IsLastPart engine.old.slot.held }
     ensures statuses { result ≢ 10 → result ≢ 6 → result ≢ 9 → result ≤ 2 }
-    ensures leaves { IsBusy engine.new.state → IsBusy engine.old.state }
-    ensures stays { IsBusy engine.old.state → engine.new.state ≡ engine.old.state }
 {
     if engine.is_busy() {
         return status::BUSY;
@@ -60,13 +57,10 @@ pub extern "C" fn sgt_cut(alloc: Global, engine: &mut Handle, live: &mut u64) ->
 #[unsafe(no_mangle)]
 pub extern "C" fn sgt_part(alloc: Global, engine: &mut Handle, part: &mut u64) -> u32
     ensures part { result ≡ 0 → IfSome engine.old.slot.held (λ h. part.new ≡ h.part) }
-    ensures busy { (result ≡ 10) ↔ IsBusy engine.old.state }
-    ensures closed { (result ≡ 2) ↔ IsClosed engine.old.state engine.old.slot.held }
+    ensures visits { Visits result engine.old.state engine.old.slot.held engine.new.state }
     ensures statuses { result ≢ 10 → result ≢ 0 → result ≡ 2 }
     ensures kept { result ≢ 0 → part.new ≡ part.old }
     ensures same { engine.new.slot.held ≡ engine.old.slot.held }
-    ensures leaves { IsBusy engine.new.state → IsBusy engine.old.state }
-    ensures stays { IsBusy engine.old.state → engine.new.state ≡ engine.old.state }
 {
     if engine.is_busy() {
         return status::BUSY;

@@ -1,5 +1,5 @@
 //! Events and their replies.
-ghost use Rattle.std.specs.Prelude.{◌≡◌, ◌≢◌, ◌≤◌, ◌↔◌, ℕ, true, Some, OnOk, OnErr};
+ghost use Rattle.std.specs.Prelude.{◌≡◌, ◌≢◌, ◌≤◌, ℕ, true, Some, OnOk, OnErr};
 ghost use Rattle.std.specs.Result.{IsOk};
 ghost use Rattle.sgt_model.specs.declared.reply.Reply.{Reply};
 ghost use Rattle.sgt_model.specs.Fates.{live};
@@ -9,8 +9,8 @@ ghost use Rattle.sgt_engine.specs.EngineView.{configuration_of};
 ghost use Rattle.sgt_model.specs.declared.event.Event.TheVariants.{Start, Step, Commit, Quit};
 ghost use Rattle.sgt_c.specs.Calls.{Answered, EndsSucceed, QuitsSucceed};
 ghost use Rattle.sgt_c.specs.Asked.{IsCall};
-ghost use Rattle.sgt_c.specs.Handles.{IsBusy, IsClosed};
-ghost use Rattle.sgt_c.specs.KeptFields.{KeepsOtherFields};
+ghost use Rattle.sgt_c.specs.Handles.{Visits, VisitsIf};
+ghost use Rattle.sgt_c.specs.KeptFields.{KeepsOtherFields, WritesReply};
 
 use crate::handle::Handle;
 use crate::held::Held;
@@ -34,14 +34,9 @@ pub extern "C" fn sgt_start(
 ) -> u32
     ensures ok { result ≡ 0 → Answered (Start procedure args.now) engine.old.slot.held engine.new.slot.held reply.new }
     ensures unchanged { result ≢ 0 → engine.new.slot.held ≡ engine.old.slot.held }
-    ensures unwritten { result ≢ 0 → reply.new ≡ reply.old }
-    ensures kept { result ≡ 0 → KeepsOtherFields reply.old reply.new }
-    ensures bad_call { (result ≡ 5) ↔ (¬ IsCall procedure args.now) }
-    ensures busy { (result ≡ 10) ↔ (IsCall procedure args.now × IsBusy engine.old.state) }
-    ensures closed { (result ≡ 2) ↔ (IsCall procedure args.now × IsClosed engine.old.state engine.old.slot.held) }
+    ensures writes { WritesReply result reply.old reply.new }
+    ensures visits { VisitsIf (IsCall procedure args.now) result engine.old.state engine.old.slot.held engine.new.state }
     ensures statuses { result ≢ 10 → result ≢ 5 → result ≤ 2 }
-    ensures leaves { IsBusy engine.new.state → IsBusy engine.old.state }
-    ensures stays { IsBusy engine.old.state → engine.new.state ≡ engine.old.state }
 {
     if !is_call(procedure, args) {
         return status::BAD_CALL;
@@ -58,14 +53,10 @@ pub extern "C" fn sgt_start(
 pub extern "C" fn sgt_step(alloc: Global, engine: &mut Handle, t: u32, reply: &mut SgtReply) -> u32
     ensures ok { result ≡ 0 → Answered (Step t) engine.old.slot.held engine.new.slot.held reply.new }
     ensures unchanged { result ≢ 0 → engine.new.slot.held ≡ engine.old.slot.held }
-    ensures unwritten { result ≢ 0 → reply.new ≡ reply.old }
-    ensures kept { result ≡ 0 → KeepsOtherFields reply.old reply.new }
-    ensures busy { (result ≡ 10) ↔ IsBusy engine.old.state }
-    ensures closed { (result ≡ 2) ↔ IsClosed engine.old.state engine.old.slot.held }
+    ensures writes { WritesReply result reply.old reply.new }
+    ensures visits { Visits result engine.old.state engine.old.slot.held engine.new.state }
     ensures ends { EndsSucceed (Step t) engine.old.slot.held result }
     ensures statuses { result ≢ 10 → result ≤ 2 }
-    ensures leaves { IsBusy engine.new.state → IsBusy engine.old.state }
-    ensures stays { IsBusy engine.old.state → engine.new.state ≡ engine.old.state }
 {
     apply_event(alloc, engine, Event::Step(Tid(t)), reply)
 }
@@ -82,14 +73,10 @@ pub extern "C" fn sgt_commit(
 ) -> u32
     ensures ok { result ≡ 0 → Answered (Commit t) engine.old.slot.held engine.new.slot.held reply.new }
     ensures unchanged { result ≢ 0 → engine.new.slot.held ≡ engine.old.slot.held }
-    ensures unwritten { result ≢ 0 → reply.new ≡ reply.old }
-    ensures kept { result ≡ 0 → KeepsOtherFields reply.old reply.new }
-    ensures busy { (result ≡ 10) ↔ IsBusy engine.old.state }
-    ensures closed { (result ≡ 2) ↔ IsClosed engine.old.state engine.old.slot.held }
+    ensures writes { WritesReply result reply.old reply.new }
+    ensures visits { Visits result engine.old.state engine.old.slot.held engine.new.state }
     ensures ends { EndsSucceed (Commit t) engine.old.slot.held result }
     ensures statuses { result ≢ 10 → result ≤ 2 }
-    ensures leaves { IsBusy engine.new.state → IsBusy engine.old.state }
-    ensures stays { IsBusy engine.old.state → engine.new.state ≡ engine.old.state }
 {
     apply_event(alloc, engine, Event::Commit(Tid(t)), reply)
 }
@@ -101,14 +88,10 @@ pub extern "C" fn sgt_commit(
 pub extern "C" fn sgt_quit(alloc: Global, engine: &mut Handle, t: u32, reply: &mut SgtReply) -> u32
     ensures ok { result ≡ 0 → Answered (Quit t) engine.old.slot.held engine.new.slot.held reply.new }
     ensures unchanged { result ≢ 0 → engine.new.slot.held ≡ engine.old.slot.held }
-    ensures unwritten { result ≢ 0 → reply.new ≡ reply.old }
-    ensures kept { result ≡ 0 → KeepsOtherFields reply.old reply.new }
-    ensures busy { (result ≡ 10) ↔ IsBusy engine.old.state }
-    ensures closed { (result ≡ 2) ↔ IsClosed engine.old.state engine.old.slot.held }
+    ensures writes { WritesReply result reply.old reply.new }
+    ensures visits { Visits result engine.old.state engine.old.slot.held engine.new.state }
     ensures quits { QuitsSucceed (Quit t) engine.old.slot.held result }
     ensures statuses { result ≢ 10 → result ≤ 2 }
-    ensures leaves { IsBusy engine.new.state → IsBusy engine.old.state }
-    ensures stays { IsBusy engine.old.state → engine.new.state ≡ engine.old.state }
 {
     apply_event(alloc, engine, Event::Quit(Tid(t)), reply)
 }
@@ -118,15 +101,11 @@ pub extern "C" fn sgt_quit(alloc: Global, engine: &mut Handle, t: u32, reply: &m
 pub fn apply_event(alloc: Global, engine: &mut Handle, event: Event, reply: &mut SgtReply) -> u32
     ensures ok { result ≡ 0 → Answered event engine.old.slot.held engine.new.slot.held reply.new }
     ensures unchanged { result ≢ 0 → engine.new.slot.held ≡ engine.old.slot.held }
-    ensures unwritten { result ≢ 0 → reply.new ≡ reply.old }
-    ensures kept { result ≡ 0 → KeepsOtherFields reply.old reply.new }
-    ensures busy { (result ≡ 10) ↔ IsBusy engine.old.state }
-    ensures closed { (result ≡ 2) ↔ IsClosed engine.old.state engine.old.slot.held }
+    ensures writes { WritesReply result reply.old reply.new }
+    ensures visits { Visits result engine.old.state engine.old.slot.held engine.new.state }
     ensures ends { EndsSucceed event engine.old.slot.held result }
     ensures quits { QuitsSucceed event engine.old.slot.held result }
     ensures statuses { result ≢ 10 → result ≤ 2 }
-    ensures leaves { IsBusy engine.new.state → IsBusy engine.old.state }
-    ensures stays { IsBusy engine.old.state → engine.new.state ≡ engine.old.state }
 {
     if engine.is_busy() {
         return status::BUSY;

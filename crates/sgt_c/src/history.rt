@@ -2,9 +2,9 @@
 ghost use Rattle.std.specs.Prelude.{◌≡◌, ◌≢◌, ◌≤◌, ◌<◌, ◌↔◌, true, false, Some, IfSome, length, slice_get};
 ghost use Rattle.sgt_model.specs.declared.entry.Entry.{Entry};
 ghost use Rattle.sgt_model.specs.ShortReplies.{reply_with, short_reply};
-ghost use Rattle.sgt_c.specs.KeptFields.{KeepsOtherEventFields, KeepsOtherFields};
+ghost use Rattle.sgt_c.specs.KeptFields.{KeepsOtherEventFields, KeepsOtherFields, WritesReply};
 ghost use Rattle.sgt_c.specs.Entries.{HoldsEntry, ReturnsEntry, HasNoEntry};
-ghost use Rattle.sgt_c.specs.Handles.{IsBusy, IsClosed};
+ghost use Rattle.sgt_c.specs.Handles.{Visits};
 
 use crate::event_struct::{SgtEvent, write_event};
 use crate::handle::Handle;
@@ -20,13 +20,10 @@ use std::alloc::Global;
 #[unsafe(no_mangle)]
 pub extern "C" fn sgt_entries(alloc: Global, engine: &mut Handle, count: &mut u64) -> u32
     ensures count { result ≡ 0 → IfSome engine.old.slot.held (λ h. count.new ≡ length h.engine.past) }
-    ensures busy { (result ≡ 10) ↔ IsBusy engine.old.state }
-    ensures closed { (result ≡ 2) ↔ IsClosed engine.old.state engine.old.slot.held }
+    ensures visits { Visits result engine.old.state engine.old.slot.held engine.new.state }
     ensures statuses { result ≢ 10 → result ≢ 0 → result ≡ 2 }
     ensures kept { result ≢ 0 → count.new ≡ count.old }
     ensures same { engine.new.slot.held ≡ engine.old.slot.held }
-    ensures leaves { IsBusy engine.new.state → IsBusy engine.old.state }
-    ensures stays { IsBusy engine.old.state → engine.new.state ≡ engine.old.state }
 {
     if engine.is_busy() {
         return status::BUSY;
@@ -53,16 +50,12 @@ pub extern "C" fn sgt_entry(
 ) -> u32
     ensures returned { result ≡ 0 → ReturnsEntry engine.old.slot.held place event.new reply.new }
     ensures none { (result ≡ 4) ↔ HasNoEntry engine.old.slot.held place }
-    ensures busy { (result ≡ 10) ↔ IsBusy engine.old.state }
-    ensures closed { (result ≡ 2) ↔ IsClosed engine.old.state engine.old.slot.held }
+    ensures visits { Visits result engine.old.state engine.old.slot.held engine.new.state }
     ensures statuses { result ≢ 10 → result ≢ 0 → result ≢ 2 → result ≡ 4 }
     ensures event_unwritten { result ≢ 0 → event.new ≡ event.old }
-    ensures unwritten { result ≢ 0 → reply.new ≡ reply.old }
     ensures event_kept { result ≡ 0 → KeepsOtherEventFields event.old event.new }
-    ensures kept { result ≡ 0 → KeepsOtherFields reply.old reply.new }
+    ensures writes { WritesReply result reply.old reply.new }
     ensures same { engine.new.slot.held ≡ engine.old.slot.held }
-    ensures leaves { IsBusy engine.new.state → IsBusy engine.old.state }
-    ensures stays { IsBusy engine.old.state → engine.new.state ≡ engine.old.state }
 {
     if engine.is_busy() {
         return status::BUSY;
@@ -132,12 +125,9 @@ fn tids_of(items: &[Tid]) -> Tids
 /// `NO_MEMORY`; `BUSY`; `CLOSED`.
 #[unsafe(no_mangle)]
 pub extern "C" fn sgt_reserve(alloc: Global, engine: &mut Handle, entries: u64) -> u32
-    ensures busy { (result ≡ 10) ↔ IsBusy engine.old.state }
-    ensures closed { (result ≡ 2) ↔ IsClosed engine.old.state engine.old.slot.held }
+    ensures visits { Visits result engine.old.state engine.old.slot.held engine.new.state }
     ensures statuses { result ≢ 10 → result ≤ 2 }
     ensures same { engine.new.slot.held ≡ engine.old.slot.held }
-    ensures leaves { IsBusy engine.new.state → IsBusy engine.old.state }
-    ensures stays { IsBusy engine.old.state → engine.new.state ≡ engine.old.state }
 {
     if engine.is_busy() {
         return status::BUSY;

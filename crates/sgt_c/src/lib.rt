@@ -55,6 +55,7 @@ mod rows;
 mod run;
 mod run_many;
 mod texts;
+mod writes;
 
 // An engine that threads share.
 mod shared;
@@ -70,3 +71,4 @@ pub use row_struct::SgtRow;
 pub use shared::ask_struct::SgtAsk;
 pub use shared::desk_struct::SgtDesk;
 pub use shared::run_struct::SgtRun;
+pub use shared::waiting::SgtNote;

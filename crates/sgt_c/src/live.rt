@@ -1,7 +1,7 @@
 //! Who is live.
-ghost use Rattle.std.specs.Prelude.{◌≡◌, ◌≢◌, ◌↔◌, IfSome, drop, length, take};
+ghost use Rattle.std.specs.Prelude.{◌≡◌, ◌≢◌, IfSome, drop, length, take};
 ghost use Rattle.sgt_model.specs.Fates.{live_ones};
-ghost use Rattle.sgt_c.specs.Handles.{IsBusy, IsClosed};
+ghost use Rattle.sgt_c.specs.Handles.{Visits};
 
 use crate::handle::Handle;
 use crate::reply_struct::write_tids;
@@ -21,13 +21,10 @@ pub extern "C" fn sgt_live_tids(
     ensures live { result ≡ 0 → IfSome engine.old.slot.held (λ h. take count.new tids.new ≡ live_ones h.engine.past) }
     ensures count { result ≡ 0 → IfSome engine.old.slot.held (λ h. count.new ≡ length (live_ones h.engine.past)) }
     ensures rest { result ≡ 0 → drop count.new tids.new ≡ drop count.new tids.old }
-    ensures busy { (result ≡ 10) ↔ IsBusy engine.old.state }
-    ensures closed { (result ≡ 2) ↔ IsClosed engine.old.state engine.old.slot.held }
+    ensures visits { Visits result engine.old.state engine.old.slot.held engine.new.state }
     ensures statuses { result ≢ 10 → result ≢ 0 → result ≡ 2 }
     ensures unwritten { result ≢ 0 → (tids.new ≡ tids.old) × (count.new ≡ count.old) }
     ensures same { engine.new.slot.held ≡ engine.old.slot.held }
-    ensures leaves { IsBusy engine.new.state → IsBusy engine.old.state }
-    ensures stays { IsBusy engine.old.state → engine.new.state ≡ engine.old.state }
 {
     if engine.is_busy() {
         return status::BUSY;

@@ -3,7 +3,7 @@ ghost use Rattle.std.specs.Prelude.{◌≡◌, ◌≢◌, ◌<◌, ◌≤◌, �
 ghost use Rattle.sgt_format.specs.Openings.{Refuses};
 ghost use Rattle.sgt_c.specs.KeptFields.{KeepsOtherFaultFields};
 ghost use Rattle.sgt_c.specs.Openings.{OpenedAs, RefusedAs};
-ghost use Rattle.sgt_c.specs.Handles.{IsBusy};
+ghost use Rattle.sgt_c.specs.Handles.{LeavesFree, VisitsToOpen};
 
 use crate::fault_struct::{SgtFault, write_fault};
 use crate::handle::Handle;
@@ -29,14 +29,12 @@ pub extern "C" fn sgt_open(
     ensures opened { result ≡ 0 → IfSome engine.new.slot.held (λ h. OpenedAs opening.now h.engine) }
     ensures first_part { result ≡ 0 → IfSome engine.new.slot.held (λ h. h.part ≡ 0) }
     ensures is_open { result ≡ 0 → IsSome engine.new.slot.held }
-    ensures busy { (result ≡ 10) ↔ IsBusy engine.old.state }
+    ensures visits { VisitsToOpen result engine.old.state engine.new.state }
     ensures open { (result ≡ 3) ↔ IsSome engine.old.slot.held }
     ensures refused { 16 ≤ result → (result ≡ fault.new.kind) × RefusedAs opening.now fault.new }
     ensures unwritten { result ≢ 1 → result < 16 → fault.new ≡ fault.old }
     ensures fault_kept { KeepsOtherFaultFields fault.old fault.new }
     ensures unchanged { result ≢ 0 → engine.new.slot.held ≡ engine.old.slot.held }
-    ensures leaves { IsBusy engine.new.state → IsBusy engine.old.state }
-    ensures stays { IsBusy engine.old.state → engine.new.state ≡ engine.old.state }
 {
     if engine.is_busy() {
         return status::BUSY;
@@ -69,8 +67,7 @@ fn make(alloc: Global, opening: &[u8]) -> Result<Box<Held>, OpeningError>
 #[unsafe(no_mangle)]
 pub extern "C" fn sgt_close(alloc: Global, engine: &mut Handle)
     ensures closed { engine.new.slot.held ≡ None }
-    ensures leaves { IsBusy engine.new.state → IsBusy engine.old.state }
-    ensures stays { IsBusy engine.old.state → engine.new.state ≡ engine.old.state }
+    ensures leaves { LeavesFree engine.old.state engine.new.state }
 {
     if let Some(held) = engine.take(alloc) {
         drop(held);

@@ -3,7 +3,7 @@ ghost use Rattle.std.specs.Prelude.{◌≡◌, ◌≢◌, ◌≤◌, ◌↔◌, 
 ghost use Rattle.sgt_model.specs.Bounds.{AreInRange};
 ghost use Rattle.sgt_engine.specs.EngineView.{made_of};
 ghost use Rattle.sgt_c.specs.BareOpenings.{AreLimits, limits_by};
-ghost use Rattle.sgt_c.specs.Handles.{IsBusy};
+ghost use Rattle.sgt_c.specs.Handles.{IsBusy, VisitsToOpen};
 
 use crate::handle::Handle;
 use crate::held::Held;
@@ -31,13 +31,11 @@ pub extern "C" fn sgt_open_bare(
         h.engine ≡ made_of [] [] (limits_by live begins asks)) }
     ensures first_part { result ≡ 0 → IfSome engine.new.slot.held (λ h. h.part ≡ 0) }
     ensures is_open { result ≡ 0 → IsSome engine.new.slot.held }
-    ensures busy { (result ≡ 10) ↔ IsBusy engine.old.state }
+    ensures visits { VisitsToOpen result engine.old.state engine.new.state }
     ensures open { (result ≡ 3) ↔ IsSome engine.old.slot.held }
     ensures bad_limits { (result ≡ 18) ↔ ((¬ IsBusy engine.old.state) × (engine.old.slot.held ≡ None) × (¬ AreLimits live begins asks)) }
     ensures statuses { result ≢ 10 → result ≢ 3 → result ≢ 18 → result ≤ 1 }
     ensures unchanged { result ≢ 0 → engine.new.slot.held ≡ engine.old.slot.held }
-    ensures leaves { IsBusy engine.new.state → IsBusy engine.old.state }
-    ensures stays { IsBusy engine.old.state → engine.new.state ≡ engine.old.state }
 {
     if engine.is_busy() {
         return status::BUSY;

@@ -7,7 +7,7 @@ ghost use Rattle.sgt_format.specs.Openings.{Refuses};
 ghost use Rattle.sgt_c.specs.KeptFields.{KeepsOtherFaultFields};
 ghost use Rattle.sgt_c.specs.Openings.{OpenedWith, RefusedAs};
 ghost use Rattle.sgt_c.specs.Rows.{IsRow, row_of, with_rows};
-ghost use Rattle.sgt_c.specs.Handles.{IsBusy};
+ghost use Rattle.sgt_c.specs.Handles.{IsBusy, VisitsToOpen};
 
 use crate::fault_struct::{SgtFault, write_fault};
 use crate::handle::Handle;
@@ -40,15 +40,13 @@ pub extern "C" fn sgt_open_with(
     ensures opened { result ≡ 0 → IfSome engine.new.slot.held (λ h. OpenedWith opening.now rows.now h.engine) }
     ensures first_part { result ≡ 0 → IfSome engine.new.slot.held (λ h. h.part ≡ 0) }
     ensures is_open { result ≡ 0 → IsSome engine.new.slot.held }
-    ensures busy { (result ≡ 10) ↔ IsBusy engine.old.state }
+    ensures visits { VisitsToOpen result engine.old.state engine.new.state }
     ensures open { (result ≡ 3) ↔ IsSome engine.old.slot.held }
     ensures bad_call { (result ≡ 5) ↔ ((¬ IsBusy engine.old.state) × (engine.old.slot.held ≡ None) × (¬ All IsRow rows.now)) }
     ensures refused { 16 ≤ result → (result ≡ fault.new.kind) × RefusedAs opening.now fault.new }
     ensures unwritten { result ≢ 1 → result < 16 → fault.new ≡ fault.old }
     ensures fault_kept { KeepsOtherFaultFields fault.old fault.new }
     ensures unchanged { result ≢ 0 → engine.new.slot.held ≡ engine.old.slot.held }
-    ensures leaves { IsBusy engine.new.state → IsBusy engine.old.state }
-    ensures stays { IsBusy engine.old.state → engine.new.state ≡ engine.old.state }
 {
     if engine.is_busy() {
         return status::BUSY;

@@ -1,11 +1,11 @@
 //! Transactions whose accesses their caller decides.
-ghost use Rattle.std.specs.Prelude.{◌≡◌, ◌≢◌, ◌≤◌, ◌↔◌, [], Some, None};
+ghost use Rattle.std.specs.Prelude.{◌≡◌, ◌≢◌, ◌≤◌, [], Some, None};
 ghost use Rattle.sgt_model.specs.declared.event.Event.TheVariants.{Start, Access};
 ghost use Rattle.sgt_model.specs.declared.event.Request.TheVariants.{Read, Write};
 ghost use Rattle.sgt_c.specs.Asked.{IsRecord};
 ghost use Rattle.sgt_c.specs.Calls.{Answered, EndsSucceed};
-ghost use Rattle.sgt_c.specs.Handles.{IsBusy, IsClosed};
-ghost use Rattle.sgt_c.specs.KeptFields.{KeepsOtherFields};
+ghost use Rattle.sgt_c.specs.Handles.{Visits, VisitsIf};
+ghost use Rattle.sgt_c.specs.KeptFields.{WritesReply};
 
 use crate::events::apply_event;
 use crate::handle::Handle;
@@ -23,13 +23,9 @@ use std::alloc::Global;
 pub extern "C" fn sgt_begin(alloc: Global, engine: &mut Handle, reply: &mut SgtReply) -> u32
     ensures ok { result ≡ 0 → Answered (Start 65535 []) engine.old.slot.held engine.new.slot.held reply.new }
     ensures unchanged { result ≢ 0 → engine.new.slot.held ≡ engine.old.slot.held }
-    ensures unwritten { result ≢ 0 → reply.new ≡ reply.old }
-    ensures kept { result ≡ 0 → KeepsOtherFields reply.old reply.new }
-    ensures busy { (result ≡ 10) ↔ IsBusy engine.old.state }
-    ensures closed { (result ≡ 2) ↔ IsClosed engine.old.state engine.old.slot.held }
+    ensures writes { WritesReply result reply.old reply.new }
+    ensures visits { Visits result engine.old.state engine.old.slot.held engine.new.state }
     ensures statuses { result ≢ 10 → result ≤ 2 }
-    ensures leaves { IsBusy engine.new.state → IsBusy engine.old.state }
-    ensures stays { IsBusy engine.old.state → engine.new.state ≡ engine.old.state }
 {
     let start = Event::Start {
         procedure: EMPTY_PROCEDURE,
@@ -53,15 +49,10 @@ pub extern "C" fn sgt_read(
 ) -> u32
     ensures ok { result ≡ 0 → Answered (Access t (Read (table, number))) engine.old.slot.held engine.new.slot.held reply.new }
     ensures unchanged { result ≢ 0 → engine.new.slot.held ≡ engine.old.slot.held }
-    ensures unwritten { result ≢ 0 → reply.new ≡ reply.old }
-    ensures kept { result ≡ 0 → KeepsOtherFields reply.old reply.new }
-    ensures bad_call { (result ≡ 5) ↔ (¬ IsRecord table number) }
-    ensures busy { (result ≡ 10) ↔ (IsRecord table number × IsBusy engine.old.state) }
-    ensures closed { (result ≡ 2) ↔ (IsRecord table number × IsClosed engine.old.state engine.old.slot.held) }
+    ensures writes { WritesReply result reply.old reply.new }
+    ensures visits { VisitsIf (IsRecord table number) result engine.old.state engine.old.slot.held engine.new.state }
     ensures ends { IsRecord table number → EndsSucceed (Access t (Read (table, number))) engine.old.slot.held result }
     ensures statuses { result ≢ 10 → result ≢ 5 → result ≤ 2 }
-    ensures leaves { IsBusy engine.new.state → IsBusy engine.old.state }
-    ensures stays { IsBusy engine.old.state → engine.new.state ≡ engine.old.state }
 {
     let Some(key) = keyed(table, number) else {
         return status::BAD_CALL;
@@ -86,15 +77,10 @@ pub extern "C" fn sgt_write(
 ) -> u32
     ensures ok { result ≡ 0 → Answered (Access t (Write (table, number) (Some value))) engine.old.slot.held engine.new.slot.held reply.new }
     ensures unchanged { result ≢ 0 → engine.new.slot.held ≡ engine.old.slot.held }
-    ensures unwritten { result ≢ 0 → reply.new ≡ reply.old }
-    ensures kept { result ≡ 0 → KeepsOtherFields reply.old reply.new }
-    ensures bad_call { (result ≡ 5) ↔ (¬ IsRecord table number) }
-    ensures busy { (result ≡ 10) ↔ (IsRecord table number × IsBusy engine.old.state) }
-    ensures closed { (result ≡ 2) ↔ (IsRecord table number × IsClosed engine.old.state engine.old.slot.held) }
+    ensures writes { WritesReply result reply.old reply.new }
+    ensures visits { VisitsIf (IsRecord table number) result engine.old.state engine.old.slot.held engine.new.state }
     ensures ends { IsRecord table number → EndsSucceed (Access t (Write (table, number) (Some value))) engine.old.slot.held result }
     ensures statuses { result ≢ 10 → result ≢ 5 → result ≤ 2 }
-    ensures leaves { IsBusy engine.new.state → IsBusy engine.old.state }
-    ensures stays { IsBusy engine.old.state → engine.new.state ≡ engine.old.state }
 {
     let Some(key) = keyed(table, number) else {
         return status::BAD_CALL;
@@ -118,15 +104,10 @@ pub extern "C" fn sgt_remove(
 ) -> u32
     ensures ok { result ≡ 0 → Answered (Access t (Write (table, number) None)) engine.old.slot.held engine.new.slot.held reply.new }
     ensures unchanged { result ≢ 0 → engine.new.slot.held ≡ engine.old.slot.held }
-    ensures unwritten { result ≢ 0 → reply.new ≡ reply.old }
-    ensures kept { result ≡ 0 → KeepsOtherFields reply.old reply.new }
-    ensures bad_call { (result ≡ 5) ↔ (¬ IsRecord table number) }
-    ensures busy { (result ≡ 10) ↔ (IsRecord table number × IsBusy engine.old.state) }
-    ensures closed { (result ≡ 2) ↔ (IsRecord table number × IsClosed engine.old.state engine.old.slot.held) }
+    ensures writes { WritesReply result reply.old reply.new }
+    ensures visits { VisitsIf (IsRecord table number) result engine.old.state engine.old.slot.held engine.new.state }
     ensures ends { IsRecord table number → EndsSucceed (Access t (Write (table, number) None)) engine.old.slot.held result }
     ensures statuses { result ≢ 10 → result ≢ 5 → result ≤ 2 }
-    ensures leaves { IsBusy engine.new.state → IsBusy engine.old.state }
-    ensures stays { IsBusy engine.old.state → engine.new.state ≡ engine.old.state }
 {
     let Some(key) = keyed(table, number) else {
         return status::BAD_CALL;

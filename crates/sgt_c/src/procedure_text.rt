@@ -1,7 +1,7 @@
 //! The texts of procedures.
-ghost use Rattle.std.specs.Prelude.{◌≡◌, ◌≢◌, ◌≤◌, ◌↔◌, IfOk, IfSome};
+ghost use Rattle.std.specs.Prelude.{◌≡◌, ◌≢◌, ◌≤◌, IfOk};
 ghost use Rattle.sgt_format.specs.ProcedureLines.{SpellsProcedure};
-ghost use Rattle.sgt_c.specs.Handles.{IsBusy, IsClosed};
+ghost use Rattle.sgt_c.specs.Handles.{Visits};
 ghost use Rattle.sgt_c.specs.ProcedureTexts.{HasNoProcedure, ReturnsProcedure, SpellsAt};
 
 use crate::buffer_text::write_text;
@@ -29,14 +29,11 @@ pub extern "C" fn sgt_procedure_text(
     length: &mut u64,
 ) -> u32
     ensures returned { result ≡ 0 → ReturnsProcedure engine.old.slot.held number text.old text.new length.new }
-    ensures busy { (result ≡ 10) ↔ IsBusy engine.old.state }
-    ensures closed { (result ≡ 2) ↔ IsClosed engine.old.state engine.old.slot.held }
+    ensures visits { Visits result engine.old.state engine.old.slot.held engine.new.state }
     ensures none { (result ≡ 4) → HasNoProcedure engine.old.slot.held number }
     ensures statuses { result ≢ 10 → result ≢ 4 → result ≤ 2 }
     ensures unwritten { result ≢ 0 → (text.new ≡ text.old) × (length.new ≡ length.old) }
     ensures same { engine.new.slot.held ≡ engine.old.slot.held }
-    ensures leaves { IsBusy engine.new.state → IsBusy engine.old.state }
-    ensures stays { IsBusy engine.old.state → engine.new.state ≡ engine.old.state }
 {
     if engine.is_busy() {
         return status::BUSY;

@@ -2,7 +2,7 @@
 ghost use Rattle.std.specs.Prelude.{◌≡◌, ◌≢◌, ◌<◌, ◌≤◌, ◌↔◌, IfErr, IfOk, OnErr};
 ghost use Rattle.sgt_c.specs.KeptFields.{KeepsOtherFaultFields};
 ghost use Rattle.sgt_c.specs.Puts.{Added, HasBegun, HasNoNumber, IsAdded, IsRefusal, IsTextRefused};
-ghost use Rattle.sgt_c.specs.Handles.{IsBusy, IsClosed};
+ghost use Rattle.sgt_c.specs.Handles.{Visits};
 
 use crate::fault_struct::{SgtFault, write_fault};
 use crate::handle::Handle;
@@ -31,8 +31,7 @@ pub extern "C" fn sgt_procedure(
 ) -> u32
     ensures added { result ≡ 0 → Added engine.old.slot.held text.now engine.new.slot.held number.new }
     ensures unchanged { result ≢ 0 → engine.new.slot.held ≡ engine.old.slot.held }
-    ensures busy { (result ≡ 10) ↔ IsBusy engine.old.state }
-    ensures closed { (result ≡ 2) ↔ IsClosed engine.old.state engine.old.slot.held }
+    ensures visits { Visits result engine.old.state engine.old.slot.held engine.new.state }
     ensures begun { (result ≡ 7) ↔ HasBegun engine.old.slot.held }
     ensures too_many { (result ≡ 9) ↔ HasNoNumber engine.old.slot.held }
     ensures refused { 16 ≤ result → (result ≡ fault.new.kind) × IsTextRefused engine.old.slot.held text.now fault.new }
@@ -40,8 +39,6 @@ pub extern "C" fn sgt_procedure(
     ensures kept { result ≢ 0 → number.new ≡ number.old }
     ensures unwritten { result ≢ 1 → result < 16 → fault.new ≡ fault.old }
     ensures fault_kept { KeepsOtherFaultFields fault.old fault.new }
-    ensures leaves { IsBusy engine.new.state → IsBusy engine.old.state }
-    ensures stays { IsBusy engine.old.state → engine.new.state ≡ engine.old.state }
 {
     if engine.is_busy() {
         return status::BUSY;

@@ -5,7 +5,7 @@ ghost use Rattle.sgt_model.specs.Databases.{HasValues};
 ghost use Rattle.sgt_engine.specs.Puts.{AreRefused, PutsRows};
 ghost use Rattle.sgt_c.specs.Puts.{HasBegun, IsFirstBad, IsTakenIn, Put};
 ghost use Rattle.sgt_c.specs.Rows.{IsRow, row_of};
-ghost use Rattle.sgt_c.specs.Handles.{IsBusy, IsClosed};
+ghost use Rattle.sgt_c.specs.Handles.{VisitsIf};
 
 use crate::handle::Handle;
 use crate::held::Held;
@@ -29,16 +29,12 @@ use std::alloc::Global;
 pub extern "C" fn sgt_put(alloc: Global, engine: &mut Handle, rows: &[SgtRow], at: &mut u64) -> u32
     ensures put { result ≡ 0 → Put engine.old.slot.held rows.now engine.new.slot.held }
     ensures unchanged { result ≢ 0 → engine.new.slot.held ≡ engine.old.slot.held }
-    ensures bad_call { (result ≡ 5) ↔ (¬ All IsRow rows.now) }
     ensures bad_row { result ≡ 5 → IsFirstBad rows.now at.new }
-    ensures busy { (result ≡ 10) ↔ (All IsRow rows.now × IsBusy engine.old.state) }
-    ensures closed { (result ≡ 2) ↔ (All IsRow rows.now × IsClosed engine.old.state engine.old.slot.held) }
+    ensures visits { VisitsIf (All IsRow rows.now) result engine.old.state engine.old.slot.held engine.new.state }
     ensures begun { (result ≡ 7) ↔ (All IsRow rows.now × HasBegun engine.old.slot.held) }
     ensures taken { result ≡ 8 → IsTakenIn engine.old.slot.held rows.now at.new }
     ensures kept { result ≢ 5 → result ≢ 8 → at.new ≡ at.old }
     ensures statuses { result ≢ 10 → result ≢ 5 → result ≢ 7 → result ≢ 8 → result ≤ 2 }
-    ensures leaves { IsBusy engine.new.state → IsBusy engine.old.state }
-    ensures stays { IsBusy engine.old.state → engine.new.state ≡ engine.old.state }
 {
     if let Some(bad) = first_bad(rows) {
         *at = bad as u64;

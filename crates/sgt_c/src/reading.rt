@@ -1,11 +1,11 @@
 //! Committed values.
-ghost use Rattle.std.specs.Prelude.{◌≡◌, ◌≢◌, ◌≤◌, ◌↔◌, Some, None, IsSome, IfSome};
+ghost use Rattle.std.specs.Prelude.{◌≡◌, ◌≢◌, Some, None, IsSome, IfSome};
 ghost use Rattle.sgt_model.specs.Databases.{contents_of};
-ghost use Rattle.sgt_model.specs.Numbers.{IsValue};
 ghost use Rattle.sgt_model.specs.Replay.{folded};
 ghost use Rattle.sgt_model.specs.Values.{settled};
 ghost use Rattle.sgt_engine.specs.EngineView.{configuration_of};
-ghost use Rattle.sgt_c.specs.Handles.{IsBusy};
+ghost use Rattle.sgt_c.specs.Asked.{IsRecord};
+ghost use Rattle.sgt_c.specs.Handles.{VisitsIf};
 
 use crate::handle::Handle;
 use crate::requested::keyed;
@@ -32,14 +32,10 @@ pub extern "C" fn sgt_get(
     ensures none { result ≡ 4 → IfSome engine.old.slot.held (λ h.
         settled (contents_of h.engine.opening) h.engine.past (table, number) ≡ None) }
     ensures open { result ≢ 2 → result ≢ 5 → result ≢ 10 → IsSome engine.old.slot.held }
-    ensures bad_call { (result ≡ 5) ↔ (¬ ((table ≤ 7) × IsValue number)) }
-    ensures busy { (result ≡ 10) ↔ (((table ≤ 7) × IsValue number) × IsBusy engine.old.state) }
-    ensures closed { result ≡ 2 → engine.old.slot.held ≡ None }
-    ensures statuses { result ≢ 10 → result ≢ 1 }
+    ensures visits { VisitsIf (IsRecord table number) result engine.old.state engine.old.slot.held engine.new.state }
+    ensures statuses { result ≢ 10 → result ≢ 5 → result ≢ 0 → result ≢ 2 → result ≡ 4 }
     ensures kept { result ≢ 0 → value.new ≡ value.old }
     ensures same { engine.new.slot.held ≡ engine.old.slot.held }
-    ensures leaves { IsBusy engine.new.state → IsBusy engine.old.state }
-    ensures stays { IsBusy engine.old.state → engine.new.state ≡ engine.old.state }
 {
     let Some(key) = keyed(table, number) else {
         return status::BAD_CALL;

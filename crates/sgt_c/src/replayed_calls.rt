@@ -11,7 +11,7 @@ ghost use Rattle.sgt_c.specs.Entries.{HasNoPlace};
 ghost use Rattle.sgt_c.specs.ManyRuns.{IsStartable};
 ghost use Rattle.sgt_c.specs.ReplayedCalls.{ArePassed, CountsAccesses, IsLegal, IsReportedAt, ReturnsCalls, call_in, called, ends_by, ends_in, past_at, result_in};
 ghost use Rattle.sgt_c.specs.Reruns.{CanBeRerun};
-ghost use Rattle.sgt_c.specs.Handles.{IsBusy, IsClosed};
+ghost use Rattle.sgt_c.specs.Handles.{Visits};
 
 use crate::call_struct::{SgtCall, Started};
 use crate::handle::Handle;
@@ -45,14 +45,11 @@ pub extern "C" fn sgt_calls(
     ensures rest { drop count.new calls.new ≡ drop count.new calls.old }
     ensures capacity { length calls.new ≡ length calls.old }
     ensures none { (result ≡ 4) ↔ HasNoPlace engine.old.slot.held from }
-    ensures busy { (result ≡ 10) ↔ IsBusy engine.old.state }
-    ensures closed { (result ≡ 2) ↔ IsClosed engine.old.state engine.old.slot.held }
+    ensures visits { Visits result engine.old.state engine.old.slot.held engine.new.state }
     ensures statuses { result ≢ 10 → result ≢ 0 → result ≢ 2 → result ≡ 4 }
     ensures unwritten { result ≢ 0 → calls.new ≡ calls.old }
     ensures kept { result ≢ 0 → (count.new ≡ count.old) × (next.new ≡ next.old) }
     ensures same { engine.new.slot.held ≡ engine.old.slot.held }
-    ensures leaves { IsBusy engine.new.state → IsBusy engine.old.state }
-    ensures stays { IsBusy engine.old.state → engine.new.state ≡ engine.old.state }
 {
     // If the calls that a history reports run one after another on a new engine, each gets the same result.
     reruns_agree();

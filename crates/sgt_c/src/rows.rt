@@ -1,9 +1,9 @@
 //! The committed database, row by row.
-ghost use Rattle.std.specs.Prelude.{◌≡◌, ◌≢◌, ◌≤◌, ◌↔◌, IfOk, OnErr, length, drop};
+ghost use Rattle.std.specs.Prelude.{◌≡◌, ◌≢◌, ◌≤◌, IfOk, OnErr, length, drop};
 ghost use Rattle.sgt_model.specs.Databases.{IsByKey};
-ghost use Rattle.sgt_model.specs.Numbers.{IsValue};
+ghost use Rattle.sgt_c.specs.Asked.{IsRecord};
 ghost use Rattle.sgt_c.specs.Rows.{AreCounted, AreWritten, CountsRows, HoldRows, ReturnsRows, row_of, rows_from};
-ghost use Rattle.sgt_c.specs.Handles.{IsBusy, IsClosed};
+ghost use Rattle.sgt_c.specs.Handles.{Visits, VisitsIf};
 
 use crate::handle::Handle;
 use crate::requested::keyed;
@@ -34,14 +34,10 @@ pub extern "C" fn sgt_rows(
     ensures returned { result ≡ 0 → ReturnsRows engine.old.slot.held (table, number) rows.new count.new }
     ensures rest { drop count.new rows.new ≡ drop count.new rows.old }
     ensures capacity { length rows.new ≡ length rows.old }
-    ensures bad_call { (result ≡ 5) ↔ (¬ ((table ≤ 7) × IsValue number)) }
-    ensures busy { (result ≡ 10) ↔ (((table ≤ 7) × IsValue number) × IsBusy engine.old.state) }
-    ensures closed { (result ≡ 2) ↔ (((table ≤ 7) × IsValue number) × IsClosed engine.old.state engine.old.slot.held) }
+    ensures visits { VisitsIf (IsRecord table number) result engine.old.state engine.old.slot.held engine.new.state }
     ensures statuses { result ≢ 10 → result ≢ 5 → result ≤ 2 }
     ensures unwritten { result ≢ 0 → (rows.new ≡ rows.old) × (count.new ≡ count.old) }
     ensures same { engine.new.slot.held ≡ engine.old.slot.held }
-    ensures leaves { IsBusy engine.new.state → IsBusy engine.old.state }
-    ensures stays { IsBusy engine.old.state → engine.new.state ≡ engine.old.state }
 {
     let Some(key) = keyed(table, number) else {
         return status::BAD_CALL;
@@ -69,13 +65,10 @@ pub extern "C" fn sgt_rows(
 #[unsafe(no_mangle)]
 pub extern "C" fn sgt_records(alloc: Global, engine: &mut Handle, count: &mut u64) -> u32
     ensures counted { result ≡ 0 → CountsRows engine.old.slot.held count.new }
-    ensures busy { (result ≡ 10) ↔ IsBusy engine.old.state }
-    ensures closed { (result ≡ 2) ↔ IsClosed engine.old.state engine.old.slot.held }
+    ensures visits { Visits result engine.old.state engine.old.slot.held engine.new.state }
     ensures statuses { result ≢ 10 → result ≤ 2 }
     ensures kept { result ≢ 0 → count.new ≡ count.old }
     ensures same { engine.new.slot.held ≡ engine.old.slot.held }
-    ensures leaves { IsBusy engine.new.state → IsBusy engine.old.state }
-    ensures stays { IsBusy engine.old.state → engine.new.state ≡ engine.old.state }
 {
     if engine.is_busy() {
         return status::BUSY;

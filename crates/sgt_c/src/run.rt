@@ -1,5 +1,5 @@
 //! A transaction that one call runs from its start to its end.
-ghost use Rattle.std.specs.Prelude.{◌≡◌, ◌≢◌, ◌≤◌, ◌↔◌, ℕ, true, Some, Option, IfOk, OnOk, OnErr};
+ghost use Rattle.std.specs.Prelude.{◌≡◌, ◌≢◌, ◌≤◌, ℕ, true, Some, Option, IfOk, OnOk, OnErr};
 ghost use Rattle.sgt_model.specs.declared.event.Event.TheVariants.{Start, Quit};
 ghost use Rattle.sgt_model.specs.declared.reply.Reply.{Reply};
 ghost use Rattle.sgt_model.specs.Fates.{live};
@@ -7,7 +7,7 @@ ghost use Rattle.sgt_engine.specs.EngineView.{with_entry};
 ghost use Rattle.sgt_c.specs.Asked.{IsCall};
 ghost use Rattle.sgt_c.specs.KeptFields.{KeepsOtherFields};
 ghost use Rattle.sgt_c.specs.Runs.{Ran, GaveUp, RunsTo, GivesUp, RunsOnTo, StepsTo, StopsLive, is_access, is_end, is_write};
-ghost use Rattle.sgt_c.specs.Handles.{IsBusy, IsClosed};
+ghost use Rattle.sgt_c.specs.Handles.{VisitsIf};
 
 use crate::handle::Handle;
 use crate::held::Held;
@@ -41,12 +41,8 @@ pub extern "C" fn sgt_run(
         GaveUp (Start procedure args.now) engine.old.slot.held engine.new.slot.held }
     ensures unchanged { 2 ≤ result → engine.new.slot.held ≡ engine.old.slot.held }
     ensures unwritten { result ≢ 0 → (tid.new ≡ tid.old) × (reply.new ≡ reply.old) }
-    ensures bad_call { (result ≡ 5) ↔ (¬ IsCall procedure args.now) }
-    ensures busy { (result ≡ 10) ↔ (IsCall procedure args.now × IsBusy engine.old.state) }
-    ensures closed { (result ≡ 2) ↔ (IsCall procedure args.now × IsClosed engine.old.state engine.old.slot.held) }
+    ensures visits { VisitsIf (IsCall procedure args.now) result engine.old.state engine.old.slot.held engine.new.state }
     ensures statuses { result ≢ 10 → result ≢ 5 → result ≤ 2 }
-    ensures leaves { IsBusy engine.new.state → IsBusy engine.old.state }
-    ensures stays { IsBusy engine.old.state → engine.new.state ≡ engine.old.state }
 {
     if !is_call(procedure, args) {
         return status::BAD_CALL;

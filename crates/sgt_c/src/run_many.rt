@@ -5,7 +5,7 @@ ghost use Rattle.sgt_model.specs.declared.event.Event.TheVariants.{Start};
 ghost use Rattle.sgt_c.specs.KeptFields.{KeepOtherFields, KeepsOtherFields};
 ghost use Rattle.sgt_c.specs.ManyRuns.{GaveUpAt, IsRunnable, RanAll, RanMany, RanOne, StoppedAt, args_in};
 ghost use Rattle.sgt_c.specs.Runs.{GivesUp};
-ghost use Rattle.sgt_c.specs.Handles.{IsBusy, IsClosed};
+ghost use Rattle.sgt_c.specs.Handles.{VisitsIf};
 
 use crate::call_struct::SgtCall;
 use crate::handle::Handle;
@@ -42,14 +42,8 @@ pub extern "C" fn sgt_run_many(
     ensures capacity { length outcomes.new ≡ length outcomes.old }
     ensures unchanged { 2 ≤ result → engine.new.slot.held ≡ engine.old.slot.held }
     ensures unwritten { 2 ≤ result → (outcomes.new ≡ outcomes.old) × (done.new ≡ done.old) }
-    ensures bad_call { (result ≡ 5) ↔ (¬ (All IsRunnable calls.now × (length calls.now ≤ length outcomes.old))) }
-    ensures busy { (result ≡ 10) ↔ ((All IsRunnable calls.now × (length calls.now ≤ length outcomes.old))
-        × IsBusy engine.old.state) }
-    ensures closed { (result ≡ 2) ↔ ((All IsRunnable calls.now × (length calls.now ≤ length outcomes.old))
-        × IsClosed engine.old.state engine.old.slot.held) }
+    ensures visits { VisitsIf (All IsRunnable calls.now × (length calls.now ≤ length outcomes.old)) result engine.old.state engine.old.slot.held engine.new.state }
     ensures statuses { result ≢ 10 → result ≢ 5 → result ≤ 2 }
-    ensures leaves { IsBusy engine.new.state → IsBusy engine.old.state }
-    ensures stays { IsBusy engine.old.state → engine.new.state ≡ engine.old.state }
 {
     if !are_runnable(calls) || calls.len() > outcomes.len() {
         return status::BAD_CALL;

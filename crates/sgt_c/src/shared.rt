@@ -14,3 +14,4 @@ pub mod run_struct;
 mod running;
 mod starting;
 mod turns;
+pub mod waiting;

@@ -5,7 +5,7 @@
 use std::os::raw::{c_char, c_void};
 
 /// `SGT_VERSION`: the version of the headers.
-pub const VERSION: &str = "0.2.0";
+pub const VERSION: &str = "0.3.0";
 
 pub const OK: u32 = 0;
 pub const NO_MEMORY: u32 = 1;
@@ -158,6 +158,8 @@ pub struct Ended {
     pub sequence: u64,
     pub ticket: Ticket,
     pub call: Call,
+    pub wrote: u32,
+    pub spare: u32,
 }
 
 /// `sgt_live`: a live transaction.
@@ -288,6 +290,7 @@ extern "C" {
     pub fn sgt_rows(engine: *const Engine, table: u64, number: i64, rows: *mut Row, capacity: usize, count: *mut u64) -> u32;
     pub fn sgt_records(engine: *const Engine, count: *mut u64) -> u32;
     pub fn sgt_live_tids(engine: *const Engine, tids: *mut u32, count: *mut u64) -> u32;
+    pub fn sgt_wrote(engine: *const Engine, tid: u32, wrote: *mut u32) -> u32;
     pub fn sgt_entries(engine: *const Engine, count: *mut u64) -> u32;
     pub fn sgt_entry(engine: *const Engine, place: u64, event: *mut Event, reply: *mut Reply) -> u32;
     pub fn sgt_calls(

@@ -1,12 +1,9 @@
 //! Turns of a cut, for C.
-ghost use Rattle.std.specs.Prelude.{◌≡◌, ◌≢◌, ◌↔◌, ◌⊎◌, ◌<◌, cond, nat_eq, IfSome, Ok, Result};
-ghost use Rattle.sgt_model.specs.declared.errors.NoMemory.{NoMemory};
-ghost use Rattle.sgt_desk.specs.declared.ask.Ask.{Ask};
-ghost use Rattle.sgt_desk.specs.declared.ask.Turn.{Turn};
-ghost use Rattle.sgt_desk.specs.Desks.{state, without_call, Wakes};
-ghost use Rattle.sgt_c.specs.DeskStructs.{IsAsk, ask_in, desk_in, lent_state};
-ghost use Rattle.sgt_c.specs.DeskTurns.{CutTurn, OfBoth, cuts_now, status_of};
-ghost use Rattle.sgt_c.specs.Handles.{IsBusy, IsClosed};
+ghost use Rattle.std.specs.Prelude.{◌≡◌, ◌≢◌, ◌<◌, cond, nat_eq, IfSome};
+ghost use Rattle.sgt_desk.specs.Desks.{state, without_call};
+ghost use Rattle.sgt_c.specs.DeskStructs.{ask_in, desk_in, lent_state};
+ghost use Rattle.sgt_c.specs.DeskTurns.{IsRefused, IsTurn, MakesCut, OfDesks, WakesBy, cuts_now};
+ghost use Rattle.sgt_c.specs.Handles.{Visits};
 
 use crate::handle::Handle;
 use crate::shared::ask_struct::{SgtAsk, ask_struct, read_ask};
@@ -29,17 +26,11 @@ pub extern "C" fn sgt_desk_cut(
     now: u64,
     wakes: &mut u32,
 ) -> u32
-    ensures turn { result ≢ 2 → result ≢ 10 → OfBoth engine.old.slot.held engine.new.slot.held (λ h h'.
-        (turn : Result Turn NoMemory) × (next : Ask) × (result ≡ status_of turn) × IsAsk ask.new next
-        × CutTurn now (desk_in desk.old h) (ask_in ask.old) (desk_in desk.new h') next turn) }
-    ensures wakes { result ≢ 2 → result ≢ 10 → OfBoth engine.old.slot.held engine.new.slot.held (λ h h'.
-        Wakes (desk_in desk.old h) (desk_in desk.new h') (nat_eq wakes.new 1)) }
-    ensures unchanged { (result ≡ 2) ⊎ (result ≡ 10) → (engine.new.slot.held ≡ engine.old.slot.held) × (desk.new ≡ desk.old)
+    ensures turn { IsTurn result → OfDesks engine.old.slot.held desk.old engine.new.slot.held desk.new (MakesCut now result ask.old ask.new) }
+    ensures wakes { IsTurn result → OfDesks engine.old.slot.held desk.old engine.new.slot.held desk.new (WakesBy wakes.new) }
+    ensures unchanged { IsRefused result → (engine.new.slot.held ≡ engine.old.slot.held) × (desk.new ≡ desk.old)
         × (ask.new ≡ ask.old) × (wakes.new ≡ wakes.old) }
-    ensures busy { (result ≡ 10) ↔ IsBusy engine.old.state }
-    ensures closed { (result ≡ 2) ↔ IsClosed engine.old.state engine.old.slot.held }
-    ensures leaves { IsBusy engine.new.state → IsBusy engine.old.state }
-    ensures stays { IsBusy engine.old.state → engine.new.state ≡ engine.old.state }
+    ensures visits { Visits result engine.old.state engine.old.slot.held engine.new.state }
 {
     if engine.is_busy() {
         return status::BUSY;
@@ -61,10 +52,9 @@ fn cut_lent(
     now: u64,
     wakes: &mut u32,
 ) -> u32
-    ensures turn { (turn : Result Turn NoMemory) × (next : Ask) × (result ≡ status_of turn) × IsAsk ask.new next
-        × CutTurn now (state lent_state desk.old) (ask_in ask.old) (state lent_state desk.new) next turn }
-    ensures wakes { Wakes (state lent_state desk.old) (state lent_state desk.new) (nat_eq wakes.new 1) }
-    ensures turns { (result ≢ 2) × (result ≢ 10) }
+    ensures turn { MakesCut now result ask.old ask.new (state lent_state desk.old) (state lent_state desk.new) }
+    ensures wakes { WakesBy wakes.new (state lent_state desk.old) (state lent_state desk.new) }
+    ensures turns { IsTurn result }
 {
     let mut call = read_ask(ask);
     let mut woken = false;
@@ -90,10 +80,7 @@ pub extern "C" fn sgt_desk_cuts(
     ensures same { engine.new.slot.held ≡ engine.old.slot.held }
     ensures kept { result ≢ 0 → cuts.new ≡ cuts.old }
     ensures statuses { result ≢ 10 → result ≢ 0 → result ≡ 2 }
-    ensures busy { (result ≡ 10) ↔ IsBusy engine.old.state }
-    ensures closed { (result ≡ 2) ↔ IsClosed engine.old.state engine.old.slot.held }
-    ensures leaves { IsBusy engine.new.state → IsBusy engine.old.state }
-    ensures stays { IsBusy engine.old.state → engine.new.state ≡ engine.old.state }
+    ensures visits { Visits result engine.old.state engine.old.slot.held engine.new.state }
 {
     if engine.is_busy() {
         return status::BUSY;

@@ -1,13 +1,10 @@
 //! Events of one transaction that never rest, for C.
-ghost use Rattle.std.specs.Prelude.{◌≡◌, ◌≢◌, ◌↔◌, ◌⊎◌, nat_eq, Ok, Result, Some, None, IfSome, IsNone};
-ghost use Rattle.sgt_model.specs.declared.errors.NoMemory.{NoMemory};
-ghost use Rattle.sgt_model.specs.declared.short_reply.ShortReply.{ShortReply};
-ghost use Rattle.sgt_desk.specs.declared.ask.Turn.{Turn};
-ghost use Rattle.sgt_desk.specs.Desks.{state, Wakes};
-ghost use Rattle.sgt_c.specs.DeskStructs.{asked_in, desk_in, lent_state};
-ghost use Rattle.sgt_c.specs.DeskTurns.{IsRunnable, MakeTurn, OfBoth, ReportsNewest, status_of};
-ghost use Rattle.sgt_c.specs.KeptFields.{KeepsOtherFields};
-ghost use Rattle.sgt_c.specs.Handles.{IsBusy, IsClosed};
+ghost use Rattle.std.specs.Prelude.{◌≡◌, ◌↔◌, Some, IfSome, IsNone};
+ghost use Rattle.sgt_desk.specs.Desks.{state};
+ghost use Rattle.sgt_c.specs.DeskStructs.{asked_in, lent_state};
+ghost use Rattle.sgt_c.specs.DeskTurns.{IsRefused, IsRunnable, IsTurn, Makes, OfDesks, Reports, WakesBy};
+ghost use Rattle.sgt_c.specs.KeptFields.{WritesReply};
+ghost use Rattle.sgt_c.specs.Handles.{VisitsIf};
 
 use crate::handle::Handle;
 use crate::reply_struct::SgtReply;
@@ -38,22 +35,14 @@ pub extern "C" fn sgt_desk_make(
     reply: &mut SgtReply,
     wakes: &mut u32,
 ) -> u32
-    ensures turn { result ≢ 2 → result ≢ 5 → result ≢ 10 → OfBoth engine.old.slot.held engine.new.slot.held (λ h h'.
-        IfSome (asked_in kind (table, number) value) (λ requested.
-        (turn : Result Turn NoMemory) × (short : ShortReply) × (result ≡ status_of turn)
-        × MakeTurn (record { part = part; tid = t }) requested (desk_in desk.old h) short (desk_in desk.new h') turn)) }
-    ensures reported { result ≡ 0 → OfBoth engine.old.slot.held engine.new.slot.held (λ h h'. ReportsNewest reply.new h'.engine.past) }
-    ensures wakes { result ≢ 2 → result ≢ 5 → result ≢ 10 → OfBoth engine.old.slot.held engine.new.slot.held (λ h h'.
-        Wakes (desk_in desk.old h) (desk_in desk.new h') (nat_eq wakes.new 1)) }
-    ensures kept { result ≡ 0 → KeepsOtherFields reply.old reply.new }
-    ensures unwritten { result ≢ 0 → reply.new ≡ reply.old }
-    ensures unchanged { (result ≡ 2) ⊎ (result ≡ 5) ⊎ (result ≡ 10) → (engine.new.slot.held ≡ engine.old.slot.held)
+    ensures turn { IsTurn result → OfDesks engine.old.slot.held desk.old engine.new.slot.held desk.new (λ d d'.
+        IfSome (asked_in kind (table, number) value) (λ requested. Makes (record { part = part; tid = t }) requested result d d')) }
+    ensures reported { result ≡ 0 → OfDesks engine.old.slot.held desk.old engine.new.slot.held desk.new (Reports reply.new) }
+    ensures wakes { IsTurn result → OfDesks engine.old.slot.held desk.old engine.new.slot.held desk.new (WakesBy wakes.new) }
+    ensures writes { WritesReply result reply.old reply.new }
+    ensures unchanged { IsRefused result → (engine.new.slot.held ≡ engine.old.slot.held)
         × (desk.new ≡ desk.old) × (wakes.new ≡ wakes.old) }
-    ensures bad_call { (result ≡ 5) ↔ (¬ IsRunnable kind table number) }
-    ensures busy { (result ≡ 10) ↔ (IsRunnable kind table number × IsBusy engine.old.state) }
-    ensures closed { (result ≡ 2) ↔ (IsRunnable kind table number × IsClosed engine.old.state engine.old.slot.held) }
-    ensures leaves { IsBusy engine.new.state → IsBusy engine.old.state }
-    ensures stays { IsBusy engine.old.state → engine.new.state ≡ engine.old.state }
+    ensures visits { VisitsIf (IsRunnable kind table number) result engine.old.state engine.old.slot.held engine.new.state }
 {
     let Some(requested) = asked_of(kind, table, number, value) else {
         return status::BAD_CALL;
@@ -109,13 +98,11 @@ fn make_lent(
     reply: &mut SgtReply,
     wakes: &mut u32,
 ) -> u32
-    ensures turn { (turn : Result Turn NoMemory) × (short : ShortReply) × (result ≡ status_of turn)
-        × MakeTurn ticket requested (state lent_state desk.old) short (state lent_state desk.new) turn }
-    ensures reported { result ≡ 0 → ReportsNewest reply.new (state lent_state desk.new).past }
-    ensures wakes { Wakes (state lent_state desk.old) (state lent_state desk.new) (nat_eq wakes.new 1) }
-    ensures kept { result ≡ 0 → KeepsOtherFields reply.old reply.new }
-    ensures unwritten { result ≢ 0 → reply.new ≡ reply.old }
-    ensures turns { (result ≢ 2) × (result ≢ 5) × (result ≢ 10) }
+    ensures turn { Makes ticket requested result (state lent_state desk.old) (state lent_state desk.new) }
+    ensures reported { result ≡ 0 → Reports reply.new (state lent_state desk.old) (state lent_state desk.new) }
+    ensures wakes { WakesBy wakes.new (state lent_state desk.old) (state lent_state desk.new) }
+    ensures writes { WritesReply result reply.old reply.new }
+    ensures turns { IsTurn result }
 {
     let mut short = ShortReply::Unknown;
     let mut woken = false;

@@ -1,14 +1,11 @@
 //! Turns of a run, for C.
-ghost use Rattle.std.specs.Prelude.{◌≡◌, ◌≢◌, ◌↔◌, ◌⊎◌, nat_eq, Ok, Result};
-ghost use Rattle.sgt_model.specs.declared.errors.NoMemory.{NoMemory};
-ghost use Rattle.sgt_desk.specs.declared.ask.Turn.{Turn};
-ghost use Rattle.sgt_desk.specs.declared.running.Run.{Run};
-ghost use Rattle.sgt_desk.specs.Desks.{state, Wakes};
+ghost use Rattle.std.specs.Prelude.{◌≡◌};
+ghost use Rattle.sgt_desk.specs.Desks.{state};
 ghost use Rattle.sgt_c.specs.Asked.{IsCall};
-ghost use Rattle.sgt_c.specs.DeskStructs.{IsRun, desk_in, lent_state, run_in};
-ghost use Rattle.sgt_c.specs.DeskTurns.{RunTurn, OfBoth, ReportsNewest, status_of};
-ghost use Rattle.sgt_c.specs.KeptFields.{KeepsOtherFields};
-ghost use Rattle.sgt_c.specs.Handles.{IsBusy, IsClosed};
+ghost use Rattle.sgt_c.specs.DeskStructs.{lent_state};
+ghost use Rattle.sgt_c.specs.DeskTurns.{IsRefused, IsTurn, MakesRun, OfDesks, Reports, WakesBy};
+ghost use Rattle.sgt_c.specs.KeptFields.{WritesReply};
+ghost use Rattle.sgt_c.specs.Handles.{VisitsIf};
 
 use crate::handle::Handle;
 use crate::reply_struct::SgtReply;
@@ -39,22 +36,14 @@ pub extern "C" fn sgt_desk_run(
     reply: &mut SgtReply,
     wakes: &mut u32,
 ) -> u32
-    ensures turn { result ≢ 2 → result ≢ 5 → result ≢ 10 → OfBoth engine.old.slot.held engine.new.slot.held (λ h h'.
-        (turn : Result Turn NoMemory) × (next : Run) × (result ≡ status_of turn) × IsRun run.new next
-        × RunTurn procedure args.now now (desk_in desk.old h) (run_in run.old) (desk_in desk.new h')
-        next turn) }
-    ensures reported { result ≡ 0 → OfBoth engine.old.slot.held engine.new.slot.held (λ h h'. ReportsNewest reply.new h'.engine.past) }
-    ensures wakes { result ≢ 2 → result ≢ 5 → result ≢ 10 → OfBoth engine.old.slot.held engine.new.slot.held (λ h h'.
-        Wakes (desk_in desk.old h) (desk_in desk.new h') (nat_eq wakes.new 1)) }
-    ensures kept { result ≡ 0 → KeepsOtherFields reply.old reply.new }
-    ensures unwritten { result ≢ 0 → reply.new ≡ reply.old }
-    ensures unchanged { (result ≡ 2) ⊎ (result ≡ 5) ⊎ (result ≡ 10) → (engine.new.slot.held ≡ engine.old.slot.held) × (desk.new ≡ desk.old)
+    ensures turn { IsTurn result → OfDesks engine.old.slot.held desk.old engine.new.slot.held desk.new
+        (MakesRun procedure args.now now result run.old run.new) }
+    ensures reported { result ≡ 0 → OfDesks engine.old.slot.held desk.old engine.new.slot.held desk.new (Reports reply.new) }
+    ensures wakes { IsTurn result → OfDesks engine.old.slot.held desk.old engine.new.slot.held desk.new (WakesBy wakes.new) }
+    ensures writes { WritesReply result reply.old reply.new }
+    ensures unchanged { IsRefused result → (engine.new.slot.held ≡ engine.old.slot.held) × (desk.new ≡ desk.old)
         × (run.new ≡ run.old) × (wakes.new ≡ wakes.old) }
-    ensures bad_call { (result ≡ 5) ↔ (¬ IsCall procedure args.now) }
-    ensures busy { (result ≡ 10) ↔ (IsCall procedure args.now × IsBusy engine.old.state) }
-    ensures closed { (result ≡ 2) ↔ (IsCall procedure args.now × IsClosed engine.old.state engine.old.slot.held) }
-    ensures leaves { IsBusy engine.new.state → IsBusy engine.old.state }
-    ensures stays { IsBusy engine.old.state → engine.new.state ≡ engine.old.state }
+    ensures visits { VisitsIf (IsCall procedure args.now) result engine.old.state engine.old.slot.held engine.new.state }
 {
     if !is_call(procedure, args) {
         return status::BAD_CALL;
@@ -82,13 +71,11 @@ fn run_lent(
     reply: &mut SgtReply,
     wakes: &mut u32,
 ) -> u32
-    ensures turn { (turn : Result Turn NoMemory) × (next : Run) × (result ≡ status_of turn) × IsRun run.new next
-        × RunTurn procedure args.now now (state lent_state desk.old) (run_in run.old) (state lent_state desk.new) next turn }
-    ensures reported { result ≡ 0 → ReportsNewest reply.new (state lent_state desk.new).past }
-    ensures wakes { Wakes (state lent_state desk.old) (state lent_state desk.new) (nat_eq wakes.new 1) }
-    ensures kept { result ≡ 0 → KeepsOtherFields reply.old reply.new }
-    ensures unwritten { result ≢ 0 → reply.new ≡ reply.old }
-    ensures turns { (result ≢ 2) × (result ≢ 5) × (result ≢ 10) }
+    ensures turn { MakesRun procedure args.now now result run.old run.new (state lent_state desk.old) (state lent_state desk.new) }
+    ensures reported { result ≡ 0 → Reports reply.new (state lent_state desk.old) (state lent_state desk.new) }
+    ensures wakes { WakesBy wakes.new (state lent_state desk.old) (state lent_state desk.new) }
+    ensures writes { WritesReply result reply.old reply.new }
+    ensures turns { IsTurn result }
 {
     let mut call = read_run(run);
     let mut woken = false;
