@@ -21,6 +21,7 @@ import xml.etree.ElementTree as ElementTree
 from concurrent.futures import ThreadPoolExecutor
 
 sys.dont_write_bytecode = True
+from helpers.anomalies import counted  # noqa: E402
 from helpers.appends import (  # noqa: E402
     COMMITTED, Transaction, all_small, drawn, entries_of, keeps_time, lines_of, precedences, serial_orders, shortest_cycle)
 from helpers.cases import SECONDS, TESTS, Differs, same, run_cases  # noqa: E402
@@ -230,11 +231,16 @@ def compare_levels(program, draw, history):
         same("levels", LEVELS[:4 + len(options)], list(found))
         same("status", STATUS[found[level]], status)
         compare_answers(found, history, spans)
-        Evidence(history, spans, bool(options)).compare(reported["levels"])
+        evidence = Evidence(history, spans, bool(options))
+        evidence.compare(reported["levels"])
+        evidence.compare_anomalies(reported["anomalies"], found["serializable"] == "yes")
         strongest = [it for it in found if found[it] == "yes"][-1:]
         same("strongest", (strongest or [None])[0], reported["strongest"])
         line = f"strongest level: {(strongest or ['none'])[0].replace('-', ' ')}"
-        same("report", True, line in check(program, given, *options)[1].splitlines())
+        lines = check(program, given, *options)[1].splitlines()
+        same("report", True, line in lines)
+        same("lines of anomalies", [f"anomaly {it['anomaly']}: {it['count']}, the first:" for it in reported["anomalies"]],
+             [it for it in lines if it.startswith("anomaly ")])
     except (Differs, ValueError, AttributeError, KeyError) as why:
         raise Differs(f"{why}\n{given}") from None
     return (strongest or ["none"])[0] if "undecided" not in found.values() else "undecided"
@@ -287,6 +293,15 @@ class Evidence(Reported):
         for it in ties:
             if not self.shows(it["from"] - 1, it["to"] - 1, it["why"]):
                 raise Differs(f"t{it['from']} before t{it['to']} does not follow from {it['why']!r}")
+
+    def compare_anomalies(self, listed, is_serial):
+        same("anomalies", {} if is_serial else counted(self.history), {it["anomaly"]: it["count"] for it in listed})
+        for it in listed:
+            if "cycle" in it:
+                same("a lost update", ("lost-update", 2, {"wait"}), (it["anomaly"], len(it["cycle"]), {tie["because"] for tie in it["cycle"]}))
+                self.compare_ties("snapshot", it["cycle"])
+            else:
+                self.compare_read(it)
 
     def compare_unseen(self, found):
         """The read that would show the order of two appends that nobody saw."""
@@ -586,16 +601,37 @@ def takes_processes_of_any_name(program):
 
 
 def takes_keys_of_any_name(program):
-    """Numbers of 15 digits, and texts, which are strings or keywords in EDN: the same report, with these names."""
+    """Numbers of 15 digits with a sign, and texts, which are strings or keywords in EDN: the same report, with these names."""
     entries, _ = entries_of(random.Random(1), NAMED["G2-item"])
     wanted = check(program, lines_of(entries))
-    names = [(999_999_999_999_999, 123_456_789_012_345), ("users/1", "a-1.b:c_D"), ("x" * 64, "0"), ("007", 7)]
+    names = [(999_999_999_999_999, 123_456_789_012_345), ("users/1", "a-1.b:c_D"), ("x" * 64, "0"), ("007", 7),
+             (-999_999_999_999_999, -1), ("-7", 0)]
     for first, second in names:
         name = {1: first, 2: second}
         renamed = [it | {"value": [[word, name[key], what] for word, key, what in it["value"]]} if it["value"] else it for it in entries]
         report = re.sub(r"key (\d)", lambda it: f"key {name[int(it[1])]}", wanted[1])
         same(f"keys {name}", (1, report, ""), check(program, lines_of(renamed)))
         same(f"keys {name} in EDN", (1, report, ""), check(program, "".join(edn(it) + "\n" for it in renamed)))
+
+
+def takes_values_with_a_sign(program):
+    """Whole numbers of 15 digits with a sign: the same report, with these values."""
+    for history in (NAMED["G1b"], NAMED["duplicate-elements"], NAMED["unwritten"], NAMED["incompatible-order"], STRONGEST[2][2]):
+        entries, _ = entries_of(random.Random(1), [with_values(one, lambda value: 7_770 + value) for one in history])
+        wanted = check(program, lines_of(entries))
+        for most in (-7, 4_294_967_296, 999_999_999_999_990, -999_999_999_999_999):
+            renamed, _ = entries_of(random.Random(1), [with_values(one, lambda value, most=most: most + value) for one in history])
+            report = re.sub(r"\b777(\d)\b", lambda it, most=most: str(most + int(it[1])), wanted[1])
+            same(f"values from {most}", (1, report, ""), check(program, lines_of(renamed)))
+            same(f"values from {most} in EDN", (1, report, ""), check(program, "".join(edn(it) + "\n" for it in renamed)))
+    for value in ("-1000000000000000", "-1.0", '"-1"', "1e2", "-0.0"):
+        same(f"value {value}", 2, check(program, '{"type":"ok","process":1,"value":[["append",1,' + value + "]]}")[0])
+
+
+def with_values(transaction, value):
+    """The transaction with other values."""
+    return Transaction(transaction.status, [
+        (word, key, value(what) if word == "append" else tuple(map(value, what))) for word, key, what in transaction.operations])
 
 
 def skips_what_is_no_transaction(program):
@@ -668,7 +704,6 @@ GOOD = '{"type":"ok","process":0,"f":"txn","value":[["append",1,1]]}\n'
 IS_TEXT = "; text like r1[x] is read without --model list-append"
 NO_EDN = re.compile(r"line 2, entry 2: no JSON from column \d+ on")
 EDN = "{:type :ok, :process 0, :f :txn, :value [[:append 1 1]]}\n"
-NEGATIVE = 'a number from 0 or a text: "-1" is one, -1 is not'
 KEY, NO_KEY = "the key of operation", "is not a whole number, or a text of 1 to 64 letters, digits and _ . / : -"
 RESTART = "a recorder that starts again takes new processes, or first writes an info for each that it left"
 
@@ -708,7 +743,7 @@ FAULTS = {
     EDN + EDN.replace("ok", "done"): "line 2, entry 2: the type is not invoke, ok, fail or info",
     EDN.replace("[[:append 1 1]]", "[[:r 1 #{1}]]"): 'line 1, entry 1: operation 1 is not ["append",key,value] or ["r",key,values]',
     EDN.replace("[[:append 1 1]]", "[[:r 1 {1 2}]]"): 'line 1, entry 1: operation 1 is not ["append",key,value] or ["r",key,values]',
-    EDN.replace("[[:append 1 1]]", "[[:append 1 1N]]"): "line 1, entry 1: operation 1 has a value that is not a whole number from 0 to 4294967295",
+    EDN.replace("[[:append 1 1]]", "[[:append 1 1N]]"): "line 1, entry 1: operation 1 has a value that is not a whole number of at most 15 digits",
     GOOD + "{\n": "line 2, entry 2: no JSON from column 2 on\n" + cut_input(2, 2),
     GOOD + '{"type":"ok",\n "process" 1}': "line 3, entry 2: no JSON from column 12 on",
     "5": "line 1, entry 1: no object",
@@ -717,9 +752,9 @@ FAULTS = {
     GOOD + GOOD.replace(":", "", 1): "line 2, entry 2: no JSON from column 8 on",
     GOOD + "\n" + '{"process":0}': "line 3, entry 2: the type is not invoke, ok, fail or info\ntype is missing",
     '{"type":"ok"}': "line 1, entry 1: the process is not a whole number or a text\nprocess is missing",
-    '{"type":"ok","process":-1}': f"line 1, entry 1: the process is not a whole number or a text\na process is {NEGATIVE}",
-    EDN.replace(":process 0", ":process -1"): f"line 1, entry 1: the process is not a whole number or a text\na process is {NEGATIVE}",
-    GOOD.replace("1,1", "-1,1"): f"line 1, entry 1: {KEY} 1 {NO_KEY}\na key is {NEGATIVE}",
+    '{"type":"ok","process":-1.5}': "line 1, entry 1: the process is not a whole number or a text",
+    EDN.replace(":process 0", ":process -1.5"): "line 1, entry 1: the process is not a whole number or a text",
+    GOOD.replace("1,1", "-1.5,1"): f"line 1, entry 1: {KEY} 1 {NO_KEY}",
     '{"type":"done","process":1}': "line 1, entry 1: the type is not invoke, ok, fail or info",
     '{"type":"ok","process":null,"f":"txn"}': "line 1, entry 1: the process is not a whole number or a text",
     '{"type":"ok","process":"c0","f":"txn","value":5}': "line 1, entry 1: the value is not a list of operations",
@@ -728,9 +763,9 @@ FAULTS = {
     '{"type":"ok","process":1,"value":[[]]}': 'line 1, entry 1: operation 1 is not ["append",key,value] or ["r",key,values]',
     '{"type":"ok","process":1,"value":[["r",1,[]],["w",1,2]]}': 'line 1, entry 1: operation 2 is not ["append",key,value] or ["r",key,values]',
     '{"type":"ok","process":1,"value":[["r",1,5]]}': 'line 1, entry 1: operation 1 is not ["append",key,value] or ["r",key,values]',
-    '{"type":"ok","process":1,"value":[["r",1,["a"]]]}': "line 1, entry 1: operation 1 has a value that is not a whole number from 0 to 4294967295",
-    '{"type":"ok","process":1,"value":[["append",1,4294967296]]}': "line 1, entry 1: operation 1 has a value that is not a whole number from 0 to 4294967295",
-    '{"type":"ok","process":1,"value":[["append",1,1.5]]}': "line 1, entry 1: operation 1 has a value that is not a whole number from 0 to 4294967295",
+    '{"type":"ok","process":1,"value":[["r",1,["a"]]]}': "line 1, entry 1: operation 1 has a value that is not a whole number of at most 15 digits",
+    '{"type":"ok","process":1,"value":[["append",1,1000000000000000]]}': "line 1, entry 1: operation 1 has a value that is not a whole number of at most 15 digits",
+    '{"type":"ok","process":1,"value":[["append",1,1.5]]}': "line 1, entry 1: operation 1 has a value that is not a whole number of at most 15 digits",
     '{"type":"ok","process":1,"value":[["append",null,1]]}':
         "line 1, entry 1: the key of operation 1 is not a whole number, or a text of 1 to 64 letters, digits and _ . / : -",
     '{"type":"ok","process":1,"value":[["append","a b",1]]}':
@@ -892,7 +927,8 @@ def records_databases(program):
 CASES = [on_all_small_histories, on_drawn_histories, on_drawn_histories_strictly, levels_of_all_small_histories, levels_of_drawn_histories,
          names_the_strongest_level, names_the_read_that_decides, keeps_the_order_of_begins, shortens_a_long_order, draws_the_level, names_anomalies, names_the_operations,
          shows_values_of_a_long_read, ends_on_long_ones, reads_each_form, reads_edn,
-         takes_null_for_the_empty_list, takes_processes_of_any_name, takes_keys_of_any_name, skips_what_is_no_transaction, refuses_nothing,
+         takes_null_for_the_empty_list, takes_processes_of_any_name, takes_keys_of_any_name,
+         takes_values_with_a_sign, skips_what_is_no_transaction, refuses_nothing,
          refuses_an_end_of_other_operations, keeps_time_only_with_invocations, reports_faults, names_the_line_that_is_cut, survives_hostile_bytes, needs_its_model, hints_at_its_model, draws_its_witness, recorded_ones,
          records_databases]
 

@@ -1,3 +1,4 @@
+pub mod AnomalyText
 pub mod Checks
 pub mod Entries
 pub mod Evidence
@@ -18,3 +19,4 @@ pub mod Reports
 pub mod TieText
 pub mod Times
 pub mod UnseenText
+pub mod Values

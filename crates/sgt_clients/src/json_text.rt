@@ -2,8 +2,9 @@
 
 ghost use Rattle.std.specs.Prelude.{◌≡◌, ◌++◌, flat_map, OnOk};
 ghost use Rattle.sgt_clients.specs.JsonText.{truth_text, next_item, items_text, counts_members, skipped_member, number_text, because_text, ends_text, step_object, anomaly_member, order_member, cycle_member, reader_members, finding_members, head_text};
-ghost use Rattle.sgt_clients.specs.LevelJson.{json_text};
+ghost use Rattle.sgt_clients.specs.Reports.{json_text};
 
+use crate::anomaly_text::append_anomalies_member;
 use crate::clients::Clients;
 use crate::counts::count;
 use crate::finding::{Finding, Step, Why, is_serial};
@@ -31,6 +32,7 @@ pub fn append_json(
 {
     append_head(text, clients, &found.finding, strict)?;
     append_levels(text, clients, found, strict)?;
+    append_anomalies_member(text, clients, found.anomalies.as_slice())?;
     text.extend_from_slice(b"}\n")?;
     Ok(())
 }

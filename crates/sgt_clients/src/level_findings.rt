@@ -8,6 +8,7 @@ ghost use Rattle.sgt_clients.specs.Findings.{IsFound, is_order};
 ghost use Rattle.sgt_clients.specs.Levels.{serial_finding, serial_answer, writes_answer, committed_answer, snapshot_answer, answer_of, is_yes, first_level, strongest_of, AreFound};
 ghost use Rattle.sgt_clients.specs.declared.level.Answer.TheVariants.{Yes};
 
+use crate::anomalies::{Seen, anomalies_of};
 use crate::clients::Clients;
 use crate::fault::ClientsFault;
 use crate::finding::{Finding, check_clients, is_serial};
@@ -43,6 +44,8 @@ pub struct LevelFindings {
     pub untimed: Option<Finding>,
     /// Of the weaker levels. They hold if there is none.
     pub weaker: Option<Weaker>,
+    /// The anomalies that are counted, if there is no serial order.
+    pub anomalies: Vec<Seen>,
 }
 
 impl LevelFindings {
@@ -212,11 +215,32 @@ pub fn check_levels(
     let untimed = untimed_of(alloc, clients, &finding, strict)?;
     let ordered = has_order(&finding, &untimed);
     let weaker = weaker_of(alloc, clients, ordered, &finding)?;
+    let anomalies = anomalies_seen(alloc, clients, &finding, &weaker)?;
     Ok(LevelFindings {
         finding,
         untimed,
         weaker,
+        anomalies,
     })
+}
+
+/// The anomalies that are counted, unless there is a serial order. If the finding is a cycle, no read has a fault.
+fn anomalies_seen(
+    alloc: Global,
+    clients: &Clients,
+    finding: &Finding,
+    weaker: &Option<Weaker>,
+) -> Result<Vec<Seen>, NoMemory> {
+    let Some(weaker) = weaker else {
+        return Ok(Vec::new(alloc));
+    };
+    anomalies_of(
+        alloc,
+        clients.transactions.as_slice(),
+        clients.keys.len(),
+        matches!(finding, Finding::Cycle(..)),
+        &weaker.levels.committed,
+    )
 }
 
 /// Checks what clients saw, strictly or not.
@@ -271,7 +295,7 @@ fn weaker_of(
         return Ok(None);
     }
     let history = clients.transactions.as_slice();
-    let levels = levels_of(alloc, history, &[])?;
+    let levels = levels_of(alloc, history, matches!(finding, Finding::Cycle(..)))?;
     Ok(Some(Weaker {
         writes_name: writes_name(&levels.writes),
         committed_name: committed_name(&levels.committed),

@@ -95,7 +95,7 @@ fn append_not(text: &mut Vec<u8>, words: &[u8], name: &str) -> Result<(), NoMemo
 }
 
 /// Appends the line of a read, and what is wrong with it.
-fn append_fault_line(
+pub(crate) fn append_fault_line(
     text: &mut Vec<u8>,
     clients: &Clients,
     reader: usize,

@@ -5,6 +5,7 @@ ghost use Rattle.sgt_clients.specs.ReportText.{verdict_text, finding_text, count
 ghost use Rattle.sgt_clients.specs.Reports.{report_text};
 ghost use Rattle.sgt_clients.specs.declared.finding.Why.TheVariants.{RealTime};
 
+use crate::anomaly_text::append_anomalies;
 use crate::clients::Clients;
 use crate::counts::count;
 use crate::finding::{Finding, Step, Why};
@@ -30,7 +31,8 @@ pub fn append_report(
     ensures { OnOk result (text.new.items ≡ text.old.items ++ report_text strict clients.now found.now) }
 {
     append_verdict(text, clients, &found.finding, strict)?;
-    append_levels(text, clients, found, strict)
+    append_levels(text, clients, found, strict)?;
+    append_anomalies(text, clients, found.anomalies.as_slice())
 }
 
 /// Appends the lines of the verdict.

@@ -10,7 +10,7 @@ ghost use Rattle.sgt_clients.specs.declared.level.Answer.{Answer};
 ghost use Rattle.sgt_clients.specs.Faults.{IsOwn};
 ghost use Rattle.sgt_clients.specs.Reports.{report_text};
 ghost use Rattle.sgt_clients.specs.GraphText.{graph_text};
-ghost use Rattle.sgt_clients.specs.LevelJson.{json_text};
+ghost use Rattle.sgt_clients.specs.Reports.{json_text};
 
 use crate::clients::{Clients, read_clients};
 use crate::explained::explained;

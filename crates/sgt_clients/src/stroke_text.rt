@@ -72,7 +72,7 @@ fn label_of(alloc: Global, clients: &Clients, stroke: &Stroke) -> Result<Vec<u8>
             &[
                 Piece::Key(*key),
                 Piece::Words(b": +"),
-                Piece::Number(*value as usize),
+                Piece::Value(*value),
             ],
         )?,
         Some(sgt_appends::Operation::Read { key, values }) => append_pieces(

@@ -16,18 +16,6 @@ pub struct Snapshots {
     pub starts: Vec<usize>,
 }
 
-/// The run in which each transaction begins when all before it have committed.
-pub fn one_by_one(alloc: Global, order: &[usize]) -> Result<Snapshots, NoMemory> {
-    let mut starts = Vec::new(alloc);
-    for place in 0..order.len() {
-        starts.push(place)?;
-    }
-    Ok(Snapshots {
-        order: Vec::from_slice(alloc, order)?,
-        starts,
-    })
-}
-
 /// What the search for a snapshot run found.
 #[derive(Drop)]
 pub enum Found {
@@ -350,21 +338,30 @@ fn snapshots_of(
     nodes: Nodes,
     sorted: &[usize],
 ) -> Result<Snapshots, NoMemory> {
-    let mut begun = BTreeMap::new(alloc);
+    let mut begun = zeros(alloc, nodes.transactions)?;
     let mut order = Vec::new(alloc);
     let mut starts = Vec::new(alloc);
     for node in sorted {
         let number = *node / 2;
         if is_commit(nodes, *node) {
             if survey.takes_part(number) {
-                if let Some(start) = begun.get(&number).copied() {
+                if let Some(start) = begun.get(number).copied() {
                     order.push(number)?;
                     starts.push(start)?;
                 }
             }
-        } else if *node < nodes.ends {
-            begun.insert(number, order.len())?;
+        } else if let Some(start) = begun.get_mut(number) {
+            *start = order.len();
         }
     }
     Ok(Snapshots { order, starts })
+}
+
+/// A list of this many zeros.
+fn zeros(alloc: Global, len: usize) -> Result<Vec<usize>, NoMemory> {
+    let mut zeros = Vec::with_capacity(alloc, len)?;
+    for _ in 0..len {
+        zeros.push(0)?;
+    }
+    Ok(zeros)
 }

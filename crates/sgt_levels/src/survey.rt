@@ -47,7 +47,7 @@ pub struct Survey {
     /// How many lines there are.
     pub count: usize,
     /// The values that are in a line, with their keys.
-    seen: BTreeSet<(u32, u32)>,
+    seen: BTreeSet<(u32, u64)>,
     /// Which transactions take part: committed ones, and unknown ones of which a value was seen.
     pub runs: Vec<bool>,
     /// For a key and a transaction that appends to it a value that is in no line: the position of the first such append.
