@@ -19,7 +19,10 @@ pub enum Example {
     /// A read saw the last value of a transaction before it appends to the key again.
     Partial(Partial),
     /// Each of two transactions missed what the other appends to the key that both read.
-    Update { one: Tie, other: Tie },
+    Update {
+        one: Tie,
+        other: Tie,
+    },
 }
 
 /// An anomaly that was seen.

@@ -49,11 +49,7 @@ fn append_line(text: &mut Vec<u8>, name: &[u8], count: usize) -> Result<(), NoMe
 }
 
 /// Appends the lines of an example.
-fn append_example(
-    text: &mut Vec<u8>,
-    clients: &Clients,
-    example: &Example,
-) -> Result<(), NoMemory>
+fn append_example(text: &mut Vec<u8>, clients: &Clients, example: &Example) -> Result<(), NoMemory>
     ensures { OnOk result (text.new.items ≡ text.old.items ++ example_text clients.now example.now) }
 {
     match example {
@@ -137,11 +133,7 @@ fn append_head(text: &mut Vec<u8>, name: &[u8], count: usize) -> Result<(), NoMe
 }
 
 /// Appends the members of an example.
-fn append_members(
-    text: &mut Vec<u8>,
-    clients: &Clients,
-    example: &Example,
-) -> Result<(), NoMemory>
+fn append_members(text: &mut Vec<u8>, clients: &Clients, example: &Example) -> Result<(), NoMemory>
     ensures { OnOk result (text.new.items ≡ text.old.items ++ example_members clients.now example.now) }
 {
     match example {

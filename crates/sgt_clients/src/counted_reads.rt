@@ -177,7 +177,11 @@ fn count_read(
     note_fault(&mut tallies.aborted, read, aborted(history, known, read));
     note_fault(&mut tallies.internal, read, internal(known, own, read));
     note_fault(&mut tallies.twice, read, twice(alloc, read)?);
-    note_fault(&mut tallies.incompatible, read, incompatible(alloc, history, known, read)?);
+    note_fault(
+        &mut tallies.incompatible,
+        read,
+        incompatible(alloc, history, known, read)?,
+    );
     if let Some(partial) = intermediate(history, known, read) {
         note(&mut tallies.partial, Example::Partial(partial));
     }

@@ -272,9 +272,7 @@ fn bytes_hint(before: &[u8], after: &[u8], is_first: bool) -> Option<Hint> {
 fn flaw_hint(alloc: Global, input: &[u8], entry: usize, flaw: &Flaw) -> Option<Hint> {
     match flaw {
         Flaw::Invoked(..) => Some(Hint::Restart),
-        Flaw::Process | Flaw::Type | Flaw::Value => {
-            tree_hint(alloc, input, entry, flaw)
-        }
+        Flaw::Process | Flaw::Type | Flaw::Value => { tree_hint(alloc, input, entry, flaw) }
         _ => None,
     }
 }

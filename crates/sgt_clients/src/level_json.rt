@@ -280,7 +280,11 @@ fn append_partial_why(
 }
 
 /// Appends the member with a cycle of ties.
-pub(crate) fn append_cycle(text: &mut Vec<u8>, clients: &Clients, ties: &[Tie]) -> Result<(), NoMemory>
+pub(crate) fn append_cycle(
+    text: &mut Vec<u8>,
+    clients: &Clients,
+    ties: &[Tie],
+) -> Result<(), NoMemory>
     ensures { OnOk result (text.new.items ≡ text.old.items ++ ties_member clients.now ties.now) }
 {
     text.extend_from_slice(b",\"cycle\":[")?;

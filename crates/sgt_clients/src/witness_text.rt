@@ -276,11 +276,7 @@ fn append_value(
 ) -> Result<(), NoMemory>
     ensures { OnOk result (text.new.items ≡ text.old.items ++ (words.now ++ value_text value)) }
 {
-    append_pieces(
-        text,
-        clients,
-        &[Piece::Words(words), Piece::Value(value)],
-    )
+    append_pieces(text, clients, &[Piece::Words(words), Piece::Value(value)])
 }
 
 /// Appends that the reader saw a value of a transaction that aborted.
