@@ -17,6 +17,8 @@ const MOST_SHOWN: usize = 16;
 pub(crate) enum Piece<'a> {
     /// These words.
     Words(&'a [u8]),
+    /// The number.
+    Number(usize),
     /// The value, which is stored by its bits.
     Value(u64),
     /// The transaction: `t3`.
@@ -50,6 +52,7 @@ fn append_piece(text: &mut Vec<u8>, clients: &Clients, piece: &Piece<'_>) -> Res
 {
     match piece {
         Piece::Words(words) => Ok(text.extend_from_slice(words)?),
+        Piece::Number(number) => Ok(append_number(text, *number)?),
         Piece::Value(value) => Ok(append_number(text, value.cast_signed())?),
         Piece::Transaction(number) => Ok(append_numbered(text, b"t", number.saturating_add(1))?),
         Piece::Placed(number) => append_placed(text, clients, *number),
