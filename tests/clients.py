@@ -25,7 +25,7 @@ from helpers.anomalies import counted  # noqa: E402
 from helpers.appends import (  # noqa: E402
     COMMITTED, Transaction, all_small, drawn, entries_of, keeps_time, lines_of, precedences, serial_orders, shortest_cycle)
 from helpers.cases import SECONDS, TESTS, Differs, same, run_cases  # noqa: E402
-from helpers.levels import drawn_split, is_committed_run, is_read_committed, is_read_uncommitted, is_snapshot_isolated, is_snapshot_run, is_write_order, may_have_no_write_order, may_stay_open  # noqa: E402
+from helpers.levels import drawn_split, is_committed_run, is_ordered_isolated, is_read_committed, is_read_uncommitted, is_snapshot_isolated, is_snapshot_run, is_write_order, keeps, may_have_no_write_order, may_stay_open  # noqa: E402
 from pictures import Drawing  # noqa: E402
 
 CLIENTS = TESTS.parent / "examples" / "clients"
@@ -221,6 +221,7 @@ STATUS = {"yes": 0, "no": 1, "undecided": 3}
 def compare_levels(program, draw, history):
     """Each level's answer and evidence by the definitions, with real time or without; and the exit status of one level."""
     entries, spans = entries_of(draw, history)
+    entries, owners = in_sessions(draw, entries)
     given, options = lines_of(entries), ["--strict"] * (draw.random() < 0.3)
     level = draw.choice(LEVELS[:4] + LEVELS[4:] * len(options))
     try:
@@ -233,6 +234,7 @@ def compare_levels(program, draw, history):
         compare_answers(found, history, spans)
         evidence = Evidence(history, spans, bool(options))
         evidence.compare(reported["levels"])
+        evidence.compare_orders(reported, owners)
         evidence.compare_anomalies(reported["anomalies"], found["serializable"] == "yes")
         strongest = [it for it in found if found[it] == "yes"][-1:]
         same("strongest", (strongest or [None])[0], reported["strongest"])
@@ -244,6 +246,21 @@ def compare_levels(program, draw, history):
     except (Differs, ValueError, AttributeError, KeyError) as why:
         raise Differs(f"{why}\n{given}") from None
     return (strongest or ["none"])[0] if "undecided" not in found.values() else "undecided"
+
+
+def in_sessions(draw, entries):
+    """The entries, with processes that go on after an end; and the process of each transaction."""
+    running, free, owners, renamed = {}, [], [], []
+    for it in entries:
+        if it["type"] == "invoke":
+            process = free.pop() if free and draw.random() < 0.8 else f"c{len(owners)}"
+            running[it["process"]] = process
+            owners.append(process)
+        else:
+            process = running.pop(it["process"])
+            free.insert(draw.randrange(len(free) + 1), process)
+        renamed.append(it | {"process": process})
+    return renamed, owners
 
 
 def compare_answers(found, history, spans):
@@ -293,6 +310,29 @@ class Evidence(Reported):
         for it in ties:
             if not self.shows(it["from"] - 1, it["to"] - 1, it["why"]):
                 raise Differs(f"t{it['from']} before t{it['to']} does not follow from {it['why']!r}")
+
+    def compare_orders(self, reported, owners):
+        """Strong and session snapshot isolation, if real time is kept."""
+        names = ["strong-snapshot-isolation", "session-snapshot-isolation"]
+        same("orders", names if self.strict else [], [it for it in names if it in reported])
+        ended = [(one, other) for one, before in enumerate(self.history) for other in range(len(self.history))
+                 if before.status == COMMITTED and self.spans[one][1] < self.spans[other][0]]
+        sessions = [(one, other) for one, other in ended if owners[one] == owners[other]]
+        for name, before in zip(names, (ended, sessions)) if self.strict else ():
+            self.compare_order(name, reported[name], before)
+
+    def compare_order(self, name, found, before):
+        if found["holds"] == "undecided":
+            same(f"{name} may be undecided", True, may_stay_open(self.history))
+        else:
+            same(name, "yes" if is_ordered_isolated(self.history, before) else "no", found["holds"])
+        if "order" in found:
+            order = [it - 1 for it in found["order"]]
+            same(f"a run of {name}", (True, True), (is_snapshot_run(self.history, order, found["starts"]), keeps(before, order, found["starts"])))
+        if "cycle" in found:
+            timed = [(it["from"] - 1, it["to"] - 1) for it in found["cycle"] if it["because"] == "real time"]
+            same("steps of time", set(), set(timed) - set(before))
+            self.compare_ties("snapshot", found["cycle"])
 
     def compare_anomalies(self, listed, is_serial):
         same("anomalies", {} if is_serial else counted(self.history), {it["anomaly"]: it["count"] for it in listed})

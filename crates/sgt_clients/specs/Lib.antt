@@ -12,6 +12,7 @@ pub mod LevelJson
 pub mod LevelText
 pub mod Levels
 pub mod Objects
+pub mod OrderText
 pub mod Pieces
 pub mod Reading
 pub mod ReportText

@@ -10,6 +10,7 @@ use crate::counts::count;
 use crate::finding::{Finding, Step, Why, is_serial};
 use crate::level_findings::LevelFindings;
 use crate::level_json::append_levels;
+use crate::order_text::append_orders_members;
 use crate::piece::{Piece, append_pieces, entry_of};
 use crate::report_text::append_why;
 use crate::witness_text::append_fault;
@@ -32,6 +33,7 @@ pub fn append_json(
 {
     append_head(text, clients, &found.finding, strict)?;
     append_levels(text, clients, found, strict)?;
+    append_orders_members(text, clients, &found.orders)?;
     append_anomalies_member(text, clients, found.anomalies.as_slice())?;
     text.extend_from_slice(b"}\n")?;
     Ok(())
@@ -190,7 +192,11 @@ fn append_each_step(text: &mut Vec<u8>, clients: &Clients, steps: &[Step]) -> Re
 }
 
 /// Appends a step.
-fn append_step(text: &mut Vec<u8>, clients: &Clients, step: &Step) -> Result<(), NoMemory>
+pub(crate) fn append_step(
+    text: &mut Vec<u8>,
+    clients: &Clients,
+    step: &Step,
+) -> Result<(), NoMemory>
     ensures { OnOk result (text.new.items ≡ text.old.items ++ step_object clients.now step.now) }
 {
     append_ends(text, clients, step.from, step.to, because(&step.why))?;

@@ -14,6 +14,7 @@ use crate::fault::ClientsFault;
 use crate::finding::{Finding, check_clients, is_serial};
 use crate::level::{Answer, Level, is_yes};
 use crate::names::{breaks_committed, breaks_snapshot, committed_name, snapshot_name, writes_name};
+use crate::orders::{KeptOrders, kept_orders};
 use crate::strict::check_strictly;
 use sgt_appends::Transaction;
 use sgt_levels::{Committed, Levels, Snapshot, Unseen, Writes, levels_of, unseen_appends};
@@ -44,6 +45,8 @@ pub struct LevelFindings {
     pub untimed: Option<Finding>,
     /// Of the weaker levels. They hold if there is none.
     pub weaker: Option<Weaker>,
+    /// Of the orders that a snapshot run keeps, if real time is kept.
+    pub orders: Option<KeptOrders>,
     /// The anomalies that are counted, if there is no serial order.
     pub anomalies: Vec<Seen>,
 }
@@ -216,12 +219,28 @@ pub fn check_levels(
     let ordered = has_order(&finding, &untimed);
     let weaker = weaker_of(alloc, clients, ordered, &finding)?;
     let anomalies = anomalies_seen(alloc, clients, &finding, &weaker)?;
+    let orders = orders_of(alloc, clients, strict, &finding, &weaker)?;
     Ok(LevelFindings {
         finding,
         untimed,
         weaker,
+        orders,
         anomalies,
     })
+}
+
+/// Which orders a snapshot run keeps, if real time is kept.
+fn orders_of(
+    alloc: Global,
+    clients: &Clients,
+    strict: bool,
+    finding: &Finding,
+    weaker: &Option<Weaker>,
+) -> Result<Option<KeptOrders>, NoMemory> {
+    if !strict {
+        return Ok(None);
+    }
+    Ok(Some(kept_orders(alloc, clients, finding, weaker)?))
 }
 
 /// The anomalies that are counted, unless there is a serial order. If the finding is a cycle, no read has a fault.

@@ -316,7 +316,7 @@ fn append_each_tie(text: &mut Vec<u8>, clients: &Clients, ties: &[Tie]) -> Resul
 }
 
 /// Appends a tie.
-fn append_tie(text: &mut Vec<u8>, clients: &Clients, tie: &Tie) -> Result<(), NoMemory>
+pub(crate) fn append_tie(text: &mut Vec<u8>, clients: &Clients, tie: &Tie) -> Result<(), NoMemory>
     ensures { OnOk result (text.new.items ≡ text.old.items ++ tie_object clients.now tie.now) }
 {
     append_ends(text, clients, tie.from, tie.to, ground_word(tie.ground))?;
@@ -380,7 +380,7 @@ fn append_split(
 }
 
 /// Appends the order of commits, and the starts.
-fn append_run(text: &mut Vec<u8>, run: &Snapshots) -> Result<(), NoMemory>
+pub(crate) fn append_run(text: &mut Vec<u8>, run: &Snapshots) -> Result<(), NoMemory>
     ensures { OnOk result (text.new.items ≡ text.old.items ++ (order_member run.now.order.items ++ starts_member run.now.starts.items)) }
 {
     append_order(text, run.order.as_slice())?;

@@ -11,6 +11,7 @@ use crate::counts::count;
 use crate::finding::{Finding, Step, Why};
 use crate::level_findings::LevelFindings;
 use crate::level_text::append_levels;
+use crate::order_text::append_orders;
 use crate::piece::{Piece, append_pieces};
 use crate::witness_text::{append_fault, append_reason};
 use sgt_appends::Transaction;
@@ -32,6 +33,7 @@ pub fn append_report(
 {
     append_verdict(text, clients, &found.finding, strict)?;
     append_levels(text, clients, found, strict)?;
+    append_orders(text, clients, &found.orders)?;
     append_anomalies(text, clients, found.anomalies.as_slice())
 }
 
@@ -189,7 +191,11 @@ pub(crate) fn append_steps(
 }
 
 /// Appends the line of a step.
-fn append_step(text: &mut Vec<u8>, clients: &Clients, step: &Step) -> Result<(), NoMemory>
+pub(crate) fn append_step(
+    text: &mut Vec<u8>,
+    clients: &Clients,
+    step: &Step,
+) -> Result<(), NoMemory>
     ensures { OnOk result (text.new.items ≡ text.old.items ++ step_text clients.now step.now) }
 {
     append_pieces(

@@ -8,7 +8,7 @@ ghost use Rattle.sgt_levels.specs.Commits.{IsCommittedRun, IsReadCommitted};
 ghost use Rattle.sgt_levels.specs.Answers.{AreRight, IsWritesRight, IsCommittedRight, IsSnapshotRight};
 
 use crate::replay::{is_committed_run, is_snapshot_run};
-use crate::search::{Found, Snapshots, search_commits, search_snapshots};
+use crate::search::{Found, Orders, Snapshots, search_commits, search_snapshots, ties_in};
 use crate::survey::{Partial, Survey};
 use crate::tie::{Tie, rules_out_committed, rules_out_partial, rules_out_snapshot};
 use crate::write_search::{WriteSearch, search_writes};
@@ -273,14 +273,19 @@ fn snapshot_of(
     if survey.partial.is_some() {
         return Ok(Snapshot::Open);
     }
-    match search_snapshots(alloc, history, survey)? {
+    let orders = Orders {
+        before: &[],
+        barriers: 0,
+    };
+    match search_snapshots(alloc, history, survey, orders)? {
         Found::Run(run) => {
             if is_snapshot_run(alloc, history, run.order.as_slice(), run.starts.as_slice())? {
                 return Ok(Snapshot::Run(run));
             }
             Ok(Snapshot::Open)
         }
-        Found::Ties(ties) => {
+        Found::Cycle(passages) => {
+            let ties = ties_in(alloc, passages.as_slice())?;
             if rules_out_snapshot(history, ties.as_slice()) {
                 return Ok(Snapshot::Cycle(ties));
             }
