@@ -274,7 +274,7 @@ impl ClientsReader {
         if self.active.contains_key(&process) {
             return Err(ReadError::Invoked(process));
         }
-        self.owners.push(process)?;
+        self.note_owner(process)?;
         self.add(Status::Unknown, entry.operations)?;
         self.note_active(
             process,
@@ -283,6 +283,16 @@ impl ClientsReader {
                 accesses: entry.accesses,
             },
         )?;
+        Ok(())
+    }
+
+    /// Notes the process of the next transaction.
+    fn note_owner(&mut self, process: u32) -> Result<(), NoMemory>
+        ensures same { IsSame self.old self.new }
+        ensures active { self.new.active ≡ self.old.active }
+        ensures stored { OnOk result ((p : Past) → Stores self.old p → Stores self.new p) }
+    {
+        self.owners.push(process)?;
         Ok(())
     }
 
@@ -338,7 +348,7 @@ impl ClientsReader {
         ensures stored { OnOk result ((p : Past) → Stores self.old p → Stores self.new (ended status (length p.transactions) (begun status entry.operations p))) }
     {
         let number = self.transactions.len();
-        self.owners.push(entry.process)?;
+        self.note_owner(entry.process)?;
         self.add(status, entry.operations)?;
         self.note_end(number, status)
     }
