@@ -450,10 +450,12 @@ def names_the_strongest_level(program):
         place = lines.index(f"strongest level: {strongest}")
         same(f"after {strongest}", broken, (lines[place + 1:] or [None])[0])
     stale = in_turn([one("ok", (A, 1, 1)), one("ok", (R, 1, (1,))), one("ok", (R, 1, ()))])
-    same("stale read", "strongest level: serializable", check(program, stale, "--strict")[1].splitlines()[-1])
+    lines = check(program, stale, "--strict")[1].splitlines()
+    place = lines.index("strongest level: serializable")
+    same("stale read", ("strong snapshot isolation no:", "session snapshot isolation yes"), (lines[place + 1], lines[-1]))
     fresh = in_turn([one("ok", (A, 1, 1)), one("ok", (R, 1, (1,)))])
-    same("strict", (0, "strongest level: strict serializable"),
-         (lambda ran: (ran[0], ran[1].splitlines()[-1]))(check(program, fresh, "--level", "strict-serializable")))
+    same("strict", (0, ["strongest level: strict serializable", "strong snapshot isolation yes", "session snapshot isolation yes"]),
+         (lambda ran: (ran[0], ran[1].splitlines()[-3:]))(check(program, fresh, "--level", "strict-serializable")))
     ran = subprocess.run([program, "check", "--level", "serializable"], input=b"", capture_output=True, timeout=SECONDS, check=False)
     same("without the model", (2, b"", True), (ran.returncode, ran.stdout, b"--model list-append" in ran.stderr))
 
@@ -793,7 +795,7 @@ FAULTS = {
     GOOD + "\n" + '{"process":0}': "line 3, entry 2: the type is not invoke, ok, fail or info\ntype is missing",
     '{"type":"ok"}': "line 1, entry 1: the process is not a whole number or a text\nprocess is missing",
     '{"type":"ok","process":-1.5}': "line 1, entry 1: the process is not a whole number or a text",
-    EDN.replace(":process 0", ":process -1.5"): "line 1, entry 1: the process is not a whole number or a text",
+    EDN.replace(":process 0", ":process [1]"): "line 1, entry 1: the process is not a whole number or a text",
     GOOD.replace("1,1", "-1.5,1"): f"line 1, entry 1: {KEY} 1 {NO_KEY}",
     '{"type":"done","process":1}': "line 1, entry 1: the type is not invoke, ok, fail or info",
     '{"type":"ok","process":null,"f":"txn"}': "line 1, entry 1: the process is not a whole number or a text",
