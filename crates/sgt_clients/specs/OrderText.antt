@@ -8,14 +8,14 @@ use Rattle.sgt_clients.specs.declared.finding.Why.TheVariants.{RealTime}
 use Rattle.sgt_clients.specs.declared.orders.Kept.{Kept}
 use Rattle.sgt_clients.specs.declared.orders.Kept.TheVariants as kept
 use Rattle.sgt_clients.specs.declared.orders.KeptOrders.{KeptOrders}
-use Rattle.sgt_clients.specs.JsonText.{items_text, order_member, step_object}
-use Rattle.sgt_clients.specs.LevelJson.{starts_member, tie_object}
-use Rattle.sgt_clients.specs.ReportText.{step_text}
-use Rattle.sgt_clients.specs.TieText.{tie_text}
+use Rattle.sgt_clients.specs.JsonText.{items_text, ends_text, order_member, step_object}
+use Rattle.sgt_clients.specs.LevelJson.{starts_member, ground_word}
+use Rattle.sgt_clients.specs.ReportText.{placed, step_text}
+use Rattle.sgt_clients.specs.TieText.{ground_text}
 
 -- the line of a tie, or without a ground of a step of real time
 abbrev pub ground_line : Clients → ℕ → ℕ → Option Ground → List ℕ
-ground_line c t u (Some g) = tie_text c (record { from = t; to = u; ground = g })
+ground_line c t u (Some g) = codes "  " ++ placed c t ++ codes " before " ++ placed c u ++ codes ": " ++ ground_text c t u g ++ codes "\n"
 ground_line c t u None = step_text c (record { from = t; to = u; why = RealTime })
 
 -- the line of a passage
@@ -37,7 +37,7 @@ orders_text c (Some o) = kept_text (codes "strong snapshot isolation") c o.stron
 
 -- the object of a tie, or without a ground of a step of real time
 abbrev pub ground_object : Clients → ℕ → ℕ → Option Ground → List ℕ
-ground_object c t u (Some g) = tie_object c (record { from = t; to = u; ground = g })
+ground_object c t u (Some g) = ends_text c t u (ground_word g) ++ ground_text c t u g ++ codes "\"}"
 ground_object c t u None = step_object c (record { from = t; to = u; why = RealTime })
 
 -- the object of a passage

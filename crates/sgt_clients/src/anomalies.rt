@@ -35,7 +35,8 @@ pub struct Seen {
     pub first: Example,
 }
 
-/// The anomalies that are counted, if there is no serial order. `clean` says that no read has a fault.
+/// The anomalies that are counted, if there is no serial order. `clean` says that no read has a fault. A run of committed
+/// reads then leaves none to reads.
 ///
 /// - `unwritten`, `G1a`, `G1b`, `internal`, `duplicate-elements`, `incompatible-order`: reads that show it
 /// - `lost-update`: transactions that append to a key after they read a version of it that an earlier one of the history
@@ -48,7 +49,7 @@ pub(crate) fn anomalies_of(
     committed: &Committed,
 ) -> Result<Vec<Seen>, NoMemory> {
     let mut all = Vec::new(alloc);
-    if !clean || matches!(committed, Committed::Partial(_)) {
+    if !clean || !matches!(committed, Committed::Run(_)) {
         count_reads(alloc, history, &mut all)?;
     }
     if let Some(lost) = lost_updates(alloc, history, keys)? {

@@ -61,10 +61,10 @@ pub(crate) fn kept_orders(
             session: Kept::NotSnapshot,
         });
     }
-    let strong = kept(alloc, clients, Kind::RealTime)?;
+    let strong = answer_for(alloc, clients, Kind::RealTime)?;
     let session = match &strong {
         Kept::Run(_) => Kept::Implied,
-        _ => kept(alloc, clients, Kind::Process)?,
+        _ => answer_for(alloc, clients, Kind::Process)?,
     };
     Ok(KeptOrders { strong, session })
 }
@@ -81,7 +81,7 @@ fn has_no_snapshots(weaker: &Option<Weaker>) -> bool {
 }
 
 /// Whether there is a snapshot run that keeps the order.
-fn kept(alloc: Global, clients: &Clients, kind: Kind) -> Result<Kept, NoMemory> {
+fn answer_for(alloc: Global, clients: &Clients, kind: Kind) -> Result<Kept, NoMemory> {
     let pairs = pairs_of(alloc, clients, kind)?;
     let orders = Orders {
         before: pairs.before.as_slice(),
