@@ -45,10 +45,11 @@ def twice(history, appends, reads, reader, place, key, seen):
 
 
 def incompatible(history, appends, reads, reader, place, key, seen):
-    """The list is no prefix of the first of the longest reads of the key, or has values of one transaction in another order."""
+    """The list is no prefix of the first of the longest reads of the key, or, with no value twice, has values of one transaction in
+    another order."""
     longest = max((what for _, _, of, what in reads if of == key), key=len)
     at = {value: (by, place) for by, place, of, value in appends if of == key}
-    swapped = any(at[one][0] == at[other][0] and at[one][1] > at[other][1] for number, one in enumerate(seen) if one in at
+    swapped = len(set(seen)) == len(seen) and any(at[one][0] == at[other][0] and at[one][1] > at[other][1] for number, one in enumerate(seen) if one in at
                   for other in seen[number + 1:] if other in at)
     return seen != longest[:len(seen)] or swapped
 
@@ -59,20 +60,26 @@ READS = {"unwritten": unwritten, "G1a": aborted, "G1b": intermediate, "internal"
 
 def lost_updates(history):
     """The transactions that append to a key after they read a version of it, by length and last value, that an earlier one read before
-    it appended to it."""
-    updated, lost = set(), 0
+    it appended to it, if neither read has what one of the two appends."""
+    updated, lost = {}, 0
     for one in history:
-        if one.status == COMMITTED:
-            for version in updates(one.operations):
-                lost += version in updated
-                updated.add(version)
+        for version, seen, value in updates(one.operations) if one.status == COMMITTED else ():
+            if value in seen:
+                continue
+            if version in updated:
+                before, other = updated[version]
+                lost += value not in before and other not in seen
+            else:
+                updated[version] = seen, value
     return lost
 
 
 def updates(operations):
-    """The versions that a transaction reads before it uses their keys otherwise, and to which it then appends."""
+    """The versions that a transaction reads before it uses their keys otherwise, and to which it then appends: each with what was seen,
+    and the first value that it appends."""
     for key in {it[1] for it in operations}:
         mine = [it for it in operations if it[1] == key]
-        if mine[0][0] == "r" and any(it[0] == "append" for it in mine):
+        appended = [it[2] for it in mine if it[0] == "append"]
+        if mine[0][0] == "r" and appended:
             seen = tuple(mine[0][2])
-            yield key, len(seen), seen[-1:] or (0,)
+            yield (key, len(seen), seen[-1:] or (0,)), seen, appended[0]

@@ -40,7 +40,7 @@ pub struct Seen {
 ///
 /// - `unwritten`, `G1a`, `G1b`, `internal`, `duplicate-elements`, `incompatible-order`: reads that show it
 /// - `lost-update`: transactions that append to a key after they read a version of it that an earlier one of the history
-///   read before it appended to it
+///   read before it appended to it, if neither read has what one of the two appends
 pub(crate) fn anomalies_of(
     alloc: Global,
     history: &[Transaction],

@@ -176,11 +176,12 @@ fn count_read(
     note_fault(&mut tallies.unwritten, read, unwritten(known, read));
     note_fault(&mut tallies.aborted, read, aborted(history, known, read));
     note_fault(&mut tallies.internal, read, internal(known, own, read));
-    note_fault(&mut tallies.twice, read, twice(alloc, read)?);
+    let repeated = twice(alloc, read)?;
+    note_fault(&mut tallies.twice, read, repeated);
     note_fault(
         &mut tallies.incompatible,
         read,
-        incompatible(alloc, history, known, read)?,
+        incompatible(alloc, history, known, read, repeated.is_none())?,
     );
     if let Some(partial) = intermediate(history, known, read) {
         note(&mut tallies.partial, Example::Partial(partial));
@@ -266,12 +267,14 @@ fn twice(alloc: Global, read: Read<'_>) -> Result<Option<Fault>, NoMemory> {
     Ok(None)
 }
 
-/// What contradicts the order of the longest read of the key, or of the appends of one transaction.
+/// What contradicts the order of the longest read of the key, or, if no value stands in the list twice, of the appends of one
+/// transaction.
 fn incompatible(
     alloc: Global,
     history: &[Transaction],
     known: &Known,
     read: Read<'_>,
+    is_order: bool,
 ) -> Result<Option<Fault>, NoMemory> {
     if let Some((other, position)) = known.longest.get(&read.key).copied() {
         if let Some(whole) = read_of(history, other, position) {
@@ -283,7 +286,11 @@ fn incompatible(
             }
         }
     }
-    swapped(alloc, known, read)
+    if is_order {
+        swapped(alloc, known, read)
+    } else {
+        Ok(None)
+    }
 }
 
 /// Two values of one transaction in the opposite order.

@@ -1,7 +1,7 @@
 //! Lost updates: two transactions read one version of a key, and then append to it.
 
 use crate::anomalies::{Example, Seen};
-use sgt_appends::{Operation, Status, Transaction};
+use sgt_appends::{Operation, Status, Transaction, has, read_of};
 use sgt_levels::{Ground, Tie};
 use sgt_model::NoMemory;
 use std::alloc::Global;
@@ -52,7 +52,7 @@ pub(crate) fn lost_updates(
     };
     for (number, transaction) in history.iter().enumerate() {
         if transaction.status == Status::Committed {
-            updates.add(transaction.operations.as_slice(), number)?;
+            updates.add(history, transaction.operations.as_slice(), number)?;
         }
     }
     match updates.lost {
@@ -65,6 +65,20 @@ pub(crate) fn lost_updates(
             },
         })),
         None => Ok(None),
+    }
+}
+
+/// Whether the read of the one has what the other appends.
+fn sees(history: &[Transaction], one: Update, other: Update) -> bool {
+    let Some(read) = read_of(history, one.transaction, one.read) else {
+        return false;
+    };
+    let Some(transaction) = history.get(other.transaction) else {
+        return false;
+    };
+    match transaction.operations.get(other.append) {
+        Some(Operation::Append { value, .. }) => has(read.seen, *value),
+        _ => false,
     }
 }
 
@@ -93,7 +107,12 @@ fn tie_of(one: Update, other: Update) -> Tie {
 
 impl Updates {
     /// Adds the updates of the transaction.
-    fn add(&mut self, operations: &[Operation], number: usize) -> Result<(), NoMemory> {
+    fn add(
+        &mut self,
+        history: &[Transaction],
+        operations: &[Operation],
+        number: usize,
+    ) -> Result<(), NoMemory> {
         for (position, operation) in operations.iter().enumerate() {
             match operation {
                 Operation::Read { key, .. } => self.read(*key, number, position),
@@ -104,7 +123,7 @@ impl Updates {
                             read,
                             append: position,
                         };
-                        self.update(operations, update)?;
+                        self.update(history, update)?;
                     }
                 }
             }
@@ -148,20 +167,26 @@ impl Updates {
         }
     }
 
-    /// Counts the update, if an earlier transaction has updated the version.
-    fn update(&mut self, operations: &[Operation], update: Update) -> Result<(), NoMemory> {
-        let Some(Operation::Read { key, values }) = operations.get(update.read) else {
+    /// Counts the update, if an earlier transaction has updated the version, and neither read has what one of the two appends.
+    fn update(&mut self, history: &[Transaction], update: Update) -> Result<(), NoMemory> {
+        let Some(read) = read_of(history, update.transaction, update.read) else {
             return Ok(());
         };
-        let last = match values.last() {
+        if sees(history, update, update) {
+            return Ok(());
+        }
+        let last = match read.seen.last() {
             Some(value) => *value,
             None => 0,
         };
-        let version = (*key, values.len(), last);
+        let version = (read.key, read.seen.len(), last);
         let Some(before) = self.updated.get(&version).copied() else {
             self.updated.insert(version, update)?;
             return Ok(());
         };
+        if sees(history, before, update) || sees(history, update, before) {
+            return Ok(());
+        }
         self.count = self.count.saturating_add(1);
         if self.lost.is_none() {
             self.lost = Some((before, update));
