@@ -139,8 +139,7 @@ impl Live {
         self.running[index].store(procedures);
     }
 
-    /// Removes the transaction, which has ended. Its place is kept after the others, which are moved in one block. It
-    /// allocates nothing.
+    /// Removes the transaction, which has ended. It allocates nothing.
     pub fn remove(&mut self, t: Tid)
         requires rising { Rising (numbers self.old) }
         ensures { self.new ≡ others_live t self.old }
@@ -148,6 +147,15 @@ impl Live {
         let Some(index) = self.index(t) else {
             return;
         };
+        self.remove_at(t, index);
+    }
+
+    /// The same, if it was live and had this index. Its place is kept after the others, which are moved in one block.
+    pub fn remove_at(&mut self, _t: Tid, index: usize)
+        requires rising { Rising (numbers self.old) }
+        requires at { position (has_number _t) self.old ≡ Some index }
+        ensures { self.new ≡ others_live _t self.old }
+    {
         if index + 1 < self.count {
             let ended = self.running.remove(index);
             self.running.push_reserved(ended);
