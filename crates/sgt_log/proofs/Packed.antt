@@ -6,9 +6,10 @@ use Rattle.sgt_log.specs.declared.packed_entry.PackedEntry.{PackedEntry}
 use Rattle.sgt_log.specs.declared.packed_entry.PackedEntry.TheVariants as packed
 use Rattle.sgt_log.specs.declared.stored_entry.StoredEntry.{StoredEntry}
 use Rattle.sgt_log.specs.Spans.{HasMore}
-use Rattle.sgt_log.specs.EntryParts.{is_access, IsQuiet}
+use Rattle.sgt_log.specs.EntryParts.{IsQuiet}
 use Rattle.sgt_log.specs.StoredEntries.{entry_of, HasNoArgs, HasNoLists}
-use Rattle.sgt_log.specs.PackedEntries.{no_entry, unpacked, IsWhole, IsStep, IsAccess, IsAmong, AreAmong}
+use Rattle.sgt_log.specs.PackedEntries.{no_entry, unpacked, IsWhole, IsStep, IsAmong, AreAmong}
+use Rattle.sgt_log.specs.StepKinds.{kind_of, IsOfKind}
 
 -- items at an index
 
@@ -129,21 +130,14 @@ step_quiet ns vs (packed.Started procedure count t from) h = absurd h
 step_quiet ns vs (packed.Committed count t from) h = absurd h
 step_quiet ns vs (packed.Other at) h = absurd h
 
-pub access_reports : (ns : List ℕ) (vs : List ℤ) (p : PackedEntry) → IsAccess p → is_access (entry_of ns vs (unpacked [] p)).reply ≡ true
-access_reports ns vs (packed.Looked table t id v) h = refl
-access_reports ns vs (packed.Wrote table t id v) h = refl
-access_reports ns vs (packed.Ended t) h = absurd h
-access_reports ns vs (packed.Started procedure count t from) h = absurd h
-access_reports ns vs (packed.Committed count t from) h = absurd h
-access_reports ns vs (packed.Other at) h = absurd h
-
-pub access_step : (p : PackedEntry) → IsAccess p → IsStep p
-access_step (packed.Looked table t id v) h = tt
-access_step (packed.Wrote table t id v) h = tt
-access_step (packed.Ended t) h = absurd h
-access_step (packed.Started procedure count t from) h = absurd h
-access_step (packed.Committed count t from) h = absurd h
-access_step (packed.Other at) h = absurd h
+-- and what it is to a caller of steps
+pub step_kind : (ns : List ℕ) (vs : List ℤ) (p : PackedEntry) → IsStep p → IsOfKind (kind_of p) (entry_of ns vs (unpacked [] p))
+step_kind ns vs (packed.Looked table t id v) h = ((refl, refl, refl, refl), refl)
+step_kind ns vs (packed.Wrote table t id v) h = ((refl, refl, refl, refl), refl)
+step_kind ns vs (packed.Ended t) h = ((refl, refl, refl, refl), refl)
+step_kind ns vs (packed.Started procedure count t from) h = absurd h
+step_kind ns vs (packed.Committed count t from) h = absurd h
+step_kind ns vs (packed.Other at) h = absurd h
 
 pub whole_same : (os ms : List StoredEntry) (p : PackedEntry) → IsWhole p → unpacked os p ≡ unpacked ms p
 whole_same os ms (packed.Looked table t id v) h = refl
@@ -169,3 +163,9 @@ pub step_item : (os : List StoredEntry) (ps : List PackedEntry) (items : List St
     → unpacked [] p ≡ slice_index_or items place (unpacked [] p)
 step_item os ps items place p seen h is step =
     subst (λ e. e ≡ slice_index_or items place e) (step_same os [] p step) (item_at os ps items place p seen h is)
+
+pub whole_item : (os : List StoredEntry) (ps : List PackedEntry) (items : List StoredEntry) (place : ℕ) (p : PackedEntry)
+    → map (unpacked os) ps ≡ items → place < length items → p ≡ slice_index_or ps place p → IsWhole p
+    → unpacked [] p ≡ slice_index_or items place (unpacked [] p)
+whole_item os ps items place p seen h is whole =
+    subst (λ e. e ≡ slice_index_or items place e) (whole_same os [] p whole) (item_at os ps items place p seen h is)

@@ -3,3 +3,5 @@ pub mod EntryParts
 pub mod Spans
 pub mod StoredEntries
 pub mod PackedEntries
+-- what an entry is to a caller of steps
+pub mod StepKinds

@@ -35,12 +35,6 @@ IsStep (packed.Wrote table t id v) = Unit {0}
 IsStep (packed.Ended t) = Unit {0}
 IsStep _ = ⊥
 
--- a step that read or wrote a value
-abbrev pub IsAccess : PackedEntry → Type 0
-IsAccess (packed.Looked table t id v) = Unit {0}
-IsAccess (packed.Wrote table t id v) = Unit {0}
-IsAccess _ = ⊥
-
 -- the entry of a step, which has no lists
 abbrev pub step_entry : PackedEntry → Entry
 step_entry p = record {

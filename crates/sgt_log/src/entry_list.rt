@@ -3,7 +3,7 @@ ghost use Rattle.std.specs.Prelude.{◌≡◌, ◌+◌, ◌≤◌, ◌<◌, [], 
 ghost use Rattle.sgt_log.specs.declared.packed_entry.PackedEntry.{PackedEntry};
 ghost use Rattle.sgt_log.specs.declared.stored_entry.StoredEntry.{StoredEntry};
 ghost use Rattle.sgt_log.specs.StoredEntries.{HasNoArgs, HasNoLists};
-ghost use Rattle.sgt_log.specs.PackedEntries.{unpacked, IsWhole, IsStep, IsAccess};
+ghost use Rattle.sgt_log.specs.PackedEntries.{unpacked, IsWhole, IsStep};
 
 use crate::allocation::reserve_items;
 use crate::packed_entry::PackedEntry;
@@ -122,6 +122,15 @@ impl EntryList {
         if packed.is_step() { Some(packed) } else { None }
     }
 
+    /// The entry at this index, packed. One of a frequent kind is whole, and the same in every list.
+    #[inline(always)]
+    pub fn packed_at(&self, place: usize) -> PackedEntry
+        requires { place < length self.now.items }
+        ensures { IsWhole result → unpacked [] result ≡ slice_index_or self.now.items place (unpacked [] result) }
+    {
+        self.packed[place]
+    }
+
     /// Whether the entry at this index is such a step.
     #[inline(always)]
     pub fn is_step_at(&self, place: usize) -> bool
@@ -129,15 +138,6 @@ impl EntryList {
         ensures { IsTrue result → (p : PackedEntry) × IsStep p × (unpacked [] p ≡ slice_index_or self.now.items place (unpacked [] p)) }
     {
         self.packed[place].is_step()
-    }
-
-    /// Whether the entry at this index is a step that read or wrote a value.
-    #[inline(always)]
-    pub fn is_access_at(&self, place: usize) -> bool
-        requires { place < length self.now.items }
-        ensures { IsTrue result → (p : PackedEntry) × IsAccess p × (unpacked [] p ≡ slice_index_or self.now.items place (unpacked [] p)) }
-    {
-        self.packed[place].is_access()
     }
 
     /// Whether the entry at this index started a transaction.

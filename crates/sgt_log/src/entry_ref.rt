@@ -4,7 +4,7 @@ ghost use Rattle.sgt_model.specs.Fates.{is_start};
 ghost use Rattle.sgt_model.specs.Questions.{named_by, started_in, over_in};
 ghost use Rattle.sgt_model.specs.Questions.{refuses_start, is_wait, is_commit, is_raised, is_quit, is_ending, reports_end};
 ghost use Rattle.sgt_model.specs.ShortReplies.{short_reply, cycle_of_reply, fell_in, answers_in};
-ghost use Rattle.sgt_log.specs.EntryParts.{args_in, bare_event, full_entry, committed_in, is_by_cycle, reports_fall, is_access, is_at_end, AreFew, HasArgs};
+ghost use Rattle.sgt_log.specs.EntryParts.{args_in, bare_event, full_entry, committed_in, is_by_cycle, reports_fall, is_access, AreFew, HasArgs};
 
 use crate::bare::BareEvent;
 use crate::entry_lists::EntryLists;
@@ -264,13 +264,6 @@ impl<'a> EntryRef<'a> {
                 | StoredReply::Wrote { .. }
                 | StoredReply::Removed { .. }
         )
-    }
-
-    /// Whether its reply says that the procedure is at its end.
-    pub fn is_at_end(&self) -> bool
-        ensures { result ≡ is_at_end self.now.reply }
-    {
-        matches!(self.stored.reply, StoredReply::Ended)
     }
 
     /// Whether its reply says that a commit must wait.

@@ -9,7 +9,8 @@ ghost use Rattle.sgt_model.specs.declared.reply.Reply.TheVariants.{Started, Comm
 ghost use Rattle.sgt_model.specs.ShortReplies.{full_reply, reply_with};
 ghost use Rattle.sgt_log.specs.StoredEntries.{short_of, HasNoLists, HasKey};
 ghost use Rattle.sgt_log.specs.PackedEntries.{unpacked, step_entry, IsStep};
-ghost use Rattle.sgt_log.specs.EntryParts.{full_entry, is_access, AreFew, HasArgs, IsQuiet};
+ghost use Rattle.sgt_log.specs.EntryParts.{full_entry, AreFew, HasArgs, IsQuiet};
+ghost use Rattle.sgt_log.specs.StepKinds.{IsOfKind};
 
 use crate::access_kind::request_args;
 use crate::allocation::{FIRST, reserve_items};
@@ -19,6 +20,7 @@ use crate::entry_lists::EntryLists;
 use crate::entry_ref::EntryRef;
 use crate::packed_entry::PackedEntry;
 use crate::span::Span;
+use crate::step_kind::StepKind;
 use crate::stored_entry::StoredEntry;
 use crate::stored_event::StoredEvent;
 use crate::stored_reply::StoredReply;
@@ -240,7 +242,11 @@ impl History {
             (Event::Access(t, request), ShortReply::Wrote { key, value }) => {
                 self.push_access(*t, request, StoredReply::wrote(key, value))
             }
-            _ => self.push_any(event, reply, lists),
+            // Only copies are passed, so the originals need not be written to memory.
+            _ => {
+                let short = *reply;
+                self.push_any(&event.copied(), &short, lists)
+            }
         }
     }
 
@@ -344,11 +350,13 @@ impl History {
         self.spare -= 1;
     }
 
-    /// Adds the entry at this index of another history, for which there is capacity here. It allocates nothing.
+    /// Adds the entry at this index of another history, for which there is capacity here. It allocates nothing. The result
+    /// says what the entry is to a caller that makes one step after another.
     #[inline(always)]
-    pub fn push_copy(&mut self, other: &History, place: usize)
+    pub fn push_copy(&mut self, other: &History, place: usize) -> StepKind
         requires spare { 0 < self.old.spare }
         requires there { place < length other.now.entries }
+        ensures kind { (e : Entry) → slice_get other.now.entries place ≡ Some e → IsOfKind result e }
         ensures entries { (e : Entry) → slice_get other.now.entries place ≡ Some e
             → self.new.entries ≡ self.old.entries ++ e ∷ [] }
         ensures spare { self.new.spare + 1 ≡ self.old.spare }
@@ -356,9 +364,56 @@ impl History {
     {
         // Most entries are steps, and are copied as they are.
         match other.entries.step_at(place) {
-            Some(step) => self.push_step(step),
-            None => self.push_entry(&other.entry(place)),
+            Some(step) => {
+                self.push_step(step);
+                step.kind()
+            }
+            None => {
+                self.push_other_copy(other, place);
+                StepKind::Other
+            }
         }
+    }
+
+    // Adds such a copy, a start or a commit at first. Their lists are copied, and nothing else of them is unpacked.
+    #[inline(never)]
+    fn push_other_copy(&mut self, other: &History, place: usize)
+        requires spare { 0 < self.old.spare }
+        requires there { place < length other.now.entries }
+        ensures entries { (e : Entry) → slice_get other.now.entries place ≡ Some e
+            → self.new.entries ≡ self.old.entries ++ e ∷ [] }
+        ensures spare { self.new.spare + 1 ≡ self.old.spare }
+        ensures capacities { self.new.capacities ≡ self.old.capacities }
+    {
+        match other.entries.packed_at(place) {
+            PackedEntry::Started {
+                procedure,
+                count,
+                t,
+                from,
+            } => {
+                let args = Span::new(from, count).items(other.values.as_slice());
+                self.push_start(procedure, args, t)
+            }
+            PackedEntry::Committed { count, t, from } => {
+                let answers = Span::new(from, count).items(other.values.as_slice());
+                self.push_commit(t, answers)
+            }
+            _ => self.push_rare_copy(other, place),
+        }
+    }
+
+    // Adds such a copy, of any kind.
+    #[inline(never)]
+    fn push_rare_copy(&mut self, other: &History, place: usize)
+        requires spare { 0 < self.old.spare }
+        requires there { place < length other.now.entries }
+        ensures entries { (e : Entry) → slice_get other.now.entries place ≡ Some e
+            → self.new.entries ≡ self.old.entries ++ e ∷ [] }
+        ensures spare { self.new.spare + 1 ≡ self.old.spare }
+        ensures capacities { self.new.capacities ≡ self.old.capacities }
+    {
+        self.push_entry(&other.entry(place));
     }
 
     // Adds a step that read, wrote or came to the procedure's end.
@@ -447,15 +502,6 @@ impl History {
         self.entries.is_step_at(place)
     }
 
-    /// Whether the entry at this index is a step that read or wrote a value.
-    #[inline(always)]
-    pub fn is_access_step(&self, place: usize) -> bool
-        requires { place < length self.now.entries }
-        ensures { IsTrue result → (e : Entry) → slice_get self.now.entries place ≡ Some e → is_access e.reply ≡ true }
-    {
-        self.entries.is_access_at(place)
-    }
-
     /// The entry at this index, if any, read in place.
     pub fn get_entry(&self, place: usize) -> Option<EntryRef<'_>>
         ensures { result ≡ slice_get self.now.entries place }
@@ -479,7 +525,7 @@ impl History {
     }
 
     /// Whether the entry at this index is the same as that of another history at another index.
-    #[inline]
+    #[inline(always)]
     pub fn is_same_at(&self, place: usize, other: &History, index: usize) -> bool
         requires here { place < length self.now.entries }
         requires there { index < length other.now.entries }
@@ -500,7 +546,7 @@ impl History {
     }
 
     // Whether both entries are the same, a start or a commit at first.
-    #[inline(never)]
+    #[inline(always)]
     fn is_same_entry(&self, place: usize, other: &History, index: usize) -> bool
         requires here { place < length self.now.entries }
         requires there { index < length other.now.entries }
@@ -536,6 +582,7 @@ impl History {
     }
 
     // Whether both entries are the same, of any kind.
+    #[cold]
     #[inline(never)]
     fn is_same_of_any_kind(&self, place: usize, other: &History, index: usize) -> bool
         requires here { place < length self.now.entries }

@@ -1,7 +1,9 @@
 //! An entry in the fewest bytes.
 ghost use Rattle.std.specs.Prelude.{◌≡◌, IsTrue, length};
-ghost use Rattle.sgt_log.specs.PackedEntries.{unpacked, IsStep, IsAccess, IsAmong};
+ghost use Rattle.sgt_log.specs.PackedEntries.{unpacked, IsStep, IsAmong};
+ghost use Rattle.sgt_log.specs.StepKinds.{kind_of};
 
+use crate::step_kind::StepKind;
 use crate::stored_entry::StoredEntry;
 use crate::stored_event::StoredEvent;
 use crate::stored_reply::StoredReply;
@@ -120,12 +122,18 @@ impl PackedEntry {
         )
     }
 
-    /// Whether it is a step that read or wrote a value.
+    /// What it is to a caller that makes one step after another.
     #[inline(always)]
-    pub fn is_access(&self) -> bool
-        ensures { IsTrue result → IsAccess self.now }
+    pub fn kind(&self) -> StepKind
+        ensures { result ≡ kind_of self.now }
     {
-        matches!(self, PackedEntry::Looked { .. } | PackedEntry::Wrote { .. })
+        match self {
+            PackedEntry::Looked { .. } | PackedEntry::Wrote { .. } => StepKind::Access,
+            PackedEntry::Ended(_) => StepKind::End,
+            PackedEntry::Started { .. } | PackedEntry::Committed { .. } | PackedEntry::Other(_) => {
+                StepKind::Other
+            }
+        }
     }
 
     /// Whether both are the same step that read, wrote or came to the procedure's end.

@@ -46,6 +46,7 @@ impl LockPolicy {
     ///
     /// Drop the turn after the lock, so that the next start is not woken while the lock is held. The capacity for the
     /// call's receipt is reserved before the lock is taken.
+    #[inline(always)]
     pub fn lock<'l, W: Wait, T>(
         &'l self,
         rt: &W,
@@ -53,10 +54,22 @@ impl LockPolicy {
         event: &Event,
         _spare: ReceiptCapacity,
     ) -> (Turn<'l>, MutexGuard<'l, T>) {
-        if let Some(guard) = lock.try_lock() {
-            return (None, guard);
+        match lock.try_lock() {
+            Some(guard) => (None, guard),
+            None => self.try_again(rt, lock, matches!(event, Event::Start { .. })),
         }
-        if !matches!(event, Event::Start { .. }) {
+    }
+
+    /// Takes the engine's lock, which was found taken, for a call that starts a transaction or not.
+    #[cold]
+    #[inline(never)]
+    fn try_again<'l, W: Wait, T>(
+        &'l self,
+        rt: &W,
+        lock: &'l Mutex<T>,
+        is_start: bool,
+    ) -> (Turn<'l>, MutexGuard<'l, T>) {
+        if !is_start {
             return (None, look_for(rt, lock, PAUSE));
         }
         let turn = self.turn.lock(rt);

@@ -4,11 +4,11 @@ ghost use Rattle.std.specs.Result.{IsOk};
 ghost use Rattle.std.specs.Option.{option_map};
 ghost use Rattle.sgt_model.specs.declared.entry.Entry.{Entry};
 ghost use Rattle.sgt_session.specs.declared.receipt.Receipt.{Receipt};
-ghost use Rattle.sgt_log.specs.EntryParts.{is_access, IsQuiet};
+ghost use Rattle.sgt_log.specs.StepKinds.{IsOfKind};
 ghost use Rattle.sgt_session.specs.Receipts.{receipt_of, entry_of, IsReceiptAt};
 
 use crate::receipt::Receipt;
-use sgt_log::{EntryRef, History, prefault_ahead};
+use sgt_log::{EntryRef, History, StepKind, prefault_ahead};
 use sgt_model::NoMemory;
 use std::alloc::Global;
 use std::marker::Model;
@@ -165,25 +165,6 @@ impl Receipts {
         self.number(self.len() - 1)
     }
 
-    /// Whether the newest receipt, of a list that is not empty, is that of a step that read, wrote or came to the
-    /// procedure's end.
-    #[inline(always)]
-    pub(crate) fn is_last_step(&self) -> bool
-        requires { 0 < length self.now.receipts }
-        ensures { IsTrue result → (rs : List Receipt) (r : Receipt) → self.now.receipts ≡ rs ++ r ∷ [] → IsQuiet (entry_of r) }
-    {
-        self.calls.is_step(self.len() - 1)
-    }
-
-    /// Whether the newest receipt, of a list that is not empty, is that of a step that read or wrote a value.
-    #[inline(always)]
-    pub(crate) fn is_last_access(&self) -> bool
-        requires { 0 < length self.now.receipts }
-        ensures { IsTrue result → (rs : List Receipt) (r : Receipt) → self.now.receipts ≡ rs ++ r ∷ [] → is_access r.reply ≡ true }
-    {
-        self.calls.is_access_step(self.len() - 1)
-    }
-
     /// The entry of the newest receipt, by reference, of a list that is not empty.
     pub fn last_entry(&self) -> EntryRef<'_>
         requires { 0 < length self.now.receipts }
@@ -246,17 +227,21 @@ impl Receipts {
         }
     }
 
-    /// Appends the receipt of a history's newest entry, within the reserved capacity.
-    pub(crate) fn file_newest(&mut self, history: &History)
+    /// Appends the receipt of a history's newest entry, within the reserved capacity. The result says what the entry is
+    /// to a caller that makes one step after another.
+    #[inline(always)]
+    pub(crate) fn file_newest(&mut self, history: &History) -> StepKind
         requires spare { 0 < self.old.spare }
         requires some { 0 < length history.now.entries }
+        ensures kind { (e : Entry) (past : List Entry) → reverse history.now.entries ≡ e ∷ past → IsOfKind result e }
         ensures filed { (e : Entry) (past : List Entry) → reverse history.now.entries ≡ e ∷ past
             → self.new.receipts ≡ self.old.receipts ++ receipt_of (length past) e ∷ [] }
         ensures spare { self.new.spare + 1 ≡ self.old.spare }
     {
         let place = history.len() - 1;
         self.numbers.push_reserved(place as u64);
-        self.calls.push_copy(history, place);
+        let kind = self.calls.push_copy(history, place);
         self.spare -= 1;
+        kind
     }
 }

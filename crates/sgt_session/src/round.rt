@@ -1,5 +1,5 @@
 //! The state under the lock: the engine and the book of calls.
-ghost use Rattle.std.specs.Prelude.{◌≡◌, ◌+◌, ◌<◌, ◌≤◌, ℕ, true, [], ◌∷◌, ◌++◌, length, vec_len, vec_capacity, OnOk, OnErr, reverse};
+ghost use Rattle.std.specs.Prelude.{◌≡◌, ◌+◌, ◌<◌, ◌≤◌, ℕ, true, [], ◌∷◌, ◌++◌, length, vec_len, vec_capacity, IfOk, OnOk, OnErr, reverse};
 ghost use Rattle.std.specs.List.{sum_by};
 ghost use Rattle.std.specs.Result.{IsOk};
 ghost use Rattle.sgt_model.specs.declared.event.Event.TheVariants.{Quit};
@@ -8,7 +8,9 @@ ghost use Rattle.sgt_model.specs.Legality.{Legal, LegalReply};
 ghost use Rattle.sgt_progress.specs.Progress.{MakesProgress};
 ghost use Rattle.sgt_progress.specs.RealTime.{KeepsRealTime};
 ghost use Rattle.sgt_engine.specs.EngineView.{configuration_of, with_entry};
+ghost use Rattle.sgt_log.specs.StepKinds.{IsOfKind};
 ghost use Rattle.sgt_session.specs.declared.receipt.Receipt.{Receipt};
+ghost use Rattle.sgt_session.specs.Receipts.{entry_of};
 
 use crate::named::Named;
 use crate::receipts::Receipts;
@@ -16,7 +18,7 @@ use crate::session::{Session, lend};
 use sgt_access::Accesses;
 use sgt_engine::Engine;
 use sgt_graph::Graph;
-use sgt_log::History;
+use sgt_log::{History, StepKind};
 use sgt_model::{Event, NoMemory, ShortReply};
 use sgt_records::Records;
 use std::marker::Model;
@@ -56,20 +58,23 @@ impl<N: Named, R: Records, A: Accesses, G: Graph> Round<N, R, A, G> {
         Round { engine, calls }
     }
 
-    /// Makes one event of the engine, and appends its receipt. `NoMemory` if an allocation in the engine failed; then
+    /// Makes one event of the engine, and appends its receipt. The result says what the entry is to a caller that makes one
+    /// step after another. `NoMemory` if an allocation in the engine failed; then
     /// nothing has changed.
+    #[inline(always)]
     pub fn apply(
         &mut self,
         event: &Event,
         mine: &mut Share<N>,
         receipts: &mut Receipts,
-    ) -> Result<(), NoMemory>
+    ) -> Result<StepKind, NoMemory>
         requires part { 0 < mine.old.parts }
         requires spare { 0 < receipts.old.spare }
-        ensures filed { OnOk result ((r : Receipt) × (r.event ≡ event.now) × (r.number ≡ length self.old.past)
+        ensures filed { IfOk result (λ kind. (r : Receipt) × (r.event ≡ event.now) × (r.number ≡ length self.old.past)
             × (self.new ≡ with_entry r.event r.reply self.old)
             × LegalReply (configuration_of self.old) self.old.past r.event r.reply
-            × (receipts.new.receipts ≡ receipts.old.receipts ++ r ∷ [])) }
+            × (receipts.new.receipts ≡ receipts.old.receipts ++ r ∷ [])
+            × IsOfKind kind (entry_of r)) }
         ensures counted { OnOk result (mine.new.amount ≡ mine.old.amount + 1) }
         ensures parts { mine.new.parts ≡ mine.old.parts }
         ensures spare { OnOk result (receipts.new.spare + 1 ≡ receipts.old.spare) }
@@ -77,10 +82,10 @@ impl<N: Named, R: Records, A: Accesses, G: Graph> Round<N, R, A, G> {
         ensures quits { (t : ℕ) → event.now ≡ Quit t → live self.old.past t ≡ true → IsOk result }
     {
         let mut reply = ShortReply::Unknown;
-        self.engine.answer(event, &mut reply)?;
+        self.engine.answer_inline(event, &mut reply)?;
         self.calls.add(mine, 1);
-        receipts.file_newest(self.engine.history());
-        Ok(())
+        let kind = receipts.file_newest(self.engine.history());
+        Ok(kind)
     }
 
     /// The history, oldest entry first.

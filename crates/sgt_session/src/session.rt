@@ -1,8 +1,8 @@
 //! A session: one caller's way to the engine.
 ghost use Rattle.std.specs.Prelude.{◌≡◌, ◌+◌, ◌<◌, ◌≤◌, ◌^◌, ◌&&◌, true, false, cond, IsTrue, List, [], ◌∷◌, ◌++◌, All, length, vec_len, vec_capacity, IfOk, MatchResult};
 ghost use Rattle.std.specs.List.{sum_by};
-ghost use Rattle.sgt_model.specs.declared.event.Event.TheVariants.{Commit};
-ghost use Rattle.sgt_log.specs.EntryParts.{is_access};
+ghost use Rattle.sgt_model.specs.declared.event.Event.TheVariants.{Commit, Start, Step};
+ghost use Rattle.sgt_log.specs.StepKinds.{IsOfKind};
 ghost use Rattle.sgt_session.specs.declared.receipt.Receipt.{Receipt};
 ghost use Rattle.sgt_model.specs.Questions.{is_wait, started_in};
 ghost use Rattle.sgt_session.specs.Own.{with_one, open_by};
@@ -17,8 +17,8 @@ use crate::shared::Shared;
 use crate::waiters::Waiters;
 use sgt_access::Accesses;
 use sgt_graph::Graph;
-use sgt_log::EntryRef;
-use sgt_model::{Event, NoMemory, Tid};
+use sgt_log::{EntryRef, StepKind};
+use sgt_model::{Args, Event, NoMemory, Tid};
 use sgt_records::Records;
 use std::alloc::Global;
 use std::marker::Model;
@@ -107,15 +107,6 @@ impl<N: Named> Session<N> {
         self.receipts.last_entry()
     }
 
-    /// Whether the last call was a step that read or wrote a value.
-    #[inline(always)]
-    pub fn is_last_access(&self) -> bool
-        requires { 0 < length self.now }
-        ensures { IsTrue result → (rs : List Receipt) (r : Receipt) → self.now ≡ rs ++ r ∷ [] → is_access r.reply ≡ true }
-    {
-        self.receipts.is_last_access()
-    }
-
     /// Makes one event of the engine while holding the lock once. Appends the receipt before it frees the lock, and
     /// returns it. A reply that ends a live transaction wakes the waiting commits.
     ///
@@ -155,6 +146,46 @@ impl<N: Named> Session<N> {
         }
         self.make_one(rt, shared, event, false, &mut WaitCount::new())?;
         Ok(())
+    }
+
+    /// Like `make`, for a start. It is compiled for starts alone, so the kind of its event is not tested at run time.
+    #[inline(always)]
+    pub fn make_start<R: Records, A: Accesses, G: Graph, W: Wait>(
+        &mut self,
+        rt: &W,
+        shared: &Shared<N, R, A, G>,
+        procedure: u16,
+        args: &Args,
+    ) -> Result<(), NoMemory>
+        ensures { MatchResult result
+            (λ _. (r : Receipt) × (r.event ≡ Start procedure args.now) × (self.new ≡ self.old ++ r ∷ []))
+            (λ _. self.new ≡ self.old) }
+    {
+        // A start can wait, and a session that is alone delays no other.
+        if shared.sessions > 1 {
+            self.receipts.prefault_receipts();
+        }
+        let args = args.copied();
+        let start = Event::Start { procedure, args };
+        self.make_one(rt, shared, &start, false, &mut WaitCount::new())?;
+        Ok(())
+    }
+
+    /// Like `make`, for a step, and returns what its entry is to a caller that makes one step after another. It is compiled
+    /// for steps alone, so the kind of its event is not tested at run time.
+    #[inline(always)]
+    pub fn make_step<R: Records, A: Accesses, G: Graph, W: Wait>(
+        &mut self,
+        rt: &W,
+        shared: &Shared<N, R, A, G>,
+        t: Tid,
+    ) -> Result<StepKind, NoMemory>
+        ensures { MatchResult result
+            (λ kind. (r : Receipt) × (r.event ≡ Step t) × (self.new ≡ self.old ++ r ∷ []) × IsOfKind kind (entry_of r))
+            (λ _. self.new ≡ self.old) }
+    {
+        let made = self.make_one(rt, shared, &Event::Step(t), false, &mut WaitCount::new())?;
+        Ok(made.0)
     }
 
     /// Commits, and waits if another transaction has to end first. It repeats the event after each wait, until the
@@ -212,7 +243,7 @@ impl<N: Named> Session<N> {
             (λ _. self.new ≡ self.old ++ waits) }
     {
         for _ in rt.forever() {
-            if !self.make_one(rt, shared, &Event::Commit(t), true, count)? {
+            if !self.make_one(rt, shared, &Event::Commit(t), true, count)?.1 {
                 return Ok(());
             }
         }
@@ -220,7 +251,9 @@ impl<N: Named> Session<N> {
     }
 
     /// Makes one event and appends its receipt. If the reply is `Waits` and the call `may_wait`, it waits once, and
-    /// counts it. The wait begins before the lock is freed. Returns whether it waited.
+    /// counts it. The wait begins before the lock is freed. Returns what the entry is to a caller that makes one step after
+    /// another, and whether it waited.
+    #[inline(always)]
     fn make_one<R: Records, A: Accesses, G: Graph, W: Wait>(
         &mut self,
         rt: &W,
@@ -228,30 +261,31 @@ impl<N: Named> Session<N> {
         event: &Event,
         may_wait: bool,
         count: &mut WaitCount,
-    ) -> Result<bool, NoMemory>
+    ) -> Result<(StepKind, bool), NoMemory>
         requires fits { count.old + 1 < 2 ^ 64 }
         ensures receipt { MatchResult result
-            (λ waited. (r : Receipt) × (r.event ≡ event.now) × (self.new ≡ self.old ++ r ∷ []) × (waited ≡ (may_wait && is_wait r.reply)))
+            (λ made. (r : Receipt) × (r.event ≡ event.now) × (self.new ≡ self.old ++ r ∷ [])
+            × (made.1 ≡ (may_wait && is_wait r.reply)) × IsOfKind made.0 (entry_of r))
             (λ _. self.new ≡ self.old) }
         ensures counted { MatchResult result
-            (λ waited. count.new ≡ count.old + cond waited 1 0)
+            (λ made. count.new ≡ count.old + cond made.1 1 0)
             (λ _. count.new ≡ count.old) }
     {
         let spare = ensure_receipt_capacity(&mut self.receipts, &mut self.own, event)?;
         let (turn, mut round) = shared.lock_policy.lock(rt, &shared.round, event, spare);
-        round.apply(event, &mut self.share, &mut self.receipts)?;
+        let kind = round.apply(event, &mut self.share, &mut self.receipts)?;
         // Most calls start and end nothing, and no other call waits for them.
-        if self.receipts.is_last_step() {
+        if kind.is_step() {
             drop(round);
             drop(turn);
-            return Ok(false);
+            return Ok((kind, false));
         }
-        let entry = self.receipts.last_entry();
+        // The entry is no variable, since that would be written to memory before it is known whether it is needed.
         let waited = shared
             .waiters
-            .end_hold(rt, turn, round, &entry, may_wait, count);
-        note_and_wake(&mut self.own, &shared.waiters, &entry);
-        Ok(waited)
+            .end_hold(rt, turn, round, &self.receipts.last_entry(), may_wait, count);
+        note_and_wake(&mut self.own, &shared.waiters, &self.receipts.last_entry());
+        Ok((kind, waited))
     }
 
     /// A share of this session's ledger that holds no part.

@@ -5,7 +5,7 @@ use crate::gate::{Gate, Pass};
 use sgt_access::Accesses;
 use sgt_audit::{Job, Outcome};
 use sgt_graph::Graph;
-use sgt_log::EntryRef;
+use sgt_log::{EntryRef, StepKind};
 use sgt_model::{Event, NoMemory, Tid};
 use sgt_records::Records;
 use sgt_session::{Named, Session, Shared};
@@ -105,11 +105,7 @@ impl<'a, N: Named, R: Records, A: Accesses, G: Graph, T: Gate, W: Wait> Caller<
 
     /// One attempt. Whatever its result, its transaction is no longer live.
     fn attempt(&mut self, job: &Job) -> Attempt<T::Note> {
-        let start = Event::Start {
-            procedure: job.procedure,
-            args: job.args.copied(),
-        };
-        match self.call(&start) {
+        match self.start(job) {
             Ok(()) => match self.session.last_entry().started() {
                 Some(t) => self.attempt_with(t),
                 None => Attempt::Refused(self.session.last_number()),
@@ -131,18 +127,16 @@ impl<'a, N: Named, R: Records, A: Accesses, G: Graph, T: Gate, W: Wait> Caller<
 
     /// Steps until the procedure ends, and commits.
     fn run_transaction(&mut self, t: Tid) -> Result<Attempt<T::Note>, Halt<T::Note>> {
-        let step = Event::Step(t);
         for _ in self.rt.forever() {
-            self.call(&step)?;
-            if self.session.is_last_access() {
-                continue;
-            }
-            let entry = self.session.last_entry();
-            if entry.is_at_end() {
-                break;
-            }
-            if !entry.is_access() {
-                return attempt_of(t, self.session.last_number(), &entry);
+            match self.step(t)? {
+                StepKind::Access => {}
+                StepKind::End => break,
+                StepKind::Other => {
+                    let entry = self.session.last_entry();
+                    if !entry.is_access() {
+                        return attempt_of(t, self.session.last_number(), &entry);
+                    }
+                }
             }
         }
         self.pass()?;
@@ -150,13 +144,22 @@ impl<'a, N: Named, R: Records, A: Accesses, G: Graph, T: Gate, W: Wait> Caller<
         attempt_of(t, self.session.last_number(), &self.session.last_entry())
     }
 
-    /// One call, if the gate allows it. Its entry is the session's last.
-    fn call(&mut self, event: &Event) -> Result<(), Halt<T::Note>>
+    /// The start of a transaction for the job, if the gate allows it. Its entry is the session's last.
+    fn start(&mut self, job: &Job) -> Result<(), Halt<T::Note>>
         ensures { OnOk result (0 < length self.new.session) }
     {
         self.pass()?;
-        self.session.make(self.rt, self.shared, event)?;
+        self.session
+            .make_start(self.rt, self.shared, job.procedure, &job.args)?;
         Ok(())
+    }
+
+    /// One step, if the gate allows it. Its entry is the session's last.
+    fn step(&mut self, t: Tid) -> Result<StepKind, Halt<T::Note>>
+        ensures { OnOk result (0 < length self.new.session) }
+    {
+        self.pass()?;
+        Ok(self.session.make_step(self.rt, self.shared, t)?)
     }
 
     /// Calls the gate with the number of calls that the session has made, which is the number of its receipts.

@@ -2,6 +2,9 @@
 use sgt_audit::Outcome;
 use sgt_model::Tid;
 
+/// The most jobs that a worker takes at once, unless its gate says otherwise.
+const MOST_AT_ONCE: usize = 16;
+
 /// A gate's answer.
 pub enum Pass<N> {
     /// The worker makes its next call.
@@ -16,6 +19,12 @@ pub trait Gate {
     /// The note in the outcome of a job that was left. Only a gate makes notes, so no worker can leave a job unless its
     /// gate says so.
     type Note: Drop + Send;
+
+    /// The most jobs that a worker takes from the queue at once. Those that it has not begun when it leaves stay untaken, so
+    /// a gate that makes workers leave returns 1.
+    fn most_at_once(&self) -> usize {
+        MOST_AT_ONCE
+    }
 
     /// Whether the worker goes on. The workers are numbered from 0; `calls` is how many calls this one has made.
     fn pass(&self, worker: u8, calls: u64) -> Pass<Self::Note>;

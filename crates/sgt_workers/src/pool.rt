@@ -1,5 +1,5 @@
 //! The pool of workers of a run: their threads, their queue of jobs, and what they leave when they end.
-ghost use Rattle.std.specs.Prelude.{◌≡◌, ◌≤◌, [], All, IfOk, IfErr, length, vec_len, vec_capacity};
+ghost use Rattle.std.specs.Prelude.{◌≡◌, ◌<◌, ◌≤◌, [], All, IfOk, IfErr, length, vec_len, vec_capacity};
 ghost use Rattle.sgt_workers.specs.Crews.{IsRunError, KeepsConsumers};
 
 use crate::errors::PoolError;
@@ -16,6 +16,9 @@ use std::snapshot::Snapshot;
 use std::sync::{Mutex, Wait};
 use std::thread;
 use std::thread::{PromisedHandle, Scope, Threads};
+
+/// How many batches there are for each worker, if a batch has more than one job.
+const BATCHES: usize = 64;
 
 /// Runs the jobs in a thread for each session. Returns the sessions, with the producer of the jobs, which has joined
 /// what each worker received. Each worker reserves capacity for this many calls.
@@ -44,19 +47,35 @@ pub fn run_sessions<
     ensures joined { IfOk result (λ r. r.0.unjoined ≡ 0) }
     ensures error { IfErr result IsRunError }
 {
-    // The queue holds all jobs at once, so that sending one never waits for capacity.
-    let Ok((producer, consumers)) = Feed::make_for(alloc, jobs.len(), sessions.len()) else {
+    // The queue holds the numbers of all batches at once, so that sending one never waits for capacity.
+    let batch = batch_size(jobs.len(), sessions.len(), gate.most_at_once());
+    let batches = jobs.len() / batch + usize::from(jobs.len() % batch > 0);
+    let Ok((producer, consumers)) = Feed::make_for(alloc, batches, sessions.len()) else {
         return Err(PoolError::NoMemory);
     };
-    let team = team_of(alloc, jobs, tries, calls, &producer, sessions, consumers)?;
-    let (producer, ended) = run_pool(rt, alloc, shared, gate, outcomes, jobs, producer, team)?;
+    let team = team_of(
+        alloc, jobs, batch, tries, calls, &producer, sessions, consumers,
+    )?;
+    let (producer, ended) = run_pool(rt, alloc, shared, gate, outcomes, batches, producer, team)?;
     join_passes(alloc, producer, ended)
+}
+
+/// How many jobs a worker takes at once, at most so many. Each worker can take many batches, so that all end at about the
+/// same time.
+fn batch_size(jobs: usize, workers: usize, most: usize) -> usize
+    ensures { 0 < result }
+{
+    if workers == 0 {
+        return 1;
+    }
+    (jobs / workers / BATCHES).min(most).max(1)
 }
 
 /// A worker for each session and consumer, with capacity reserved for this many calls.
 fn team_of<'a, N: Named>(
     alloc: Global,
     jobs: &'a [Job],
+    batch: usize,
     tries: u32,
     calls: usize,
     producer: &Putter,
@@ -82,6 +101,7 @@ fn team_of<'a, N: Named>(
         team.push_reserved(Worker {
             number,
             jobs,
+            batch,
             tries,
             calls,
             alloc,
@@ -93,7 +113,7 @@ fn team_of<'a, N: Named>(
     Ok(team)
 }
 
-/// Runs the jobs in a thread for each worker, and waits until all have ended.
+/// Runs so many batches of jobs in a thread for each worker, and waits until all have ended.
 ///
 /// `NoMemory` if an allocation failed; `Spawn` if a thread could not be made: then no job was put.
 fn run_pool<
@@ -109,7 +129,7 @@ fn run_pool<
     shared: &Shared<N, R, A, G>,
     gate: &T,
     outcomes: &Mutex<Vec<Outcome<T::Note>>>,
-    jobs: &[Job],
+    batches: usize,
     producer: Putter,
     team: Vec<Worker<'_, N>>,
 ) -> Result<(Putter, Vec<Ended<N>>), PoolError>
@@ -138,7 +158,7 @@ fn run_pool<
         {
             let running = start_all(scope, rt, shared, gate, outcomes, &producer, running, team);
             let all_run = running.len() == count;
-            let producer = put_all(rt, producer, jobs, all_run, running.len());
+            let producer = put_all(rt, producer, batches, all_run, running.len());
             let ended = join_all(rt, &producer, running, ended);
             (producer, ended)
         },
@@ -186,14 +206,20 @@ fn start_all<
     running
 }
 
-/// Puts the jobs in their order, if all workers run, and then a stop for each that does. Returns early if all workers
-/// have left.
-fn put_all<W: Wait>(rt: &W, producer: Putter, jobs: &[Job], all_run: bool, stops: usize) -> Putter
+/// Puts the numbers of the batches in their order, if all workers run, and then a stop for each that does. Returns early if
+/// all workers have left.
+fn put_all<W: Wait>(
+    rt: &W,
+    producer: Putter,
+    batches: usize,
+    all_run: bool,
+    stops: usize,
+) -> Putter
     ensures { KeepsConsumers producer result }
 {
     let mut producer = producer;
-    for job in jobs {
-        if !all_run || !producer.put(rt, job.number) {
+    for number in 0..batches {
+        if !all_run || !producer.put(rt, number as u32) {
             break;
         }
     }

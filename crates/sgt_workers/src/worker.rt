@@ -1,7 +1,7 @@
 //! One worker.
 ghost use Rattle.std.specs.Prelude.{◌≡◌};
 
-use crate::caller::Caller;
+use crate::caller::{Caller, Unexpected};
 use crate::gate::Gate;
 use sgt_access::Accesses;
 use sgt_audit::{Job, Outcome};
@@ -20,6 +20,8 @@ pub struct Worker<'a, N: Named> {
     pub number: u8,
     /// The jobs of the run, by their numbers.
     pub jobs: &'a [Job],
+    /// How many jobs a batch has. The queue holds the numbers of batches.
+    pub batch: usize,
     /// The most attempts at a job.
     pub tries: u32,
     /// For how many calls it reserves capacity in advance, if it can.
@@ -47,9 +49,8 @@ impl<N: Named> Promise<Ended<N>> for SameQueue {
     ghost kept_by = { λ p r. r.stub.queue ≡ p.0.value.queue };
 }
 
-/// Takes jobs by their numbers and runs them until it receives a stop, the gate makes it leave, or a reply is
-/// unexpected. Writes each job's outcome at the job's number among the outcomes. A worker that ends leaves its queue at
-/// once.
+/// Takes batches of jobs and runs their jobs until it receives a stop, the gate makes it leave, or a reply is unexpected.
+/// A worker that ends leaves its queue at once.
 pub fn work<N: Named, R: Records, A: Accesses, G: Graph, T: Gate, W: Wait>(
     rt: &W,
     shared: &Shared<N, R, A, G>,
@@ -62,6 +63,7 @@ pub fn work<N: Named, R: Records, A: Accesses, G: Graph, T: Gate, W: Wait>(
     let Worker {
         number,
         jobs,
+        batch,
         tries,
         calls,
         alloc,
@@ -78,17 +80,14 @@ pub fn work<N: Named, R: Records, A: Accesses, G: Graph, T: Gate, W: Wait>(
     };
     let mut is_expected = true;
     for _ in rt.forever() {
-        let Some(job) = next_job(rt, &mut consumer, jobs) else {
+        let Some(taken) = next_batch(rt, &mut consumer, jobs, batch) else {
             break;
         };
-        let Ok(outcome) = caller.run_job(alloc, job, tries) else {
+        let Ok(goes_on) = run_batch(&mut caller, alloc, outcomes, taken, tries) else {
             is_expected = false;
             break;
         };
-        gate.finished(number, job.number, &outcome);
-        let leaves = matches!(outcome, Outcome::Left(_));
-        put_outcome(rt, outcomes, job.number, outcome);
-        if leaves {
+        if !goes_on {
             break;
         }
     }
@@ -99,14 +98,50 @@ pub fn work<N: Named, R: Records, A: Accesses, G: Graph, T: Gate, W: Wait>(
     }
 }
 
-/// The job whose number is taken next, if it is not a stop.
-fn next_job<'a, W: Wait>(rt: &W, consumer: &mut Taker, jobs: &'a [Job]) -> Option<&'a Job>
+/// The batch whose number is taken next, if it is not a stop.
+fn next_batch<'a, W: Wait>(
+    rt: &W,
+    consumer: &mut Taker,
+    jobs: &'a [Job],
+    batch: usize,
+) -> Option<&'a [Job]>
     ensures { consumer.new.queue ≡ consumer.old.queue }
 {
     match consumer.take(rt) {
-        Take::Job(number) => jobs.get(number as usize),
+        Take::Job(number) => Some(batch_at(jobs, batch, number)),
         Take::Stop | Take::Gone => None,
     }
+}
+
+/// The jobs of the batch with this number, where each batch but the last has so many.
+fn batch_at(jobs: &[Job], batch: usize, number: u32) -> &[Job] {
+    let from = (number as usize).saturating_mul(batch);
+    if from >= jobs.len() {
+        return &[];
+    }
+    let rest = &jobs[from..];
+    &rest[..batch.min(rest.len())]
+}
+
+/// Runs jobs one after another. Writes each job's outcome at the job's number among the outcomes. Returns whether the
+/// worker goes on: it leaves if the gate makes it.
+fn run_batch<N: Named, R: Records, A: Accesses, G: Graph, T: Gate, W: Wait>(
+    caller: &mut Caller<'_, N, R, A, G, T, W>,
+    alloc: Global,
+    outcomes: &Mutex<Vec<Outcome<T::Note>>>,
+    jobs: &[Job],
+    tries: u32,
+) -> Result<bool, Unexpected> {
+    for job in jobs {
+        let outcome = caller.run_job(alloc, job, tries)?;
+        caller.gate.finished(caller.number, job.number, &outcome);
+        let leaves = matches!(outcome, Outcome::Left(_));
+        put_outcome(caller.rt, outcomes, job.number, outcome);
+        if leaves {
+            return Ok(false);
+        }
+    }
+    Ok(true)
 }
 
 /// Writes the outcome at its job's number.

@@ -1,8 +1,9 @@
-use Rattle.std.proofs.Common.{[], ◌∷◌, ◌++◌, ap, sym, ◌∙◌}
+use Rattle.std.proofs.Common.{[], ◌∷◌, ◌++◌, ap, sym, subst, ◌∙◌}
 use Rattle.std.proofs.lemmas.Option.{same_Some}
 use Rattle.sgt_log.specs.PackedEntries.{unpacked}
 use Rattle.sgt_log.proofs.Entries.{seen_at, plain-entry}
-use Rattle.sgt_log.proofs.Packed.{step_plain}
+use Rattle.sgt_log.specs.StepKinds.{kind_of, IsOfKind}
+use Rattle.sgt_log.proofs.Packed.{step_plain, step_kind}
 use Rattle.sgt_log.proofs.history.History.push_copy.Goals as goal
 
 pub push_step-requires-clause-key : goal.push_step-requires-clause-key
@@ -22,6 +23,11 @@ returns-in-Some-clause-entries c e there =
     ∙ ap (λ x. c.args.self.now.entries ++ x ∷ [])
     (sym (plain-entry c.other.inside.tids.items c.other.inside.values.items step.event step.reply plain.0 plain.1) ∙ same)
 
-pub returns-in-None-clause-entries : goal.returns-in-None-clause-entries
-returns-in-None-clause-entries c e there =
-    c.push_entry.ensures.entries ∙ ap (λ x. c.args.self.now.entries ++ x ∷ []) (same_Some _ e (sym c.entry.ensures.entry ∙ there))
+pub returns-in-Some-clause-kind : goal.returns-in-Some-clause-kind
+returns-in-Some-clause-kind c e there =
+    let seen = seen_at c.other.inside.tids.items c.other.inside.values.items c.other.inside.entries.items c.args.other.now.entries
+    c.args.place (unpacked [] c.in-Some.step) (ap (λ h. h.entries) c.other.view_is) c.other.invariant.0 c.requires.there
+    c.in-Some.ensures.here in
+    subst (λ k. IsOfKind k e) (sym c.kind.ensures)
+    (subst (IsOfKind (kind_of c.in-Some.step)) (same_Some _ e (sym seen.0 ∙ there))
+    (step_kind c.other.inside.tids.items c.other.inside.values.items c.in-Some.step c.in-Some.ensures.step))
