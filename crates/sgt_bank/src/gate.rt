@@ -4,6 +4,9 @@ use sgt_workers::{Gate, Outcome, Pass};
 use std::alloc::Global;
 use std::convert::Infallible;
 
+/// The most jobs that a worker takes at once.
+pub(crate) const MOST_AT_ONCE: usize = 16;
+
 /// What a gate has seen of failed tries.
 pub(crate) trait Failures {
     /// How often each of so many jobs was tried in vain. A list that ends early says that it was not seen.
@@ -18,6 +21,10 @@ pub(crate) struct OpenGate;
 
 impl Gate for OpenGate {
     type Note = Infallible;
+
+    fn most_at_once(&self) -> usize {
+        MOST_AT_ONCE
+    }
 
     fn pass(&self, _worker: u8, _calls: u64) -> Pass<Infallible> {
         Pass::Go

@@ -1,5 +1,5 @@
 //! A gate that watches a run.
-use crate::gate::Failures;
+use crate::gate::{Failures, MOST_AT_ONCE};
 use sgt_model::{NoMemory, Tid};
 use sgt_workers::{Gate, Outcome, Pass};
 use std::alloc::Global;
@@ -69,6 +69,10 @@ impl<'a, W: Clock> Watch<'a, W> {
 
 impl<W: Wait + Clock + Eprint> Gate for Watch<'_, W> {
     type Note = Infallible;
+
+    fn most_at_once(&self) -> usize {
+        MOST_AT_ONCE
+    }
 
     fn pass(&self, _worker: u8, _calls: u64) -> Pass<Infallible> {
         Pass::Go

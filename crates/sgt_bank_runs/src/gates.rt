@@ -199,10 +199,6 @@ impl Gates {
 impl Gate for Gates {
     type Note = u64;
 
-    fn most_at_once(&self) -> usize {
-        1
-    }
-
     fn pass(&self, worker: u8, calls: u64) -> Pass<u64> {
         self.note(worker, calls);
         match self.plan {

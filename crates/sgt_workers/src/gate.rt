@@ -2,9 +2,6 @@
 use sgt_audit::Outcome;
 use sgt_model::Tid;
 
-/// The most jobs that a worker takes at once, unless its gate says otherwise.
-const MOST_AT_ONCE: usize = 16;
-
 /// A gate's answer.
 pub enum Pass<N> {
     /// The worker makes its next call.
@@ -21,9 +18,9 @@ pub trait Gate {
     type Note: Drop + Send;
 
     /// The most jobs that a worker takes from the queue at once. Those that it has not begun when it leaves stay untaken, so
-    /// a gate that makes workers leave returns 1.
+    /// a gate that makes workers leave must not return more than 1, the default.
     fn most_at_once(&self) -> usize {
-        MOST_AT_ONCE
+        1
     }
 
     /// Whether the worker goes on. The workers are numbered from 0; `calls` is how many calls this one has made.
