@@ -33,8 +33,7 @@ pub fn ensure_capacity<R: Records, A: Accesses, G: Graph>(
 {
     let needed = sched.live_count() + 2;
     if history.spare() < needed {
-        // Only a copy is passed, so the original need not be written to memory.
-        return add_spare(history, sched, &event.copied(), needed);
+        return add_spare(history, sched, event, needed);
     }
     Ok(())
 }

@@ -1,5 +1,5 @@
 -- Packed entries, and the list of the entries that they stand for.
-use Rattle.std.proofs.Common.{◌≡◌, ℕ, ℤ, true, zero, suc, ◌<◌, ◌≤◌, arith, List, [], ◌∷◌, ◌++◌, length, refl, ap, sym, subst, ◌∙◌, map}
+use Rattle.std.proofs.Common.{◌≡◌, ℕ, ℤ, zero, suc, ◌<◌, ◌≤◌, arith, List, [], ◌∷◌, ◌++◌, length, refl, ap, sym, subst, ◌∙◌, map}
 use Rattle.std.specs.Prelude.{slice_index_or}
 use Rattle.std.proofs.lemmas.List.{length-append, length-map, map-append}
 use Rattle.sgt_log.specs.declared.packed_entry.PackedEntry.{PackedEntry}
