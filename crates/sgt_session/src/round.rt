@@ -84,8 +84,7 @@ impl<N: Named, R: Records, A: Accesses, G: Graph> Round<N, R, A, G> {
         let mut reply = ShortReply::Unknown;
         self.engine.answer_inline(event, &mut reply)?;
         self.calls.add(mine, 1);
-        let kind = receipts.file_newest(self.engine.history());
-        Ok(kind)
+        Ok(receipts.file_newest(self.engine.history()))
     }
 
     /// The history, oldest entry first.

@@ -1,7 +1,7 @@
 //! A session: one caller's way to the engine.
-ghost use Rattle.std.specs.Prelude.{◌≡◌, ◌+◌, ◌<◌, ◌≤◌, ◌^◌, ◌&&◌, true, false, cond, IsTrue, List, [], ◌∷◌, ◌++◌, All, length, vec_len, vec_capacity, IfOk, MatchResult};
+ghost use Rattle.std.specs.Prelude.{◌≡◌, ◌+◌, ◌<◌, ◌≤◌, ◌^◌, ◌&&◌, true, false, cond, List, [], ◌∷◌, ◌++◌, All, length, vec_len, vec_capacity, IfOk, MatchResult};
 ghost use Rattle.std.specs.List.{sum_by};
-ghost use Rattle.sgt_model.specs.declared.event.Event.TheVariants.{Commit, Start, Step};
+ghost use Rattle.sgt_model.specs.declared.event.Event.TheVariants.{Commit, Step};
 ghost use Rattle.sgt_log.specs.StepKinds.{IsOfKind};
 ghost use Rattle.sgt_session.specs.declared.receipt.Receipt.{Receipt};
 ghost use Rattle.sgt_model.specs.Questions.{is_wait, started_in};
@@ -18,7 +18,7 @@ use crate::waiters::Waiters;
 use sgt_access::Accesses;
 use sgt_graph::Graph;
 use sgt_log::{EntryRef, StepKind};
-use sgt_model::{Args, Event, NoMemory, Tid};
+use sgt_model::{Event, NoMemory, Tid};
 use sgt_records::Records;
 use std::alloc::Global;
 use std::marker::Model;
@@ -144,30 +144,8 @@ impl<N: Named> Session<N> {
         if shared.sessions > 1 && matches!(event, Event::Start { .. }) {
             self.receipts.prefault_receipts();
         }
-        self.make_one(rt, shared, event, false, &mut WaitCount::new())?;
-        Ok(())
-    }
-
-    /// Like `make`, for a start. It is compiled for starts alone, so the kind of its event is not tested at run time.
-    #[inline(always)]
-    pub fn make_start<R: Records, A: Accesses, G: Graph, W: Wait>(
-        &mut self,
-        rt: &W,
-        shared: &Shared<N, R, A, G>,
-        procedure: u16,
-        args: &Args,
-    ) -> Result<(), NoMemory>
-        ensures { MatchResult result
-            (λ _. (r : Receipt) × (r.event ≡ Start procedure args.now) × (self.new ≡ self.old ++ r ∷ []))
-            (λ _. self.new ≡ self.old) }
-    {
-        // A start can wait, and a session that is alone delays no other.
-        if shared.sessions > 1 {
-            self.receipts.prefault_receipts();
-        }
-        let args = args.copied();
-        let start = Event::Start { procedure, args };
-        self.make_one(rt, shared, &start, false, &mut WaitCount::new())?;
+        let mut kind = StepKind::Other;
+        self.make_one(rt, shared, event, false, &mut WaitCount::new(), &mut kind)?;
         Ok(())
     }
 
@@ -184,8 +162,10 @@ impl<N: Named> Session<N> {
             (λ kind. (r : Receipt) × (r.event ≡ Step t) × (self.new ≡ self.old ++ r ∷ []) × IsOfKind kind (entry_of r))
             (λ _. self.new ≡ self.old) }
     {
-        let made = self.make_one(rt, shared, &Event::Step(t), false, &mut WaitCount::new())?;
-        Ok(made.0)
+        let mut kind = StepKind::Other;
+        let step = Event::Step(t);
+        self.make_one(rt, shared, &step, false, &mut WaitCount::new(), &mut kind)?;
+        Ok(kind)
     }
 
     /// Commits, and waits if another transaction has to end first. It repeats the event after each wait, until the
@@ -242,8 +222,9 @@ impl<N: Named> Session<N> {
             (λ _. (r : Receipt) × (self.new ≡ (self.old ++ waits) ++ r ∷ []) × (r.event ≡ Commit t) × (is_wait r.reply ≡ false))
             (λ _. self.new ≡ self.old ++ waits) }
     {
+        let mut kind = StepKind::Other;
         for _ in rt.forever() {
-            if !self.make_one(rt, shared, &Event::Commit(t), true, count)?.1 {
+            if !self.make_one(rt, shared, &Event::Commit(t), true, count, &mut kind)? {
                 return Ok(());
             }
         }
@@ -251,8 +232,8 @@ impl<N: Named> Session<N> {
     }
 
     /// Makes one event and appends its receipt. If the reply is `Waits` and the call `may_wait`, it waits once, and
-    /// counts it. The wait begins before the lock is freed. Returns what the entry is to a caller that makes one step after
-    /// another, and whether it waited.
+    /// counts it. The wait begins before the lock is freed. Returns whether it waited, and writes to `kind` what the entry
+    /// is to a caller that makes one step after another.
     #[inline(always)]
     fn make_one<R: Records, A: Accesses, G: Graph, W: Wait>(
         &mut self,
@@ -261,31 +242,32 @@ impl<N: Named> Session<N> {
         event: &Event,
         may_wait: bool,
         count: &mut WaitCount,
-    ) -> Result<(StepKind, bool), NoMemory>
+        kind: &mut StepKind,
+    ) -> Result<bool, NoMemory>
         requires fits { count.old + 1 < 2 ^ 64 }
         ensures receipt { MatchResult result
-            (λ made. (r : Receipt) × (r.event ≡ event.now) × (self.new ≡ self.old ++ r ∷ [])
-            × (made.1 ≡ (may_wait && is_wait r.reply)) × IsOfKind made.0 (entry_of r))
+            (λ waited. (r : Receipt) × (r.event ≡ event.now) × (self.new ≡ self.old ++ r ∷ [])
+            × (waited ≡ (may_wait && is_wait r.reply)) × IsOfKind kind.new (entry_of r))
             (λ _. self.new ≡ self.old) }
         ensures counted { MatchResult result
-            (λ made. count.new ≡ count.old + cond made.1 1 0)
+            (λ waited. count.new ≡ count.old + cond waited 1 0)
             (λ _. count.new ≡ count.old) }
     {
         let spare = ensure_receipt_capacity(&mut self.receipts, &mut self.own, event)?;
         let (turn, mut round) = shared.lock_policy.lock(rt, &shared.round, event, spare);
-        let kind = round.apply(event, &mut self.share, &mut self.receipts)?;
+        *kind = round.apply(event, &mut self.share, &mut self.receipts)?;
         // Most calls start and end nothing, and no other call waits for them.
         if kind.is_step() {
             drop(round);
             drop(turn);
-            return Ok((kind, false));
+            return Ok(false);
         }
-        // The entry is no variable, since that would be written to memory before it is known whether it is needed.
+        let entry = self.receipts.last_entry();
         let waited = shared
             .waiters
-            .end_hold(rt, turn, round, &self.receipts.last_entry(), may_wait, count);
-        note_and_wake(&mut self.own, &shared.waiters, &self.receipts.last_entry());
-        Ok((kind, waited))
+            .end_hold(rt, turn, round, &entry, may_wait, count);
+        note_and_wake(&mut self.own, &shared.waiters, &entry);
+        Ok(waited)
     }
 
     /// A share of this session's ledger that holds no part.

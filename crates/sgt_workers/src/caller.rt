@@ -105,7 +105,11 @@ impl<'a, N: Named, R: Records, A: Accesses, G: Graph, T: Gate, W: Wait> Caller<
 
     /// One attempt. Whatever its result, its transaction is no longer live.
     fn attempt(&mut self, job: &Job) -> Attempt<T::Note> {
-        match self.start(job) {
+        let start = Event::Start {
+            procedure: job.procedure,
+            args: job.args.copied(),
+        };
+        match self.call(&start) {
             Ok(()) => match self.session.last_entry().started() {
                 Some(t) => self.attempt_with(t),
                 None => Attempt::Refused(self.session.last_number()),
@@ -144,13 +148,12 @@ impl<'a, N: Named, R: Records, A: Accesses, G: Graph, T: Gate, W: Wait> Caller<
         attempt_of(t, self.session.last_number(), &self.session.last_entry())
     }
 
-    /// The start of a transaction for the job, if the gate allows it. Its entry is the session's last.
-    fn start(&mut self, job: &Job) -> Result<(), Halt<T::Note>>
+    /// One call, if the gate allows it. Its entry is the session's last.
+    fn call(&mut self, event: &Event) -> Result<(), Halt<T::Note>>
         ensures { OnOk result (0 < length self.new.session) }
     {
         self.pass()?;
-        self.session
-            .make_start(self.rt, self.shared, job.procedure, &job.args)?;
+        self.session.make(self.rt, self.shared, event)?;
         Ok(())
     }
 

@@ -12,8 +12,8 @@ returns-clause-filed g c =
       refl,
       search (rules, added.adds),
       search (rules, added.legal),
-      c.file_newest-kind.ensures.filed _ _ (search (rules, added.adds)),
-      c.file_newest-kind.ensures.kind _ _ (search (rules, added.adds)),
+      c.file_newest.ensures.filed _ _ (search (rules, added.adds)),
+      c.file_newest.ensures.kind (record { event = c.args.event.now; reply = added.reply }) c.args.self.now.past (search (rules, added.adds)),
     )
 
 pub returns-clause-counted : goal.returns-clause-counted
