@@ -49,7 +49,7 @@ pub fn run_sessions<
 {
     // The queue holds the numbers of all batches at once, so that sending one never waits for capacity.
     let batch = batch_size(jobs.len(), sessions.len(), gate.most_at_once());
-    let batches = (jobs.len() / batch).saturating_add(usize::from(jobs.len() % batch > 0));
+    let batches = jobs.len().div_ceil(batch);
     let Ok((producer, consumers)) = Feed::make_for(alloc, batches, sessions.len()) else {
         return Err(PoolError::NoMemory);
     };
