@@ -59,8 +59,7 @@ impl<N: Named, R: Records, A: Accesses, G: Graph> Round<N, R, A, G> {
     }
 
     /// Makes one event of the engine, and appends its receipt. The result says what the entry is to a caller that makes one
-    /// step after another. `NoMemory` if an allocation in the engine failed; then
-    /// nothing has changed.
+    /// step after another. `NoMemory` if an allocation in the engine failed; then nothing has changed.
     #[inline(always)]
     pub fn apply(
         &mut self,

@@ -208,13 +208,7 @@ fn start_all<
 
 /// Puts the numbers of the batches in their order, if all workers run, and then a stop for each that does. Returns early if
 /// all workers have left.
-fn put_all<W: Wait>(
-    rt: &W,
-    producer: Putter,
-    batches: usize,
-    all_run: bool,
-    stops: usize,
-) -> Putter
+fn put_all<W: Wait>(rt: &W, producer: Putter, batches: usize, all_run: bool, stops: usize) -> Putter
     ensures { KeepsConsumers producer result }
 {
     let mut producer = producer;

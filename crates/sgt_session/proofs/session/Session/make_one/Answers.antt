@@ -10,14 +10,14 @@ use Rattle.sgt_session.proofs.session.Session.make_one.Goals as goal
 
 pub invariant_of-self-then-is_step : goal.invariant_of-self-then-is_step
 invariant_of-self-then-is_step g c =
-    let filed = c.in_ok-apply.ensures.filed in
+    let filed = c.in_ok-kind.ensures.filed in
     let quiet : IsQuiet (entry_of filed.0) = c.is_step.ensures c.if-is_step.true (entry_of filed.0) filed.6 in
     let longer = ap length filed.5 in
     let one = length-append c.ensure_receipt_capacity.new.receipts.receipts (filed.0 ∷ []) in
     let kept = ap length c.in_ok-spare.ensures.receipts in
     let own = quiet_own c.ensure_receipt_capacity.new.own.items filed.0.event filed.0.reply quiet.0 quiet.1 in (
       search rules,
-      omega (arith, c.in_ok-apply.ensures.counted, longer, one, kept, c.self.invariant.1),
+      omega (arith, c.in_ok-kind.ensures.counted, longer, one, kept, c.self.invariant.1),
       noted c.self.inside.receipts.receipts c.apply.new.receipts.receipts c.ensure_receipt_capacity.new.own.items _ filed.0
           (c.in_ok-spare.ensures.own ∙ c.self.invariant.2)
           (rw c.in_ok-spare.ensures.receipts at filed.5)
@@ -27,12 +27,12 @@ invariant_of-self-then-is_step g c =
           filed.1
           c.in_ok-spare.ensures.spare
           (c.ensure_receipt_capacity.new.own.ok.0 ∙ ap length own)
-          c.in_ok-apply.ensures.spare,
+          c.in_ok-kind.ensures.spare,
     )
 
 pub returns-then-is_step-clause-receipt : goal.returns-then-is_step-clause-receipt
 returns-then-is_step-clause-receipt g c =
-    let filed = c.in_ok-apply.ensures.filed in
+    let filed = c.in_ok-kind.ensures.filed in
     let quiet : IsQuiet (entry_of filed.0) = c.is_step.ensures c.if-is_step.true (entry_of filed.0) filed.6 in (
       filed.0,
       filed.1,
@@ -43,13 +43,13 @@ returns-then-is_step-clause-receipt g c =
 
 pub invariant_of-self-2 : goal.invariant_of-self-2
 invariant_of-self-2 g c =
-    let filed = c.in_ok-apply.ensures.filed in
+    let filed = c.in_ok-kind.ensures.filed in
     let same : c.last_entry-entry.result ≡ entry_of filed.0 = c.last_entry-entry.ensures _ filed.0 filed.5 in
     let longer = ap length filed.5 in
     let one = length-append c.ensure_receipt_capacity.new.receipts.receipts (filed.0 ∷ []) in
     let kept = ap length c.in_ok-spare.ensures.receipts in (
       search rules,
-      omega (arith, c.in_ok-apply.ensures.counted, longer, one, kept, c.self.invariant.1),
+      omega (arith, c.in_ok-kind.ensures.counted, longer, one, kept, c.self.invariant.1),
       noted c.self.inside.receipts.receipts c.apply.new.receipts.receipts c.ensure_receipt_capacity.new.own.items _ filed.0
           (c.in_ok-spare.ensures.own ∙ c.self.invariant.2)
           (rw c.in_ok-spare.ensures.receipts at filed.5)
@@ -59,18 +59,18 @@ invariant_of-self-2 g c =
           filed.1
           c.in_ok-spare.ensures.spare
           (rw same at c.note_and_wake.ensures.count)
-          c.in_ok-apply.ensures.spare,
+          c.in_ok-kind.ensures.spare,
     )
 
 pub end_hold-waited-requires-clause-newest : goal.end_hold-waited-requires-clause-newest
 end_hold-waited-requires-clause-newest g c κs within =
-    let filed = c.in_ok-apply.ensures.filed in
+    let filed = c.in_ok-kind.ensures.filed in
     let same : c.last_entry-entry.result ≡ entry_of filed.0 = c.last_entry-entry.ensures _ filed.0 filed.5 in
     filed_is_newest _ _ filed.0 _ filed.3 same
 
 pub returns-clause-receipt : goal.returns-clause-receipt
 returns-clause-receipt g c =
-    let filed = c.in_ok-apply.ensures.filed in
+    let filed = c.in_ok-kind.ensures.filed in
     let same : c.last_entry-entry.result ≡ entry_of filed.0 = c.last_entry-entry.ensures _ filed.0 filed.5 in (
       filed.0,
       filed.1,
