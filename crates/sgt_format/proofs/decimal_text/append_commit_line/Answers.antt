@@ -14,7 +14,7 @@ pub returns-clause-ok : goal.returns-clause-ok
 returns-clause-ok c =
     let same : to_z w64 (of_z w64 c.args.answer) ≡ c.args.answer = sym (from_bits c.args.answer (search rules)) in
     let following : List ℕ = drop 64 (replicate 96 0) in
-    adds_four c.append_written.result c.args.lines.now.items c.write_digits-start.new.text (decimal c.args.number) (codes " committed ")
+    adds_four c.append_written.result c.args.lines.now.items c.write_digits-start.new.buf (decimal c.args.number) (codes " committed ")
     (signed_decimal c.args.answer) (codes "\n") following c.append_written.new.lines.items c.write_digits-start.result
     c.append_written.ensures.ok
     (c.write_digits-start.ensures.written ∙ ap (λ more. decimal c.args.number ++ more) (c.write_words-start.ensures.written
