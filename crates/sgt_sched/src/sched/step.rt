@@ -51,7 +51,6 @@ impl<R: Records, A: Accesses, G: Graph> Sched<R, A, G> {
     }
 
     // The same, with the reply in short, which is written to its place.
-    #[inline(always)]
     pub(super) fn answer_step(
         &mut self,
         t: Tid,
