@@ -110,7 +110,7 @@ fn procedure_fault(typed: Typed<'_>, error: &OpeningError, procedure: &Value) ->
                 None => Ok(None),
             }
         }
-        OpeningError::ProcFlaw(number, flaw) => match flaw_fault(typed, procedure, *flaw)? {
+        OpeningError::ProcFlaw(number, _) => match flaw_fault(typed, procedure)? {
             Some(what) => Ok(Some(format!(in typed.alloc; "procedure {number}, at {what}")?)),
             None => Ok(None),
         },

@@ -24,6 +24,17 @@ pub enum Number {
     Literal(i64),
 }
 
+impl Number {
+    /// The number itself.
+    pub fn value(self) -> i64 {
+        match self {
+            Number::Register(n) | Number::Argument(n) | Number::Table(n) => i64::from(n),
+            Number::Code(n) => i64::from(n),
+            Number::Literal(n) => n,
+        }
+    }
+}
+
 /// The rule that no number in a text may break: none has this flaw, in a procedure that takes this many arguments.
 #[derive(Clone, Copy)]
 pub struct Rule {
@@ -32,7 +43,7 @@ pub struct Rule {
 }
 
 impl Rule {
-    fn is_broken(self, number: Number) -> bool
+    pub fn is_broken(self, number: Number) -> bool
         ensures { result ≡ is_bad self.flaw self.args number }
     {
         match (self.flaw, number) {
