@@ -47,13 +47,13 @@ pub fn read_opening(alloc: Global, least: u32, line: &[u8]) -> Result<Opening, O
     ensures refused { IfErr result (Refuses least line.now) }
 {
     match read_tree(alloc, line)? {
-        Some(tree) => opening_in(alloc, least, &tree),
+        Some(tree) => read_opening_tree(alloc, least, &tree),
         None => Err(OpeningError::NotJson),
     }
 }
 
-/// The opening of a line that has this tree.
-fn opening_in(alloc: Global, least: u32, tree: &Value) -> Result<Opening, OpeningError>
+/// The opening of a line that has this tree. Its errors are those of [`read_opening`].
+pub fn read_opening_tree(alloc: Global, least: u32, tree: &Value) -> Result<Opening, OpeningError>
     ensures opening { IfOk result (λ opening.
         (line : List ℕ) → tree_of line ≡ Some (view tree.now) → Opens least line opening) }
     ensures refused { IfErr result (λ error.

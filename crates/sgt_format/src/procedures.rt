@@ -24,11 +24,11 @@ pub(crate) fn read_procedures(alloc: Global, trees: &[Value]) -> Result<Vec<Chec
 }
 
 /// The procedure that a tree spells, under this number, unless it has a flaw.
-pub(crate) fn read_procedure(
-    alloc: Global,
-    number: u64,
-    tree: &Value,
-) -> Result<Checked, OpeningError>
+///
+/// # Errors
+///
+/// `ProcShape` with the position of the first shape error, `ProcFlaw` with the least flaw, or `NoMemory`.
+pub fn read_procedure(alloc: Global, number: u64, tree: &Value) -> Result<Checked, OpeningError>
     ensures procedure { IfOk result (IsProcedure (view tree.now)) }
     ensures refused { IfErr result (IsRefusedAs number (view tree.now)) }
 {

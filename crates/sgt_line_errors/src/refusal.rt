@@ -12,7 +12,7 @@ use crate::opening::opening_fault;
 use crate::shape_error::shape_error;
 use crate::typed::Typed;
 use serde_json::Value;
-use sgt_format::{OpeningError, items, read_opening, read_procedure_line, read_tree};
+use sgt_format::{OpeningError, items, read_opening_tree, read_procedure, read_tree};
 use sgt_model::NoMemory;
 use sgt_smallbank::PROCEDURES;
 use std::alloc::Global;
@@ -30,14 +30,17 @@ pub fn explain_opening(
 ) -> Result<Option<String>, NoMemory>
     ensures refused { IfOk result (λ text. IsSome text → SpellsNoOpening least opening.now) }
 {
-    let Err(error) = read_opening(alloc, least, opening) else {
-        return Ok(None);
-    };
     let typed = Typed {
         alloc,
         text: opening,
     };
-    explained(typed, &error, Some(least))
+    let Some(tree) = read_tree(alloc, opening)? else {
+        return json_fault(typed);
+    };
+    match read_opening_tree(alloc, least, &tree) {
+        Ok(_) => Ok(None),
+        Err(error) => opening_tree_fault(typed, &error, least, &tree),
+    }
 }
 
 /// Explains in the same way why a text is no procedure, as one item of an opening's list. The explanation names the
@@ -53,28 +56,16 @@ pub fn explain_procedure(
 ) -> Result<Option<String>, NoMemory>
     ensures refused { IfOk result (λ text. IsSome text → SpellsNoProcedure number procedure.now) }
 {
-    let Err(error) = read_procedure_line(alloc, number, procedure) else {
-        return Ok(None);
-    };
     let typed = Typed {
         alloc,
         text: procedure,
     };
-    explained(typed, &error, None)
-}
-
-// The error of a text, which is that of an opening if it must allow this many live transactions, else of a procedure.
-fn explained(typed: Typed<'_>, error: &OpeningError, least: Option<u32>) -> Message
-    ensures { OnOk result (error.now ≢ OpeningError.NoMemory) }
-{
-    match error {
-        OpeningError::NoMemory => Err(NoMemory),
-        OpeningError::NotJson => json_fault(typed),
-        _ => match (read_tree(typed.alloc, typed.text)?, least) {
-            (Some(tree), Some(least)) => opening_tree_fault(typed, error, least, &tree),
-            (Some(tree), None) => procedure_fault(typed, error, &tree),
-            (None, _) => Ok(None),
-        },
+    let Some(tree) = read_tree(alloc, procedure)? else {
+        return json_fault(typed);
+    };
+    match read_procedure(alloc, number, &tree) {
+        Ok(_) => Ok(None),
+        Err(error) => procedure_fault(typed, &error, &tree),
     }
 }
 
@@ -84,7 +75,9 @@ fn opening_tree_fault(
     error: &OpeningError,
     least: u32,
     opening: &Value,
-) -> Message {
+) -> Message
+    ensures { OnOk result (error.now ≢ OpeningError.NoMemory) }
+{
     match error {
         OpeningError::BadLine => opening_fault(typed, opening),
         OpeningError::BadLimits => limit_fault(typed, least, member(opening, "limits")),
@@ -95,12 +88,15 @@ fn opening_tree_fault(
                 None => Ok(None),
             }
         }
-        OpeningError::NotJson | OpeningError::NoMemory => Ok(None),
+        OpeningError::NotJson => Ok(None),
+        OpeningError::NoMemory => Err(NoMemory),
     }
 }
 
 // The error of a procedure, from its tree. Its position is shown as in the fault's own line.
-fn procedure_fault(typed: Typed<'_>, error: &OpeningError, procedure: &Value) -> Message {
+fn procedure_fault(typed: Typed<'_>, error: &OpeningError, procedure: &Value) -> Message
+    ensures { OnOk result (error.now ≢ OpeningError.NoMemory) }
+{
     match error {
         OpeningError::ProcShape(number, place) => {
             match shape_error(typed, procedure, place.as_slice())? {
@@ -114,6 +110,7 @@ fn procedure_fault(typed: Typed<'_>, error: &OpeningError, procedure: &Value) ->
             Some(what) => Ok(Some(format!(in typed.alloc; "procedure {number}, at {what}")?)),
             None => Ok(None),
         },
+        OpeningError::NoMemory => Err(NoMemory),
         _ => Ok(None),
     }
 }

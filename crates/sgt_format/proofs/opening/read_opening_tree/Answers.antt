@@ -4,7 +4,7 @@ use Rattle.serde_json.specs.View.{view}
 use Rattle.sgt_format.specs.Trees.{each}
 use Rattle.sgt_format.specs.Openings.{account_in, parts_in}
 use Rattle.sgt_format.proofs.Shapes.{sheet_found, opens_each, refuses_each}
-use Rattle.sgt_format.proofs.opening.opening_in.Goals as goal
+use Rattle.sgt_format.proofs.opening.read_opening_tree.Goals as goal
 
 pub returns-clause-opening : goal.returns-clause-opening
 returns-clause-opening c =
