@@ -6,9 +6,7 @@ pub mod AllFlaws
 pub mod Clean
 pub mod Sounds
 pub mod LongestPaths
-pub mod Fews
 pub mod Followed
 pub mod PathTexts
 pub mod Stepped
 pub mod Moved
-pub mod Passed

@@ -1,17 +1,13 @@
-//! A procedure without a flaw, and its next step.
-ghost use Rattle.std.specs.Prelude.{◌≡◌, ◌≤◌, ◌<◌, IfOk, OnOk, IfErr};
+//! A procedure without a flaw.
+ghost use Rattle.std.specs.Prelude.{◌≡◌, ◌≤◌, IfOk, OnOk, IfErr};
 ghost use Rattle.sgt_model.specs.ProcedureTexts.{procedure_text};
-ghost use Rattle.sgt_model.specs.Meaning.{run_with};
 ghost use Rattle.sgt_model.specs.Configurations.{empty_procedure};
-ghost use Rattle.sgt_model.specs.Traces.{next_at, trace, Used};
-ghost use Rattle.sgt_proc.specs.Nexts.{seen, IsAccess, StoresValue};
 ghost use Rattle.sgt_proc.specs.Flaws.{IsFlawless, IsLeastFlaw};
 ghost use Rattle.sgt_proc.specs.Places.{IsIn, Stops, StopsAtValue};
 
 use crate::flaw::{Flaw, Flawed};
-use crate::next::Next;
 use crate::place::{Place, Stop};
-use sgt_model::{Args, Procedure};
+use sgt_model::Procedure;
 use std::alloc::Global;
 use std::marker::Model;
 
@@ -79,35 +75,6 @@ impl Checked {
         ensures flawless { IsFlawless self.now }
     {
         self.procedure.args
-    }
-
-    /// Returns access number `made`, from 0, of the procedure's trace with these arguments. Its reads return the
-    /// values of `read` in order. If the trace ends before that access, the result is its end. If a read has no value
-    /// left, the result is that read.
-    pub fn next(&self, args: &Args, read: &[Option<i64>], made: usize) -> Next
-        ensures next { seen result ≡ next_at (trace (run_with self.now args.now) read.now) made }
-        ensures in_range { StoresValue result }
-        ensures few { IsAccess result → Used (run_with self.now args.now) read.now made → made < 64 }
-    {
-        // Using a field makes known that the procedure has no flaw.
-        let _ = &self.procedure;
-        let mut cursor = self.begin(args);
-        let mut used = 0;
-        for _ in 0..made {
-            match cursor.next(self) {
-                Next::Look(key) => {
-                    if used == read.len() {
-                        return Next::Look(key);
-                    }
-                    cursor.looked(self, read[used]);
-                    used += 1;
-                }
-                Next::Put(..) => cursor.stored(self),
-                Next::Ends(answers) => return Next::Ends(answers),
-                Next::Asks(code) => return Next::Asks(code),
-            }
-        }
-        cursor.next(self)
     }
 
     /// Continues from a position to the next access, or to the end or a code, and writes to `stop` which.

@@ -2,10 +2,10 @@
 ghost use Rattle.std.specs.Prelude.{◌≡◌, ℤ, List};
 ghost use Rattle.sgt_model.specs.Left.{next_left, left_at_start, after_look, after_store};
 ghost use Rattle.sgt_model.specs.Traces.{Ends};
-ghost use Rattle.sgt_proc.specs.Nexts.{seen, StoresValue, answers_at, seen_with, PutsValue};
+ghost use Rattle.sgt_proc.specs.Nexts.{answers_at, seen_with, PutsValue};
 
 use crate::checked::Checked;
-use crate::next::{Ahead, Next};
+use crate::next::Ahead;
 use crate::place::{Place, Stop};
 use crate::value::found_or;
 use arrayvec::ArrayVec;
@@ -43,20 +43,7 @@ impl Model for Cursor {
 }
 
 impl Cursor {
-    /// The next step of the procedure.
-    pub fn next(&self, _procedure: &Checked) -> Next
-        ensures next { seen result ≡ next_left self.now.1 }
-        ensures in_range { StoresValue result }
-    {
-        match self.stop {
-            Stop::Look { key, .. } | Stop::Find { key, .. } => Next::Look(key),
-            Stop::Put(key, value) => Next::Put(key, value),
-            Stop::End => Next::Ends(self.place.answers.copied()),
-            Stop::Asks(code) | Stop::Absent(code) => Next::Asks(code),
-        }
-    }
-
-    /// The next step without the answers, which is a few bytes.
+    /// The next step of the procedure. If that is its end, [`Cursor::answers`] returns the answers.
     #[inline(always)]
     pub fn ahead(&self) -> Ahead
         ensures next { seen_with (answers_at (next_left self.now.1)) result ≡ next_left self.now.1 }

@@ -37,7 +37,7 @@
 //! let procedures = sgt_smallbank::procedures(alloc)?;
 //!
 //! // A check over 5 is a transaction of procedure 4 with the arguments 1 and 500.
-//! let first = procedures[4].next(&args, &[], 0);
+//! let first = procedures[4].begin(&args).ahead();
 //! ```
 #![tactic(auto)]
 
