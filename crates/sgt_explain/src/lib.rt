@@ -16,26 +16,21 @@
 //! both as lines of text.
 //!
 //! The crate runs nothing and knows no procedures. So the caller says which access the aborted transaction was about
-//! to make. If the transaction's caller had decided on it, [`requested_at`] returns it. Else it is the next access of
-//! its procedure; [`call_before`] and [`progress_before`] return what the procedure needs for that.
+//! to make. If the transaction's caller had decided on it, [`requested_by`] returns it. Else it is the next access of
+//! its procedure, as the engine knows it before the event.
 //!
 //! ```
-//! // The next access of the transaction that is aborted at a position.
-//! let call = call_before(history, place, t)?;
-//! let progress = progress_before(alloc, history, place, t)?;
-//! let next = procedures[call.procedure as usize].next(&call.args, progress.read.as_slice(), progress.made);
-//!
 //! // "line 12: 1 would write 2/101, which 0 read at line 6 and wrote at line 10", and one such line for each other edge.
 //! append_explanation(&mut text, history, place, Some(Pending { key, kind: Kind::Store }), &lines)?;
 //! ```
 #![tactic(auto)]
 
 mod bounds;
+mod call;
 mod edge;
 mod explanation;
 mod indexed_history;
 mod made;
-mod progress;
 mod refusal;
 mod requested;
 mod search;
@@ -43,11 +38,11 @@ mod source;
 mod text;
 mod writers;
 
+pub use call::{Call, call_before};
 pub use edge::{Earlier, Edge, cycle_edge};
 pub use explanation::{Pending, append_explanation};
 pub use indexed_history::IndexedHistory;
-pub use progress::{Call, Progress, call_before, progress_before};
 pub use refusal::{Refusal, append_refusal, refusal_of};
-pub use requested::requested_at;
+pub use requested::requested_by;
 pub use source::{Source, fall_source};
 pub use text::{append_edge, append_source};

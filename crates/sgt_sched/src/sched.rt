@@ -216,8 +216,8 @@ impl<R: Records, A: Accesses, G: Graph> Sched<R, A, G> {
         }
     }
 
-    // What the procedure of the transaction does next, without its answers, if it is live.
-    fn ahead(&self, t: Tid) -> Option<Ahead>
+    /// What the procedure of the transaction does next, if it is live.
+    pub fn ahead(&self, t: Tid) -> Option<Ahead>
         ensures live { IsSome result → (state self.now).nodes t ≡ true }
         ensures unended { IsSome result ↔ IsUnended (state self.now) t }
         ensures next { IfSome result (λ ahead. next_by (state self.now) t ahead ≡ next_left ((state self.now).left t)) }

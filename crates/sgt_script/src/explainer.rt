@@ -4,13 +4,13 @@ ghost use Rattle.std.specs.Prelude.{◌+◌, ◌^◌, ◌<◌};
 
 use crate::live_text::append_live;
 use crate::observer::Observer;
-use crate::pending::pending_at;
+use crate::pending::pending_by;
 use crate::refused::append_refused;
 use sgt_assembly::SgtEngine;
-use sgt_explain::{IndexedHistory, append_explanation};
+use sgt_explain::{IndexedHistory, Pending, append_explanation};
 use sgt_input::{Lines, Sink, write_all};
 use sgt_log::History;
-use sgt_model::NoMemory;
+use sgt_model::{Event, NoMemory};
 use std::alloc::Global;
 use std::marker::Model;
 
@@ -31,6 +31,8 @@ pub(crate) struct Explainer<'a, E: Sink> {
     history: IndexedHistory,
     /// The line number of each entry. If memory ran out for one, the list ends before it.
     lines: Vec<u64>,
+    /// The access that the transaction of the newest event was about to make.
+    pending: Option<Pending>,
     /// The explanations that are not yet written.
     text: Vec<u8>,
 }
@@ -57,6 +59,7 @@ impl<'a, E: Sink> Explainer<'a, E> {
             has_lost: false,
             history: IndexedHistory::new(alloc),
             lines: Vec::new(alloc),
+            pending: None,
             text: Vec::new(alloc),
         }
     }
@@ -106,7 +109,7 @@ impl<'a, E: Sink> Explainer<'a, E> {
 
     // Gathers the explanation of the entry at a position, if it aborts a transaction.
     fn explain_at(&mut self, engine: &SgtEngine, place: usize) {
-        if aborts_at(engine.history(), place) && self.append(engine, place).is_err() {
+        if aborts_at(engine.history(), place) && self.append(place).is_err() {
             self.has_lost = true;
         }
     }
@@ -119,23 +122,25 @@ impl<'a, E: Sink> Explainer<'a, E> {
     }
 
     // Appends that explanation. If an allocation fails, or failed for an entry, it appends nothing.
-    fn append(&mut self, engine: &SgtEngine, place: usize) -> Result<(), NoMemory> {
+    fn append(&mut self, place: usize) -> Result<(), NoMemory> {
         if self.history.len() <= place {
             return Err(NoMemory);
         }
-        let procedures = engine.sched().procedures();
-        let pending = pending_at(self.alloc, &self.history, place, procedures)?;
         append_explanation(
             &mut self.text,
             &self.history,
             place,
-            pending,
+            self.pending,
             self.lines.as_slice(),
         )
     }
 }
 
 impl<E: Sink> Observer for Explainer<'_, E> {
+    fn before(&mut self, engine: &SgtEngine, event: &Event) {
+        self.pending = pending_by(engine, event);
+    }
+
     fn answered(&mut self, engine: &SgtEngine, line: u64) {
         let entries = engine.history().len();
         if entries > 0 {

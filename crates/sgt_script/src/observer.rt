@@ -2,9 +2,13 @@
 
 use sgt_assembly::SgtEngine;
 use sgt_input::Lines;
+use sgt_model::Event;
 
 /// Follows a run. It changes nothing of the run and causes no fault.
 pub(crate) trait Observer: Drop {
+    /// The engine is about to answer this event.
+    fn before(&mut self, engine: &SgtEngine, event: &Event);
+
     /// The engine has answered the event of the line with this number: that event is the newest entry.
     fn answered(&mut self, engine: &SgtEngine, line: u64);
 
@@ -20,6 +24,8 @@ pub(crate) trait Observer: Drop {
 pub(crate) struct Unobserved;
 
 impl Observer for Unobserved {
+    fn before(&mut self, _engine: &SgtEngine, _event: &Event) {}
+
     fn answered(&mut self, _engine: &SgtEngine, _line: u64) {}
 
     fn written(&mut self, _lines: &Lines) {}

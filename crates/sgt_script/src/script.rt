@@ -316,6 +316,7 @@ fn answer_line<X: Observer>(
 {
     match kind {
         LineKind::Event => {
+            observer.before(engine, event);
             answer_event(engine, event, reply, output, text)?;
             observer.answered(engine, number);
             Ok(())

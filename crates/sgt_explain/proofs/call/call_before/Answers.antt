@@ -1,7 +1,7 @@
 use Rattle.std.proofs.Common.{rules, ◌≡◌, ◌∙◌, None}
 use Rattle.sgt_model.specs.Progress.{call_in}
-use Rattle.sgt_explain.proofs.Steps.{no_call_here, no_call_more}
-use Rattle.sgt_explain.proofs.progress.call_before.Goals as goal
+use Rattle.sgt_explain.proofs.StartingCalls.{no_call_here, no_call_more}
+use Rattle.sgt_explain.proofs.call.call_before.Goals as goal
 
 pub loop-at-preserved : goal.loop-at-preserved
 loop-at-preserved c =

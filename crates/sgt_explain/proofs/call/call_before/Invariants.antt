@@ -2,7 +2,7 @@ use Rattle.std.proofs.Common.{◌≡◌, ℕ, ◌<◌, ◌≤◌, None, length}
 use Rattle.sgt_model.specs.Progress.{call_of}
 use Rattle.sgt_explain.specs.Places.{entries_before}
 use Rattle.sgt_explain.specs.Calls.{placed_call}
-use Rattle.sgt_explain.proofs.progress.call_before.Given as goal
+use Rattle.sgt_explain.proofs.call.call_before.Given as goal
 
 abbrev pub invariant-loop-at : goal.invariant-loop-at
 invariant-loop-at l = record {
