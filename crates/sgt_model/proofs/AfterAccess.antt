@@ -263,8 +263,7 @@ look_requested s past t d k v c x = record {
         apart = r.pair.apart;
         first_stands = r.pair.first_stands;
         second_stands = r.pair.second_stands;
-        precedes =
-            r.pair.precedes;
+        precedes = r.pair.precedes;
       };
     }),
     (λ r. p.1 (record {
@@ -274,8 +273,7 @@ look_requested s past t d k v c x = record {
         apart = r.pair.apart;
         first_stands = r.pair.first_stands;
         second_stands = r.pair.second_stands;
-        precedes =
-            r.pair.precedes;
+        precedes = r.pair.precedes;
       };
     })),
   );
@@ -304,8 +302,7 @@ store_requested s past t d k v c x = record {
         apart = r.pair.apart;
         first_stands = r.pair.first_stands;
         second_stands = r.pair.second_stands;
-        precedes =
-            r.pair.precedes;
+        precedes = r.pair.precedes;
       };
     }),
     (λ r. p.1 (record {
@@ -315,8 +312,7 @@ store_requested s past t d k v c x = record {
         apart = r.pair.apart;
         first_stands = r.pair.first_stands;
         second_stands = r.pair.second_stands;
-        precedes =
-            r.pair.precedes;
+        precedes = r.pair.precedes;
       };
     })),
   );
