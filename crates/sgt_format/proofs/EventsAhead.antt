@@ -44,28 +44,28 @@ words_ahead text words gap at is within =
     omega (arith, ap length whole, length-append (words ++ gap) (drop at text), length-drop at text) in
     ap (λ k. take k text) (sym size) ∙ ap (take (length (words ++ gap))) whole ∙ take-append_seam (words ++ gap) (drop at text)
 
-number_ahead : (text : List ℕ) (at digits n : ℕ) → take digits (take (at + 8 - at) (drop at text)) ≡ decimal n → digits ≤ 8
+number_ahead : (text : List ℕ) (at digits n : ℕ) → take digits (take (length text - at) (drop at text)) ≡ decimal n
     → at + digits < length text → slice_index text (at + digits) ≡ 93
     → take (at + digits + 1) text ≡ take at text ++ (decimal n ++ 93 ∷ [])
-number_ahead text at digits n are few inside last =
+number_ahead text at digits n are inside last =
     let same : take digits (drop at text) ≡ decimal n =
-    sym (take-take digits (at + 8 - at) (drop at text) (omega (arith, few))) ∙ are in
+    sym (take-take digits (length text - at) (drop at text) (omega (arith, inside))) ∙ are in
     take_more text (at + digits) 0 inside ∙ ap (λ b. take (at + digits) text ++ b ∷ []) last
     ∙ ap (λ ds. ds ++ 93 ∷ []) (take-add at digits text ∙ ap (λ ds. take at text ++ ds) same)
     ∙ append_assoc (take at text) (decimal n) (93 ∷ [])
 
 pub line_ahead : (text words gap : List ℕ) (at digits n : ℕ) → text ≡ words ++ (gap ++ drop at text) → at ≤ length text
-    → take digits (take (at + 8 - at) (drop at text)) ≡ decimal n → digits ≤ 8 → at + digits < length text
+    → take digits (take (length text - at) (drop at text)) ≡ decimal n → at + digits < length text
     → slice_index text (at + digits) ≡ 93 → take (at + digits + 1) text ≡ words ++ (gap ++ (decimal n ++ 93 ∷ []))
-line_ahead text words gap at digits n is within are few inside last =
-    number_ahead text at digits n are few inside last
+line_ahead text words gap at digits n is within are inside last =
+    number_ahead text at digits n are inside last
     ∙ ap (λ front. front ++ (decimal n ++ 93 ∷ [])) (words_ahead text words gap at is within)
     ∙ append_assoc words gap (decimal n ++ 93 ∷ [])
 
 pub line_unbroken : (text : List ℕ) (at digits n : ℕ) → has_newline (take at text) ≡ false
-    → take digits (take (at + 8 - at) (drop at text)) ≡ decimal n → digits ≤ 8 → at + digits < length text
+    → take digits (take (length text - at) (drop at text)) ≡ decimal n → at + digits < length text
     → slice_index text (at + digits) ≡ 93 → n < 2 ^ 64 → has_newline (take (at + digits + 1) text) ≡ false
-line_unbroken text at digits n none are few inside last small =
-    ap has_newline (number_ahead text at digits n are few inside last)
+line_unbroken text at digits n none are inside last small =
+    ap has_newline (number_ahead text at digits n are inside last)
     ∙ no_newline-append (take at text) (decimal n ++ 93 ∷ []) none
     (no_newline-append (decimal n) (93 ∷ []) (no_newline-decimal n small) refl)

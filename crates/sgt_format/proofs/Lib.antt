@@ -7,7 +7,6 @@ pub mod Numerals
 pub mod LineTokens
 pub mod Written
 pub mod Words
-pub mod BracketedDigits
 pub mod PlainLines
 pub mod EventsAhead
 pub mod PlainCalls

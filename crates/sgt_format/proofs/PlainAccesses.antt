@@ -72,14 +72,14 @@ valued_means w r s u x a b c d first second third fourth =
 
 -- ---- a word and three numbers
 
-abbrev key_spaced : List ℕ → List ℕ → ℤ → List ℕ → List ℕ → ℤ → ℤ → List (List ℕ × Token) → List (List ℕ × Token)
+abbrev pub key_spaced : List ℕ → List ℕ → ℤ → List ℕ → List ℕ → ℤ → ℤ → List (List ℕ × Token) → List (List ℕ × Token)
 key_spaced w gap a before between b c last = ([], begin_array) ∷ ([], string w) ∷ (gap, number (signed_decimal a))
     ∷ (before, number (signed_decimal b)) ∷ (between, number (signed_decimal c)) ∷ last
 
-abbrev key_tokens : List ℕ → ℤ → ℤ → ℤ → List Token → List Token
+abbrev pub key_tokens : List ℕ → ℤ → ℤ → ℤ → List Token → List Token
 key_tokens w a b c last = begin_array ∷ string w ∷ number (signed_decimal a) ∷ number (signed_decimal b) ∷ number (signed_decimal c) ∷ last
 
-key_is_spaced : (w words line gap text rest : List ℕ) (a b c : ℤ) → IsUtf8 (quoted w) → IsGap gap → line ≡ words ++ (gap ++ text)
+pub key_is_spaced : (w words line gap text rest : List ℕ) (a b c : ℤ) → IsUtf8 (quoted w) → IsGap gap → line ≡ words ++ (gap ++ text)
     → (are : AreNumbers text rest a b c) → rest ≡ codes "]"
     → words ++ (gap ++ (signed_decimal a ++ (44 ∷ (are.before ++ (signed_decimal b ++ (44 ∷ (are.between ++ (signed_decimal c ++ codes "]"))))))))
     ≡ print_spaced false (key_spaced w gap a are.before are.between b c (([], end_array) ∷ []))
@@ -194,22 +194,6 @@ plain_write line gap text rest following written last a b c d t key is_gap begin
     ∙ ap (λ n. accessed n (option_and_then (λ k. of_value w k d) (key_of b c))) tid
     ∙ ap (λ k. accessed (Some t) (option_and_then (λ k. of_value w k d) k)) place in
     event_found line line _ (Some (Access t (Write key (Some d)))) all.utf8 refl (sym all.read) means
-
--- ---- three numbers at the front of a text
-
-pub three_numbers : (text rest before next more between other last : List ℕ) (a b c : ℤ) → text ≡ signed_decimal a ++ rest → IsGap before
-    → rest ≡ codes "," ++ (before ++ next) → next ≡ signed_decimal b ++ more → IsGap between → more ≡ codes "," ++ (between ++ other)
-    → other ≡ signed_decimal c ++ last → mag a < 1_000_000_000_000_000_000 → mag b < 1_000_000_000_000_000_000
-    → mag c < 1_000_000_000_000_000_000 → AreNumbers text last a b c
-three_numbers text rest before next more between other last a b c one gap two three gap' four five small small' small'' = record {
-  before = before;
-  between = between;
-  is_gap = gap;
-  is_gap_too = gap';
-  is = one ∙ ap (λ z. signed_decimal a ++ z) (two ∙ ap (λ z. 44 ∷ (before ++ z)) (three ∙ ap (λ z. signed_decimal b ++ z)
-      (four ∙ ap (λ z. 44 ∷ (between ++ z)) five)));
-  small = (small, (small', (small'', tt)));
-}
 
 -- ---- a word alone
 

@@ -11,8 +11,7 @@ ghost use Rattle.sgt_format.specs.declared.errors.LineError.TheVariants.{NoMemor
 use crate::access_line::{keyed, valued};
 use crate::errors::LineError;
 use crate::line_tokens::quick_event;
-use crate::plain_access::plain_access;
-use crate::plain_line::plain_event;
+use crate::plain_event::plain_event;
 use crate::tree::{items, read_tree};
 use json::Scratch;
 use serde_json::Value;
@@ -37,9 +36,6 @@ pub fn read_event(alloc: Global, scratch: &mut Scratch, line: &[u8]) -> Result<E
 {
     let mut event = Event::Step(Tid(0));
     if plain_event(line, &mut event).is_some() {
-        return Ok(event);
-    }
-    if let Some(event) = plain_access(line) {
         return Ok(event);
     }
     if let Some(event) = quick_event(line, scratch)? {

@@ -7,8 +7,7 @@ ghost use Rattle.sgt_format.specs.declared.errors.LineError.TheVariants.{NoMemor
 use crate::errors::LineError;
 use crate::event_line::{begin, event_from};
 use crate::line_tokens::quick_event;
-use crate::plain_access::plain_access;
-use crate::plain_line::plain_event;
+use crate::plain_event::plain_event;
 use crate::tree::{items, read_tree};
 use json::Scratch;
 use serde_json::Value;
@@ -72,10 +71,6 @@ fn read_other_line(
     ensures line { IfOk result (λ kind. script_line_of line.now ≡ Ok (line_of kind event.new)) }
     ensures error { IfErr result (λ error. error ≢ NoMemory → script_line_of line.now ≡ Err error) }
 {
-    if let Some(found) = plain_access(line) {
-        *event = found;
-        return Ok(LineKind::Event);
-    }
     if let Some(found) = quick_event(line, scratch)? {
         *event = found;
         return Ok(LineKind::Event);

@@ -6,10 +6,7 @@ use Rattle.sgt_format.proofs.plain_line.plain_record.Goals as goal
 pub returns : goal.returns
 returns c =
     let table : to_z w64 (of_z w64 c.in_ok-table.table) ≡ c.in_ok-table.table = sym (from_bits c.in_ok-table.table (search rules)) in
-    let number : to_z w64 (of_z w64 c.in_ok-number.number) ≡ c.in_ok-number.number = sym (from_bits c.in_ok-number.number (search rules)) in
-    let value : to_z w64 (of_z w64 c.in_ok-value.value) ≡ c.in_ok-value.value = sym (from_bits c.in_ok-value.value (search rules)) in
-    rw (table, number, value) (plain_record _ c.in_ok-item_after.ensures.0 _ _ c.in_ok-item_after-2.ensures.0 _ _
-    c.in_ok-item_after-3.ensures.0 _ _ _ _ _ c.in_ok-item_after.ensures.1 c.in_ok-item_after-2.ensures.1
-    c.in_ok-item_after-3.ensures.1 c.in_ok-item_after.ensures.2 c.in_ok-table.ensures.text c.in_ok-item_after-2.ensures.2
-    c.in_ok-number.ensures.text c.in_ok-item_after-3.ensures.2 c.in_ok-value.ensures.text (c.if-not-is_bracket.ensures refl)
-    c.in_ok-table.ensures.small c.in_ok-number.ensures.small c.in_ok-value.ensures.small)
+    let number : to_z w64 (of_z w64 c.in_ok-table.number) ≡ c.in_ok-table.number = sym (from_bits c.in_ok-table.number (search rules)) in
+    let value : to_z w64 (of_z w64 c.in_ok-table.value) ≡ c.in_ok-table.value = sym (from_bits c.in_ok-table.value (search rules)) in
+    rw (table, number, value) (plain_record _ c.in_ok-item_after.ensures.0 _ _ _ _ _ c.in_ok-item_after.ensures.1
+    c.in_ok-item_after.ensures.2 c.in_ok-table.ensures (c.if-not-is_bracket.ensures refl))

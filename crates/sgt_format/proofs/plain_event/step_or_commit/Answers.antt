@@ -1,6 +1,6 @@
 use Rattle.std.proofs.Common.{refl}
 use Rattle.sgt_format.proofs.PlainLines.{plain_step, plain_commit}
-use Rattle.sgt_format.proofs.plain_line.read_event_ahead.Goals as goal
+use Rattle.sgt_format.proofs.plain_event.step_or_commit.Goals as goal
 
 pub returns-then-text-eq101-clause-event : goal.returns-then-text-eq101-clause-event
 returns-then-text-eq101-clause-event c =

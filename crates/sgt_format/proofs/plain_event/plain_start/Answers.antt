@@ -1,14 +1,8 @@
-use Rattle.std.proofs.Common.{refl, subst}
+use Rattle.std.proofs.Common.{subst}
 use Rattle.std.proofs.lemmas.List.{take_rest}
 use Rattle.sgt_format.specs.PlainLines.{IsCall}
-use Rattle.sgt_format.proofs.PlainLines.{plain_quit}
 use Rattle.sgt_format.proofs.PlainCalls.{plain_start}
-use Rattle.sgt_format.proofs.plain_line.plain_start_or_quit.Goals as goal
-
-pub returns-then-line-eq105 : goal.returns-then-line-eq105
-returns-then-line-eq105 c =
-    plain_quit _ c.in_ok-tid_after.ensures.number.0 _ _ c.in_ok-tid_after.ensures.number.1 c.in_ok-tid_after.ensures.number.2 refl
-    c.in_ok-tid_after.ensures.small
+use Rattle.sgt_format.proofs.plain_event.plain_start.Goals as goal
 
 pub returns : goal.returns
 returns c =

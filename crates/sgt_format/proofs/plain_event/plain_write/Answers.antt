@@ -3,7 +3,7 @@ use Rattle.sgt_proc_json.specs.Trees.{natural}
 use Rattle.sgt_format.specs.RecordLines.{key_of}
 use Rattle.sgt_format.proofs.Numerals.{from_bits}
 use Rattle.sgt_format.proofs.PlainAccesses.{plain_write}
-use Rattle.sgt_format.proofs.plain_access.plain_write.Goals as goal
+use Rattle.sgt_format.proofs.plain_event.plain_write.Goals as goal
 
 pub returns : goal.returns
 returns c =
