@@ -1,18 +1,15 @@
 //! Errors in the accounts of an opening, the first line of an input.
-use crate::message::{Piece, reported};
+use crate::message::Message;
 use crate::typed::Typed;
 use serde_json::Value;
 use sgt_format::items;
-use sgt_model::{LEAST, MOST, NoMemory, is_value};
+use sgt_model::{LEAST, MOST, is_value};
 
 /// The names of the four numbers of an account.
 pub(crate) const NAMES: [&str; 4] = ["name", "customer", "saving", "checking"];
 
 /// The error of the first account that has one. Accounts are counted from 1.
-pub(crate) fn account_fault(
-    typed: Typed<'_>,
-    accounts: &[Value],
-) -> Result<Option<String>, NoMemory> {
+pub(crate) fn account_fault(typed: Typed<'_>, accounts: &[Value]) -> Message {
     for (index, account) in accounts.iter().enumerate() {
         let fault = fault_after(typed, &accounts[..index], account)?;
         if fault.is_some() {
@@ -22,67 +19,23 @@ pub(crate) fn account_fault(
     Ok(None)
 }
 
-// The error of an account after these.
-fn fault_after(
-    typed: Typed<'_>,
-    earlier: &[Value],
-    account: &Value,
-) -> Result<Option<String>, NoMemory> {
-    match out_of_range(account) {
-        Some((name, amount)) => {
-            reported(
-                typed,
-                &[
-                    Piece::Words("\"accounts\": the "),
-                    Piece::Words(name),
-                    Piece::Words(" of account "),
-                    Piece::Count(number_after(earlier)),
-                    Piece::Words(" is "),
-                    Piece::Number(amount),
-                    Piece::Words(", and has to be from "),
-                    Piece::Number(LEAST),
-                    Piece::Words(" to "),
-                    Piece::Number(MOST),
-                ],
-            )
-        }
-        None => taken_fault(typed, earlier, account),
-    }
-}
-
-// The first number of an account that is out of range, with its name.
-fn out_of_range(account: &Value) -> Option<(&'static str, i64)> {
+// The error of an account after these: its first number that is out of range, else the one that an earlier account has.
+fn fault_after(typed: Typed<'_>, earlier: &[Value], account: &Value) -> Message {
+    let number = number_after(earlier);
     for (position, name) in NAMES.iter().enumerate() {
         if let Some(amount) = number_at(account, position) {
             if !is_value(amount) {
-                return Some((*name, amount));
+                return Ok(Some(format!(in typed.alloc;
+                    "\"accounts\": the {name} of account {number} is {amount}, and has to be from {LEAST} to {MOST}"
+                )?));
             }
         }
     }
-    None
-}
-
-// The message that an earlier account has the name or the customer of this one.
-fn taken_fault(
-    typed: Typed<'_>,
-    earlier: &[Value],
-    account: &Value,
-) -> Result<Option<String>, NoMemory> {
     for (position, name) in ["name", "customer"].iter().enumerate() {
-        if let Some((number, first)) = taken(earlier, account, position) {
-            return reported(
-                typed,
-                &[
-                    Piece::Words("\"accounts\": account "),
-                    Piece::Count(number_after(earlier)),
-                    Piece::Words(" has the "),
-                    Piece::Words(*name),
-                    Piece::Words(" "),
-                    Piece::Number(number),
-                    Piece::Words(" of account "),
-                    Piece::Count(first),
-                ],
-            );
+        if let Some((amount, first)) = taken(earlier, account, position) {
+            return Ok(Some(format!(in typed.alloc;
+                "\"accounts\": account {number} has the {name} {amount} of account {first}"
+            )?));
         }
     }
     Ok(None)

@@ -4,7 +4,7 @@ ghost use Rattle.sgt_line_errors.specs.FaultyLines.{line_of};
 
 use crate::command::Command;
 use crate::json_text::json_fault;
-use crate::message::{Piece, reported};
+use crate::message::{Message, words};
 use crate::record::record_fault;
 use crate::refusal::explain_opening;
 use crate::request::{event_fault, job_fault};
@@ -31,8 +31,8 @@ pub fn diagnose(
 {
     let typed = Typed { alloc, text: line };
     match fault {
-        Fault::NoOpening => reported(typed, &[Piece::Words("the input is empty")]),
-        Fault::LongLine(_) => reported(typed, &[Piece::Words("a line has at most 65536 bytes")]),
+        Fault::NoOpening => words(typed, "the input is empty"),
+        Fault::LongLine(_) => words(typed, "a line has at most 65536 bytes"),
         Fault::NotJson(_) => json_fault(typed),
         Fault::BadLine(1)
         | Fault::BadLimits
@@ -48,12 +48,7 @@ pub fn diagnose(
 }
 
 // The error in the tree of a line after the opening.
-fn tree_fault(
-    typed: Typed<'_>,
-    fault: &Fault,
-    command: Command,
-    tree: &Value,
-) -> Result<Option<String>, NoMemory> {
+fn tree_fault(typed: Typed<'_>, fault: &Fault, command: Command, tree: &Value) -> Message {
     match (fault, command) {
         (Fault::BadRecord(_), _) => record_fault(typed, tree),
         (_, Command::Script) => event_fault(typed, tree),

@@ -2,35 +2,30 @@
 use crate::typed::{Follower, Typed};
 use serde_json::Value;
 use sgt_model::NoMemory;
+use std::alloc::Global;
 
 /// The maximum number of characters of a text that are shown.
 const LONGEST: usize = 40;
 
-/// Appends a tree as it was typed to a message, without spaces between its parts: its first 40 characters, and two
-/// dots if there are more. Each character that is not printable ASCII is shown as `?`.
-pub(crate) fn append_excerpt(
-    typed: Typed<'_>,
-    message: &mut String,
-    tree: &Value,
-) -> Result<(), NoMemory> {
+/// A tree as it was typed, without spaces between its parts: its first 40 characters, and two dots if there are more.
+/// Each character that is not printable ASCII is shown as `?`.
+pub(crate) fn excerpt(typed: Typed<'_>, tree: &Value) -> Result<String, NoMemory> {
     if tree.is_array() || tree.is_object() || tree.is_number() {
         if let Some(text) = typed.spelling(tree)? {
-            return append_shortened(message, text);
+            return shortened(typed.alloc, text);
         }
     }
-    append_word(typed, message, tree)
+    shortened(typed.alloc, tree.to_string(typed.alloc)?.as_str())
 }
 
-/// Appends a tree as compact JSON to a message, shortened in the same way.
-pub(crate) fn append_word(
-    typed: Typed<'_>,
-    message: &mut String,
-    tree: &Value,
-) -> Result<(), NoMemory> {
-    append_shortened(message, tree.to_string(typed.alloc)?.as_str())
+/// A word of the input as JSON, shortened in the same way.
+pub(crate) fn word_excerpt(typed: Typed<'_>, word: &str) -> Result<String, NoMemory> {
+    let tree = Value::try_from_str(typed.alloc, word)?;
+    shortened(typed.alloc, tree.to_string(typed.alloc)?.as_str())
 }
 
-fn append_shortened(message: &mut String, text: &str) -> Result<(), NoMemory> {
+fn shortened(alloc: Global, text: &str) -> Result<String, NoMemory> {
+    let mut start = String::new(alloc);
     let mut follower = Follower::new();
     let mut count = 0;
     for character in text.chars() {
@@ -40,13 +35,13 @@ fn append_shortened(message: &mut String, text: &str) -> Result<(), NoMemory> {
             continue;
         }
         if count >= LONGEST {
-            message.push_str("..")?;
-            return Ok(());
+            start.push_str("..")?;
+            return Ok(start);
         }
         count += 1;
-        message.push(printable(character))?;
+        start.push(printable(character))?;
     }
-    Ok(())
+    Ok(start)
 }
 
 // A byte that has the same part in strings as the character.

@@ -1,79 +1,40 @@
 //! The flaws of a procedure in words.
-use crate::message::{Piece, message};
+use crate::message::Message;
 use crate::search::Search;
 use crate::typed::Typed;
 use serde_json::Value;
 use sgt_format::items;
-use sgt_model::{LAST_TABLE, NoMemory};
+use sgt_model::LAST_TABLE;
 use sgt_proc::{
     DEEPEST, Flaw, LAST_CODE, LAST_REGISTER, MOST_ANSWERS, MOST_ARGUMENTS, MOST_STATEMENTS,
 };
 
-/// A flaw, with its position.
-#[derive(Drop)]
-pub(crate) struct Found {
-    /// The positions that lead to it.
-    pub place: Vec<u64>,
-    /// What is wrong there.
-    pub what: String,
-}
-
-/// The first position of this flaw in a procedure, and what is wrong there.
-pub(crate) fn find_flaw(
-    typed: Typed<'_>,
-    procedure: &Value,
-    flaw: Flaw,
-) -> Result<Option<Found>, NoMemory> {
+/// The first position of this flaw in a procedure, and what is wrong there, as `1 2 1: code 1000 is not from 1 to 999`.
+pub(crate) fn flaw_fault(typed: Typed<'_>, procedure: &Value, flaw: Flaw) -> Message {
     let Some(arguments) = arguments_of(procedure) else {
         return Ok(None);
     };
     let mut search = Search::new(typed.alloc, flaw, arguments);
-    match search.run(procedure)? {
-        Some(number) => Ok(Some(Found {
-            what: flaw_text(typed, flaw, number, arguments)?,
-            place: search.into_place(),
-        })),
-        None => Ok(None),
+    let Some(number) = search.run(procedure)? else {
+        return Ok(None);
+    };
+    let mut text = String::new(typed.alloc);
+    for (index, position) in search.place().iter().enumerate() {
+        let space = if index == 0 { "" } else { " " };
+        text = format!(in typed.alloc; "{text}{space}{position}")?;
     }
+    let (before, following) = words_around(flaw);
+    text = format!(in typed.alloc; "{text}: {before}{number}{following}")?;
+    if let Some(most) = most(flaw, arguments) {
+        let words = words_after_most(flaw);
+        text = format!(in typed.alloc; "{text}{most}{words}")?;
+    }
+    Ok(Some(text))
 }
 
 // How many arguments a procedure takes.
 fn arguments_of(procedure: &Value) -> Option<i64> {
     items(procedure)?.first()?.as_i64()
-}
-
-// A flaw of a number in words, in a procedure that takes this many arguments.
-fn flaw_text(
-    typed: Typed<'_>,
-    flaw: Flaw,
-    number: i64,
-    arguments: i64,
-) -> Result<String, NoMemory> {
-    let (before, following) = words_around(flaw);
-    match most(flaw, arguments) {
-        Some(most) => {
-            message(
-                typed,
-                &[
-                    Piece::Words(before),
-                    Piece::Number(number),
-                    Piece::Words(following),
-                    Piece::Number(most),
-                    Piece::Words(words_after_most(flaw)),
-                ],
-            )
-        }
-        None => {
-            message(
-                typed,
-                &[
-                    Piece::Words(before),
-                    Piece::Number(number),
-                    Piece::Words(following),
-                ],
-            )
-        }
-    }
 }
 
 // The words before and after the number of a flaw.

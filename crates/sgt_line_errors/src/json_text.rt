@@ -1,6 +1,6 @@
 //! Where a line stops being JSON.
 use crate::brackets::{Place, unclosed_procedure};
-use crate::message::{Piece, reported};
+use crate::message::Message;
 use crate::typed::{Follower, Typed};
 use json::{Scratch, is_valid};
 use serde_json::Value;
@@ -13,7 +13,7 @@ const BYTE_ORDER_MARK: &[u8] = b"\xef\xbb\xbf";
 const DEEPEST: u64 = 127;
 
 /// The position at which a text that is no JSON stops being it. Columns are bytes, counted from 1.
-pub(crate) fn json_fault(typed: Typed<'_>) -> Result<Option<String>, NoMemory> {
+pub(crate) fn json_fault(typed: Typed<'_>) -> Message {
     let line = typed.text;
     if line.starts_with(BYTE_ORDER_MARK) {
         return at_column(typed, 1, "a byte order mark: save the input without it");
@@ -48,7 +48,7 @@ pub(crate) fn json_fault(typed: Typed<'_>) -> Result<Option<String>, NoMemory> {
 }
 
 // The error of a text that stops being JSON at this column.
-fn text_fault(typed: Typed<'_>, text: &str, column: usize) -> Result<Option<String>, NoMemory> {
+fn text_fault(typed: Typed<'_>, text: &str, column: usize) -> Message {
     let before = &text.as_bytes()[..column.min(text.len())];
     if depth(before) > DEEPEST {
         return at_column(typed, column, "lists and objects are more than 127 deep");
@@ -63,34 +63,18 @@ fn text_fault(typed: Typed<'_>, text: &str, column: usize) -> Result<Option<Stri
 }
 
 // The error of line 1 whose object ends at this column although a list in it is open.
-fn unclosed_fault(
-    typed: Typed<'_>,
-    column: usize,
-    place: Place,
-) -> Result<Option<String>, NoMemory> {
-    reported(
-        typed,
-        &[
-            Piece::Words("column "),
-            Piece::Count(column as u64),
-            Piece::Words(": not JSON from here: a bracket is missing in procedure "),
-            Piece::Count(place.procedure),
-            Piece::Words(", which begins at column "),
-            Piece::Count(place.column as u64),
-        ],
-    )
+fn unclosed_fault(typed: Typed<'_>, column: usize, place: Place) -> Message {
+    let Place {
+        procedure,
+        column: first,
+    } = place;
+    Ok(Some(format!(in typed.alloc;
+        "column {column}: not JSON from here: a bracket is missing in procedure {procedure}, which begins at column {first}"
+    )?))
 }
 
-fn at_column(typed: Typed<'_>, column: usize, words: &str) -> Result<Option<String>, NoMemory> {
-    reported(
-        typed,
-        &[
-            Piece::Words("column "),
-            Piece::Count(column as u64),
-            Piece::Words(": "),
-            Piece::Words(words),
-        ],
-    )
+fn at_column(typed: Typed<'_>, column: usize, words: &str) -> Message {
+    Ok(Some(format!(in typed.alloc; "column {column}: {words}")?))
 }
 
 // How many lists and objects are open at the end of a text, as far as it is JSON.

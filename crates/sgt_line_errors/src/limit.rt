@@ -1,34 +1,21 @@
 //! Errors in the limits of an opening, the first line of an input.
-use crate::message::{Piece, reported};
+use crate::message::Message;
 use crate::typed::Typed;
 use serde_json::Value;
-use sgt_model::{MOST_BEGINS, MOST_LIVE, NoMemory};
+use sgt_model::{MOST_BEGINS, MOST_LIVE};
 
 /// The first of these limits that is out of range. At least this many live transactions must be allowed.
-pub(crate) fn limit_fault(
-    typed: Typed<'_>,
-    least: u32,
-    limits: &[Value],
-) -> Result<Option<String>, NoMemory> {
+pub(crate) fn limit_fault(typed: Typed<'_>, least: u32, limits: &[Value]) -> Message {
     for (position, tree) in limits[..limits.len().min(3)].iter().enumerate() {
         let Some(number) = tree.as_i64() else {
             return Ok(None);
         };
         let (first, last) = range(position);
         if number < first || last < number {
-            return reported(
-                typed,
-                &[
-                    Piece::Words("\"limits\": the "),
-                    Piece::Words(ordinal(position)),
-                    Piece::Words(" number is "),
-                    Piece::Number(number),
-                    Piece::Words(", and has to be from "),
-                    Piece::Number(first),
-                    Piece::Words(" to "),
-                    Piece::Number(last),
-                ],
-            );
+            let nth = ordinal(position);
+            return Ok(Some(format!(in typed.alloc;
+                "\"limits\": the {nth} number is {number}, and has to be from {first} to {last}"
+            )?));
         }
     }
     worker_fault(typed, least, limits)
@@ -44,24 +31,11 @@ fn range(position: usize) -> (i64, i64) {
 }
 
 // The message that fewer transactions may be live than there are workers.
-fn worker_fault(
-    typed: Typed<'_>,
-    least: u32,
-    limits: &[Value],
-) -> Result<Option<String>, NoMemory> {
+fn worker_fault(typed: Typed<'_>, least: u32, limits: &[Value]) -> Message {
     match live(limits) {
-        Some(live) if live < i64::from(least) => {
-            reported(
-                typed,
-                &[
-                    Piece::Words("\"limits\": the first number is "),
-                    Piece::Number(live),
-                    Piece::Words(", and the workers are "),
-                    Piece::Count(u64::from(least)),
-                    Piece::Words(": more than transactions may be live; take fewer with --workers"),
-                ],
-            )
-        }
+        Some(live) if live < i64::from(least) => Ok(Some(format!(in typed.alloc;
+            "\"limits\": the first number is {live}, and the workers are {least}: more than transactions may be live; take fewer with --workers"
+        )?)),
         _ => Ok(None),
     }
 }

@@ -1,12 +1,12 @@
 //! Errors in an opening, the first line of an input.
 use crate::account::NAMES;
+use crate::excerpt::{excerpt, word_excerpt};
 use crate::limit::ordinal;
-use crate::message::{Piece, reported, unexpected};
+use crate::message::{Message, unexpected};
 use crate::tree::first_not_whole;
 use crate::typed::Typed;
 use serde_json::Value;
 use sgt_format::items;
-use sgt_model::NoMemory;
 
 /// The members of an opening.
 const MEMBERS: [&str; 3] = ["limits", "accounts", "procedures"];
@@ -14,58 +14,25 @@ const MEMBERS: [&str; 3] = ["limits", "accounts", "procedures"];
 /// How an opening is written.
 const OPENING: &str = "an opening, as {\"limits\":[1,10],\"accounts\":[],\"procedures\":[]}";
 
-/// A part of an opening with a shape error, with its tree.
-#[derive(Clone, Copy)]
-enum Misshapen<'a> {
-    Limits(&'a Value),
-    /// The limit at this position.
-    Limit(usize, &'a Value),
-    /// The member of this name, which must be a list.
-    Member(&'static str, &'a Value),
-    /// The account of this number, from 1.
-    Account(u64, &'a Value),
-    /// The number of this name in the account of this number.
-    Amount(&'static str, u64, &'a Value),
-}
-
 /// Why a tree is no opening: the first error, in the order in which a run tests them.
-pub(crate) fn opening_fault(typed: Typed<'_>, tree: &Value) -> Result<Option<String>, NoMemory> {
+pub(crate) fn opening_fault(typed: Typed<'_>, tree: &Value) -> Message {
     if !tree.is_object() {
         return unexpected(typed, OPENING, tree);
     }
-    match (missing_member(tree), unknown_member(tree)) {
-        (Some(name), Some(unknown)) => {
-            reported(
-                typed,
-                &[
-                    Piece::Words("the member \""),
-                    Piece::Words(name),
-                    Piece::Words("\" is missing, and "),
-                    Piece::Word(unknown),
-                    Piece::Words(" is unknown"),
-                ],
-            )
-        }
-        (Some(name), None) => {
-            reported(
-                typed,
-                &[
-                    Piece::Words("the member \""),
-                    Piece::Words(name),
-                    Piece::Words("\" is missing"),
-                ],
-            )
-        }
-        (None, Some(unknown)) => {
-            reported(
-                typed,
-                &[
-                    Piece::Words("the member "),
-                    Piece::Word(unknown),
-                    Piece::Words(" is unknown"),
-                ],
-            )
-        }
+    let unknown = match unknown_member(tree) {
+        Some(name) => Some(word_excerpt(typed, name)?),
+        None => None,
+    };
+    match (missing_member(tree), unknown) {
+        (Some(name), Some(unknown)) => Ok(Some(format!(in typed.alloc;
+            "the member \"{name}\" is missing, and {unknown} is unknown"
+        )?)),
+        (Some(name), None) => Ok(Some(format!(in typed.alloc;
+            "the member \"{name}\" is missing"
+        )?)),
+        (None, Some(unknown)) => Ok(Some(format!(in typed.alloc;
+            "the member {unknown} is unknown"
+        )?)),
         (None, None) => shape_fault(typed, tree),
     }
 }
@@ -90,125 +57,79 @@ fn unknown_member(tree: &Value) -> Option<&str> {
     None
 }
 
-// The shape error in the members of an opening.
-fn shape_fault(typed: Typed<'_>, tree: &Value) -> Result<Option<String>, NoMemory> {
-    match first_misshapen(tree) {
-        Some(part) => part_fault(typed, part),
+// The first shape error in the members of an opening.
+fn shape_fault(typed: Typed<'_>, tree: &Value) -> Message {
+    if let Some(limits) = tree.get("limits") {
+        let fault = limits_fault(typed, limits)?;
+        if fault.is_some() {
+            return Ok(fault);
+        }
+    }
+    for name in ["accounts", "procedures"] {
+        if let Some(member) = tree.get(name) {
+            if items(member).is_none() {
+                let found = excerpt(typed, member)?;
+                return Ok(Some(format!(in typed.alloc;
+                    "\"{name}\": expected a list, found {found}"
+                )?));
+            }
+        }
+    }
+    match tree.get("accounts") {
+        Some(accounts) => accounts_fault(typed, items(accounts).unwrap_or(&[])),
         None => Ok(None),
     }
 }
 
-// What was expected in place of a part of an opening with a shape error.
-fn part_fault(typed: Typed<'_>, part: Misshapen<'_>) -> Result<Option<String>, NoMemory> {
-    match part {
-        Misshapen::Limits(tree) => {
-            reported(
-                typed,
-                &[
-                    Piece::Words(
-                        "\"limits\": expected a list of two or three whole numbers, found ",
-                    ),
-                    Piece::Tree(tree),
-                ],
-            )
-        }
-        Misshapen::Limit(position, tree) => {
-            reported(
-                typed,
-                &[
-                    Piece::Words("\"limits\": expected a whole number as the "),
-                    Piece::Words(ordinal(position)),
-                    Piece::Words(", found "),
-                    Piece::Tree(tree),
-                ],
-            )
-        }
-        Misshapen::Member(name, tree) => {
-            reported(
-                typed,
-                &[
-                    Piece::Words("\""),
-                    Piece::Words(name),
-                    Piece::Words("\": expected a list, found "),
-                    Piece::Tree(tree),
-                ],
-            )
-        }
-        Misshapen::Account(number, tree) => {
-            reported(
-                typed,
-                &[
-                    Piece::Words(
-                        "\"accounts\": expected [name,customer,saving,checking] as account ",
-                    ),
-                    Piece::Count(number),
-                    Piece::Words(", found "),
-                    Piece::Tree(tree),
-                ],
-            )
-        }
-        Misshapen::Amount(name, number, tree) => {
-            reported(
-                typed,
-                &[
-                    Piece::Words("\"accounts\": expected a whole number as the "),
-                    Piece::Words(name),
-                    Piece::Words(" of account "),
-                    Piece::Count(number),
-                    Piece::Words(", found "),
-                    Piece::Tree(tree),
-                ],
-            )
-        }
-    }
-}
-
-// The first part of an opening with a shape error.
-fn first_misshapen(tree: &Value) -> Option<Misshapen<'_>> {
-    let accounts = tree.get("accounts")?;
-    let misshapen = misshapen_limits(tree.get("limits")?);
-    if misshapen.is_some() {
-        return misshapen;
-    }
-    if items(accounts).is_none() {
-        return Some(Misshapen::Member("accounts", accounts));
-    }
-    let procedures = tree.get("procedures")?;
-    if items(procedures).is_none() {
-        return Some(Misshapen::Member("procedures", procedures));
-    }
-    misshapen_accounts(items(accounts)?)
-}
-
 // The shape error in the limits.
-fn misshapen_limits(limits: &Value) -> Option<Misshapen<'_>> {
+fn limits_fault(typed: Typed<'_>, limits: &Value) -> Message {
     match items(limits) {
         Some(numbers) if numbers.len() == 2 || numbers.len() == 3 => {
-            let (position, tree) = first_not_whole(numbers)?;
-            Some(Misshapen::Limit(position, tree))
+            let Some((position, tree)) = first_not_whole(numbers) else {
+                return Ok(None);
+            };
+            let (nth, found) = (ordinal(position), excerpt(typed, tree)?);
+            Ok(Some(format!(in typed.alloc;
+                "\"limits\": expected a whole number as the {nth}, found {found}"
+            )?))
         }
-        _ => Some(Misshapen::Limits(limits)),
+        _ => {
+            let found = excerpt(typed, limits)?;
+            Ok(Some(format!(in typed.alloc;
+                "\"limits\": expected a list of two or three whole numbers, found {found}"
+            )?))
+        }
     }
 }
 
-// The shape error in the accounts.
-fn misshapen_accounts(accounts: &[Value]) -> Option<Misshapen<'_>> {
+// The first shape error in the accounts. They are counted from 1.
+fn accounts_fault(typed: Typed<'_>, accounts: &[Value]) -> Message {
     for (index, account) in accounts.iter().enumerate() {
-        let misshapen = misshapen_account((index as u64).saturating_add(1), account);
-        if misshapen.is_some() {
-            return misshapen;
+        let fault = account_fault(typed, (index as u64).saturating_add(1), account)?;
+        if fault.is_some() {
+            return Ok(fault);
         }
     }
-    None
+    Ok(None)
 }
 
 // The shape error in the account of this number.
-fn misshapen_account(number: u64, account: &Value) -> Option<Misshapen<'_>> {
+fn account_fault(typed: Typed<'_>, number: u64, account: &Value) -> Message {
     match items(account) {
         Some(numbers) if numbers.len() == 4 => {
-            let (position, tree) = first_not_whole(numbers)?;
-            Some(Misshapen::Amount(*NAMES.get(position)?, number, tree))
+            let Some((position, tree)) = first_not_whole(numbers) else {
+                return Ok(None);
+            };
+            let (name, found) = (NAMES[position.min(3)], excerpt(typed, tree)?);
+            Ok(Some(format!(in typed.alloc;
+                "\"accounts\": expected a whole number as the {name} of account {number}, found {found}"
+            )?))
         }
-        _ => Some(Misshapen::Account(number, account)),
+        _ => {
+            let found = excerpt(typed, account)?;
+            Ok(Some(format!(in typed.alloc;
+                "\"accounts\": expected [name,customer,saving,checking] as account {number}, found {found}"
+            )?))
+        }
     }
 }

@@ -1,70 +1,35 @@
 //! Errors in a record line.
-use crate::message::{Piece, reported};
+use crate::message::Message;
 use crate::typed::Typed;
 use serde_json::Value;
 use sgt_format::items;
-use sgt_model::{LAST_TABLE, LEAST, MOST, NoMemory};
+use sgt_model::{LAST_TABLE, LEAST, MOST};
 
-/// The numbers of a record line, in or out of range.
-#[derive(Clone, Copy)]
-pub(crate) struct RecordNumbers {
-    table: i64,
-    number: i64,
-    value: i64,
-}
-
-/// The numbers of a list of a word and three whole numbers.
-pub(crate) fn numbers(tree: &Value) -> Option<RecordNumbers> {
+/// The table, the number and the value of a list of a word and three whole numbers, in or out of range.
+pub(crate) fn numbers(tree: &Value) -> Option<(i64, i64, i64)> {
     match items(tree)? {
-        [_, table, number, value] => Some(RecordNumbers {
-            table: table.as_i64()?,
-            number: number.as_i64()?,
-            value: value.as_i64()?,
-        }),
+        [_, table, number, value] => Some((table.as_i64()?, number.as_i64()?, value.as_i64()?)),
         _ => None,
     }
 }
 
-/// Why a record line adds no record, or none if a tree does not have its form.
-pub(crate) fn record_fault(typed: Typed<'_>, tree: &Value) -> Result<Option<String>, NoMemory> {
-    match numbers(tree) {
-        Some(said) => numbers_fault(typed, said),
-        None => Ok(None),
-    }
-}
-
-// The first of the numbers that is out of range; else the message that the record exists already.
-fn numbers_fault(typed: Typed<'_>, said: RecordNumbers) -> Result<Option<String>, NoMemory> {
+/// Why a record line adds no record: the first of its numbers that is out of range, else that the record exists already.
+/// None if a tree does not have its form.
+pub(crate) fn record_fault(typed: Typed<'_>, tree: &Value) -> Message {
+    let Some((table, number, value)) = numbers(tree) else {
+        return Ok(None);
+    };
     let ranges = [
-        ("table", said.table, 0, i64::from(LAST_TABLE)),
-        ("number", said.number, LEAST, MOST),
-        ("value", said.value, LEAST, MOST),
+        ("table", table, 0, i64::from(LAST_TABLE)),
+        ("number", number, LEAST, MOST),
+        ("value", value, LEAST, MOST),
     ];
     for (name, given, first, last) in ranges.iter() {
         if *given < *first || *last < *given {
-            return reported(
-                typed,
-                &[
-                    Piece::Words("the "),
-                    Piece::Words(*name),
-                    Piece::Words(" is "),
-                    Piece::Number(*given),
-                    Piece::Words(", and has to be from "),
-                    Piece::Number(*first),
-                    Piece::Words(" to "),
-                    Piece::Number(*last),
-                ],
-            );
+            return Ok(Some(format!(in typed.alloc;
+                "the {name} is {given}, and has to be from {first} to {last}"
+            )?));
         }
     }
-    reported(
-        typed,
-        &[
-            Piece::Words("record "),
-            Piece::Number(said.table),
-            Piece::Words("/"),
-            Piece::Number(said.number),
-            Piece::Words(" is there already"),
-        ],
-    )
+    Ok(Some(format!(in typed.alloc; "record {table}/{number} is there already")?))
 }

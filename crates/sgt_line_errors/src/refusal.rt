@@ -4,17 +4,16 @@ ghost use Rattle.sgt_format.specs.declared.errors.OpeningError.{OpeningError};
 ghost use Rattle.sgt_line_errors.specs.Refusals.{SpellsNoOpening, SpellsNoProcedure};
 
 use crate::account::account_fault;
-use crate::flaw::find_flaw;
+use crate::flaw::flaw_fault;
 use crate::json_text::json_fault;
 use crate::limit::limit_fault;
-use crate::message::{Piece, reported};
+use crate::message::Message;
 use crate::opening::opening_fault;
 use crate::shape_error::shape_error;
 use crate::typed::Typed;
 use serde_json::Value;
 use sgt_format::{OpeningError, items, read_opening, read_procedure_line, read_tree};
 use sgt_model::NoMemory;
-use sgt_proc::Flaw;
 use sgt_smallbank::PROCEDURES;
 use std::alloc::Global;
 
@@ -38,7 +37,7 @@ pub fn explain_opening(
         alloc,
         text: opening,
     };
-    opening_text(typed, &error, least)
+    explained(typed, &error, Some(least))
 }
 
 /// Explains in the same way why a text is no procedure, as one item of an opening's list. The explanation names the
@@ -61,23 +60,20 @@ pub fn explain_procedure(
         alloc,
         text: procedure,
     };
-    procedure_text(typed, &error)
+    explained(typed, &error, None)
 }
 
-// The error of an opening, from its text.
-fn opening_text(
-    typed: Typed<'_>,
-    error: &OpeningError,
-    least: u32,
-) -> Result<Option<String>, NoMemory>
+// The error of a text, which is that of an opening if it must allow this many live transactions, else of a procedure.
+fn explained(typed: Typed<'_>, error: &OpeningError, least: Option<u32>) -> Message
     ensures { OnOk result (error.now ≢ OpeningError.NoMemory) }
 {
     match error {
         OpeningError::NoMemory => Err(NoMemory),
         OpeningError::NotJson => json_fault(typed),
-        _ => match read_tree(typed.alloc, typed.text)? {
-            Some(tree) => opening_tree_fault(typed, error, least, &tree),
-            None => Ok(None),
+        _ => match (read_tree(typed.alloc, typed.text)?, least) {
+            (Some(tree), Some(least)) => opening_tree_fault(typed, error, least, &tree),
+            (Some(tree), None) => procedure_fault(typed, error, &tree),
+            (None, _) => Ok(None),
         },
     }
 }
@@ -88,7 +84,7 @@ fn opening_tree_fault(
     error: &OpeningError,
     least: u32,
     opening: &Value,
-) -> Result<Option<String>, NoMemory> {
+) -> Message {
     match error {
         OpeningError::BadLine => opening_fault(typed, opening),
         OpeningError::BadLimits => limit_fault(typed, least, member(opening, "limits")),
@@ -103,79 +99,23 @@ fn opening_tree_fault(
     }
 }
 
-// The error of a procedure, from its text.
-fn procedure_text(typed: Typed<'_>, error: &OpeningError) -> Result<Option<String>, NoMemory>
-    ensures { OnOk result (error.now ≢ OpeningError.NoMemory) }
-{
-    match error {
-        OpeningError::NoMemory => Err(NoMemory),
-        OpeningError::NotJson => json_fault(typed),
-        _ => match read_tree(typed.alloc, typed.text)? {
-            Some(tree) => procedure_fault(typed, error, &tree),
-            None => Ok(None),
-        },
-    }
-}
-
-// The error of a procedure, from its tree.
-fn procedure_fault(
-    typed: Typed<'_>,
-    error: &OpeningError,
-    procedure: &Value,
-) -> Result<Option<String>, NoMemory> {
+// The error of a procedure, from its tree. Its position is shown as in the fault's own line.
+fn procedure_fault(typed: Typed<'_>, error: &OpeningError, procedure: &Value) -> Message {
     match error {
         OpeningError::ProcShape(number, place) => {
-            shape_error_fault(typed, *number, procedure, place.as_slice())
+            match shape_error(typed, procedure, place.as_slice())? {
+                Some(what) => Ok(Some(format!(in typed.alloc;
+                    "procedure {number}, at {place}: {what}"
+                )?)),
+                None => Ok(None),
+            }
         }
-        OpeningError::ProcFlaw(number, flaw) => flaw_fault(typed, *number, procedure, *flaw),
+        OpeningError::ProcFlaw(number, flaw) => match flaw_fault(typed, procedure, *flaw)? {
+            Some(what) => Ok(Some(format!(in typed.alloc; "procedure {number}, at {what}")?)),
+            None => Ok(None),
+        },
         _ => Ok(None),
     }
-}
-
-// The error in the procedure of this number, at the position of its first shape error.
-fn shape_error_fault(
-    typed: Typed<'_>,
-    number: u64,
-    procedure: &Value,
-    place: &[u64],
-) -> Result<Option<String>, NoMemory> {
-    match shape_error(typed, procedure, place)? {
-        Some(what) => located(typed, number, place, &what),
-        None => Ok(None),
-    }
-}
-
-// The error in the procedure of this number, which has this flaw.
-fn flaw_fault(
-    typed: Typed<'_>,
-    number: u64,
-    procedure: &Value,
-    flaw: Flaw,
-) -> Result<Option<String>, NoMemory> {
-    match find_flaw(typed, procedure, flaw)? {
-        Some(found) => located(typed, number, found.place.as_slice(), &found.what),
-        None => Ok(None),
-    }
-}
-
-// The error at a position of the procedure of this number. The position is shown as in the fault's own line.
-fn located<'a>(
-    typed: Typed<'_>,
-    number: u64,
-    place: &'a [u64],
-    what: &'a str,
-) -> Result<Option<String>, NoMemory> {
-    reported(
-        typed,
-        &[
-            Piece::Words("procedure "),
-            Piece::Count(number),
-            Piece::Words(", at "),
-            Piece::Place(place),
-            Piece::Words(": "),
-            Piece::Words(what),
-        ],
-    )
 }
 
 // The items of a member of an object, or none.

@@ -1,11 +1,12 @@
 //! Errors in the line of an event or of a job.
-use crate::message::{Piece, reported, unexpected, unknown};
+use crate::excerpt::excerpt;
+use crate::message::{Message, unexpected, unknown};
 use crate::record::numbers;
 use crate::tree::{first_not_whole, word_of};
 use crate::typed::Typed;
 use serde_json::Value;
 use sgt_format::items;
-use sgt_model::{LAST_TABLE, NoMemory, is_value};
+use sgt_model::{LAST_TABLE, is_value};
 use sgt_proc::MOST_ARGUMENTS;
 
 /// The form of a start.
@@ -21,7 +22,7 @@ const RECORD: &str = "[\"record\",table,number,value]";
 const WRITE: &str = "[\"write\",transaction,table,number,value]";
 
 /// Why a tree is no event of a script.
-pub(crate) fn event_fault(typed: Typed<'_>, tree: &Value) -> Result<Option<String>, NoMemory> {
+pub(crate) fn event_fault(typed: Typed<'_>, tree: &Value) -> Message {
     match word_in(tree) {
         Some("start") => call_fault(typed, START, tree),
         Some("begin") => unexpected(typed, "[\"begin\"]", tree),
@@ -44,7 +45,7 @@ pub(crate) fn event_fault(typed: Typed<'_>, tree: &Value) -> Result<Option<Strin
 }
 
 /// Why a tree is no job of a bank.
-pub(crate) fn job_fault(typed: Typed<'_>, tree: &Value) -> Result<Option<String>, NoMemory> {
+pub(crate) fn job_fault(typed: Typed<'_>, tree: &Value) -> Message {
     match word_in(tree) {
         Some("job") => call_fault(typed, JOB, tree),
         Some("record") => misplaced_record(typed, "job", tree),
@@ -66,39 +67,21 @@ fn word_in(tree: &Value) -> Option<&str> {
 }
 
 // The message that a request of the other kind is there in place of this form.
-fn misplaced_request<'a>(
-    typed: Typed<'_>,
-    words: &'a str,
-    form: &'a str,
-) -> Result<Option<String>, NoMemory> {
-    reported(typed, &[Piece::Words(words), Piece::Words(form)])
+fn misplaced_request(typed: Typed<'_>, words: &str, form: &str) -> Message {
+    Ok(Some(format!(in typed.alloc; "{words}{form}")?))
 }
 
 // Why a list that starts with the word of a record adds none: its form, or that records must come before the first of
 // these.
-fn misplaced_record(
-    typed: Typed<'_>,
-    first: &str,
-    tree: &Value,
-) -> Result<Option<String>, NoMemory> {
+fn misplaced_record(typed: Typed<'_>, first: &str, tree: &Value) -> Message {
     match numbers(tree) {
-        Some(_) => reported(
-            typed,
-            &[
-                Piece::Words("records stand before the first "),
-                Piece::Words(first),
-            ],
-        ),
+        Some(_) => Ok(Some(format!(in typed.alloc; "records stand before the first {first}")?)),
         None => unexpected(typed, RECORD, tree),
     }
 }
 
 // The error of a list that must be a word and a transaction, in this form.
-fn transaction_fault(
-    typed: Typed<'_>,
-    form: &str,
-    tree: &Value,
-) -> Result<Option<String>, NoMemory> {
+fn transaction_fault(typed: Typed<'_>, form: &str, tree: &Value) -> Message {
     match items(tree) {
         Some([_, number]) => if is_from_zero(number, u32::MAX) {
             Ok(None)
@@ -110,7 +93,7 @@ fn transaction_fault(
 }
 
 // The error of a list that must be a word, a transaction and the key of a record, in this form.
-fn key_fault(typed: Typed<'_>, form: &str, tree: &Value) -> Result<Option<String>, NoMemory> {
+fn key_fault(typed: Typed<'_>, form: &str, tree: &Value) -> Message {
     match items(tree) {
         Some([_, number, table, id]) => access_fault(typed, number, table, id),
         _ => unexpected(typed, form, tree),
@@ -118,7 +101,7 @@ fn key_fault(typed: Typed<'_>, form: &str, tree: &Value) -> Result<Option<String
 }
 
 // The error of a list that must be a write.
-fn write_fault(typed: Typed<'_>, tree: &Value) -> Result<Option<String>, NoMemory> {
+fn write_fault(typed: Typed<'_>, tree: &Value) -> Message {
     match items(tree) {
         Some([_, number, table, id, value]) => match access_fault(typed, number, table, id)? {
             Some(text) => Ok(Some(text)),
@@ -129,12 +112,7 @@ fn write_fault(typed: Typed<'_>, tree: &Value) -> Result<Option<String>, NoMemor
 }
 
 // The error in a transaction, or in the table or the number of a record. A number is a value.
-fn access_fault(
-    typed: Typed<'_>,
-    number: &Value,
-    table: &Value,
-    id: &Value,
-) -> Result<Option<String>, NoMemory> {
+fn access_fault(typed: Typed<'_>, number: &Value, table: &Value, id: &Value) -> Message {
     let last = u32::from(LAST_TABLE);
     if !is_from_zero(number, u32::MAX) {
         return range_fault(typed, "a transaction", number, u32::MAX);
@@ -149,7 +127,7 @@ fn access_fault(
 }
 
 // The error in the value of a write. What is out of a value's range is answered, as an argument is.
-fn value_fault(typed: Typed<'_>, value: &Value) -> Result<Option<String>, NoMemory> {
+fn value_fault(typed: Typed<'_>, value: &Value) -> Message {
     match value.as_i64() {
         Some(_) => Ok(None),
         None => unexpected(
@@ -161,7 +139,7 @@ fn value_fault(typed: Typed<'_>, value: &Value) -> Result<Option<String>, NoMemo
 }
 
 // The error of a list that must be a word, a procedure and its arguments, in this form.
-fn call_fault(typed: Typed<'_>, form: &str, tree: &Value) -> Result<Option<String>, NoMemory> {
+fn call_fault(typed: Typed<'_>, form: &str, tree: &Value) -> Message {
     let last = u32::from(u16::MAX);
     match items(tree) {
         Some([_, number, arguments]) => if is_from_zero(number, last) {
@@ -182,51 +160,27 @@ fn is_from_zero(tree: &Value, last: u32) -> bool {
 }
 
 // The message that a tree is no whole number from 0 to `last`.
-fn range_fault<'a>(
-    typed: Typed<'_>,
-    name: &'a str,
-    tree: &'a Value,
-    last: u32,
-) -> Result<Option<String>, NoMemory> {
-    reported(
-        typed,
-        &[
-            Piece::Words("expected "),
-            Piece::Words(name),
-            Piece::Words(" from 0 to "),
-            Piece::Count(u64::from(last)),
-            Piece::Words(", found "),
-            Piece::Tree(tree),
-        ],
-    )
+fn range_fault(typed: Typed<'_>, name: &str, tree: &Value, last: u32) -> Message {
+    let found = excerpt(typed, tree)?;
+    Ok(Some(format!(in typed.alloc; "expected {name} from 0 to {last}, found {found}")?))
 }
 
 // The error in the arguments of a call. They are numbered from 0.
-fn arguments_fault(typed: Typed<'_>, tree: &Value) -> Result<Option<String>, NoMemory> {
+fn arguments_fault(typed: Typed<'_>, tree: &Value) -> Message {
     let Some(arguments) = items(tree) else {
         return unexpected(typed, "a list of arguments", tree);
     };
-    if arguments.len() > usize::from(MOST_ARGUMENTS) {
-        return reported(
-            typed,
-            &[
-                Piece::Count(arguments.len() as u64),
-                Piece::Words(" arguments are given, and at most "),
-                Piece::Count(u64::from(MOST_ARGUMENTS)),
-                Piece::Words(" may be"),
-            ],
-        );
+    let count = arguments.len();
+    if count > usize::from(MOST_ARGUMENTS) {
+        return Ok(Some(format!(in typed.alloc;
+            "{count} arguments are given, and at most {MOST_ARGUMENTS} may be"
+        )?));
     }
-    match first_not_whole(arguments) {
-        Some((number, argument)) => reported(
-            typed,
-            &[
-                Piece::Words("expected a whole number of at most 15 digits as argument "),
-                Piece::Count(number as u64),
-                Piece::Words(", found "),
-                Piece::Tree(argument),
-            ],
-        ),
-        None => Ok(None),
-    }
+    let Some((number, argument)) = first_not_whole(arguments) else {
+        return Ok(None);
+    };
+    let found = excerpt(typed, argument)?;
+    Ok(Some(format!(in typed.alloc;
+        "expected a whole number of at most 15 digits as argument {number}, found {found}"
+    )?))
 }

@@ -43,8 +43,8 @@ impl Search {
     }
 
     /// The positions that lead to where the search ended.
-    pub(crate) fn into_place(self) -> Vec<u64> {
-        self.place
+    pub(crate) fn place(&self) -> &[u64] {
+        self.place.as_slice()
     }
 
     // Searches a tree at this depth, where this part may be.

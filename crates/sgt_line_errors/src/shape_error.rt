@@ -1,18 +1,14 @@
 //! What is wrong at the position of a procedure's first shape error.
-use crate::message::{Piece, reported, unexpected, unknown};
+use crate::excerpt::word_excerpt;
+use crate::message::{Message, unexpected, unknown};
 use crate::part::{Part, is_known};
 use crate::tree::word_of;
 use crate::typed::Typed;
 use serde_json::Value;
 use sgt_format::items;
-use sgt_model::NoMemory;
 
 /// The message for the first shape error of a procedure.
-pub(crate) fn shape_error(
-    typed: Typed<'_>,
-    procedure: &Value,
-    place: &[u64],
-) -> Result<Option<String>, NoMemory> {
+pub(crate) fn shape_error(typed: Typed<'_>, procedure: &Value, place: &[u64]) -> Message {
     let mut part = Part::Procedure;
     let mut tree = procedure;
     for position in place {
@@ -32,7 +28,7 @@ fn item_at(part: Part, tree: &Value, position: usize) -> Option<(Part, &Value)> 
 }
 
 // Why a tree does not fit where this is required.
-fn shape_error_of(typed: Typed<'_>, part: Part, tree: &Value) -> Result<Option<String>, NoMemory> {
+fn shape_error_of(typed: Typed<'_>, part: Part, tree: &Value) -> Message {
     match word_in(part, tree) {
         Some(word) => word_shape_error(typed, part, word, tree),
         None => unexpected(typed, part.words(), tree),
@@ -40,27 +36,15 @@ fn shape_error_of(typed: Typed<'_>, part: Part, tree: &Value) -> Result<Option<S
 }
 
 // Why a list that starts with this word does not fit where this is required.
-fn word_shape_error(
-    typed: Typed<'_>,
-    part: Part,
-    word: &str,
-    tree: &Value,
-) -> Result<Option<String>, NoMemory> {
-    match part.following(word) {
-        Some(parts) => unexpected(typed, Part::form(typed.alloc, word, parts)?.as_str(), tree),
-        None => if is_known(word) {
-            reported(
-                typed,
-                &[
-                    Piece::Word(word),
-                    Piece::Words(" does not begin "),
-                    Piece::Words(part.words()),
-                ],
-            )
-        } else {
-            unknown(typed, word)
-        },
+fn word_shape_error(typed: Typed<'_>, part: Part, word: &str, tree: &Value) -> Message {
+    if let Some(parts) = part.following(word) {
+        return unexpected(typed, Part::form(typed.alloc, word, parts)?.as_str(), tree);
     }
+    if !is_known(word) {
+        return unknown(typed, word);
+    }
+    let (word, wanted) = (word_excerpt(typed, word)?, part.words());
+    Ok(Some(format!(in typed.alloc; "{word} does not begin {wanted}")?))
 }
 
 // The word that a list starts with, if this part is a list with a word.
