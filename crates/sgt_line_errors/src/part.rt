@@ -25,26 +25,19 @@ pub(crate) enum Part {
 impl Part {
     /// What may be at a position of such a list, which starts with this word, if it starts with one.
     pub(crate) fn at(self, word: Option<&str>, position: usize) -> Option<Part> {
-        match self {
-            Part::Procedure => match position {
-                0 => Some(Part::Arguments),
-                1 => Some(Part::Block),
-                _ => None,
-            },
-            Part::Block => Some(Part::Statement),
-            _ => {
-                let parts = self.following(word?)?;
-                Some(*parts.get(position.checked_sub(1)?)?)
-            }
+        match (self, position) {
+            (Part::Procedure, 0) => Some(Part::Arguments),
+            (Part::Procedure, 1) => Some(Part::Block),
+            (Part::Procedure, _) => None,
+            (Part::Block, _) => Some(Part::Statement),
+            _ => Some(*self.following(word?)?.get(position.checked_sub(1)?)?),
         }
     }
 
     /// What follows a word, if a list that starts with it may be this.
     pub(crate) fn following(self, word: &str) -> Option<&'static [Part]> {
-        match self {
-            Part::Statement => after_statement(word),
-            Part::Expression => after_expression(word),
-            Part::Condition => after_condition(word),
+        match row(word) {
+            Some((part, parts)) if part == self => Some(parts),
             _ => None,
         }
     }
@@ -54,83 +47,64 @@ impl Part {
         let mut form = format!(in alloc; "[\"{word}\"")?;
         for part in parts {
             form.push_str(",")?;
-            form.push_str(part.name())?;
+            form.push_str(part.names().0)?;
         }
         form.push_str("]")?;
         Ok(form)
     }
 
-    // Its name in such a list.
-    fn name(self) -> &'static str {
-        match self {
-            Part::Procedure => "procedure",
-            Part::Arguments => "arguments",
-            Part::Block => "[statement,..]",
-            Part::Statement => "statement",
-            Part::Expression => "expression",
-            Part::Condition => "condition",
-            Part::Register => "register",
-            Part::Argument => "argument",
-            Part::Table => "table",
-            Part::Code => "code",
-        }
-    }
-
     /// Its description in words.
     pub(crate) fn words(self) -> &'static str {
+        self.names().1
+    }
+
+    // Its name in such a list, and its description.
+    fn names(self) -> (&'static str, &'static str) {
         match self {
-            Part::Procedure => "[arguments,[statement,..]]",
-            Part::Arguments => "a number of arguments from 0 to 4",
-            Part::Block => "a list of statements",
-            Part::Statement => "a statement",
-            Part::Expression => "an expression",
-            Part::Condition => "a condition",
-            Part::Register => "a register from 0 to 15",
-            Part::Argument => "an argument from 0 to 3",
-            Part::Table => "a table from 0 to 7",
-            Part::Code => "a code from 1 to 999",
+            Part::Procedure => ("procedure", "[arguments,[statement,..]]"),
+            Part::Arguments => ("arguments", "a number of arguments from 0 to 4"),
+            Part::Block => ("[statement,..]", "a list of statements"),
+            Part::Statement => ("statement", "a statement"),
+            Part::Expression => ("expression", "an expression"),
+            Part::Condition => ("condition", "a condition"),
+            Part::Register => ("register", "a register from 0 to 15"),
+            Part::Argument => ("argument", "an argument from 0 to 3"),
+            Part::Table => ("table", "a table from 0 to 7"),
+            Part::Code => ("code", "a code from 1 to 999"),
         }
     }
 }
 
-/// Whether a list of a procedure may start with the word.
-pub(crate) fn is_known(word: &str) -> bool {
-    after_statement(word).is_some()
-        || after_expression(word).is_some()
-        || after_condition(word).is_some()
-}
-
-fn after_statement(word: &str) -> Option<&'static [Part]> {
+/// What a list is that starts with the word, and what follows the word.
+pub(crate) fn row(word: &str) -> Option<(Part, &'static [Part])> {
     match word {
-        "look" => Some(&[Part::Register, Part::Table, Part::Expression, Part::Code]),
-        "find" => Some(&[
-            Part::Register,
-            Part::Table,
-            Part::Expression,
-            Part::Expression,
-        ]),
-        "put" => Some(&[Part::Table, Part::Expression, Part::Expression]),
-        "remove" => Some(&[Part::Table, Part::Expression]),
-        "let" => Some(&[Part::Register, Part::Expression]),
-        "ask" => Some(&[Part::Code]),
-        "if" => Some(&[Part::Condition, Part::Block, Part::Block]),
-        "answer" => Some(&[Part::Expression]),
+        "look" => Some((Part::Statement, LOOK)),
+        "find" => Some((Part::Statement, FIND)),
+        "put" => Some((Part::Statement, PUT)),
+        "remove" => Some((Part::Statement, &[Part::Table, Part::Expression])),
+        "let" => Some((Part::Statement, &[Part::Register, Part::Expression])),
+        "ask" => Some((Part::Statement, &[Part::Code])),
+        "if" => Some((Part::Statement, IF)),
+        "answer" => Some((Part::Statement, &[Part::Expression])),
+        "arg" => Some((Part::Expression, &[Part::Argument])),
+        "reg" => Some((Part::Expression, &[Part::Register])),
+        "sum" | "diff" | "product" | "quotient" => Some((Part::Expression, TWO)),
+        "less" | "most" | "same" => Some((Part::Condition, TWO)),
         _ => None,
     }
 }
 
-fn after_expression(word: &str) -> Option<&'static [Part]> {
-    match word {
-        "arg" => Some(&[Part::Argument]),
-        "reg" => Some(&[Part::Register]),
-        "sum" | "diff" | "product" | "quotient" => Some(&[Part::Expression, Part::Expression]),
-        _ => None,
-    }
-}
+const LOOK: &[Part] = &[Part::Register, Part::Table, Part::Expression, Part::Code];
 
-fn after_condition(word: &str) -> Option<&'static [Part]> {
-    match word {
-        "less" | "most" | "same" => Some(&[Part::Expression, Part::Expression]),
-        _ => None,
-    }
-}
+const FIND: &[Part] = &[
+    Part::Register,
+    Part::Table,
+    Part::Expression,
+    Part::Expression,
+];
+
+const PUT: &[Part] = &[Part::Table, Part::Expression, Part::Expression];
+
+const IF: &[Part] = &[Part::Condition, Part::Block, Part::Block];
+
+const TWO: &[Part] = &[Part::Expression, Part::Expression];

@@ -1,7 +1,7 @@
 //! What is wrong at the position of a procedure's first shape error.
 use crate::excerpt::word_excerpt;
 use crate::message::{Message, unexpected, unknown};
-use crate::part::{Part, is_known};
+use crate::part::{Part, row};
 use crate::tree::word_of;
 use crate::typed::Typed;
 use serde_json::Value;
@@ -40,7 +40,7 @@ fn word_shape_error(typed: Typed<'_>, part: Part, word: &str, tree: &Value) -> M
     if let Some(parts) = part.following(word) {
         return unexpected(typed, Part::form(typed.alloc, word, parts)?.as_str(), tree);
     }
-    if !is_known(word) {
+    if row(word).is_none() {
         return unknown(typed, word);
     }
     let (word, wanted) = (word_excerpt(typed, word)?, part.words());
