@@ -4,9 +4,9 @@ use crate::typed::Follower;
 /// The number that the first procedure of line 1 has.
 const FIRST: u64 = 5;
 
-/// A procedure in the text of line 1.
+/// A procedure in the text of line 1 in which a bracket is missing.
 #[derive(Clone, Copy)]
-pub(crate) struct Place {
+pub(crate) struct Unclosed {
     /// Its number.
     pub procedure: u64,
     /// The column where it begins, in bytes from 1.
@@ -15,19 +15,19 @@ pub(crate) struct Place {
 
 /// The procedure that a bracket is missing in, of a text whose lists end too late: the one before the first procedure
 /// that stands deeper than the first one, or else the last one. None if no procedure begins.
-pub(crate) fn unclosed_procedure(text: &[u8]) -> Option<Place> {
+pub(crate) fn unclosed_procedure(text: &[u8]) -> Option<Unclosed> {
     let mut follower = Follower::new();
     let mut depth = 0;
-    let mut last: Option<Place> = None;
+    let mut last: Option<Unclosed> = None;
     for at in 0..text.len() {
         if follower.follow(text[at]) && begins_procedure(&text[at..]) {
             if last.is_some() && follower.depth() > depth {
                 return last;
             }
             depth = follower.depth();
-            last = Some(Place {
+            last = Some(Unclosed {
                 procedure: match last {
-                    Some(place) => place.procedure.saturating_add(1),
+                    Some(unclosed) => unclosed.procedure.saturating_add(1),
                     None => FIRST,
                 },
                 column: at.saturating_add(1),

@@ -1,5 +1,5 @@
 //! Where a line stops being JSON.
-use crate::brackets::{Place, unclosed_procedure};
+use crate::brackets::{Unclosed, unclosed_procedure};
 use crate::message::Message;
 use crate::typed::{Follower, Typed};
 use json::{Scratch, is_valid};
@@ -57,17 +57,17 @@ fn text_fault(typed: Typed<'_>, text: &str, column: usize) -> Message {
         return at_column(typed, column, "the number before it is too large");
     }
     match unclosed_procedure(before) {
-        Some(place) if before.ends_with(b"}") => unclosed_fault(typed, column, place),
+        Some(unclosed) if before.ends_with(b"}") => unclosed_fault(typed, column, unclosed),
         _ => at_column(typed, column, "not JSON from here"),
     }
 }
 
 // The error of line 1 whose object ends at this column although a list in it is open.
-fn unclosed_fault(typed: Typed<'_>, column: usize, place: Place) -> Message {
-    let Place {
+fn unclosed_fault(typed: Typed<'_>, column: usize, unclosed: Unclosed) -> Message {
+    let Unclosed {
         procedure,
         column: first,
-    } = place;
+    } = unclosed;
     Ok(Some(format!(in typed.alloc;
         "column {column}: not JSON from here: a bracket is missing in procedure {procedure}, which begins at column {first}"
     )?))
