@@ -2,38 +2,8 @@
 use Rattle.std.specs.Prelude.{Bool, false, codes}
 use Rattle.serde_json.specs.Data.{Data, Items, no_items, item}
 use Rattle.serde_json.specs.Find.{as_str}
-use Rattle.sgt_model.specs.Syntax.{CondText, Block, look, find, put, remove, save, ask, choose, answer}
-use Rattle.sgt_proc_json.specs.Readings.{Reading, here, at, one, two, three, four, is_word, byte, short, expression, condition, block, one_item, two_items, three_items, four_items}
-
--- after `ask`
-abbrev pub ask_of : Data → Reading (Block → Block)
-ask_of a = one (λ code rest. ask code rest) (at 1 (short a))
-
--- after `answer`
-abbrev pub answer_of : Data → Reading (Block → Block)
-answer_of a = one (λ value rest. answer value rest) (at 1 (expression a))
-
--- after `let`
-abbrev pub let_of : Data → Data → Reading (Block → Block)
-let_of a b = two (λ to value rest. save to value rest) (at 1 (byte a)) (at 2 (expression b))
-
--- after `remove`
-abbrev pub remove_of : Data → Data → Reading (Block → Block)
-remove_of a b = two (λ table id rest. remove table id rest) (at 1 (byte a)) (at 2 (expression b))
-
--- after `put`
-abbrev pub put_of : Data → Data → Data → Reading (Block → Block)
-put_of a b c = three (λ table id value rest. put table id value rest) (at 1 (byte a)) (at 2 (expression b)) (at 3 (expression c))
-
--- after `look`
-abbrev pub look_of : Data → Data → Data → Data → Reading (Block → Block)
-look_of a b c d =
-    four (λ to table id absent rest. look to table id absent rest) (at 1 (byte a)) (at 2 (byte b)) (at 3 (expression c)) (at 4 (short d))
-
--- after `find`
-abbrev pub find_of : Data → Data → Data → Data → Reading (Block → Block)
-find_of a b c d =
-    four (λ to table id absent rest. find to table id absent rest) (at 1 (byte a)) (at 2 (byte b)) (at 3 (expression c)) (at 4 (expression d))
+use Rattle.sgt_model.specs.Syntax.{CondText, Block, choose}
+use Rattle.sgt_proc_json.specs.Readings.{Reading, here, at, two, three, is_word, condition, block, one_item, two_items, three_items, four_items}
 
 -- after `if`
 abbrev pub if_of : Reading CondText → Reading Block → Reading Block → Reading (Block → Block)

@@ -1,5 +1,5 @@
 //! The statements that trees spell.
-ghost use Rattle.std.specs.Prelude.{◌≡◌, ◌≢◌, ◌≤◌, Ok, IfOk, IfErr, codes, length};
+ghost use Rattle.std.specs.Prelude.{◌≡◌, ◌≤◌, Ok, IfOk, IfErr, codes, length};
 ghost use Rattle.serde_json.specs.Data.{array};
 ghost use Rattle.serde_json.specs.Find.{as_str};
 ghost use Rattle.serde_json.specs.View.{view, items_view};
@@ -7,7 +7,7 @@ ghost use Rattle.sgt_model.specs.ProcedureTexts.{in_front, block_of};
 ghost use Rattle.sgt_proc_json.specs.Readings.{at, is_word, statement, block, one_item, two_items, three_items, four_items};
 ghost use Rattle.sgt_proc_json.specs.Refusals.{Says, IsList};
 ghost use Rattle.sgt_proc_json.specs.declared.errors.ReadError.TheVariants.{NoMemory};
-ghost use Rattle.sgt_proc_json.specs.Rows.{is_if, if_row, branches, other_row, ask_of, answer_of, let_of, remove_of, put_of, look_of, find_of};
+ghost use Rattle.sgt_proc_json.specs.Rows.{is_if, if_row, branches, other_row};
 
 use crate::errors::ReadError;
 use crate::read_cond::cond_at;
@@ -116,8 +116,12 @@ fn one_item(alloc: Global, word: &Value, a: &Value) -> Result<Statement, ReadErr
     ensures err { IfErr result (Says (one_item (as_str (view word.now)) (view a.now))) }
 {
     match word.as_str() {
-        Some("ask") => ask_of(a),
-        Some("answer") => answer_of(alloc, a),
+        Some("ask") => Ok(Statement::Ask {
+            code: short_at(1, a)?,
+        }),
+        Some("answer") => Ok(Statement::Answer {
+            value: expr_at(alloc, 1, a)?,
+        }),
         _ => Err(ReadError::here()),
     }
 }
@@ -130,8 +134,14 @@ fn two_items(alloc: Global, word: &Value, a: &Value, b: &Value) -> Result<Statem
         (Says (two_items (as_str (view word.now)) (view a.now) (view b.now))) }
 {
     match word.as_str() {
-        Some("let") => let_of(alloc, a, b),
-        Some("remove") => remove_of(alloc, a, b),
+        Some("let") => Ok(Statement::Let {
+            reg: byte_at(1, a)?,
+            value: expr_at(alloc, 2, b)?,
+        }),
+        Some("remove") => Ok(Statement::Remove {
+            table: byte_at(1, a)?,
+            id: expr_at(alloc, 2, b)?,
+        }),
         _ => Err(ReadError::here()),
     }
 }
@@ -151,7 +161,11 @@ fn three_items(
         (three_items (as_str (view word.now)) (view a.now) (view b.now) (view c.now))) }
 {
     match word.as_str() {
-        Some("put") => put_of(alloc, a, b, c),
+        Some("put") => Ok(Statement::Put {
+            table: byte_at(1, a)?,
+            id: expr_at(alloc, 2, b)?,
+            value: expr_at(alloc, 3, c)?,
+        }),
         _ => Err(ReadError::here()),
     }
 }
@@ -172,103 +186,20 @@ fn four_items(
         (four_items (as_str (view word.now)) (view a.now) (view b.now) (view c.now) (view d.now))) }
 {
     match word.as_str() {
-        Some("look") => look_of(alloc, a, b, c, d),
-        Some("find") => find_of(alloc, a, b, c, d),
+        Some("look") => Ok(Statement::Look {
+            reg: byte_at(1, a)?,
+            table: byte_at(2, b)?,
+            id: expr_at(alloc, 3, c)?,
+            absent: short_at(4, d)?,
+        }),
+        Some("find") => Ok(Statement::Find {
+            reg: byte_at(1, a)?,
+            table: byte_at(2, b)?,
+            id: expr_at(alloc, 3, c)?,
+            absent: expr_at(alloc, 4, d)?,
+        }),
         _ => Err(ReadError::here()),
     }
-}
-
-/// The Ask that this item spells.
-fn ask_of(a: &Value) -> Result<Statement, ReadError>
-    ensures ok { IfOk result (λ s. ask_of (view a.now) ≡ Ok (in_front s)) }
-    ensures err { IfErr result (Says (ask_of (view a.now))) }
-    ensures exact { IfErr result (λ error. error ≢ NoMemory) }
-{
-    Ok(Statement::Ask {
-        code: short_at(1, a)?,
-    })
-}
-
-/// The Answer that this item spells.
-fn answer_of(alloc: Global, a: &Value) -> Result<Statement, ReadError>
-    ensures ok { IfOk result (λ s. answer_of (view a.now) ≡ Ok (in_front s)) }
-    ensures err { IfErr result (Says (answer_of (view a.now))) }
-{
-    Ok(Statement::Answer {
-        value: expr_at(alloc, 1, a)?,
-    })
-}
-
-/// The Let that these items spell.
-fn let_of(alloc: Global, a: &Value, b: &Value) -> Result<Statement, ReadError>
-    ensures ok { IfOk result (λ s. let_of (view a.now) (view b.now) ≡ Ok (in_front s)) }
-    ensures err { IfErr result (Says (let_of (view a.now) (view b.now))) }
-{
-    Ok(Statement::Let {
-        reg: byte_at(1, a)?,
-        value: expr_at(alloc, 2, b)?,
-    })
-}
-
-/// The Remove that these items spell.
-fn remove_of(alloc: Global, a: &Value, b: &Value) -> Result<Statement, ReadError>
-    ensures ok { IfOk result (λ s. remove_of (view a.now) (view b.now) ≡ Ok (in_front s)) }
-    ensures err { IfErr result (Says (remove_of (view a.now) (view b.now))) }
-{
-    Ok(Statement::Remove {
-        table: byte_at(1, a)?,
-        id: expr_at(alloc, 2, b)?,
-    })
-}
-
-/// The Put that these items spell.
-fn put_of(alloc: Global, a: &Value, b: &Value, c: &Value) -> Result<Statement, ReadError>
-    ensures ok { IfOk result (λ s. put_of (view a.now) (view b.now) (view c.now) ≡ Ok (in_front s)) }
-    ensures err { IfErr result (Says (put_of (view a.now) (view b.now) (view c.now))) }
-{
-    Ok(Statement::Put {
-        table: byte_at(1, a)?,
-        id: expr_at(alloc, 2, b)?,
-        value: expr_at(alloc, 3, c)?,
-    })
-}
-
-/// The Look that these items spell.
-fn look_of(
-    alloc: Global,
-    a: &Value,
-    b: &Value,
-    c: &Value,
-    d: &Value,
-) -> Result<Statement, ReadError>
-    ensures ok { IfOk result (λ s. look_of (view a.now) (view b.now) (view c.now) (view d.now) ≡ Ok (in_front s)) }
-    ensures err { IfErr result (Says (look_of (view a.now) (view b.now) (view c.now) (view d.now))) }
-{
-    Ok(Statement::Look {
-        reg: byte_at(1, a)?,
-        table: byte_at(2, b)?,
-        id: expr_at(alloc, 3, c)?,
-        absent: short_at(4, d)?,
-    })
-}
-
-/// The Find that these items spell.
-fn find_of(
-    alloc: Global,
-    a: &Value,
-    b: &Value,
-    c: &Value,
-    d: &Value,
-) -> Result<Statement, ReadError>
-    ensures ok { IfOk result (λ s. find_of (view a.now) (view b.now) (view c.now) (view d.now) ≡ Ok (in_front s)) }
-    ensures err { IfErr result (Says (find_of (view a.now) (view b.now) (view c.now) (view d.now))) }
-{
-    Ok(Statement::Find {
-        reg: byte_at(1, a)?,
-        table: byte_at(2, b)?,
-        id: expr_at(alloc, 3, c)?,
-        absent: expr_at(alloc, 4, d)?,
-    })
 }
 
 /// The statements that the item at this position of a list spells.
