@@ -1,5 +1,4 @@
 pub mod Trees
-pub mod Operations
 pub mod Spelling
 pub mod Readings
 pub mod Rows

@@ -1,41 +1,18 @@
 //! The condition that a tree spells.
-ghost use Rattle.std.specs.Prelude.{◌≡◌, Ok, IfOk, IfErr, IfSome, IsNone, length};
+ghost use Rattle.std.specs.Prelude.{◌≡◌, Ok, IfOk, IfErr, length};
 ghost use Rattle.serde_json.specs.Data.{array};
 ghost use Rattle.serde_json.specs.Find.{as_str};
 ghost use Rattle.serde_json.specs.View.{view, items_view};
-ghost use Rattle.sgt_model.specs.ProcedureTexts.{expr_text, cond_text};
-ghost use Rattle.sgt_model.specs.Syntax.{ExprText};
-ghost use Rattle.sgt_proc_json.specs.Operations.{tested};
-ghost use Rattle.sgt_proc_json.specs.Readings.{Reading, at, here, two, expression, comparison, condition};
+ghost use Rattle.sgt_model.specs.ProcedureTexts.{cond_text};
+ghost use Rattle.sgt_proc_json.specs.Readings.{at, expression, comparison, condition};
 ghost use Rattle.sgt_proc_json.specs.Refusals.{Says};
 ghost use Rattle.sgt_proc_json.specs.declared.errors.ReadError.TheVariants.{NoMemory};
 
 use crate::errors::ReadError;
 use crate::read_expr::expr_at;
 use serde_json::Value;
-use sgt_model::{Cond, Expr};
+use sgt_model::Cond;
 use std::alloc::Global;
-
-/// A relation of two numbers.
-#[derive(Clone, Copy)]
-enum Relation {
-    Less,
-    AtMost,
-    Equal,
-}
-
-impl Relation {
-    /// The condition that the relation holds between two expressions.
-    fn of(self, left: Expr, right: Expr) -> Cond
-        ensures { cond_text result ≡ tested self (expr_text left) (expr_text right) }
-    {
-        match self {
-            Relation::Less => Cond::Less(left, right),
-            Relation::AtMost => Cond::AtMost(left, right),
-            Relation::Equal => Cond::Equal(left, right),
-        }
-    }
-}
 
 /// The condition that the item at this position of a list spells.
 pub(crate) fn cond_at(alloc: Global, position: u64, tree: &Value) -> Result<Cond, ReadError>
@@ -72,26 +49,10 @@ fn comparison(alloc: Global, word: &Value, a: &Value, b: &Value) -> Result<Cond,
     ensures err { IfErr result (Says
         (comparison (as_str (view word.now)) (at 1 (expression (view a.now))) (at 2 (expression (view b.now))))) }
 {
-    match relation_named(word) {
-        Some(relation) => {
-            let left = expr_at(alloc, 1, a)?;
-            let right = expr_at(alloc, 2, b)?;
-            Ok(relation.of(left, right))
-        }
-        None => Err(ReadError::here()),
-    }
-}
-
-/// The relation that a word names.
-fn relation_named(word: &Value) -> Option<Relation>
-    ensures some { IfSome result (λ c. (a b : Reading ExprText) →
-        comparison (as_str (view word.now)) a b ≡ two (tested c) a b) }
-    ensures none { IsNone result → (a b : Reading ExprText) → comparison (as_str (view word.now)) a b ≡ here }
-{
     match word.as_str() {
-        Some("less") => Some(Relation::Less),
-        Some("most") => Some(Relation::AtMost),
-        Some("same") => Some(Relation::Equal),
-        _ => None,
+        Some("less") => Ok(Cond::Less(expr_at(alloc, 1, a)?, expr_at(alloc, 2, b)?)),
+        Some("most") => Ok(Cond::AtMost(expr_at(alloc, 1, a)?, expr_at(alloc, 2, b)?)),
+        Some("same") => Ok(Cond::Equal(expr_at(alloc, 1, a)?, expr_at(alloc, 2, b)?)),
+        _ => Err(ReadError::here()),
     }
 }

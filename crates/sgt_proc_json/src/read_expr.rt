@@ -1,12 +1,10 @@
 //! The expression that a tree spells.
-ghost use Rattle.std.specs.Prelude.{◌≡◌, ◌≢◌, Ok, IfOk, IfErr, IfSome, IsNone, length};
+ghost use Rattle.std.specs.Prelude.{◌≡◌, ◌≢◌, Ok, IfOk, IfErr, length};
 ghost use Rattle.serde_json.specs.View.{view, items_view};
 ghost use Rattle.serde_json.specs.Data.{array};
 ghost use Rattle.serde_json.specs.Find.{as_str};
 ghost use Rattle.sgt_model.specs.ProcedureTexts.{expr_text};
-ghost use Rattle.sgt_model.specs.Syntax.{ExprText};
-ghost use Rattle.sgt_proc_json.specs.Operations.{operated};
-ghost use Rattle.sgt_proc_json.specs.Readings.{Reading, at, byte, here, two, arg_or_reg, arithmetic, expression};
+ghost use Rattle.sgt_proc_json.specs.Readings.{at, byte, arg_or_reg, arithmetic, expression};
 ghost use Rattle.sgt_proc_json.specs.Refusals.{Says};
 ghost use Rattle.sgt_proc_json.specs.declared.errors.ReadError.TheVariants.{NoMemory};
 
@@ -15,44 +13,6 @@ use crate::read_number::byte_at;
 use serde_json::Value;
 use sgt_model::Expr;
 use std::alloc::Global;
-
-/// An operation of arithmetic on two expressions.
-#[derive(Clone, Copy)]
-enum Operation {
-    Sum,
-    Diff,
-    Product,
-    Quotient,
-}
-
-impl Operation {
-    /// The expression of two by this operation.
-    fn of(self, left: Box<Expr>, right: Box<Expr>) -> Expr
-        ensures { expr_text result ≡ operated self (expr_text left.value) (expr_text right.value) }
-    {
-        match self {
-            Operation::Sum => Expr::Sum(left, right),
-            Operation::Diff => Expr::Diff(left, right),
-            Operation::Product => Expr::Product(left, right),
-            Operation::Quotient => Expr::Quotient(left, right),
-        }
-    }
-}
-
-/// The operation that a word names.
-fn operation_named(word: &Value) -> Option<Operation>
-    ensures some { IfSome result (λ o. (a b : Reading ExprText) →
-        arithmetic (as_str (view word.now)) a b ≡ two (operated o) a b) }
-    ensures none { IsNone result → (a b : Reading ExprText) → arithmetic (as_str (view word.now)) a b ≡ here }
-{
-    match word.as_str() {
-        Some("sum") => Some(Operation::Sum),
-        Some("diff") => Some(Operation::Diff),
-        Some("product") => Some(Operation::Product),
-        Some("quotient") => Some(Operation::Quotient),
-        _ => None,
-    }
-}
 
 /// The expression that a tree spells.
 #[cycle(expression)]
@@ -78,14 +38,25 @@ fn read_row(alloc: Global, items: &[Value]) -> Result<Expr, ReadError>
 {
     match items {
         [word, n] => arg_or_reg(word, n),
-        [word, a, b] => match operation_named(word) {
-            Some(operation) => {
-                let left = boxed_at(alloc, 1, a)?;
-                let right = boxed_at(alloc, 2, b)?;
-                Ok(operation.of(left, right))
-            }
-            None => Err(ReadError::here()),
-        },
+        [word, a, b] => arithmetic(alloc, word, a, b),
+        _ => Err(ReadError::here()),
+    }
+}
+
+/// The arithmetic that a word and two items spell.
+#[cycle(expression)]
+fn arithmetic(alloc: Global, word: &Value, a: &Value, b: &Value) -> Result<Expr, ReadError>
+    ensures ok { IfOk result (λ e.
+        arithmetic (as_str (view word.now)) (at 1 (expression (view a.now))) (at 2 (expression (view b.now)))
+        ≡ Ok (expr_text e)) }
+    ensures err { IfErr result (Says
+        (arithmetic (as_str (view word.now)) (at 1 (expression (view a.now))) (at 2 (expression (view b.now))))) }
+{
+    match word.as_str() {
+        Some("sum") => Ok(Expr::Sum(boxed_at(alloc, 1, a)?, boxed_at(alloc, 2, b)?)),
+        Some("diff") => Ok(Expr::Diff(boxed_at(alloc, 1, a)?, boxed_at(alloc, 2, b)?)),
+        Some("product") => Ok(Expr::Product(boxed_at(alloc, 1, a)?, boxed_at(alloc, 2, b)?)),
+        Some("quotient") => Ok(Expr::Quotient(boxed_at(alloc, 1, a)?, boxed_at(alloc, 2, b)?)),
         _ => Err(ReadError::here()),
     }
 }
