@@ -363,7 +363,7 @@ def reports_why_nothing_is_added(_):
         (
             [0, [["put", 7, ["argument", 0], 1]]],
             "procedure 5 shape 1 0 2",
-            'procedure 5, at 1 0 2: unknown word "argument"',
+            'procedure 5, at 1 0 2: unknown word "argument": an expression starts with arg, reg, sum, diff, product or quotient',
             '["argument", 0]',
         ),
     ]

@@ -705,7 +705,9 @@ def takes_spaces_and_escapes(sgt):
 # A first line, its error, and the explanation.
 EXPLAINED_OPENINGS = (
     ("", "not JSON", "column 1: the line is empty"),
-    ('{"limits":[1,1]', "not JSON", "column 16: the line ends where its JSON has to go on"),
+    ("# mine", "not JSON", "column 1: not JSON from here: there are no comments"),
+    ("// mine", "not JSON", "column 1: not JSON from here: there are no comments"),
+    ('{"limits":[1,1]', "not JSON", "column 16: the line ends where its JSON has to go on: each line is a JSON text of its own"),
     ('{"limits":[1,1],}', "not JSON", "column 17: not JSON from here"),
     ('{"limits":[1,1],"accounts":[],"procedures":[[0,[["answer",1]],[0,[]]]}', "not JSON",
      "column 70: not JSON from here: a bracket is missing in procedure 5, which begins at column 45"),
@@ -739,13 +741,13 @@ EXPLAINED_PROCEDURES = (
     ("[0,[],[]]", "shape top", "at top: expected [arguments,[statement,..]], found [0,[],[]]"),
     ("[300,[]]", "shape 0", "at 0: expected a number of arguments from 0 to 4, found 300"),
     ("[0,5]", "shape 1", "at 1: expected a list of statements, found 5"),
-    ('[0,[["jump"]]]', "shape 1 0", 'at 1 0: unknown word "jump"'),
+    ('[0,[["jump"]]]', "shape 1 0", 'at 1 0: unknown word "jump": a statement starts with look, find, put, remove, let, ask, if or answer'),
     ('[0,[["sum",1,2]]]', "shape 1 0", 'at 1 0: "sum" does not begin a statement'),
     ('[0,[["ask",1,2]]]', "shape 1 0", 'at 1 0: expected ["ask",code], found ["ask",1,2]'),
     ('[0,[["if",["less",1,2],[]]]]', "shape 1 0", 'at 1 0: expected ["if",condition,[statement,..],[statement,..]], found ["if",["less",1,2],[]]'),
     ("[0,[[7,1]]]", "shape 1 0", "at 1 0: expected a statement, found [7,1]"),
     ('[0,[["ask",1],["let",0,"x"]]]', "shape 1 1 2", 'at 1 1 2: expected an expression, found "x"'),
-    ('[0,[["answer",["times",1,2]]]]', "shape 1 0 1", 'at 1 0 1: unknown word "times"'),
+    ('[0,[["answer",["times",1,2]]]]', "shape 1 0 1", 'at 1 0 1: unknown word "times": an expression starts with arg, reg, sum, diff, product or quotient'),
     ('[0,[["answer",["sum",1]]]]', "shape 1 0 1", 'at 1 0 1: expected ["sum",expression,expression], found ["sum",1]'),
     ('[0,[["if",true,[],[]]]]', "shape 1 0 1", "at 1 0 1: expected a condition, found true"),
     ('[0,[["if",["sum",1,2],[],[]]]]', "shape 1 0 1", 'at 1 0 1: "sum" does not begin a condition'),
@@ -772,6 +774,9 @@ EXPLAINED_PROCEDURES = (
     ('[0,[["answer",1000000000000000]]]', "flaw 10", "at 1 0 1: 1000000000000000 has more than fifteen digits"),
 )
 
+# What is said of a word with which no event starts.
+STARTS = "an event starts with start, begin, step, read, write, remove, commit or quit"
+
 # A line after line 1 of a script and of a bank, and the explanation of its error.
 EXPLAINED_EVENTS = (
     ("7", 'expected an event, as ["step",0], found 7'),
@@ -782,7 +787,7 @@ EXPLAINED_EVENTS = (
     ('["start",1,[1, 123456789012345678901 ]]', "expected a whole number of at most 15 digits as argument 1, found 123456789012345678901"),
     ('["write",0,3,1,1E5]', "expected a whole number of at most 15 digits as the value, found 1E5"),
     ('["step",0,"]",{"z":"\\\\","a":1}]', 'expected ["step",transaction], found ["step",0,"]",{"z":"\\\\","a":1}]'),
-    ('["stop",0]', 'unknown word "stop"'),
+    ('["stop",0]', f'unknown word "stop": {STARTS}'),
     ('["job",0,[]]', 'a job stands in the input of "sgt script", which takes events: ["start",procedure,[argument,..]]'),
     ('["step"]', 'expected ["step",transaction], found ["step"]'),
     ('["commit",0,0]', 'expected ["commit",transaction], found ["commit",0,0]'),
@@ -806,7 +811,7 @@ EXPLAINED_EVENTS = (
 
 EXPLAINED_JOBS = (
     ("{}", 'expected a job, as ["job",0,[1]], found {}'),
-    ('["jobs",0,[]]', 'unknown word "jobs"'),
+    ('["jobs",0,[]]', 'unknown word "jobs": a job is ["job",procedure,[argument,..]]'),
     ('["step",0]', 'an event stands in the input of "sgt bank", which takes jobs: ["job",procedure,[argument,..]]'),
     ('["begin"]', 'an event stands in the input of "sgt bank", which takes jobs: ["job",procedure,[argument,..]]'),
     ('["write",0,3,1,1]', 'an event stands in the input of "sgt bank", which takes jobs: ["job",procedure,[argument,..]]'),
@@ -834,15 +839,15 @@ EXPLAINED_NO_RECORDS = (
     ('["record","3",1,1]', 'expected ["record",table,number,value], found ["record","3",1,1]'),
     ('["record",3,1,1.0]', 'expected ["record",table,number,value], found ["record",3,1,1.0]'),
     ('["record",3,1,9223372036854775808]', 'expected ["record",table,number,value], found ["record",3,1,9223372036854775808]'),
-    ('["records",3,1,1]', 'unknown word "records"'),
+    ('["records",3,1,1]', f'unknown word "records": {STARTS}'),
 )
 
 # What of these lines is shown is cut short, and does nothing to a terminal.
 EXPLAINED_TEXTS = (
-    (f'["{"x" * 99}",0]', f'unknown word "{"x" * 39}..'),
-    (f'["{"x" * 38}",0]', f'unknown word "{"x" * 38}"'),
-    ('["\\u001b[2J\\n",0]', 'unknown word "\\u001b[2J\\n"'),
-    ('["\\u007f\\u009b\\u202e\\ud83d\\ude00",0]', 'unknown word "????"'),
+    (f'["{"x" * 99}",0]', f'unknown word "{"x" * 39}..: {STARTS}'),
+    (f'["{"x" * 38}",0]', f'unknown word "{"x" * 38}": {STARTS}'),
+    ('["\\u001b[2J\\n",0]', f'unknown word "\\u001b[2J\\n": {STARTS}'),
+    ('["\\u007f\\u009b\\u202e\\ud83d\\ude00",0]', f'unknown word "????": {STARTS}'),
 )
 
 
@@ -870,7 +875,7 @@ def explains_procedures(sgt):
         given = opening(procedures=procedure)
         reports_more(sgt, ["script"], given, f"line 1: procedure 5 {fault}\n", f"procedure 5, {more}\n")
     given = opening(procedures='[0,[]],[0,[["jump"]]]')
-    reports_more(sgt, ["bank"], given.replace("[1,1]", "[4,1]"), "line 1: procedure 6 shape 1 0\n", 'procedure 6, at 1 0: unknown word "jump"\n')
+    reports_more(sgt, ["bank"], given.replace("[1,1]", "[4,1]"), "line 1: procedure 6 shape 1 0\n", 'procedure 6, at 1 0: unknown word "jump": a statement starts with look, find, put, remove, let, ask, if or answer\n')
 
 
 def explains_procedures_past_their_sizes(sgt):
@@ -936,7 +941,7 @@ def explains_lines_of_no_json(sgt):
         (b"", "column 1: the line is empty"),
         (b" \r", "column 1: the line is empty"),
         (b"\xef\xbb\xbf[]", "column 1: a byte order mark: save the input without it"),
-        (b'["step",0', "column 10: the line ends where its JSON has to go on"),
+        (b'["step",0', "column 10: the line ends where its JSON has to go on: each line is a JSON text of its own"),
         (b'["step",0]]', "column 11: not JSON from here"),
         (b"step 0", "column 1: not JSON from here"),
         (b'["step",\xff]', "column 9: not UTF-8 from here"),

@@ -80,10 +80,10 @@ FLAWED = OPENING.replace("[]}", '[[1,[["let",0,["arg",1]]]]]}')
 
 # What runs, its replies, its error, and the second line.
 FAULTY = (
-    (("script",), SCRIPT + '["stop",0]\n', REPLIES, "line 13: bad line\n", 'unknown word "stop"\n'),
+    (("script",), SCRIPT + '["stop",0]\n', REPLIES, "line 13: bad line\n", 'unknown word "stop": an event starts with start, begin, step, read, write, remove, commit or quit\n'),
     (("script",), FLAWED, "", "line 1: procedure 5 flaw 3\n", "procedure 5, at 1 0 2 1: argument 1 is not below 1, the number of arguments\n"),
     (("script",), OPENING + '["record",1,101,7]\n', "", "line 2: bad record\n", "record 1/101 is there already\n"),
-    (BANK, JOBS + '["job",0,[\n', "", "line 5: not JSON\n", "column 11: the line ends where its JSON has to go on\n"),
+    (BANK, JOBS + '["job",0,[\n', "", "line 5: not JSON\n", "column 11: the line ends where its JSON has to go on: each line is a JSON text of its own\n"),
 )
 
 

@@ -1065,7 +1065,7 @@ def bad_procedures():
     files = [
         ('{"procedure": [', "JSONDecodeError"),
         ({"request": ["gift"]}, "KeyError: 'procedure'"),
-        ({"request": ["gift"], "procedure": [1, [look, ["puts", 1, 2, 3]]]}, 'procedure 0, at 1 1: unknown word "puts"'),
+        ({"request": ["gift"], "procedure": [1, [look, ["puts", 1, 2, 3]]]}, 'procedure 0, at 1 1: unknown word "puts": a statement starts with look, find, put, remove, let, ask, if or answer'),
         ({"request": ["gift"], "procedure": [1, [["look", 99, 1, ["arg", 0], 1]]]}, "at 1 0 1: register 99 is over 15"),
         ({"request": ["gift", "amount"], "procedure": [1, [look]]}, "the request has 2 keys, and the procedure takes 1 arguments"),
         ({"request": ["gift"], "refused": {"one": "x"}, "procedure": [1, [look]]}, "ValueError"),

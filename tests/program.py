@@ -717,7 +717,7 @@ def reports_who_is_live_at_the_end(sgt):
 
 def explains_up_to_a_fault(sgt):
     sgt.expect("script", "--explain", given=OPENING + LOST + "no JSON\n" + LOST, status=2, out=LOST_REPLIES, err=why_lost(2) + "line 10: not JSON\ncolumn 1: not JSON from here\n")
-    sgt.expect("script", "--explain", given=OPENING + EVENTS + '["jump",0]\n', status=2, out=REPLIES, err='line 4: bad line\nunknown word "jump"\n')
+    sgt.expect("script", "--explain", given=OPENING + EVENTS + '["jump",0]\n', status=2, out=REPLIES, err='line 4: bad line\nunknown word "jump": an event starts with start, begin, step, read, write, remove, commit or quit\n')
     sgt.expect("script", "--explain", status=2, err="line 1: no opening\nthe input is empty\n")
 
 

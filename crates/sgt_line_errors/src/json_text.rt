@@ -21,6 +21,9 @@ pub(crate) fn json_fault(typed: Typed<'_>) -> Message {
     if line.trim_ascii().is_empty() {
         return at_column(typed, 1, "the line is empty");
     }
+    if line.starts_with(b"#") || line.starts_with(b"//") {
+        return at_column(typed, 1, "not JSON from here: there are no comments");
+    }
     let text = match str::from_utf8(line) {
         Ok(text) => text,
         Err(error) => {
@@ -39,7 +42,7 @@ pub(crate) fn json_fault(typed: Typed<'_>) -> Message {
             at_column(
                 typed,
                 line.len().saturating_add(1),
-                "the line ends where its JSON has to go on",
+                "the line ends where its JSON has to go on: each line is a JSON text of its own",
             )
         } else {
             text_fault(typed, text, error.column())

@@ -58,6 +58,15 @@ impl Part {
         self.names().1
     }
 
+    /// The words with which a list starts that is this.
+    pub(crate) fn starts(self) -> &'static str {
+        match self {
+            Part::Statement => "a statement starts with look, find, put, remove, let, ask, if or answer",
+            Part::Condition => "a condition starts with less, most or same",
+            _ => "an expression starts with arg, reg, sum, diff, product or quotient",
+        }
+    }
+
     // Its name in such a list, and its description.
     fn names(self) -> (&'static str, &'static str) {
         match self {

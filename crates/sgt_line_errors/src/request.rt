@@ -21,6 +21,10 @@ const RECORD: &str = "[\"record\",table,number,value]";
 /// The form of a write.
 const WRITE: &str = "[\"write\",transaction,table,number,value]";
 
+/// The words of events.
+const EVENTS: &str =
+    "an event starts with start, begin, step, read, write, remove, commit or quit";
+
 /// Why a tree is no event of a script.
 pub(crate) fn event_fault(typed: Typed<'_>, tree: &Value) -> Message {
     match word_in(tree) {
@@ -39,7 +43,7 @@ pub(crate) fn event_fault(typed: Typed<'_>, tree: &Value) -> Message {
             "a job stands in the input of \"sgt script\", which takes events: ",
             START,
         ),
-        Some(word) => unknown(typed, word),
+        Some(word) => unknown(typed, word, EVENTS),
         None => unexpected(typed, "an event, as [\"step\",0]", tree),
     }
 }
@@ -56,7 +60,7 @@ pub(crate) fn job_fault(typed: Typed<'_>, tree: &Value) -> Message {
             "an event stands in the input of \"sgt bank\", which takes jobs: ",
             JOB,
         ),
-        Some(word) => unknown(typed, word),
+        Some(word) => unknown(typed, word, "a job is [\"job\",procedure,[argument,..]]"),
         None => unexpected(typed, "a job, as [\"job\",0,[1]]", tree),
     }
 }

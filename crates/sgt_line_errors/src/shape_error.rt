@@ -41,7 +41,7 @@ fn word_shape_error(typed: Typed<'_>, part: Part, word: &str, tree: &Value) -> M
         return unexpected(typed, Part::form(typed.alloc, word, parts)?.as_str(), tree);
     }
     if row(word).is_none() {
-        return unknown(typed, word);
+        return unknown(typed, word, part.starts());
     }
     let (word, wanted) = (word_excerpt(typed, word)?, part.words());
     Ok(Some(format!(in typed.alloc; "{word} does not begin {wanted}")?))
