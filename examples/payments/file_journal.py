@@ -88,6 +88,7 @@ class FileJournal:
         self._file = open(path, "ab")
         sync_names(self.folder)
         new = self._newest.with_suffix(".new")
+        new.unlink(missing_ok=True)  # left by a server that was killed here
         new.symlink_to(path.name)
         new.rename(self._newest)
         sync_names(self.folder)
